@@ -1,0 +1,32 @@
+//! The identifier of a transaction branch.
+ghost use Rattle.std.specs.Prelude.{◌≡◌, Ok};
+
+use crate::Bytes;
+
+/// The identifier of a transaction branch: which global transaction, and which branch of it.
+///
+/// Two identifiers are the same where all three parts are, so `'ab','c'` and `'a','bc'` differ. They are
+/// ordered by formatID, then gtrid, then bqual, texts by their bytes and a prefix before what it begins.
+///
+/// Source: MySQL 8.0 Reference Manual, 'XA Transaction SQL Statements'; X/Open C193, the structure `XID`.
+/// The range of formatID, the empty gtrid and the order are our own: docs/BEHAVIOR.md, 'Identifiers'.
+#[derive(Clone, Debug, Drop, PartialEq, Eq, PartialOrd, Ord)]
+pub struct Xid {
+    /// Which convention the two texts follow, in `[0, 2^64)`; 1 where a statement doesn't say.
+    pub format_id: u64,
+    /// The global transaction, 0 to 64 bytes.
+    pub gtrid: Bytes,
+    /// The branch qualifier, 0 to 64 bytes.
+    pub bqual: Bytes,
+}
+
+impl Xid {
+    /// A copy of the identifier.
+    ///
+    /// Takes no memory. Doesn't wait.
+    pub fn copy(&self) -> Xid
+        ensures { result ≡ self.now }
+    {
+        self.clone().unwrap()
+    }
+}
