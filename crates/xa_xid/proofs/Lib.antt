@@ -1,1 +1,7 @@
+pub mod Cuts
+pub mod Numbers
 pub mod Orders
+pub mod Reading
+pub mod Shorter
+pub mod Texts
+pub mod Written

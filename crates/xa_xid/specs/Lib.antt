@@ -1,1 +1,6 @@
+pub mod Bytes
+pub mod Literal
+pub mod Number
+pub mod Quoted
 pub mod Xid
+pub mod XidText

@@ -1,9 +1,12 @@
-//! What `==` and `cmp` of the types decide, as contracts over their definitions.
-ghost use Rattle.std.specs.Prelude.{◌≡◌, ◌↔◌, IsTrue};
+//! What `==` and `cmp` of the types decide, and that what is written is read back, as contracts over the definitions.
+ghost use Rattle.std.specs.Prelude.{◌≡◌, ◌↔◌, ◌<◌, ◌^◌, ◌++◌, List, ℕ, IsTrue};
+ghost use Rattle.hex.specs.Hex.{IsBytes};
 ghost use Rattle.std.specs.declared.cmp.Ordering.TheVariants.{Equal};
 ghost use Rattle.xa_xid.specs.Xid.{bytes_cmp, xid_cmp};
+ghost use Rattle.xa_xid.specs.Bytes.{belongs, StartsNo};
+ghost use Rattle.xa_xid.specs.XidText.{xid_at, xid_text, IsWritable};
 
-use crate::{Key, Xid};
+use crate::{ByteClass, Key, Xid};
 use std::cmp::Ordering;
 
 /// Identifiers are equal exactly where all three parts are.
@@ -28,9 +31,43 @@ pub fn order_of_xids(left: &Xid, right: &Xid) -> Ordering
 /// Keys stand by their bytes, and tie only where they are one.
 ///
 /// Takes no memory. Doesn't wait.
-pub fn order_of_keys(left: &Key, right: &Key) -> Ordering
-    ensures order { result ≡ bytes_cmp left.now right.now }
-    ensures ties { (result ≡ Equal) ↔ (left.now ≡ right.now) }
+pub fn order_of_keys(left_key: &Key, right_key: &Key) -> Ordering
+    ensures order { result ≡ bytes_cmp left_key.now right_key.now }
+    ensures ties { (result ≡ Equal) ↔ (left_key.now ≡ right_key.now) }
 {
-    left.cmp(right)
+    left_key.cmp(right_key)
+}
+
+/// The canonical text of an identifier is read as that identifier, whatever stands behind it but a word byte.
+///
+/// Takes no memory. Doesn't wait.
+pub fn written_xid_is_read_back(xid: &Xid)
+    ensures { (rest : List ℕ) → StartsNo (belongs ByteClass.Word) rest → xid_at (xid_text xid.now ++ rest) ≡ Ok (xid.now, rest) }
+{
+    is_writable(xid);
+}
+
+/// Every identifier's parts are bytes, and few enough.
+///
+/// Takes no memory. Doesn't wait.
+pub fn is_writable(xid: &Xid)
+    ensures { IsWritable xid.now }
+{
+    is_below_2_to_the_64(xid.format_id);
+    are_bytes(xid.gtrid.as_slice());
+    are_bytes(xid.bqual.as_slice());
+}
+
+/// A slice of bytes holds bytes.
+///
+/// Takes no memory. Doesn't wait.
+pub fn are_bytes(text: &[u8])
+    ensures { IsBytes text.now }
+{
+}
+
+/// A number of 64 bits is below 2^64.
+fn is_below_2_to_the_64(number: u64)
+    ensures { number < 2 ^ 64 }
+{
 }

@@ -1,23 +1,39 @@
-//! The words of the protocol: transaction branch identifiers, session numbers, row keys and statements.
+//! The words of the protocol: transaction branch identifiers, session numbers, row keys and statements, and how
+//! literals and identifiers are spelled.
 //!
-//! Nothing here takes memory or waits.
+//! Nothing here waits, and only `write_xid` takes memory.
 #![tactic(auto)]
 
 ghost use Rattle.std.specs.Prelude.{◌≡◌};
 
+mod byte_class;
 mod key;
 pub mod laws;
+mod literal;
+mod literal_fault;
+mod number;
+mod quoted;
 mod session_no;
 mod statement;
 #[cfg(test)]
 mod tests;
 mod xid;
+mod xid_text;
 
 use arrayvec::ArrayVec;
+pub use byte_class::{ByteClass, skip_blanks};
 pub use key::Key;
+pub use literal::{literal_of, read_literal};
+pub use literal_fault::LiteralFault;
+pub use number::{number_of, read_number};
 pub use session_no::SessionNo;
 pub use statement::Statement;
 pub use xid::Xid;
+pub use xid_text::{read_xid, with_part, with_xid, write_xid};
+use std::alloc::AllocError;
+
+/// The allocator's error: there was no memory.
+pub type NoMemory = AllocError;
 
 /// A text of 0 to 64 bytes, kept in the value itself: a gtrid, a bqual or a row's value.
 ///

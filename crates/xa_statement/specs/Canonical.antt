@@ -1,0 +1,28 @@
+-- The canonical text of a statement: capitals, one space between tokens, no ; (own rule).
+use Rattle.std.specs.Prelude.{ℕ, ◌<◌, ◌≤◌, Bool, true, false, List, [], ◌∷◌, ◌++◌, length, codes}
+use Rattle.hex.specs.Hex.{IsBytes}
+use Rattle.xa_xid.specs.XidText.{part_text, xid_text}
+use Rattle.xa_xid.specs.declared.statement.Statement.{Statement}
+use Rattle.xa_xid.specs.declared.statement.Statement.TheVariants.{Start, End, Prepare, Commit, Rollback, Recover, Unsupported, Get, Put, Del, Disconnect}
+
+-- nothing is written for what isn't supported
+unfoldable pub statement_text : Statement → List ℕ
+statement_text (Start xid) = codes "XA START " ++ xid_text xid
+statement_text (End xid) = codes "XA END " ++ xid_text xid
+statement_text (Prepare xid) = codes "XA PREPARE " ++ xid_text xid
+statement_text (Commit xid false) = codes "XA COMMIT " ++ xid_text xid
+statement_text (Commit xid true) = codes "XA COMMIT " ++ (xid_text xid ++ codes " ONE PHASE")
+statement_text (Rollback xid) = codes "XA ROLLBACK " ++ xid_text xid
+statement_text (Recover false) = codes "XA RECOVER"
+statement_text (Recover true) = codes "XA RECOVER CONVERT XID"
+statement_text Unsupported = []
+statement_text (Get key) = codes "GET " ++ part_text key
+statement_text (Put key value) = codes "PUT " ++ (part_text key ++ (44 ∷ part_text value.items))
+statement_text (Del key) = codes "DEL " ++ part_text key
+statement_text Disconnect = codes "DISCONNECT"
+
+-- a key is some bytes, and few enough: every key of a program is such
+pub record IsKey (key : List ℕ) : Type 0 where
+  pub some : 0 < length key
+  pub all : IsBytes key
+  pub fits : length key ≤ 64

@@ -1,0 +1,13 @@
+-- Where a text stops being a statement.
+--     FaultAt text place     no statement is spelled, and this is the place of the fault
+use Rattle.std.specs.Prelude.{◌≡◌, ℕ, ◌+◌, List, [], ◌∷◌, ◌++◌, length}
+use Rattle.xa_xid.specs.declared.statement.Statement.{Statement}
+use Rattle.xa_statement.specs.declared.token.Token.{Token}
+use Rattle.xa_statement.specs.Grammar.{Spells, MayGoOn}
+use Rattle.xa_statement.specs.Token.{Piece, tokens_of, bare}
+
+-- the first token with which no statement's tokens begin; or the text ends too soon (own rule)
+pub data FaultAt (text : List ℕ) : ℕ → Type 0 where
+  at_token : (place left : ℕ) (front back : List Piece) (token : Token) → tokens_of text ≡ front ++ (token, left) ∷ back
+      → MayGoOn (bare front) → (MayGoOn (bare front ++ token ∷ []) → ⊥) → place + left ≡ length text → FaultAt text place
+  at_end : ((statement : Statement) → Spells text statement → ⊥) → MayGoOn (bare (tokens_of text)) → FaultAt text (length text)

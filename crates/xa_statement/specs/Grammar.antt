@@ -1,0 +1,79 @@
+-- The grammar of statements, one constructor a row of the table in docs/STATEMENTS.md.
+--     XidTokens tokens xid       the tokens are an identifier
+--     Row tokens statement       the tokens are a row of the table
+--     Says tokens statement      the same, with at most one ; behind it
+--     Spells text statement      the text is blanks and such tokens
+--     MayGoOn tokens             a statement's tokens begin with these
+use Rattle.std.specs.Prelude.{ℕ, Bool, true, false, ◌<◌, Option, Some, List, [], ◌∷◌, ◌++◌, length}
+use Rattle.xa_xid.specs.Xid.{Text}
+use Rattle.xa_xid.specs.XidText.{xid_of, no_text}
+use Rattle.xa_xid.specs.declared.xid.Xid.{Xid}
+use Rattle.xa_xid.specs.declared.statement.Statement.{Statement}
+use Rattle.xa_xid.specs.declared.statement.Statement.TheVariants.{Start, End, Prepare, Commit, Rollback, Recover, Unsupported, Get, Put, Del, Disconnect}
+use Rattle.xa_statement.specs.declared.token.Keyword.{Keyword}
+use Rattle.xa_statement.specs.declared.token.Keyword.TheVariants.{Xa as XA, Start as START, Begin as BEGIN, End as END, Prepare as PREPARE, Commit as COMMIT, Rollback as ROLLBACK, Recover as RECOVER, Join as JOIN, Resume as RESUME, Suspend as SUSPEND, For as FOR, Migrate as MIGRATE, One as ONE, Phase as PHASE, Convert as CONVERT, Xid as XID, Get as GET, Put as PUT, Del as DEL, Disconnect as DISCONNECT}
+use Rattle.xa_statement.specs.declared.token.Token.{Token}
+use Rattle.xa_statement.specs.declared.token.Token.TheVariants.{Word, Comma, Semicolon, Value}
+use Rattle.xa_statement.specs.Token.{tokens_of, bare}
+
+-- a token that is a literal, whatever number it may be
+abbrev pub Literal : Text → Option ℕ → Token
+Literal text number = Value (Some text) number
+
+-- a token that is a number, whatever literal it may be
+abbrev pub Number : Option Text → ℕ → Token
+Number literal number = Value literal (Some number)
+
+-- gtrid [, bqual [, formatID]] (manual, 'XA Transaction SQL Statements')
+pub data XidTokens : List Token → Xid → Type 0 where
+  gtrid : (g : Text) (m : Option ℕ) → XidTokens (Literal g m ∷ []) (xid_of g no_text 1)
+  gtrid_bqual : (g b : Text) (m n : Option ℕ) → XidTokens (Literal g m ∷ Comma ∷ Literal b n ∷ []) (xid_of g b 1)
+  gtrid_bqual_format : (g b : Text) (m n : Option ℕ) (l : Option Text) (f : ℕ)
+      → XidTokens (Literal g m ∷ Comma ∷ Literal b n ∷ Comma ∷ Number l f ∷ []) (xid_of g b f)
+
+-- START and BEGIN are the same
+pub data StartWord : Keyword → Type 0 where
+  is_start : StartWord START
+  is_begin : StartWord BEGIN
+
+-- JOIN and RESUME are the same
+pub data JoinWord : Keyword → Type 0 where
+  is_join : JoinWord JOIN
+  is_resume : JoinWord RESUME
+
+-- the rows of the table (manual, 'XA Transaction SQL Statements'; the last four are our own)
+pub data Row : List Token → Statement → Type 0 where
+  start : {word : Keyword} {x : List Token} {xid : Xid} → StartWord word → XidTokens x xid → Row (Word XA ∷ Word word ∷ x) (Start xid)
+  start_clause : {word clause : Keyword} {x : List Token} {xid : Xid} → StartWord word → XidTokens x xid → JoinWord clause
+      → Row (Word XA ∷ Word word ∷ x ++ Word clause ∷ []) Unsupported
+  end : {x : List Token} {xid : Xid} → XidTokens x xid → Row (Word XA ∷ Word END ∷ x) (End xid)
+  end_suspend : {x : List Token} {xid : Xid} → XidTokens x xid → Row (Word XA ∷ Word END ∷ x ++ Word SUSPEND ∷ []) Unsupported
+  end_suspend_for : {x : List Token} {xid : Xid} → XidTokens x xid
+      → Row (Word XA ∷ Word END ∷ x ++ Word SUSPEND ∷ Word FOR ∷ Word MIGRATE ∷ []) Unsupported
+  prepare : {x : List Token} {xid : Xid} → XidTokens x xid → Row (Word XA ∷ Word PREPARE ∷ x) (Prepare xid)
+  commit : {x : List Token} {xid : Xid} → XidTokens x xid → Row (Word XA ∷ Word COMMIT ∷ x) (Commit xid false)
+  commit_one : {x : List Token} {xid : Xid} → XidTokens x xid
+      → Row (Word XA ∷ Word COMMIT ∷ x ++ Word ONE ∷ Word PHASE ∷ []) (Commit xid true)
+  rollback : {x : List Token} {xid : Xid} → XidTokens x xid → Row (Word XA ∷ Word ROLLBACK ∷ x) (Rollback xid)
+  recover : Row (Word XA ∷ Word RECOVER ∷ []) (Recover false)
+  recover_convert : Row (Word XA ∷ Word RECOVER ∷ Word CONVERT ∷ Word XID ∷ []) (Recover true)
+  get : (key : Text) (m : Option ℕ) → 0 < length key.items → Row (Word GET ∷ Literal key m ∷ []) (Get key.items)
+  put : (key value : Text) (m n : Option ℕ) → 0 < length key.items
+      → Row (Word PUT ∷ Literal key m ∷ Comma ∷ Literal value n ∷ []) (Put key.items value)
+  del : (key : Text) (m : Option ℕ) → 0 < length key.items → Row (Word DEL ∷ Literal key m ∷ []) (Del key.items)
+  disconnect : Row (Word DISCONNECT ∷ []) Disconnect
+
+-- a row, behind which one ; may stand
+pub data Says : List Token → Statement → Type 0 where
+  bare_row : {tokens : List Token} {statement : Statement} → Row tokens statement → Says tokens statement
+  ended_row : {tokens : List Token} {statement : Statement} → Row tokens statement → Says (tokens ++ Semicolon ∷ []) statement
+
+-- blanks and the tokens of a statement
+abbrev pub Spells : List ℕ → Statement → Type 0
+Spells text statement = Says (bare (tokens_of text)) statement
+
+-- some statement's tokens begin with these
+pub record MayGoOn (tokens : List Token) : Type 0 where
+  pub more : List Token
+  pub statement : Statement
+  pub says : Says (tokens ++ more) statement

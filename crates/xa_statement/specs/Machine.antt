@@ -1,0 +1,113 @@
+-- How far a statement is read after each token: a machine whose states carry what was read.
+--     step state token       the state after one token more
+--     finish state           the statement, where the tokens so far are one
+use Rattle.std.specs.Prelude.{ℕ, Bool, true, false, ◌==◌, if◌then◌else◌, Option, Some, None, option_map, option_and_then, List, [], ◌∷◌, length}
+use Rattle.xa_xid.specs.Xid.{Text}
+use Rattle.xa_xid.specs.XidText.{xid_of, no_text}
+use Rattle.xa_xid.specs.declared.xid.Xid.{Xid}
+use Rattle.xa_xid.specs.declared.statement.Statement.{Statement}
+use Rattle.xa_xid.specs.declared.statement.Statement.TheVariants.{Start, End, Prepare, Commit, Rollback, Recover, Unsupported, Get, Put, Del, Disconnect}
+use Rattle.xa_statement.specs.declared.token.Keyword.{Keyword}
+use Rattle.xa_statement.specs.declared.token.Keyword.TheVariants.{Xa as XA, Start as START, Begin as BEGIN, End as END, Prepare as PREPARE, Commit as COMMIT, Rollback as ROLLBACK, Recover as RECOVER, Join as JOIN, Resume as RESUME, Suspend as SUSPEND, For as FOR, Migrate as MIGRATE, One as ONE, Phase as PHASE, Convert as CONVERT, Xid as XID, Get as GET, Put as PUT, Del as DEL, Disconnect as DISCONNECT}
+use Rattle.xa_statement.specs.declared.token.Token.{Token}
+use Rattle.xa_statement.specs.declared.token.Token.TheVariants.{Word, Comma, Semicolon, Value}
+use Rattle.xa_statement.specs.declared.state.Verb.{Verb}
+use Rattle.xa_statement.specs.declared.state.Verb.TheVariants.{Starts, Ends, Prepares, Commits, RollsBack}
+use Rattle.xa_statement.specs.declared.state.RowVerb.{RowVerb}
+use Rattle.xa_statement.specs.declared.state.RowVerb.TheVariants.{Gets, Puts, Deletes}
+use Rattle.xa_statement.specs.declared.state.State.{State}
+use Rattle.xa_statement.specs.declared.state.State.TheVariants.{AtFirst, AfterXa, WantsGtrid, AfterGtrid, WantsBqual, AfterBqual, WantsFormatId, AfterXid, AfterSuspend, AfterFor, AfterOne, AfterRecover, AfterConvert, WantsKey, AfterKey, WantsValue, Whole, Ended}
+
+-- what a verb does with an xid
+abbrev pub statement_of : Verb → Xid → Statement
+statement_of Starts xid = Start xid
+statement_of Ends xid = End xid
+statement_of Prepares xid = Prepare xid
+statement_of Commits xid = Commit xid false
+statement_of RollsBack xid = Rollback xid
+
+-- a word behind an xid
+abbrev pub xid_word : Verb → Xid → Keyword → Option State
+xid_word Starts xid JOIN = Some (Whole Unsupported)
+xid_word Starts xid RESUME = Some (Whole Unsupported)
+xid_word Ends xid SUSPEND = Some AfterSuspend
+xid_word Commits xid ONE = Some (AfterOne xid)
+xid_word _ _ _ = None
+
+-- a word of the grammar
+abbrev pub after_word : State → Keyword → Option State
+after_word AtFirst XA = Some AfterXa
+after_word AtFirst GET = Some (WantsKey Gets)
+after_word AtFirst PUT = Some (WantsKey Puts)
+after_word AtFirst DEL = Some (WantsKey Deletes)
+after_word AtFirst DISCONNECT = Some (Whole Disconnect)
+after_word AfterXa START = Some (WantsGtrid Starts)
+after_word AfterXa BEGIN = Some (WantsGtrid Starts)
+after_word AfterXa END = Some (WantsGtrid Ends)
+after_word AfterXa PREPARE = Some (WantsGtrid Prepares)
+after_word AfterXa COMMIT = Some (WantsGtrid Commits)
+after_word AfterXa ROLLBACK = Some (WantsGtrid RollsBack)
+after_word AfterXa RECOVER = Some AfterRecover
+after_word (AfterGtrid verb gtrid) word = xid_word verb (xid_of gtrid no_text 1) word
+after_word (AfterBqual verb gtrid bqual) word = xid_word verb (xid_of gtrid bqual 1) word
+after_word (AfterXid verb xid) word = xid_word verb xid word
+after_word AfterSuspend FOR = Some AfterFor
+after_word AfterFor MIGRATE = Some (Whole Unsupported)
+after_word (AfterOne xid) PHASE = Some (Whole (Commit xid true))
+after_word AfterRecover CONVERT = Some AfterConvert
+after_word AfterConvert XID = Some (Whole (Recover true))
+after_word _ _ = None
+
+-- a comma
+abbrev pub after_comma : State → Option State
+after_comma (AfterGtrid verb gtrid) = Some (WantsBqual verb gtrid)
+after_comma (AfterBqual verb gtrid bqual) = Some (WantsFormatId verb gtrid bqual)
+after_comma (AfterKey key) = Some (WantsValue key)
+after_comma _ = None
+
+-- a key of a verb
+abbrev pub after_key : RowVerb → List ℕ → State
+after_key Gets key = Whole (Get key)
+after_key Puts key = AfterKey key
+after_key Deletes key = Whole (Del key)
+
+-- a literal in the place of a key, which isn't empty
+abbrev pub key_state : RowVerb → List ℕ → Option State
+key_state verb [] = None
+key_state verb (byte ∷ bytes) = Some (after_key verb (byte ∷ bytes))
+
+-- a literal or a number
+abbrev pub after_value : State → Option Text → Option ℕ → Option State
+after_value (WantsGtrid verb) (Some text) _ = Some (AfterGtrid verb text)
+after_value (WantsBqual verb gtrid) (Some text) _ = Some (AfterBqual verb gtrid text)
+after_value (WantsFormatId verb gtrid bqual) _ (Some number) = Some (AfterXid verb (xid_of gtrid bqual number))
+after_value (WantsKey verb) (Some text) _ = key_state verb text.items
+after_value (WantsValue key) (Some text) _ = Some (Whole (Put key text))
+after_value _ _ _ = None
+
+-- the statement behind which a ; may still stand
+abbrev pub unended : State → Option Statement
+unended (AfterGtrid verb gtrid) = Some (statement_of verb (xid_of gtrid no_text 1))
+unended (AfterBqual verb gtrid bqual) = Some (statement_of verb (xid_of gtrid bqual 1))
+unended (AfterXid verb xid) = Some (statement_of verb xid)
+unended AfterSuspend = Some Unsupported
+unended AfterRecover = Some (Recover false)
+unended (Whole statement) = Some statement
+unended _ = None
+
+-- the state after a ;
+abbrev pub ended : Option Statement → Option State
+ended None = None
+ended (Some statement) = Some (Ended statement)
+
+-- the state after one token more; none where no statement's tokens go on so
+unfoldable pub step : State → Token → Option State
+step state (Word word) = after_word state word
+step state Comma = after_comma state
+step state Semicolon = ended (unended state)
+step state (Value literal number) = after_value state literal number
+
+-- the statement, where the tokens so far are one
+unfoldable pub finish : State → Option Statement
+finish (Ended statement) = Some statement
+finish state = unended state

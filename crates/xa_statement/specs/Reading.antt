@@ -1,0 +1,35 @@
+-- A text read as a statement: the statement, or the place of the fault.
+--     read_from state pieces     the statement, or how many bytes the text has from the faulty token on
+--     read_of text               the statement, or the place of the fault
+--     seen_of                    the same as a program sees it
+use Rattle.std.specs.Prelude.{ℕ, ◌-◌, Option, Some, None, Result, Ok, Err, List, [], ◌∷◌, length}
+use Rattle.xa_xid.specs.declared.statement.Statement.{Statement}
+use Rattle.xa_statement.specs.declared.state.State.{State}
+use Rattle.xa_statement.specs.declared.state.State.TheVariants.{AtFirst}
+use Rattle.xa_statement.specs.declared.syntax_fault.SyntaxFault.{SyntaxFault}
+use Rattle.xa_statement.specs.Machine.{step, finish}
+use Rattle.xa_statement.specs.Token.{Piece, tokens_of}
+
+-- a statement, or a fault with nothing left
+abbrev pub read_end : Option Statement → Result Statement ℕ
+read_end None = Err 0
+read_end (Some statement) = Ok statement
+
+-- the statement, or how many bytes the text has from the faulty token on
+unfoldable pub read_from : State → List Piece → Result Statement ℕ
+read_from state [] = read_end (finish state)
+read_from state (piece ∷ more) = elim (step state piece.0) [ None ↦ Err piece.1 | Some next ↦ read_from next more ]
+
+-- the place of what is left of a text
+abbrev pub placed_in : List ℕ → Result Statement ℕ → Result Statement ℕ
+placed_in text (Ok statement) = Ok statement
+placed_in text (Err left) = Err (length text - left)
+
+-- the statement that a text spells, or the place of its fault
+unfoldable pub read_of : List ℕ → Result Statement ℕ
+read_of text = placed_in text (read_from AtFirst (tokens_of text))
+
+-- the same, the place as a fault
+abbrev pub seen_of : Result Statement ℕ → Result Statement SyntaxFault
+seen_of (Ok statement) = Ok statement
+seen_of (Err place) = Err (record { at = place })

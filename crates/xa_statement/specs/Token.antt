@@ -1,0 +1,115 @@
+-- Tokens: how a text is cut from the left.
+--     is_word word run       the run is the word, without regard to case
+--     keyword_of run         the word of the grammar that a run is
+--     token_at text          the token that a text begins with, and what stands behind it
+--     tokens_of text         the tokens of a text, each with how many bytes the text has from it on
+--     bare tokens            the tokens alone
+use Rattle.std.specs.Prelude.{◌≡◌, ℕ, Bool, true, false, ◌==◌, ◌||◌, if◌then◌else◌, List, [], ◌∷◌, length, map, codes, zero, suc, Option, Some, None, Result, Ok, Err, bytes_eq}
+use Rattle.std.specs.Char.{to_ascii_lowercase}
+use Rattle.xa_xid.specs.Bytes.{belongs, run, after_run, unblank}
+use Rattle.xa_xid.specs.Literal.{Reading, literal_at, opens_text, opens_hex}
+use Rattle.xa_xid.specs.Number.{number_at}
+use Rattle.xa_xid.specs.Xid.{Text}
+use Rattle.xa_xid.specs.declared.byte_class.ByteClass.TheVariants.{Word as word_byte}
+use Rattle.xa_statement.specs.declared.token.Keyword.{Keyword}
+use Rattle.xa_statement.specs.declared.token.Keyword.TheVariants.{Xa as XA, Start as START, Begin as BEGIN, End as END, Prepare as PREPARE, Commit as COMMIT, Rollback as ROLLBACK, Recover as RECOVER, Join as JOIN, Resume as RESUME, Suspend as SUSPEND, For as FOR, Migrate as MIGRATE, One as ONE, Phase as PHASE, Convert as CONVERT, Xid as XID, Get as GET, Put as PUT, Del as DEL, Disconnect as DISCONNECT}
+use Rattle.xa_statement.specs.declared.token.Token.{Token}
+use Rattle.xa_statement.specs.declared.token.Token.TheVariants.{Word, Comma, Semicolon, Value}
+
+-- without regard to case
+unfoldable pub is_word : List ℕ → List ℕ → Bool
+is_word word run = bytes_eq (map to_ascii_lowercase run) (map to_ascii_lowercase word)
+
+-- the words that begin a statement, or stand behind XA
+unfoldable pub statement_word : List ℕ → Option Keyword
+statement_word run =
+    if is_word (codes "XA") run then Some XA else
+    if is_word (codes "START") run then Some START else
+    if is_word (codes "BEGIN") run then Some BEGIN else
+    if is_word (codes "END") run then Some END else
+    if is_word (codes "PREPARE") run then Some PREPARE else
+    if is_word (codes "COMMIT") run then Some COMMIT else
+    if is_word (codes "ROLLBACK") run then Some ROLLBACK else
+    if is_word (codes "RECOVER") run then Some RECOVER else
+    if is_word (codes "GET") run then Some GET else
+    if is_word (codes "PUT") run then Some PUT else
+    if is_word (codes "DEL") run then Some DEL else
+    if is_word (codes "DISCONNECT") run then Some DISCONNECT else None
+
+-- the words of the clauses behind an xid or RECOVER
+unfoldable pub clause_word : List ℕ → Option Keyword
+clause_word run =
+    if is_word (codes "JOIN") run then Some JOIN else
+    if is_word (codes "RESUME") run then Some RESUME else
+    if is_word (codes "SUSPEND") run then Some SUSPEND else
+    if is_word (codes "FOR") run then Some FOR else
+    if is_word (codes "MIGRATE") run then Some MIGRATE else
+    if is_word (codes "ONE") run then Some ONE else
+    if is_word (codes "PHASE") run then Some PHASE else
+    if is_word (codes "CONVERT") run then Some CONVERT else
+    if is_word (codes "XID") run then Some XID else None
+
+-- the first of two answers that is one
+abbrev pub or_else : {Answer : Type 0} → Option Answer → Option Answer → Option Answer
+or_else (Some answer) other = Some answer
+or_else None other = other
+
+-- the word of the grammar that a run is
+unfoldable pub keyword_of : List ℕ → Option Keyword
+keyword_of run = or_else (statement_word run) (clause_word run)
+
+-- what was read, where nothing was faulty
+abbrev pub part_of : {Answer : Type 0} → Reading Answer → Option Answer
+part_of (Ok (answer, rest)) = Some answer
+part_of (Err fault) = None
+
+-- a literal in quotes; where a faulty one ends can't be observed, since no statement has one
+abbrev pub quoted_at : Reading Text → Token × List ℕ
+quoted_at (Ok (text, rest)) = (Value (Some text) None, rest)
+quoted_at (Err fault) = (Value None None, [])
+
+-- a run that is no word, as a literal and as a number
+abbrev pub run_token : Option Keyword → List ℕ → Token
+run_token (Some word) text = Word word
+run_token None text = Value (part_of (literal_at text)) (part_of (number_at text))
+
+-- a run of word bytes
+abbrev pub run_at : List ℕ → Token × List ℕ
+run_at text = (run_token (keyword_of (run text)) text, after_run text)
+
+-- a literal in quotes begins
+abbrev pub opens_quoted : List ℕ → Bool
+opens_quoted text = opens_text text || opens_hex text
+
+-- the token that a text begins with, where it begins with no blank
+unfoldable pub token_at : List ℕ → Token × List ℕ
+token_at [] = (Value None None, [])
+token_at (byte ∷ text) =
+    if byte == 44 then (Comma, text) else
+    if byte == 59 then (Semicolon, text) else
+    if opens_quoted (byte ∷ text) then quoted_at (literal_at (byte ∷ text)) else
+    if belongs word_byte byte then run_at (byte ∷ text) else
+    (Value None None, [])
+
+-- a token with how many bytes the text has from it on
+abbrev pub Piece : Type 0
+Piece = Token × ℕ
+
+-- the first token behind blanks, and what stands behind it
+abbrev pub first_piece : List ℕ → Option (Piece × List ℕ)
+first_piece [] = None
+first_piece (byte ∷ text) = let cut = token_at (byte ∷ text) in Some ((cut.0, length (byte ∷ text)), cut.1)
+
+-- the first so many tokens of a text
+unfoldable pub pieces : ℕ → List ℕ → List Piece
+pieces zero text = []
+pieces (suc most) text = elim (first_piece (unblank text)) [ None ↦ [] | Some cut ↦ cut.0 ∷ pieces most cut.1 ]
+
+-- the tokens of a text, which are no more than its bytes
+abbrev pub tokens_of : List ℕ → List Piece
+tokens_of text = pieces (length text) text
+
+-- the tokens alone
+abbrev pub bare : List Piece → List Token
+bare [] = []
+bare (piece ∷ more) = piece.0 ∷ bare more

@@ -1,0 +1,15 @@
+//! Statements: read from a text, and written in their canonical form.
+#![tactic(auto)]
+
+pub mod laws;
+mod reader;
+mod state;
+mod syntax_fault;
+#[cfg(test)]
+mod tests;
+mod token;
+mod writer;
+
+pub use reader::read_statement;
+pub use syntax_fault::SyntaxFault;
+pub use writer::write_statement;

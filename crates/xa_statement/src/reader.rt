@@ -1,0 +1,44 @@
+//! Statements, read token by token.
+ghost use Rattle.std.specs.Prelude.{◌≡◌, ℕ, IfOk, IfErr};
+ghost use Rattle.xa_xid.specs.declared.statement.Statement.{Statement};
+ghost use Rattle.xa_statement.specs.FaultPlace.{FaultAt};
+ghost use Rattle.xa_statement.specs.Grammar.{Spells};
+ghost use Rattle.xa_statement.specs.Reading.{read_of, seen_of};
+
+use crate::SyntaxFault;
+use crate::state::State;
+use crate::token::token_of;
+use xa_xid::{Statement, skip_blanks};
+
+/// The statement that the whole text spells.
+///
+/// Error: `SyntaxFault`, only where the grammar spells no statement so; its place is that of the first token with
+/// which no statement's tokens begin, or the text's length. Takes no memory. Doesn't wait.
+/// Source: MySQL 8.0 Reference Manual, 'XA Transaction SQL Statements'; places and row statements are our own:
+/// docs/STATEMENTS.md, 'Grammar' and 'Fault places'.
+pub fn read_statement(text: &[u8]) -> Result<Statement, SyntaxFault>
+    ensures value { result ≡ seen_of (read_of text.now) }
+    ensures spelled { IfOk result (Spells text.now) }
+    ensures complete { (statement : Statement) → Spells text.now statement → result ≡ Ok statement }
+    ensures fault { IfErr result (λ fault. FaultAt text.now fault.at) }
+    ensures only_fault { (place : ℕ) → FaultAt text.now place → result ≡ Err (record { at = place }) }
+{
+    read_tokens(text)
+}
+
+/// The same, as the machine of states reads.
+fn read_tokens(text: &[u8]) -> Result<Statement, SyntaxFault>
+    ensures { result ≡ seen_of (read_of text.now) }
+{
+    let mut state = State::AtFirst;
+    let mut rest = skip_blanks(text);
+    while !rest.is_empty() {
+        let (token, tail) = token_of(rest);
+        match state.step(token) {
+            Some(next) => state = next,
+            None => return Err(SyntaxFault { at: (text.len() - rest.len()) as u64 }),
+        }
+        rest = skip_blanks(tail);
+    }
+    state.finish().ok_or(SyntaxFault { at: text.len() as u64 })
+}

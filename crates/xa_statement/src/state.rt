@@ -1,0 +1,258 @@
+//! How far a statement was read, and what each token leads to.
+ghost use Rattle.std.specs.Prelude.{◌≡◌};
+ghost use Rattle.xa_statement.specs.Machine.{after_word, xid_word, after_comma, after_value, step, unended, finish, statement_of, after_key};
+ghost use Rattle.xa_xid.specs.XidText.{xid_of};
+
+use crate::token::{Keyword, Token};
+use xa_xid::{Bytes, Key, Statement, Xid};
+
+/// What a statement does with its xid.
+#[derive(Clone, Copy, Drop)]
+pub enum Verb {
+    Starts,
+    Ends,
+    Prepares,
+    Commits,
+    RollsBack,
+}
+
+/// What a statement does with its row.
+#[derive(Clone, Copy, Drop)]
+pub enum RowVerb {
+    Gets,
+    Puts,
+    Deletes,
+}
+
+/// How far a statement was read, with what was read of it.
+#[derive(Drop)]
+pub enum State {
+    /// Nothing yet.
+    AtFirst,
+    /// `XA`
+    AfterXa,
+    /// `XA` and a word that takes an xid.
+    WantsGtrid(Verb),
+    /// The gtrid.
+    AfterGtrid(Verb, Bytes),
+    /// The gtrid and a comma.
+    WantsBqual(Verb, Bytes),
+    /// The gtrid and the bqual.
+    AfterBqual(Verb, Bytes, Bytes),
+    /// The gtrid, the bqual and a comma.
+    WantsFormatId(Verb, Bytes, Bytes),
+    /// All three parts of the xid.
+    AfterXid(Verb, Xid),
+    /// `XA END xid SUSPEND`
+    AfterSuspend,
+    /// `XA END xid SUSPEND FOR`
+    AfterFor,
+    /// `XA COMMIT xid ONE`
+    AfterOne(Xid),
+    /// `XA RECOVER`
+    AfterRecover,
+    /// `XA RECOVER CONVERT`
+    AfterConvert,
+    /// A word that takes a key.
+    WantsKey(RowVerb),
+    /// `PUT key`
+    AfterKey(Key),
+    /// `PUT key ,`
+    WantsValue(Key),
+    /// A statement to which nothing but `;` can be added.
+    Whole(Statement),
+    /// A statement and `;`.
+    Ended(Statement),
+}
+
+impl State {
+    /// The state after one token more, or `None` where no statement's tokens go on so.
+    #[tactic(auto, unfolding(crate::specs::Machine::step))]
+    pub fn step(self, token: Token) -> Option<State>
+        ensures { result ≡ step self token }
+    {
+        match token {
+            Token::Word(word) => self.after_word(word),
+            Token::Comma => self.after_comma(),
+            Token::Semicolon => match self.unended() {
+                Some(statement) => Some(State::Ended(statement)),
+                None => None,
+            },
+            Token::Value(literal, number) => self.after_value(literal, number),
+        }
+    }
+
+    fn after_word(self, word: Keyword) -> Option<State>
+        ensures { result ≡ after_word self word }
+    {
+        match self {
+            State::AtFirst => first_word(word),
+            State::AfterXa => xa_word(word),
+            State::AfterGtrid(verb, gtrid) => xid_word(verb, xid_of(gtrid, Bytes::new(), 1), word),
+            State::AfterBqual(verb, gtrid, bqual) => xid_word(verb, xid_of(gtrid, bqual, 1), word),
+            State::AfterXid(verb, xid) => xid_word(verb, xid, word),
+            State::AfterSuspend => match word {
+                Keyword::For => Some(State::AfterFor),
+                _ => None,
+            },
+            State::AfterFor => match word {
+                Keyword::Migrate => Some(State::Whole(Statement::Unsupported)),
+                _ => None,
+            },
+            State::AfterOne(xid) => match word {
+                Keyword::Phase => Some(
+                    State::Whole(
+                        Statement::Commit {
+                            xid,
+                            one_phase: true,
+                        },
+                    ),
+                ),
+                _ => None,
+            },
+            State::AfterRecover => match word {
+                Keyword::Convert => Some(State::AfterConvert),
+                _ => None,
+            },
+            State::AfterConvert => match word {
+                Keyword::Xid => Some(State::Whole(Statement::Recover { convert: true })),
+                _ => None,
+            },
+            _ => None,
+        }
+    }
+
+    fn after_comma(self) -> Option<State>
+        ensures { result ≡ after_comma self }
+    {
+        match self {
+            State::AfterGtrid(verb, gtrid) => Some(State::WantsBqual(verb, gtrid)),
+            State::AfterBqual(verb, gtrid, bqual) => Some(State::WantsFormatId(verb, gtrid, bqual)),
+            State::AfterKey(key) => Some(State::WantsValue(key)),
+            _ => None,
+        }
+    }
+
+    fn after_value(self, literal: Option<Bytes>, number: Option<u64>) -> Option<State>
+        ensures { result ≡ after_value self literal number }
+    {
+        match self {
+            State::WantsGtrid(verb) => Some(State::AfterGtrid(verb, literal?)),
+            State::WantsBqual(verb, gtrid) => Some(State::AfterBqual(verb, gtrid, literal?)),
+            State::WantsFormatId(verb, gtrid, bqual) => {
+                Some(State::AfterXid(verb, xid_of(gtrid, bqual, number?)))
+            }
+            State::WantsKey(verb) => Some(after_key(verb, Key::of(literal?)?)),
+            State::WantsValue(key) => Some(State::Whole(Statement::Put(key, literal?))),
+            _ => None,
+        }
+    }
+
+    /// The statement that was read, behind which a `;` may still stand.
+    fn unended(self) -> Option<Statement>
+        ensures { result ≡ unended self }
+    {
+        match self {
+            State::AfterGtrid(verb, gtrid) => {
+                Some(statement_of(verb, xid_of(gtrid, Bytes::new(), 1)))
+            }
+            State::AfterBqual(verb, gtrid, bqual) => {
+                Some(statement_of(verb, xid_of(gtrid, bqual, 1)))
+            }
+            State::AfterXid(verb, xid) => Some(statement_of(verb, xid)),
+            State::AfterSuspend => Some(Statement::Unsupported),
+            State::AfterRecover => Some(Statement::Recover { convert: false }),
+            State::Whole(statement) => Some(statement),
+            _ => None,
+        }
+    }
+
+    /// The statement, where the tokens so far are one.
+    #[tactic(auto, unfolding(crate::specs::Machine::finish))]
+    pub fn finish(self) -> Option<Statement>
+        ensures { result ≡ finish self }
+    {
+        match self {
+            State::Ended(statement) => Some(statement),
+            other => other.unended(),
+        }
+    }
+}
+
+/// The word that a statement begins with.
+fn first_word(word: Keyword) -> Option<State>
+    ensures { result ≡ after_word State.AtFirst word }
+{
+    match word {
+        Keyword::Xa => Some(State::AfterXa),
+        Keyword::Get => Some(State::WantsKey(RowVerb::Gets)),
+        Keyword::Put => Some(State::WantsKey(RowVerb::Puts)),
+        Keyword::Del => Some(State::WantsKey(RowVerb::Deletes)),
+        Keyword::Disconnect => Some(State::Whole(Statement::Disconnect)),
+        _ => None,
+    }
+}
+
+/// The word behind `XA`.
+fn xa_word(word: Keyword) -> Option<State>
+    ensures { result ≡ after_word State.AfterXa word }
+{
+    match word {
+        Keyword::Start | Keyword::Begin => Some(State::WantsGtrid(Verb::Starts)),
+        Keyword::End => Some(State::WantsGtrid(Verb::Ends)),
+        Keyword::Prepare => Some(State::WantsGtrid(Verb::Prepares)),
+        Keyword::Commit => Some(State::WantsGtrid(Verb::Commits)),
+        Keyword::Rollback => Some(State::WantsGtrid(Verb::RollsBack)),
+        Keyword::Recover => Some(State::AfterRecover),
+        _ => None,
+    }
+}
+
+/// A word behind an xid.
+fn xid_word(verb: Verb, xid: Xid, word: Keyword) -> Option<State>
+    ensures { result ≡ xid_word verb xid word }
+{
+    match (verb, word) {
+        (Verb::Starts, Keyword::Join | Keyword::Resume) => {
+            Some(State::Whole(Statement::Unsupported))
+        }
+        (Verb::Ends, Keyword::Suspend) => Some(State::AfterSuspend),
+        (Verb::Commits, Keyword::One) => Some(State::AfterOne(xid)),
+        _ => None,
+    }
+}
+
+fn after_key(verb: RowVerb, key: Key) -> State
+    ensures { result ≡ after_key verb key }
+{
+    match verb {
+        RowVerb::Gets => State::Whole(Statement::Get(key)),
+        RowVerb::Puts => State::AfterKey(key),
+        RowVerb::Deletes => State::Whole(Statement::Del(key)),
+    }
+}
+
+fn statement_of(verb: Verb, xid: Xid) -> Statement
+    ensures { result ≡ statement_of verb xid }
+{
+    match verb {
+        Verb::Starts => Statement::Start(xid),
+        Verb::Ends => Statement::End(xid),
+        Verb::Prepares => Statement::Prepare(xid),
+        Verb::Commits => Statement::Commit {
+            xid,
+            one_phase: false,
+        },
+        Verb::RollsBack => Statement::Rollback(xid),
+    }
+}
+
+fn xid_of(gtrid: Bytes, bqual: Bytes, format_id: u64) -> Xid
+    ensures { result ≡ xid_of gtrid bqual format_id }
+{
+    Xid {
+        format_id,
+        gtrid,
+        bqual,
+    }
+}

@@ -1,0 +1,208 @@
+//! Tokens, cut from the front of a text.
+ghost use Rattle.std.specs.Prelude.{◌≡◌, ◌<◌, ◌≤◌, length};
+ghost use Rattle.xa_statement.specs.Token.{is_word, statement_word, clause_word, keyword_of, opens_quoted, quoted_at, run_at, part_of, token_at};
+ghost use Rattle.xa_xid.specs.Literal.{literal_at};
+ghost use Rattle.xa_xid.specs.Number.{number_at};
+
+use xa_xid::{ByteClass, Bytes, literal_of, number_of};
+
+/// A word of the grammar.
+///
+/// Source: MySQL 8.0 Reference Manual, 'XA Transaction SQL Statements'; the last four are our own:
+/// docs/STATEMENTS.md, 'Grammar'.
+#[derive(Clone, Copy, Debug, PartialEq, Eq)]
+pub enum Keyword {
+    Xa,
+    Start,
+    Begin,
+    End,
+    Prepare,
+    Commit,
+    Rollback,
+    Recover,
+    Join,
+    Resume,
+    Suspend,
+    For,
+    Migrate,
+    One,
+    Phase,
+    Convert,
+    Xid,
+    Get,
+    Put,
+    Del,
+    Disconnect,
+}
+
+/// A token of a statement.
+#[derive(Drop)]
+pub enum Token {
+    /// A word of the grammar.
+    Word(Keyword),
+    /// `,`
+    Comma,
+    /// `;`
+    Semicolon,
+    /// What it stands for as a literal and as a formatID: both for `0x41`, and neither for what is no token of a
+    /// statement.
+    Value(Option<Bytes>, Option<u64>),
+}
+
+/// The token that a text begins with, and the text behind it.
+///
+/// The text isn't empty and begins with no blank. A faulty literal takes the rest of the text: no statement has one,
+/// so nobody can tell.
+#[tactic(auto, unfolding(crate::specs::Token::token_at))]
+pub(crate) fn token_of(text: &[u8]) -> (Token, &[u8])
+    requires { 0 < length text.now }
+    ensures { (result.0, result.1.now) ≡ token_at text.now }
+{
+    match text[0] {
+        b',' => (Token::Comma, &text[1..]),
+        b';' => (Token::Semicolon, &text[1..]),
+        _ => {
+            if begins_quoted(text) {
+                quoted_token(text)
+            } else if ByteClass::Word.has(text[0]) {
+                run_token(text)
+            } else {
+                (Token::Value(None, None), &[])
+            }
+        }
+    }
+}
+
+/// Whether a literal in quotes begins the text.
+fn begins_quoted(text: &[u8]) -> bool
+    requires { 0 < length text.now }
+    ensures { result ≡ opens_quoted text.now }
+{
+    match text[0] {
+        b'\'' | b'"' => true,
+        b'X' | b'x' => text.len() > 1 && text[1] == b'\'',
+        _ => false,
+    }
+}
+
+/// A literal in quotes.
+fn quoted_token(text: &[u8]) -> (Token, &[u8])
+    ensures { (result.0, result.1.now) ≡ quoted_at (literal_at text.now) }
+{
+    match literal_of(text) {
+        Ok((bytes, rest)) => (Token::Value(Some(bytes), None), rest),
+        Err(_) => (Token::Value(None, None), &[]),
+    }
+}
+
+/// A run of word bytes.
+fn run_token(text: &[u8]) -> (Token, &[u8])
+    ensures { (result.0, result.1.now) ≡ run_at text.now }
+{
+    let (run, rest) = ByteClass::Word.split(text);
+    match word_of_run(run) {
+        Some(word) => (Token::Word(word), rest),
+        None => (Token::Value(literal_part(text), number_part(text)), rest),
+    }
+}
+
+/// What the text begins with as a literal.
+fn literal_part(text: &[u8]) -> Option<Bytes>
+    ensures { result ≡ part_of (literal_at text.now) }
+{
+    match literal_of(text) {
+        Ok((bytes, _)) => Some(bytes),
+        Err(_) => None,
+    }
+}
+
+/// What the text begins with as a number.
+fn number_part(text: &[u8]) -> Option<u64>
+    ensures { result ≡ part_of (number_at text.now) }
+{
+    match number_of(text) {
+        Ok((number, _)) => Some(number),
+        Err(_) => None,
+    }
+}
+
+/// The word that a run is, without regard to case.
+#[tactic(auto, unfolding(crate::specs::Token::keyword_of))]
+fn word_of_run(run: &[u8]) -> Option<Keyword>
+    ensures { result ≡ keyword_of run.now }
+{
+    match first_word(run) {
+        Some(word) => Some(word),
+        None => later_word(run),
+    }
+}
+
+/// The words that begin a statement, or stand behind `XA`.
+#[tactic(auto, unfolding(crate::specs::Token::statement_word))]
+fn first_word(run: &[u8]) -> Option<Keyword>
+    ensures { result ≡ statement_word run.now }
+{
+    if same_word(b"XA", run) {
+        Some(Keyword::Xa)
+    } else if same_word(b"START", run) {
+        Some(Keyword::Start)
+    } else if same_word(b"BEGIN", run) {
+        Some(Keyword::Begin)
+    } else if same_word(b"END", run) {
+        Some(Keyword::End)
+    } else if same_word(b"PREPARE", run) {
+        Some(Keyword::Prepare)
+    } else if same_word(b"COMMIT", run) {
+        Some(Keyword::Commit)
+    } else if same_word(b"ROLLBACK", run) {
+        Some(Keyword::Rollback)
+    } else if same_word(b"RECOVER", run) {
+        Some(Keyword::Recover)
+    } else if same_word(b"GET", run) {
+        Some(Keyword::Get)
+    } else if same_word(b"PUT", run) {
+        Some(Keyword::Put)
+    } else if same_word(b"DEL", run) {
+        Some(Keyword::Del)
+    } else if same_word(b"DISCONNECT", run) {
+        Some(Keyword::Disconnect)
+    } else {
+        None
+    }
+}
+
+/// The words of the clauses behind an xid or `RECOVER`.
+#[tactic(auto, unfolding(crate::specs::Token::clause_word))]
+fn later_word(run: &[u8]) -> Option<Keyword>
+    ensures { result ≡ clause_word run.now }
+{
+    if same_word(b"JOIN", run) {
+        Some(Keyword::Join)
+    } else if same_word(b"RESUME", run) {
+        Some(Keyword::Resume)
+    } else if same_word(b"SUSPEND", run) {
+        Some(Keyword::Suspend)
+    } else if same_word(b"FOR", run) {
+        Some(Keyword::For)
+    } else if same_word(b"MIGRATE", run) {
+        Some(Keyword::Migrate)
+    } else if same_word(b"ONE", run) {
+        Some(Keyword::One)
+    } else if same_word(b"PHASE", run) {
+        Some(Keyword::Phase)
+    } else if same_word(b"CONVERT", run) {
+        Some(Keyword::Convert)
+    } else if same_word(b"XID", run) {
+        Some(Keyword::Xid)
+    } else {
+        None
+    }
+}
+
+/// Whether the run is the word, without regard to case.
+
+fn same_word(word: &[u8], run: &[u8]) -> bool
+    ensures { result ≡ is_word word.now run.now }
+{
+    run.eq_ignore_ascii_case(word)
+}

@@ -1,0 +1,102 @@
+-- What stands behind a token is shorter than the text.
+use Rattle.std.proofs.Common.{◌≡◌, ℕ, ◌≤◌, suc, Bool, true, false, not, nat_lt, ◌%◌, if◌then◌else◌, ◌||◌, ◌==◌, List, [], ◌∷◌, ◌++◌, length, drop, Option, Some, None, Result, Ok, Err, refl, sym, ◌∙◌, arith}
+use Rattle.std.proofs.Math.Nat.{le_refl}
+use Rattle.std.proofs.lemmas.Bool.{cond_both, or_from, true≢false}
+use Rattle.hex.specs.Hex.{decode_of}
+use Rattle.xa_xid.specs.Bytes.{belongs, front, behind}
+use Rattle.xa_xid.specs.Literal.{Reading, literal_at, opens_text, opens_hex, text_literal_of, sized, kept, hex_in_quotes_of, decoded}
+use Rattle.xa_xid.specs.Quoted.{quoted, onto, escaped}
+use Rattle.xa_xid.specs.Xid.{Text}
+use Rattle.xa_xid.specs.declared.byte_class.ByteClass.TheVariants.{Hexadecimal}
+use Rattle.xa_xid.specs.declared.literal_fault.LiteralFault.{LiteralFault}
+use Rattle.xa_xid.specs.declared.literal_fault.LiteralFault.TheVariants.{NotALiteral, OddHex, TooLong}
+use Rattle.xa_xid.specs.declared.quoted.Mode.{Mode}
+use Rattle.xa_xid.specs.declared.quoted.Mode.TheVariants.{Plain, Escape, Quote}
+
+pub behind-short : (p : ℕ → Bool) (text : List ℕ) → length (behind p text) ≤ length text
+unfolding behind
+behind-short p [] = le_refl 0
+behind-short p (byte ∷ text) =
+    let shorter : length (behind p text) ≤ length text = behind-short p text in
+    cond_both (p byte) (behind p text) (byte ∷ text) (λ left. length left ≤ suc (length text)) (λ _. omega arith) (λ _. omega arith)
+
+-- what is left is at most so long
+abbrev Short : ℕ → Option (List ℕ × List ℕ) → Type 0
+Short most None = Unit {0}
+Short most (Some found) = length found.1 ≤ most
+
+short-onto : (most : ℕ) (first : List ℕ) (found : Option (List ℕ × List ℕ)) → Short most found → Short (suc most) (onto first found)
+short-onto most first None short = tt
+short-onto most first (Some (bytes, rest)) short = omega arith
+
+short-more : (most : ℕ) (found : Option (List ℕ × List ℕ)) → Short most found → Short (suc most) found
+short-more most None short = tt
+short-more most (Some (bytes, rest)) short = omega arith
+
+quoted-short : (quote : ℕ) (mode : Mode) (text : List ℕ) → Short (length text) (quoted quote mode text)
+unfolding quoted
+quoted-short quote Plain [] = tt
+quoted-short quote Plain (byte ∷ text) =
+    cond_both (byte == quote) _ _ (Short (suc (length text)))
+    (λ _. short-more (length text) (quoted quote Quote text) (quoted-short quote Quote text))
+    (λ _. cond_both (byte == 92) _ _ (Short (suc (length text)))
+      (λ _. short-more (length text) (quoted quote Escape text) (quoted-short quote Escape text))
+      (λ _. short-onto (length text) (byte ∷ []) (quoted quote Plain text) (quoted-short quote Plain text)))
+quoted-short quote Escape [] = tt
+quoted-short quote Escape (byte ∷ text) = short-onto (length text) (escaped byte) (quoted quote Plain text) (quoted-short quote Plain text)
+quoted-short quote Quote [] = le_refl 0
+quoted-short quote Quote (byte ∷ text) =
+    cond_both (byte == quote) _ _ (Short (suc (length text)))
+    (λ _. short-onto (length text) (quote ∷ []) (quoted quote Plain text) (quoted-short quote Plain text))
+    (λ _. le_refl (suc (length text)))
+
+-- what is left behind a literal is at most so long
+abbrev pub ShortReading : ℕ → Reading Text → Type 0
+ShortReading most (Ok found) = length found.1 ≤ most
+ShortReading most (Err fault) = Unit {0}
+
+short-sized : (most : ℕ) (text : Option Text) (rest : List ℕ) → length rest ≤ most → ShortReading most (sized text rest)
+short-sized most None rest short = tt
+short-sized most (Some text) rest short = short
+
+short-text : (most : ℕ) (found : Option (List ℕ × List ℕ)) → Short most found → ShortReading most (text_literal_of found)
+short-text most None short = tt
+short-text most (Some (bytes, rest)) short = short-sized most (kept bytes) rest short
+
+short-decoded : (most : ℕ) (digits rest : List ℕ) → length rest ≤ most → ShortReading most (decoded digits rest)
+short-decoded most digits rest short =
+    elim (decode_of digits) as (λ found. ShortReading most (elim found [ Ok bytes ↦ Ok (record { items = bytes }, rest) | Err _ ↦ Err NotALiteral ])) [
+      Ok bytes ↦ short
+    | Err fault ↦ tt
+    ]
+
+short-guard : (most : ℕ) (test : Bool) (fault : LiteralFault) (other : Reading Text) → ShortReading most other
+    → ShortReading most (if test then Err fault else other)
+short-guard most true fault other short = tt
+short-guard most false fault other short = short
+
+short-hex : (most : ℕ) (digits rest : List ℕ) → length rest ≤ most → ShortReading most (hex_in_quotes_of digits rest)
+short-hex most digits [] short = tt
+short-hex most digits (byte ∷ rest) short =
+    let long : Reading Text = if nat_lt 128 (length digits) then Err TooLong else decoded digits rest in
+    let odd : Reading Text = if length digits % 2 == 1 then Err OddHex else long in
+    let shorter : length rest ≤ most = omega arith in
+    short-guard most (not (byte == 39)) NotALiteral odd
+    (short-guard most (length digits % 2 == 1) OddHex long
+      (short-guard most (nat_lt 128 (length digits)) TooLong (decoded digits rest) (short-decoded most digits rest shorter)))
+
+length-drop-2 : (byte : ℕ) (text : List ℕ) → length (drop 2 (byte ∷ text)) ≤ length text
+length-drop-2 byte [] = le_refl 0
+length-drop-2 byte (next ∷ text) = omega arith
+
+pub literal-short : (byte : ℕ) (text : List ℕ) → (opens_text (byte ∷ text) || opens_hex (byte ∷ text)) ≡ true
+    → ShortReading (length text) (literal_at (byte ∷ text))
+unfolding literal_at
+literal-short byte text opens =
+    let hex = belongs Hexadecimal in
+    cond_both (opens_text (byte ∷ text)) _ _ (ShortReading (length text))
+    (λ _. short-text (length text) (quoted byte Plain text) (quoted-short byte Plain text))
+    (λ no. cond_both (opens_hex (byte ∷ text)) _ _ (ShortReading (length text))
+      (λ _. short-hex (length text) (front hex (drop 2 (byte ∷ text))) (behind hex (drop 2 (byte ∷ text)))
+        (omega (arith, behind-short hex (drop 2 (byte ∷ text)), length-drop-2 byte text)))
+      (λ none. let never : true ≡ false = sym opens ∙ or_from _ _ no none in absurd (true≢false never)))

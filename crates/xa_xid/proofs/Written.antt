@@ -1,0 +1,253 @@
+-- What is written in canonical form is read back.
+use Rattle.std.proofs.Common.{◌≡◌, ℕ, ◌+◌, ◌*◌, ◌/◌, ◌%◌, ◌^◌, ◌<◌, ◌≤◌, suc, Bool, true, false, ◌==◌, ◌&&◌, not, List, [], ◌∷◌, ◌++◌, length, Option, Some, None, Result, Ok, Err, get_or, refl, sym, ◌∙◌, ap, arith, append_assoc, decimal}
+use Rattle.std.proofs.lemmas.Bool.{agree_below, agree_below_at, lt-ltb, le-ltb, ne_eqb, eq-eqb, le-leb}
+use Rattle.std.proofs.lemmas.Bool.Decides.{nat_tests}
+use Rattle.std.proofs.lemmas.Fmt.{decimal_is_IsNumeral}
+use Rattle.std.proofs.lemmas.Str.Parse.{digit_from_value}
+use Rattle.std.specs.Char.{digit_value, is_digit}
+use Rattle.std.specs.Str.Parse.{digits_value, AllDigits, IsNumeral}
+use Rattle.hex.specs.Hex.{IsBytes, encode_lower, encode_with, lower_digits, decode_of, decode_pairs}
+use Rattle.hex.proofs.HexLemmas.{decode_of-encode_lower, length-encode_with}
+use Rattle.xa_xid.specs.Bytes.{belongs, is_word, is_blank, front, behind, only, run, after_run, unblank, StartsNo}
+use Rattle.xa_xid.specs.Literal.{Reading, literal_at, hex_run_of, hex_digits_of, evened, decoded}
+use Rattle.xa_xid.specs.Number.{number_at, number_in, fitting}
+use Rattle.xa_xid.specs.Xid.{Text}
+use Rattle.xa_xid.specs.XidText.{Parse, xid_at, part_text, xid_text, xid_of, gtrid_next, bqual_next, format_id_next, after_gtrid, after_bqual, comma_next, IsWritable}
+use Rattle.xa_xid.specs.declared.byte_class.ByteClass.{ByteClass}
+use Rattle.xa_xid.specs.declared.byte_class.ByteClass.TheVariants.{Blank, Word, Decimal, Hexadecimal}
+use Rattle.xa_xid.specs.declared.literal_fault.LiteralFault.{LiteralFault}
+use Rattle.xa_xid.specs.declared.literal_fault.LiteralFault.TheVariants.{NotALiteral}
+use Rattle.hex.specs.declared.error.FromHexError.{FromHexError}
+use Rattle.xa_xid.specs.declared.xid.Xid.{Xid}
+use Rattle.xa_xid.proofs.Cuts.{front-passes, front-stops, front-nil, behind-passes, behind-stops, behind-nil}
+use Rattle.xa_xid.proofs.Numbers.{fitting_small}
+
+-- all pass
+abbrev pub Passes : (ℕ → Bool) → List ℕ → Type 0
+Passes p [] = Unit {0}
+Passes p (byte ∷ text) = (p byte ≡ true) × Passes p text
+
+front-starts : (p : ℕ → Bool) (rest : List ℕ) → StartsNo p rest → front p rest ≡ []
+front-starts p [] s = front-nil p
+front-starts p (byte ∷ rest) s = front-stops p byte rest s
+
+behind-starts : (p : ℕ → Bool) (rest : List ℕ) → StartsNo p rest → behind p rest ≡ rest
+behind-starts p [] s = behind-nil p
+behind-starts p (byte ∷ rest) s = behind-stops p byte rest s
+
+-- bytes that pass are cut whole
+pub front-append : (p : ℕ → Bool) (text rest : List ℕ) → Passes p text → StartsNo p rest → front p (text ++ rest) ≡ text
+front-append p [] rest all s = front-starts p rest s
+front-append p (byte ∷ text) rest all s =
+    front-passes p byte (text ++ rest) all.0 ∙ ap (λ t. byte ∷ t) (front-append p text rest all.1 s)
+
+pub behind-append : (p : ℕ → Bool) (text rest : List ℕ) → Passes p text → StartsNo p rest → behind p (text ++ rest) ≡ rest
+behind-append p [] rest all s = behind-starts p rest s
+behind-append p (byte ∷ text) rest all s = behind-passes p byte (text ++ rest) all.0 ∙ behind-append p text rest all.1 s
+
+only_passes : (p : ℕ → Bool) (text : List ℕ) → Passes p text → behind p text ≡ []
+only_passes p [] all = behind-nil p
+only_passes p (byte ∷ text) all = behind-passes p byte text all.0 ∙ only_passes p text all.1
+
+-- the sixteen digits
+digit_is_word : (i : ℕ) → i < 16 → belongs Word (get_or lower_digits i 0) ≡ true
+unfolding belongs
+digit_is_word i small = agree_below_at (λ n. belongs Word (get_or lower_digits n 0)) (λ _. true) 16 i refl small
+
+digit_is_hex : (i : ℕ) → i < 16 → belongs Hexadecimal (get_or lower_digits i 0) ≡ true
+unfolding belongs
+digit_is_hex i small = agree_below_at (λ n. belongs Hexadecimal (get_or lower_digits n 0)) (λ _. true) 16 i refl small
+
+bytes_tail : (byte : ℕ) (bytes : List ℕ) → IsBytes (byte ∷ bytes) → IsBytes bytes
+bytes_tail byte bytes all i = all (suc i)
+
+digits_pass : (p : ℕ → Bool) → ((i : ℕ) → i < 16 → p (get_or lower_digits i 0) ≡ true) → (bytes : List ℕ) → IsBytes bytes → Passes p (encode_lower bytes)
+unfolding encode_with
+digits_pass p each [] all = tt
+digits_pass p each (byte ∷ bytes) all =
+    let small : byte < 256 = all 0 in
+    let high : byte / 16 < 16 = omega arith in
+    let low : byte % 16 < 16 = omega arith in
+    (each (byte / 16) high, (each (byte % 16) low, digits_pass p each bytes (bytes_tail byte bytes all)))
+
+-- a run of `0x` and digits that aren't none
+hex_digits_back : (digit : ℕ) (digits : List ℕ) → behind (belongs Hexadecimal) (digit ∷ digits) ≡ []
+    → hex_digits_of (48 ∷ 120 ∷ digit ∷ digits) ≡ Some (digit ∷ digits)
+hex_digits_back digit digits e = rw e refl
+
+even_digits : (bytes : List ℕ) → length (encode_lower bytes) % 2 ≡ 0
+even_digits bytes = let twice : length (encode_lower bytes) ≡ 2 * length bytes = length-encode_with lower_digits bytes in omega arith
+
+abbrev decoded_found : List ℕ → Result (List ℕ) FromHexError → Reading Text
+decoded_found rest (Ok bytes) = Ok (record { items = bytes }, rest)
+decoded_found rest (Err fault) = Err NotALiteral
+
+hex_run_back : (bytes rest : List ℕ) → IsBytes bytes → length bytes ≤ 64
+    → hex_run_of (Some (encode_lower bytes)) rest ≡ Ok (record { items = bytes }, rest)
+hex_run_back bytes rest all fits =
+    let digits = encode_lower bytes in
+    let twice : length digits ≡ 2 * length bytes = length-encode_with lower_digits bytes in
+    let odd : (length digits % 2 == 1) ≡ false = ap (λ n. n == 1) (even_digits bytes) in
+    let short : hex_run_of (Some digits) rest ≡ decoded (evened digits) rest = rw (le-ltb 128 (length digits) (omega arith)) refl in
+    let even : evened digits ≡ digits = rw odd refl in
+    short ∙ ap (λ d. decoded d rest) even ∙ ap (decoded_found rest) (decode_of-encode_lower bytes all)
+
+-- a part that isn't empty
+filled_back : (byte : ℕ) (bytes rest : List ℕ) → IsBytes (byte ∷ bytes) → length (byte ∷ bytes) ≤ 64 → StartsNo (belongs Word) rest
+    → literal_at (48 ∷ 120 ∷ encode_lower (byte ∷ bytes) ++ rest) ≡ Ok (record { items = byte ∷ bytes }, rest)
+unfolding literal_at belongs encode_with
+filled_back byte bytes rest all fits s =
+    let digits = encode_lower (byte ∷ bytes) in
+    let word : Passes (belongs Word) (48 ∷ 120 ∷ digits) = (refl, (refl, digits_pass (belongs Word) digit_is_word (byte ∷ bytes) all)) in
+    let cut : run (48 ∷ 120 ∷ digits ++ rest) ≡ 48 ∷ 120 ∷ digits = front-append (belongs Word) (48 ∷ 120 ∷ digits) rest word s in
+    let left : after_run (48 ∷ 120 ∷ digits ++ rest) ≡ rest = behind-append (belongs Word) (48 ∷ 120 ∷ digits) rest word s in
+    let hex : hex_digits_of (48 ∷ 120 ∷ digits) ≡ Some digits =
+      hex_digits_back _ _ (only_passes (belongs Hexadecimal) digits (digits_pass (belongs Hexadecimal) digit_is_hex (byte ∷ bytes) all)) in
+    ap (λ r. hex_run_of (hex_digits_of r) (after_run (48 ∷ 120 ∷ digits ++ rest))) cut
+    ∙ ap (λ d. hex_run_of d (after_run (48 ∷ 120 ∷ digits ++ rest))) hex
+    ∙ ap (λ r. hex_run_of (Some digits) r) left
+    ∙ hex_run_back (byte ∷ bytes) rest all fits
+
+-- an empty part
+empty_back : (rest : List ℕ) → literal_at (88 ∷ 39 ∷ 39 ∷ rest) ≡ Ok (record { items = [] }, rest)
+unfolding literal_at front behind belongs decode_pairs
+empty_back rest = refl
+
+pub part_back : (bytes rest : List ℕ) → IsBytes bytes → length bytes ≤ 64 → StartsNo (belongs Word) rest
+    → literal_at (part_text bytes ++ rest) ≡ Ok (record { items = bytes }, rest)
+part_back [] rest all fits s = empty_back rest
+part_back (byte ∷ bytes) rest all fits s = filled_back byte bytes rest all fits s
+
+-- decimal digits
+pub decimal_byte : (byte : ℕ) → digit_value byte < 10 → (48 ≤ byte) × (byte ≤ 57)
+decimal_byte byte small = digit_from_value byte small
+
+digit_not_blank : (byte : ℕ) → 48 ≤ byte → belongs Blank byte ≡ false
+unfolding belongs
+digit_not_blank byte low =
+    rw (ne_eqb byte 32 (λ e. omega arith), ne_eqb byte 9 (λ e. omega arith), ne_eqb byte 10 (λ e. omega arith), ne_eqb byte 13 (λ e. omega arith)) refl
+
+word_digit : (byte : ℕ) → 48 ≤ byte → byte ≤ 57 → belongs Word byte ≡ true
+unfolding belongs
+word_digit byte low high = grind (arith, nat_tests)
+
+digits_word : (digits : List ℕ) → AllDigits 10 digits → Passes (belongs Word) digits
+digits_word [] all = tt
+digits_word (digit ∷ digits) all =
+    let range = decimal_byte digit all.0 in (word_digit digit range.0 range.1, digits_word digits all.1)
+
+digits_decimal : (digits : List ℕ) → AllDigits 10 digits → Passes (belongs Decimal) digits
+unfolding belongs
+digits_decimal [] all = tt
+digits_decimal (digit ∷ digits) all = (lt-ltb (digit_value digit) 10 all.0, digits_decimal digits all.1)
+
+number_in_back : (n : ℕ) → n < 2 ^ 64 → (digits : List ℕ) → IsNumeral 10 digits → digits_value 10 digits ≡ n → number_in digits ≡ Ok n
+number_in_back n small [] is e = absurd (omega (arith, is.0))
+number_in_back n small (digit ∷ digits) is e =
+    let decimal : behind (belongs Decimal) (digit ∷ digits) ≡ [] = only_passes (belongs Decimal) (digit ∷ digits) (digits_decimal (digit ∷ digits) is.1) in
+    let some : (length (digit ∷ digits) == 0) ≡ false = ne_eqb _ _ (λ e. omega (arith, is.0, e)) in
+    rw (some, decimal) (sym (fitting_small n (digits_value 10 (digit ∷ digits)) small (sym e)))
+
+abbrev number_found : List ℕ → Result ℕ LiteralFault → Reading ℕ
+number_found rest (Ok value) = Ok (value, rest)
+number_found rest (Err fault) = Err fault
+
+number_at-found : (text : List ℕ) → number_at text ≡ number_found (after_run text) (number_in (run text))
+unfolding number_at
+number_at-found text = refl
+
+pub number_back : (n : ℕ) (rest : List ℕ) → n < 2 ^ 64 → StartsNo (belongs Word) rest → number_at (decimal n ++ rest) ≡ Ok (n, rest)
+number_back n rest small s =
+    let is = decimal_is_IsNumeral n small in
+    let word : Passes (belongs Word) (decimal n) = digits_word (decimal n) is.0.1 in
+    let cut : run (decimal n ++ rest) ≡ decimal n = front-append (belongs Word) (decimal n) rest word s in
+    let left : after_run (decimal n ++ rest) ≡ rest = behind-append (belongs Word) (decimal n) rest word s in
+    let value : number_in (run (decimal n ++ rest)) ≡ Ok n = ap number_in cut ∙ number_in_back n small (decimal n) is.0 is.1 in
+    number_at-found (decimal n ++ rest)
+    ∙ ap (number_found (after_run (decimal n ++ rest))) value
+    ∙ ap (λ r. Ok (n, r)) left
+
+-- no blank stands before a part or a number
+pub part_unblank : (bytes rest : List ℕ) → unblank (part_text bytes ++ rest) ≡ part_text bytes ++ rest
+unfolding behind belongs
+part_unblank [] rest = refl
+part_unblank (byte ∷ bytes) rest = refl
+
+first_unblank : (digits rest : List ℕ) → IsNumeral 10 digits → unblank (digits ++ rest) ≡ digits ++ rest
+first_unblank [] rest is = absurd (omega (arith, is.0))
+first_unblank (digit ∷ digits) rest is =
+    behind-stops (belongs Blank) digit (digits ++ rest) (digit_not_blank digit (decimal_byte digit is.1.0).0)
+
+pub number_unblank : (n : ℕ) (rest : List ℕ) → n < 2 ^ 64 → unblank (decimal n ++ rest) ≡ decimal n ++ rest
+number_unblank n rest small = first_unblank (decimal n) rest (decimal_is_IsNumeral n small).0
+
+comma_unblank : (rest : List ℕ) → unblank (44 ∷ rest) ≡ 44 ∷ rest
+unfolding behind belongs
+comma_unblank rest = refl
+
+pub comma_no_word : (rest : List ℕ) → StartsNo (belongs Word) (44 ∷ rest)
+unfolding belongs
+comma_no_word rest = refl
+
+-- what follows the parts that were found
+abbrev format_found : Text → Text → List ℕ → Reading ℕ → Parse
+format_found gtrid bqual text (Ok found) = Ok (xid_of gtrid bqual found.0, found.1)
+format_found gtrid bqual text (Err fault) = Err (fault, text)
+
+abbrev bqual_found : Text → List ℕ → Reading Text → Parse
+bqual_found gtrid text (Ok found) = after_bqual gtrid found.0 found.1 (comma_next (unblank found.1))
+bqual_found gtrid text (Err fault) = Err (fault, text)
+
+abbrev gtrid_found : List ℕ → Reading Text → Parse
+gtrid_found text (Ok found) = after_gtrid found.0 found.1 (comma_next (unblank found.1))
+gtrid_found text (Err fault) = Err (fault, text)
+
+-- a part, a comma and more
+third_back : (gtrid bqual : Text) (n : ℕ) (text rest : List ℕ) → unblank text ≡ text → number_at text ≡ Ok (n, rest)
+    → format_id_next gtrid bqual (unblank text) ≡ Ok (xid_of gtrid bqual n, rest)
+third_back gtrid bqual n text rest blank e = ap (format_id_next gtrid bqual) blank ∙ ap (format_found gtrid bqual text) e
+
+second_back : (gtrid : Text) (bqual text next : List ℕ) (answer : Parse) → text ≡ part_text bqual ++ (44 ∷ next) → IsBytes bqual → length bqual ≤ 64
+    → format_id_next gtrid (record { items = bqual }) (unblank next) ≡ answer → bqual_next gtrid (unblank text) ≡ answer
+second_back gtrid bqual text next answer e all fits more =
+    let blank : unblank text ≡ text = rw e (part_unblank bqual (44 ∷ next)) in
+    let part : literal_at text ≡ Ok (record { items = bqual }, 44 ∷ next) = ap literal_at e ∙ part_back bqual (44 ∷ next) all fits (comma_no_word next) in
+    ap (bqual_next gtrid) blank ∙ ap (bqual_found gtrid text) part
+    ∙ ap (λ t. after_bqual gtrid (record { items = bqual }) (44 ∷ next) (comma_next t)) (comma_unblank next) ∙ more
+
+first_back : (gtrid text next : List ℕ) (answer : Parse) → text ≡ part_text gtrid ++ (44 ∷ next) → IsBytes gtrid → length gtrid ≤ 64
+    → bqual_next (record { items = gtrid }) (unblank next) ≡ answer → gtrid_next (unblank text) ≡ answer
+first_back gtrid text next answer e all fits more =
+    let blank : unblank text ≡ text = rw e (part_unblank gtrid (44 ∷ next)) in
+    let part : literal_at text ≡ Ok (record { items = gtrid }, 44 ∷ next) = ap literal_at e ∙ part_back gtrid (44 ∷ next) all fits (comma_no_word next) in
+    ap gtrid_next blank ∙ ap (gtrid_found text) part
+    ∙ ap (λ t. after_gtrid (record { items = gtrid }) (44 ∷ next) (comma_next t)) (comma_unblank next) ∙ more
+
+-- the text of an identifier and more, part by part
+pub xid_text-append : (xid : Xid) (rest : List ℕ) → xid_text xid ++ rest
+    ≡ part_text xid.gtrid.items ++ (44 ∷ (part_text xid.bqual.items ++ (44 ∷ (decimal xid.format_id ++ rest))))
+xid_text-append xid rest =
+    let bqual = part_text xid.bqual.items in
+    let number = decimal xid.format_id in
+    append_assoc (part_text xid.gtrid.items) (44 ∷ (bqual ++ (44 ∷ number))) rest
+    ∙ ap (λ t. part_text xid.gtrid.items ++ (44 ∷ t)) (append_assoc bqual (44 ∷ number) rest)
+
+-- an identifier, read back from its parts
+pub xid_back : (xid : Xid) (rest : List ℕ) → IsWritable xid → StartsNo (belongs Word) rest → xid_at (xid_text xid ++ rest) ≡ Ok (xid, rest)
+unfolding xid_at
+xid_back xid rest is s =
+    let number = decimal xid.format_id ++ rest in
+    let third = part_text xid.bqual.items ++ (44 ∷ number) in
+    first_back xid.gtrid.items (xid_text xid ++ rest) third (Ok (xid, rest)) (xid_text-append xid rest) is.gtrid_bytes is.gtrid_fits
+    (second_back xid.gtrid xid.bqual.items third number (Ok (xid, rest)) refl is.bqual_bytes is.bqual_fits
+      (third_back xid.gtrid xid.bqual xid.format_id number rest (number_unblank xid.format_id rest is.format_fits)
+        (number_back xid.format_id rest is.format_fits s)))
+
+-- the digits of a part are word bytes
+pub part_word : (byte : ℕ) (bytes : List ℕ) → IsBytes (byte ∷ bytes) → Passes (belongs Word) (48 ∷ 120 ∷ encode_lower (byte ∷ bytes))
+unfolding belongs
+part_word byte bytes all = (refl, (refl, digits_pass (belongs Word) digit_is_word (byte ∷ bytes) all))
+
+-- and so are those of a number
+pub decimal_word : (n : ℕ) → n < 2 ^ 64 → Passes (belongs Word) (decimal n)
+decimal_word n small = digits_word (decimal n) (decimal_is_IsNumeral n small).0.1

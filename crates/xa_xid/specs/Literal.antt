@@ -1,0 +1,104 @@
+-- Literals: a text literal, hexadecimal digits in quotes, and a run of hexadecimal digits.
+--     LiteralAt text bytes rest      the text begins with a literal of the bytes, and `rest` stands behind it
+--     literal_at text                the literal that a text begins with, and what stands behind it, or its fault
+--     literal_from text at           the same at a place, and the place behind the literal
+--     evened digits                  an odd number of digits with a 0 in front
+use Rattle.std.specs.Prelude.{◌≡◌, ℕ, ◌-◌, ◌%◌, ◌≤◌, Bool, false, ◌==◌, ◌||◌, ◌&&◌, not, nat_le, nat_lt, if◌then◌else◌, IsTrue, List, [], ◌∷◌, ◌++◌, length, drop, slice_index, Option, Some, None, Result, Ok, Err}
+use Rattle.hex.specs.Hex.{decode_of}
+use Rattle.xa_xid.specs.Bytes.{belongs, front, behind, only, run, after_run, StartsNo}
+use Rattle.xa_xid.specs.Quoted.{QuotedAt, quoted}
+use Rattle.xa_xid.specs.Xid.{Text}
+use Rattle.xa_xid.specs.declared.byte_class.ByteClass.TheVariants.{Word, Hexadecimal}
+use Rattle.xa_xid.specs.declared.quoted.Mode.TheVariants.{Plain}
+use Rattle.xa_xid.specs.declared.literal_fault.LiteralFault.{LiteralFault}
+use Rattle.xa_xid.specs.declared.literal_fault.LiteralFault.TheVariants.{NotALiteral, Unclosed, OddHex, TooLong}
+
+-- what was read and what stands behind it, or the fault
+abbrev pub Reading : Type 0 → Type 0
+Reading Value = Result (Value × List ℕ) LiteralFault
+
+-- ' and "
+abbrev pub is_quote : ℕ → Bool
+is_quote byte = byte == 39 || byte == 34
+
+-- X and x
+abbrev pub is_x : ℕ → Bool
+is_x byte = byte == 88 || byte == 120
+
+-- a quote stands first
+abbrev pub opens_text : List ℕ → Bool
+opens_text [] = false
+opens_text (first ∷ _) = is_quote first
+
+-- an X and a ' stand first
+abbrev pub opens_hex : List ℕ → Bool
+opens_hex (first ∷ second ∷ _) = is_x first && second == 39
+opens_hex _ = false
+
+-- an odd number of digits is read as if a 0 stood in front (manual, 'Hexadecimal Literals')
+abbrev pub evened : List ℕ → List ℕ
+evened digits = if length digits % 2 == 1 then 48 ∷ digits else digits
+
+-- which literal a text begins with, and which bytes that stands for
+pub data LiteralAt : List ℕ → List ℕ → List ℕ → Type 0 where
+  text_literal : (quote : ℕ) {text bytes rest : List ℕ} → IsTrue (is_quote quote) → QuotedAt quote text bytes rest
+      → LiteralAt (quote ∷ text) bytes rest
+  hex_in_quotes : (letter : ℕ) (digits : List ℕ) {bytes rest : List ℕ} → IsTrue (is_x letter) → decode_of digits ≡ Ok bytes
+      → IsTrue (only (belongs Hexadecimal) digits) → LiteralAt (letter ∷ 39 ∷ digits ++ 39 ∷ rest) bytes rest
+  hex_run : (digit : ℕ) (digits : List ℕ) {bytes rest : List ℕ} → decode_of (evened (digit ∷ digits)) ≡ Ok bytes
+      → IsTrue (only (belongs Hexadecimal) (digit ∷ digits)) → StartsNo (belongs Word) rest
+      → LiteralAt (48 ∷ 120 ∷ digit ∷ digits ++ rest) bytes rest
+
+-- at most 64 bytes (X/Open C193's MAXGTRIDSIZE and MAXBQUALSIZE)
+unfoldable pub kept : List ℕ → Option Text
+kept bytes = if nat_le (length bytes) 64 then Some (record { items = bytes }) else None
+
+-- bytes that were read, where they are few enough
+abbrev pub sized : Option Text → List ℕ → Reading Text
+sized None rest = Err TooLong
+sized (Some text) rest = Ok (text, rest)
+
+-- a text literal behind its opening quote
+abbrev pub text_literal_of : Option (List ℕ × List ℕ) → Reading Text
+text_literal_of None = Err Unclosed
+text_literal_of (Some (bytes, rest)) = sized (kept bytes) rest
+
+-- the bytes of an even number of hexadecimal digits
+abbrev pub decoded : List ℕ → List ℕ → Reading Text
+decoded digits rest = elim (decode_of digits) [ Ok bytes ↦ Ok (record { items = bytes }, rest) | Err _ ↦ Err NotALiteral ]
+
+-- the digits behind `X'`, and what stands behind them; the first fault that holds
+abbrev pub hex_in_quotes_of : List ℕ → List ℕ → Reading Text
+hex_in_quotes_of digits [] = Err Unclosed
+hex_in_quotes_of digits (byte ∷ rest) =
+    if not (byte == 39) then Err NotALiteral else
+    if length digits % 2 == 1 then Err OddHex else
+    if nat_lt 128 (length digits) then Err TooLong else
+    decoded digits rest
+
+-- the digits of a run that is `0x` and one or more hexadecimal digits
+abbrev pub hex_digits_of : List ℕ → Option (List ℕ)
+hex_digits_of (zero_digit ∷ letter ∷ digit ∷ digits) =
+    if zero_digit == 48 && letter == 120 && only (belongs Hexadecimal) (digit ∷ digits) then Some (digit ∷ digits) else None
+hex_digits_of _ = None
+
+-- such a run as a literal, and what stands behind it
+abbrev pub hex_run_of : Option (List ℕ) → List ℕ → Reading Text
+hex_run_of None rest = Err NotALiteral
+hex_run_of (Some digits) rest = if nat_lt 128 (length digits) then Err TooLong else decoded (evened digits) rest
+
+-- the literal that a text begins with, or the first fault that holds
+unfoldable pub literal_at : List ℕ → Reading Text
+literal_at text =
+    if opens_text text then text_literal_of (quoted (slice_index text 0) Plain (drop 1 text)) else
+    if opens_hex text then hex_in_quotes_of (front (belongs Hexadecimal) (drop 2 text)) (behind (belongs Hexadecimal) (drop 2 text)) else
+    hex_run_of (hex_digits_of (run text)) (after_run text)
+
+-- what stands at a place is read, and the place behind it is told
+abbrev pub placed : {Value : Type 0} → List ℕ → Reading Value → Result (Value × ℕ) LiteralFault
+placed text (Ok (value, rest)) = Ok (value, length text - length rest)
+placed text (Err fault) = Err fault
+
+-- the literal at a place, and the place behind it
+abbrev pub literal_from : List ℕ → ℕ → Result (Text × ℕ) LiteralFault
+literal_from text at = placed text (literal_at (drop at text))

@@ -1,0 +1,33 @@
+-- Numbers: decimal digits, or `0x` and hexadecimal digits.
+--     number_in run        the value of a run that is a number
+--     number_at text       the number that a text begins with, and what stands behind it, or its fault
+--     number_from text at  the same at a place, and the place behind it
+use Rattle.std.specs.Prelude.{ℕ, ◌^◌, ◌==◌, ◌&&◌, nat_lt, not, if◌then◌else◌, List, length, drop, Option, Some, None, Result, Ok, Err}
+use Rattle.std.specs.Str.Parse.{digits_value}
+use Rattle.xa_xid.specs.Bytes.{belongs, only, run, after_run}
+use Rattle.xa_xid.specs.Literal.{Reading, placed, hex_digits_of}
+use Rattle.xa_xid.specs.declared.byte_class.ByteClass.TheVariants.{Decimal}
+use Rattle.xa_xid.specs.declared.literal_fault.LiteralFault.{LiteralFault}
+use Rattle.xa_xid.specs.declared.literal_fault.LiteralFault.TheVariants.{NotALiteral, NumberTooLarge}
+
+-- at most 2^64-1, leading zeros in any count (own rule)
+unfoldable pub fitting : ℕ → Result ℕ LiteralFault
+fitting value = if nat_lt value (2 ^ 64) then Ok value else Err NumberTooLarge
+
+-- `0x` and one or more hexadecimal digits
+abbrev pub hex_number_of : Option (List ℕ) → Result ℕ LiteralFault
+hex_number_of None = Err NotALiteral
+hex_number_of (Some digits) = fitting (digits_value 16 digits)
+
+-- one or more decimal digits alone, or `0x` and one or more hexadecimal digits (own rule)
+abbrev pub number_in : List ℕ → Result ℕ LiteralFault
+number_in run =
+    if not (length run == 0) && only (belongs Decimal) run then fitting (digits_value 10 run) else hex_number_of (hex_digits_of run)
+
+-- the number that a text begins with
+unfoldable pub number_at : List ℕ → Reading ℕ
+number_at text = elim (number_in (run text)) [ Ok value ↦ Ok (value, after_run text) | Err fault ↦ Err fault ]
+
+-- the number at a place, and the place behind it
+abbrev pub number_from : List ℕ → ℕ → Result (ℕ × ℕ) LiteralFault
+number_from text at = placed text (number_at (drop at text))

@@ -1,0 +1,90 @@
+-- The spelling of an identifier: gtrid [, bqual [, formatID]], blanks before each token.
+--     xid_at text            the identifier that a text begins with and what stands behind it, or its fault and where it stands
+--     xid_from text at       the same at a place, with places
+--     part_text, xid_text    the canonical text of a gtrid or bqual, and of an identifier
+use Rattle.std.specs.Prelude.{ℕ, ◌-◌, ◌≤◌, ◌<◌, ◌^◌, ◌==◌, if◌then◌else◌, List, [], ◌∷◌, ◌++◌, length, drop, codes, decimal, Option, Some, None, Result, Ok, Err}
+use Rattle.hex.specs.Hex.{encode_lower, IsBytes}
+use Rattle.xa_xid.specs.Bytes.{unblank}
+use Rattle.xa_xid.specs.Literal.{literal_at}
+use Rattle.xa_xid.specs.Number.{number_at}
+use Rattle.xa_xid.specs.Xid.{Text}
+use Rattle.xa_xid.specs.declared.xid.Xid.{Xid}
+use Rattle.xa_xid.specs.declared.literal_fault.LiteralFault.{LiteralFault}
+
+-- what was read and what stands behind it, or the fault and the text from the faulty token on
+abbrev pub Parse : Type 0
+Parse = Result (Xid × List ℕ) (LiteralFault × List ℕ)
+
+-- the empty text
+abbrev pub no_text : Text
+no_text = record { items = [] }
+
+-- the identifier of three parts
+abbrev pub xid_of : Text → Text → ℕ → Xid
+xid_of gtrid bqual format_id = record { format_id = format_id; gtrid = gtrid; bqual = bqual }
+
+-- what stands behind a comma that the text begins with
+abbrev pub comma_next : List ℕ → Option (List ℕ)
+comma_next [] = None
+comma_next (byte ∷ text) = if byte == 44 then Some text else None
+
+-- a formatID behind the second comma
+abbrev pub format_id_next : Text → Text → List ℕ → Parse
+format_id_next gtrid bqual text = elim (number_at text) [
+    Ok found ↦ Ok (xid_of gtrid bqual found.0, found.1)
+  | Err fault ↦ Err (fault, text)
+]
+
+-- after the bqual: its formatID where a comma stands next, else 1
+abbrev pub after_bqual : Text → Text → List ℕ → Option (List ℕ) → Parse
+after_bqual gtrid bqual rest None = Ok (xid_of gtrid bqual 1, rest)
+after_bqual gtrid bqual rest (Some text) = format_id_next gtrid bqual (unblank text)
+
+-- a bqual behind the first comma
+abbrev pub bqual_next : Text → List ℕ → Parse
+bqual_next gtrid text = elim (literal_at text) [
+    Ok found ↦ after_bqual gtrid found.0 found.1 (comma_next (unblank found.1))
+  | Err fault ↦ Err (fault, text)
+]
+
+-- after the gtrid: its bqual where a comma stands next, else none
+abbrev pub after_gtrid : Text → List ℕ → Option (List ℕ) → Parse
+after_gtrid gtrid rest None = Ok (xid_of gtrid no_text 1, rest)
+after_gtrid gtrid rest (Some text) = bqual_next gtrid (unblank text)
+
+-- the gtrid, and what follows
+abbrev pub gtrid_next : List ℕ → Parse
+gtrid_next text = elim (literal_at text) [
+    Ok found ↦ after_gtrid found.0 found.1 (comma_next (unblank found.1))
+  | Err fault ↦ Err (fault, text)
+]
+
+-- the identifier that a text begins with, blanks before it skipped
+unfoldable pub xid_at : List ℕ → Parse
+xid_at text = gtrid_next (unblank text)
+
+-- rests of the text as places in it
+abbrev pub places : List ℕ → Parse → Result (Xid × ℕ) (LiteralFault × ℕ)
+places text (Ok (xid, rest)) = Ok (xid, length text - length rest)
+places text (Err (fault, rest)) = Err (fault, length text - length rest)
+
+-- the identifier at a place, and the place behind its last token; or the fault and the place of the faulty token
+abbrev pub xid_from : List ℕ → ℕ → Result (Xid × ℕ) (LiteralFault × ℕ)
+xid_from text at = places text (xid_at (drop at text))
+
+-- a gtrid or bqual: `X''` where it is empty, else `0x` and two small digits for each byte (own rule)
+abbrev pub part_text : List ℕ → List ℕ
+part_text [] = codes "X''"
+part_text (byte ∷ bytes) = codes "0x" ++ encode_lower (byte ∷ bytes)
+
+-- the three parts with commas between them, no blanks (own rule)
+abbrev pub xid_text : Xid → List ℕ
+xid_text xid = part_text xid.gtrid.items ++ (44 ∷ (part_text xid.bqual.items ++ (44 ∷ decimal xid.format_id)))
+
+-- the parts are bytes, and few enough: every identifier of a program is such
+pub record IsWritable (xid : Xid) : Type 0 where
+  pub gtrid_bytes : IsBytes xid.gtrid.items
+  pub gtrid_fits : length xid.gtrid.items ≤ 64
+  pub bqual_bytes : IsBytes xid.bqual.items
+  pub bqual_fits : length xid.bqual.items ≤ 64
+  pub format_fits : xid.format_id < 2 ^ 64

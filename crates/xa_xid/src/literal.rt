@@ -1,0 +1,147 @@
+//! Literals of every form, read at a place in a text.
+ghost use Rattle.std.specs.Prelude.{◌≡◌, ◌≤◌, ◌<◌, length, MatchResult, IfOk, IsTrue, option_copied};
+ghost use Rattle.xa_xid.specs.Bytes.{belongs, front, behind, run, after_run};
+ghost use Rattle.xa_xid.specs.Literal.{decoded, evened, hex_digits_of, hex_in_quotes_of, hex_run_of, literal_at, literal_from, opens_text, opens_hex};
+
+use crate::byte_class::text_from;
+use crate::quoted::text_literal;
+use crate::{ByteClass, Bytes, LiteralFault};
+use arrayvec::ArrayVec;
+
+/// The literal that begins at `at`, and the place behind it.
+///
+/// `at` is in `[0, length]`. Errors: `Unclosed`, `TooLong`, `NotALiteral` or `OddHex`, whichever the table of
+/// faults names first. Takes no memory. Doesn't wait.
+/// Source: MySQL 8.0 Reference Manual, 'String Literals' and 'Hexadecimal Literals'; the faults are our own:
+/// docs/STATEMENTS.md, 'Literals'.
+pub fn read_literal(text: &[u8], at: usize) -> Result<(Bytes, usize), LiteralFault>
+    requires { at ≤ length text.now }
+    ensures { result ≡ literal_from text.now at }
+{
+    let (bytes, rest) = literal_of(text_from(text, at))?;
+    Ok((bytes, text.len() - rest.len()))
+}
+
+/// The literal that a text begins with, and the text behind it.
+///
+/// Errors: those of `read_literal`. Takes no memory. Doesn't wait.
+/// Source: as for `read_literal`.
+#[tactic(auto, unfolding(crate::specs::Literal::literal_at))]
+pub fn literal_of(text: &[u8]) -> Result<(Bytes, &[u8]), LiteralFault>
+    ensures value { MatchResult result
+        (λ found. literal_at text.now ≡ Ok (found.0, found.1.now))
+        (λ fault. literal_at text.now ≡ Err fault) }
+    ensures within { IfOk result (λ found. length found.1.now ≤ length text.now) }
+{
+    if begins_text(text) {
+        text_literal(text[0], text_from(text, 1))
+    } else if begins_hex(text) {
+        hex_in_quotes(text_from(text, 2))
+    } else {
+        hex_run(text)
+    }
+}
+
+/// Whether a quote stands first.
+fn begins_text(text: &[u8]) -> bool
+    ensures value { result ≡ opens_text text.now }
+    ensures some { IsTrue result → 1 ≤ length text.now }
+{
+    !text.is_empty() && (text[0] == b'\'' || text[0] == b'"')
+}
+
+/// Whether an X and a quote stand first.
+fn begins_hex(text: &[u8]) -> bool
+    ensures value { result ≡ opens_hex text.now }
+    ensures some { IsTrue result → 2 ≤ length text.now }
+{
+    text.len() >= 2 && (text[0] == b'X' || text[0] == b'x') && text[1] == b'\''
+}
+
+/// Hexadecimal digits behind `X'`, up to the closing quote.
+fn hex_in_quotes(body: &[u8]) -> Result<(Bytes, &[u8]), LiteralFault>
+    ensures value { let digits = front (belongs ByteClass.Hexadecimal) body.now in
+        let rest = behind (belongs ByteClass.Hexadecimal) body.now in
+        MatchResult result
+            (λ found. hex_in_quotes_of digits rest ≡ Ok (found.0, found.1.now))
+            (λ fault. hex_in_quotes_of digits rest ≡ Err fault) }
+    ensures within { IfOk result (λ found. length found.1.now ≤ length body.now) }
+{
+    let (digits, rest) = ByteClass::Hexadecimal.split(body);
+    if rest.is_empty() {
+        Err(LiteralFault::Unclosed)
+    } else if rest[0] != b'\'' {
+        Err(LiteralFault::NotALiteral)
+    } else if digits.len() % 2 == 1 {
+        Err(LiteralFault::OddHex)
+    } else if digits.len() > 128 {
+        Err(LiteralFault::TooLong)
+    } else {
+        bytes_of(digits, text_from(rest, 1))
+    }
+}
+
+/// A run that is `0x` and hexadecimal digits.
+fn hex_run(text: &[u8]) -> Result<(Bytes, &[u8]), LiteralFault>
+    ensures value { let digits = hex_digits_of (run text.now) in
+        MatchResult result
+            (λ found. hex_run_of digits (after_run text.now) ≡ Ok (found.0, found.1.now))
+            (λ fault. hex_run_of digits (after_run text.now) ≡ Err fault) }
+    ensures within { IfOk result (λ found. length found.1.now ≤ length text.now) }
+{
+    let (run, rest) = ByteClass::Word.split(text);
+    match hex_digits(run) {
+        None => Err(LiteralFault::NotALiteral),
+        Some(digits) => {
+            if digits.len() > 128 {
+                Err(LiteralFault::TooLong)
+            } else {
+                bytes_of(even_digits(digits).as_slice(), rest)
+            }
+        }
+    }
+}
+
+/// The digits of a run that is `0x` and one or more hexadecimal digits.
+pub(crate) fn hex_digits(run: &[u8]) -> Option<&[u8]>
+    ensures { option_copied result ≡ hex_digits_of run.now }
+{
+    if run.len() < 3 || run[0] != b'0' || run[1] != b'x' {
+        return None;
+    }
+    let digits = text_from(run, 2);
+    if ByteClass::Hexadecimal.split(digits).1.is_empty() {
+        Some(digits)
+    } else {
+        None
+    }
+}
+
+/// An odd number of digits with a 0 in front.
+fn even_digits(digits: &[u8]) -> ArrayVec<u8, 128>
+    requires { length digits.now ≤ 128 }
+    ensures { result.items ≡ evened digits.now }
+{
+    let mut even = ArrayVec::new();
+    if digits.len() % 2 == 1 {
+        even.push(b'0');
+    }
+    let _ = even.try_extend_from_slice(digits);
+    even
+}
+
+/// The bytes of an even number of hexadecimal digits, with the text behind the literal.
+fn bytes_of<'a>(digits: &[u8], rest: &'a [u8]) -> Result<(Bytes, &'a [u8]), LiteralFault>
+    requires { length digits.now ≤ 128 }
+    ensures value { MatchResult result
+        (λ found. decoded digits.now rest.now ≡ Ok (found.0, found.1.now))
+        (λ fault. decoded digits.now rest.now ≡ Err fault) }
+    ensures rest { IfOk result (λ found. found.1.now ≡ rest.now) }
+{
+    let mut bytes = Bytes::from([0; 64]);
+    bytes.truncate(digits.len() / 2);
+    match hex::decode_to_slice(digits, bytes.as_mut_slice()) {
+        Ok(()) => Ok((bytes, rest)),
+        Err(_) => Err(LiteralFault::NotALiteral),
+    }
+}

@@ -1,0 +1,94 @@
+//! Numbers, as a formatID is written.
+ghost use Rattle.std.specs.Prelude.{◌≡◌, ◌≤◌, ◌<◌, ◌^◌, length, MatchResult, MatchOption, IfOk};
+ghost use Rattle.std.specs.Char.{digit_value};
+ghost use Rattle.std.specs.Str.Parse.{digits_value};
+ghost use Rattle.xa_xid.specs.Number.{number_at, number_from, number_in, fitting};
+
+use crate::byte_class::text_from;
+use crate::literal::hex_digits;
+use crate::{ByteClass, LiteralFault};
+
+/// The number that begins at `at`, and the place behind it.
+///
+/// `at` is in `[0, length]`. Errors: `NotALiteral` where the run there isn't a number; `NumberTooLarge` where it
+/// is one above 2^64-1. Takes no memory. Doesn't wait.
+/// Own rule: docs/STATEMENTS.md, 'Literals'.
+pub fn read_number(text: &[u8], at: usize) -> Result<(u64, usize), LiteralFault>
+    requires { at ≤ length text.now }
+    ensures { result ≡ number_from text.now at }
+{
+    let (number, rest) = number_of(text_from(text, at))?;
+    Ok((number, text.len() - rest.len()))
+}
+
+/// The number that a text begins with, and the text behind it.
+///
+/// Errors: those of `read_number`. Takes no memory. Doesn't wait.
+/// Own rule: docs/STATEMENTS.md, 'Literals'.
+#[tactic(auto, unfolding(crate::specs::Number::number_at))]
+pub fn number_of(text: &[u8]) -> Result<(u64, &[u8]), LiteralFault>
+    ensures value { MatchResult result
+        (λ found. number_at text.now ≡ Ok (found.0, found.1.now))
+        (λ fault. number_at text.now ≡ Err fault) }
+    ensures within { IfOk result (λ found. length found.1.now ≤ length text.now) }
+{
+    let (run, rest) = ByteClass::Word.split(text);
+    match value_of_run(run) {
+        Ok(number) => Ok((number, rest)),
+        Err(fault) => Err(fault),
+    }
+}
+
+/// The value of a run.
+fn value_of_run(run: &[u8]) -> Result<u64, LiteralFault>
+    ensures { result ≡ number_in run.now }
+{
+    if !run.is_empty() && ByteClass::Decimal.split(run).1.is_empty() {
+        return fitting_value(run, 10);
+    }
+    match hex_digits(run) {
+        Some(digits) => fitting_value(digits, 16),
+        None => Err(LiteralFault::NotALiteral),
+    }
+}
+
+/// The value of digits in a base of 2 to 36.
+#[tactic(auto, using(crate::proofs::Numbers::fitting_small, crate::proofs::Numbers::fitting_large))]
+fn fitting_value(digits: &[u8], base: u64) -> Result<u64, LiteralFault>
+    requires positive { 1 ≤ base }
+    requires small { base ≤ 36 }
+    ensures { result ≡ fitting (digits_value base digits.now) }
+{
+    match value_in(digits, base) {
+        Some(value) => Ok(value),
+        None => Err(LiteralFault::NumberTooLarge),
+    }
+}
+
+/// The value of digits in a base of 2 to 36, where it is below 2^64.
+fn value_in(digits: &[u8], base: u64) -> Option<u64>
+    requires positive { 1 ≤ base }
+    requires small { base ≤ 36 }
+    ensures { MatchOption result
+        (2 ^ 64 ≤ digits_value base digits.now)
+        (λ value. value ≡ digits_value base digits.now) }
+{
+    let mut value: u64 = 0;
+    for digit in digits {
+        value = value.checked_mul(base)?.checked_add(value_of_digit(*digit))?;
+    }
+    Some(value)
+}
+
+/// The value of a digit or a letter, and 36 for another byte.
+fn value_of_digit(byte: u8) -> u64
+    ensures value { result ≡ digit_value byte }
+    ensures small { result ≤ 36 }
+{
+    match byte {
+        b'0'..=b'9' => (byte - b'0') as u64,
+        b'A'..=b'Z' => (byte - b'A' + 10) as u64,
+        b'a'..=b'z' => (byte - b'a' + 10) as u64,
+        _ => 36,
+    }
+}

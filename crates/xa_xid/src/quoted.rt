@@ -1,0 +1,125 @@
+//! Text literals, read byte by byte from the opening quote on.
+ghost use Rattle.std.specs.Prelude.{◌≡◌, ◌++◌, ◌∷◌, ◌≤◌, List, [], length, ℕ, MatchResult, IfOk};
+ghost use Rattle.xa_xid.specs.Literal.{text_literal_of, kept, sized};
+ghost use Rattle.xa_xid.specs.Quoted.{quoted, escaped};
+
+use crate::byte_class::text_from;
+use crate::{Bytes, LiteralFault};
+
+/// What the bytes before the next one were.
+#[derive(Clone, Copy, Drop)]
+pub enum Mode {
+    /// Anything that is complete.
+    Plain,
+    /// A backslash, whose letter comes next.
+    Escape,
+    /// A quote, which either closes the literal or is the first of two.
+    Quote,
+}
+
+/// The bytes that a literal stands for so far, or that they are more than 64.
+#[derive(Drop)]
+struct Kept {
+    bytes: Option<Bytes>,
+}
+
+impl Kept {
+    fn new() -> Kept
+        ensures { result.bytes ≡ kept [] }
+    {
+        Kept {
+            bytes: Some(Bytes::new()),
+        }
+    }
+
+    /// One byte more.
+    fn add(&mut self, byte: u8)
+        ensures { (xs : List ℕ) → self.old.bytes ≡ kept xs → self.new.bytes ≡ kept (xs ++ byte ∷ []) }
+    {
+        if let Some(bytes) = &mut self.bytes {
+            if bytes.is_full() {
+                self.bytes = None;
+            } else {
+                bytes.push(byte);
+            }
+        }
+    }
+
+    /// The bytes, with the text behind the literal.
+    fn end(self, rest: &[u8]) -> Result<(Bytes, &[u8]), LiteralFault>
+        ensures value { MatchResult result
+            (λ found. sized self.bytes rest.now ≡ Ok (found.0, found.1.now))
+            (λ fault. sized self.bytes rest.now ≡ Err fault) }
+        ensures rest { IfOk result (λ found. found.1.now ≡ rest.now) }
+    {
+        match self.bytes {
+            Some(bytes) => Ok((bytes, rest)),
+            None => Err(LiteralFault::TooLong),
+        }
+    }
+
+    /// What a backslash and a letter stand for.
+    #[tactic(auto, unfolding(crate::specs::Quoted::escaped))]
+    fn add_escaped(&mut self, letter: u8)
+        ensures { (xs : List ℕ) → self.old.bytes ≡ kept xs → self.new.bytes ≡ kept (xs ++ escaped letter) }
+    {
+        match letter {
+            b'0' => self.add(0),
+            b'b' => self.add(8),
+            b'n' => self.add(b'\n'),
+            b'r' => self.add(b'\r'),
+            b't' => self.add(b'\t'),
+            b'Z' => self.add(26),
+            b'%' => {
+                self.add(b'\\');
+                self.add(b'%');
+            }
+            b'_' => {
+                self.add(b'\\');
+                self.add(b'_');
+            }
+            other => self.add(other),
+        }
+    }
+}
+
+/// The bytes of a text literal whose opening quote stands before `body`, and the text behind its closing quote.
+///
+/// Goes on past 64 bytes, since a quote that is missing is told before a length. Takes no memory.
+pub fn text_literal(quote: u8, body: &[u8]) -> Result<(Bytes, &[u8]), LiteralFault>
+    ensures value { MatchResult result
+        (λ found. text_literal_of (quoted quote Mode.Plain body.now) ≡ Ok (found.0, found.1.now))
+        (λ fault. text_literal_of (quoted quote Mode.Plain body.now) ≡ Err fault) }
+    ensures within { IfOk result (λ found. length found.1.now ≤ length body.now) }
+{
+    let mut kept = Kept::new();
+    let mut mode = Mode::Plain;
+    for (i, byte) in body.iter().enumerate() {
+        match mode {
+            Mode::Plain => {
+                if *byte == quote {
+                    mode = Mode::Quote;
+                } else if *byte == b'\\' {
+                    mode = Mode::Escape;
+                } else {
+                    kept.add(*byte);
+                }
+            }
+            Mode::Escape => {
+                kept.add_escaped(*byte);
+                mode = Mode::Plain;
+            }
+            Mode::Quote => {
+                if *byte != quote {
+                    return kept.end(text_from(body, i));
+                }
+                kept.add(quote);
+                mode = Mode::Plain;
+            }
+        }
+    }
+    match mode {
+        Mode::Quote => kept.end(text_from(body, body.len())),
+        Mode::Plain | Mode::Escape => Err(LiteralFault::Unclosed),
+    }
+}

@@ -1,0 +1,148 @@
+//! Identifiers, read at a place in a text and written in their canonical form.
+ghost use Rattle.std.specs.Prelude.{◌≡◌, ◌≤◌, ◌++◌, length, MatchResult, IfOk, IfSome, option_copied};
+ghost use Rattle.hex.specs.Hex.{encode_lower};
+ghost use Rattle.xa_xid.specs.Bytes.{unblank};
+ghost use Rattle.xa_xid.specs.XidText.{xid_at, xid_from, gtrid_next, bqual_next, format_id_next, comma_next, part_text, xid_text};
+
+use crate::byte_class::text_from;
+use crate::literal::literal_of;
+use crate::number::number_of;
+use crate::{Bytes, LiteralFault, NoMemory, Xid, skip_blanks};
+use arrayvec::ArrayVec;
+use itoa::Buffer;
+use std::alloc::Global;
+
+/// An identifier and the text behind it, or the fault and the text from the faulty token on.
+type Parse<'a> = Result<(Xid, &'a [u8]), (LiteralFault, &'a [u8])>;
+
+/// The identifier that is spelled from `at` on, blanks before each of its tokens skipped, and the place behind its
+/// last token.
+///
+/// `at` is in `[0, length]`. Errors: the fault of the first token that isn't what stands in its place, and the place
+/// where that token begins, which is the text's length where none is left. Takes no memory. Doesn't wait.
+/// Source: MySQL 8.0 Reference Manual, 'XA Transaction SQL Statements'; the places are our own:
+/// docs/STATEMENTS.md, 'Identifiers'.
+#[tactic(auto, unfolding(crate::specs::XidText::xid_at))]
+pub fn read_xid(text: &[u8], at: usize) -> Result<(Xid, usize), (LiteralFault, usize)>
+    requires { at ≤ length text.now }
+    ensures { result ≡ xid_from text.now at }
+{
+    match read_gtrid(skip_blanks(text_from(text, at))) {
+        Ok((xid, rest)) => Ok((xid, text.len() - rest.len())),
+        Err((fault, rest)) => Err((fault, text.len() - rest.len())),
+    }
+}
+
+fn read_gtrid(text: &[u8]) -> Parse<'_>
+    ensures value { MatchResult result
+        (λ found. gtrid_next text.now ≡ Ok (found.0, found.1.now))
+        (λ fault. gtrid_next text.now ≡ Err (fault.0, fault.1.now)) }
+    ensures within { MatchResult result
+        (λ found. length found.1.now ≤ length text.now)
+        (λ fault. length fault.1.now ≤ length text.now) }
+{
+    match literal_of(text) {
+        Ok((gtrid, rest)) => match after_comma(rest) {
+            Some(next) => read_bqual(gtrid, skip_blanks(next)),
+            None => Ok((Xid { format_id: 1, gtrid, bqual: Bytes::new() }, rest)),
+        },
+        Err(fault) => Err((fault, text)),
+    }
+}
+
+fn read_bqual(gtrid: Bytes, text: &[u8]) -> Parse<'_>
+    ensures value { MatchResult result
+        (λ found. bqual_next gtrid text.now ≡ Ok (found.0, found.1.now))
+        (λ fault. bqual_next gtrid text.now ≡ Err (fault.0, fault.1.now)) }
+    ensures within { MatchResult result
+        (λ found. length found.1.now ≤ length text.now)
+        (λ fault. length fault.1.now ≤ length text.now) }
+{
+    match literal_of(text) {
+        Ok((bqual, rest)) => match after_comma(rest) {
+            Some(next) => read_format_id(gtrid, bqual, skip_blanks(next)),
+            None => Ok((Xid { format_id: 1, gtrid, bqual }, rest)),
+        },
+        Err(fault) => Err((fault, text)),
+    }
+}
+
+fn read_format_id(gtrid: Bytes, bqual: Bytes, text: &[u8]) -> Parse<'_>
+    ensures value { MatchResult result
+        (λ found. format_id_next gtrid bqual text.now ≡ Ok (found.0, found.1.now))
+        (λ fault. format_id_next gtrid bqual text.now ≡ Err (fault.0, fault.1.now)) }
+    ensures within { MatchResult result
+        (λ found. length found.1.now ≤ length text.now)
+        (λ fault. length fault.1.now ≤ length text.now) }
+{
+    match number_of(text) {
+        Ok((format_id, rest)) => Ok((Xid { format_id, gtrid, bqual }, rest)),
+        Err(fault) => Err((fault, text)),
+    }
+}
+
+/// The text behind a comma that stands next.
+fn after_comma(text: &[u8]) -> Option<&[u8]>
+    ensures value { option_copied result ≡ comma_next (unblank text.now) }
+    ensures within { IfSome result (λ next. length next.now ≤ length text.now) }
+{
+    let next = skip_blanks(text);
+    if !next.is_empty() && next[0] == b',' {
+        Some(text_from(next, 1))
+    } else {
+        None
+    }
+}
+
+/// The canonical text of the identifier: gtrid, bqual and formatID with commas between them and no blanks.
+///
+/// May answer `NoMemory`. Doesn't wait.
+/// Own rule: docs/STATEMENTS.md, 'Canonical form'.
+pub fn write_xid(alloc: Global, xid: &Xid) -> Result<Vec<u8>, NoMemory>
+    ensures { IfOk result (λ text. text.items ≡ xid_text xid.now) }
+{
+    with_xid(Vec::new(alloc), xid)
+}
+
+/// A text with the canonical text of an identifier at its end.
+///
+/// May answer `NoMemory`, and the text is then dropped. Doesn't wait.
+pub fn with_xid(text: Vec<u8>, xid: &Xid) -> Result<Vec<u8>, NoMemory>
+    ensures { IfOk result (λ longer. longer.items ≡ text.items ++ xid_text xid.now) }
+{
+    let mut longer = with_part(text, xid.gtrid.as_slice())?;
+    longer.push(b',')?;
+    let mut longer = with_part(longer, xid.bqual.as_slice())?;
+    longer.push(b',')?;
+    let mut buffer = Buffer::new();
+    longer.extend_from_slice(buffer.format(xid.format_id).as_bytes())?;
+    Ok(longer)
+}
+
+/// A text with the canonical text of a gtrid, a bqual, a key or a value at its end.
+///
+/// `bytes` are at most 64. May answer `NoMemory`, and the text is then dropped. Doesn't wait.
+/// Own rule: docs/STATEMENTS.md, 'Canonical form'.
+pub fn with_part(mut text: Vec<u8>, bytes: &[u8]) -> Result<Vec<u8>, NoMemory>
+    requires { length bytes.now ≤ 64 }
+    ensures { IfOk result (λ longer. longer.items ≡ text.items ++ part_text bytes.now) }
+{
+    if bytes.is_empty() {
+        text.extend_from_slice(b"X''")?;
+    } else {
+        text.extend_from_slice(b"0x")?;
+        text.extend_from_slice(small_digits(bytes).as_slice())?;
+    }
+    Ok(text)
+}
+
+/// Two small hexadecimal digits for each byte.
+fn small_digits(bytes: &[u8]) -> ArrayVec<u8, 128>
+    requires { length bytes.now ≤ 64 }
+    ensures { result.items ≡ encode_lower bytes.now }
+{
+    let mut digits = ArrayVec::from([0; 128]);
+    digits.truncate(2 * bytes.len());
+    let _ = hex::encode_to_slice(bytes, digits.as_mut_slice());
+    digits
+}
