@@ -1,0 +1,204 @@
+-- What follows for the state where a statement is accepted.
+use Rattle.std.proofs.Common.{◌≡◌, ◌≢◌, ℕ, List, refl, ap, sym, ◌∙◌, subst, Bool, true, false, inl, inr}
+use Rattle.std.specs.Prelude.{Option, Some, None, cond, is_some, not, ◌&&◌, ◌||◌}
+use Rattle.std.specs.Option.{option_map, option_map_or, unwrap_or}
+use Rattle.std.specs.Ordering.{eq_by_cmp}
+use Rattle.std.specs.FinMap as map
+use Rattle.std.specs.FinMap.{same_map}
+use mathlib.Core.Bool.{true≢false}
+use Rattle.xa_xid.specs.declared.xid.Xid.{Xid}
+use Rattle.xa_xid.specs.Xid.{Text, bytes_cmp, same_xid}
+use Rattle.xa_xid.proofs.Orders.{xids_total, exact_xids, bytes_total, exact_texts}
+use Rattle.xa_xid.specs.declared.statement.Statement.{Statement}
+use Rattle.xa_xid.specs.declared.statement.Statement.TheVariants.{Start, End, Prepare, Commit, Rollback, Get, Put, Del}
+use Rattle.xa_server.specs.declared.branch.Phase.{Phase}
+use Rattle.xa_server.specs.declared.branch.Phase.TheVariants.{Active as PhaseActive, Idle as PhaseIdle, Prepared as PhasePrepared}
+use Rattle.xa_server.specs.declared.reply.Reply.{Reply}
+use Rattle.xa_server.specs.declared.reply.Reply.TheVariants.{Ok as Accepted, Value, Recovered, Refused}
+use Rattle.xa_server.specs.declared.xa_error.XaError.{XaError}
+use Rattle.xa_server.specs.declared.xa_error.XaError.TheVariants.{Nota, Rmfail}
+use Rattle.xa_server.specs.declared.xa_error.BranchState.TheVariants.{Prepared as StatePrepared}
+use Rattle.xa_server.specs.declared.seat.Seat.{Seat}
+use Rattle.xa_server.specs.declared.seat.Seat.TheVariants.{Free, Active, Idle}
+use Rattle.xa_server.specs.State.{Branch, State, is_known, phase_at, is_prepared, is_prepared_phase, own_xid, seat_in, seat_of, IsOpen}
+use Rattle.xa_server.specs.Locks.{holds, is_held_against}
+use Rattle.xa_server.specs.Replies.{ok_if, refused_if, table, reply_to}
+use Rattle.xa_server.specs.Step.{Step, after, effect, enters, may_enter, makes_record, may_take_memory, is_recover, is_refused, unless_refused, with_branch, with_changed, with_lock}
+use Rattle.xa_server.proofs.Maps.{same_is, same_or_apart, same_itself, get_inserted, get_inserted_apart}
+use Rattle.xa_server.proofs.Index.{same_value, not_none}
+use Rattle.xa_server.proofs.Steps.{same_state, same_branches}
+
+-- ---- what a session has seated
+
+in_phase : (state : State) (phase : Option Phase) (xid : Xid) → phase_at state xid ≡ phase → IsOpen state (seat_in phase xid)
+in_phase state None xid e = tt
+in_phase state (Some PhaseActive) xid e = e
+in_phase state (Some PhaseIdle) xid e = e
+in_phase state (Some PhasePrepared) xid e = tt
+
+-- the branch that a session has seated is in that phase
+pub open_seat : (state : State) (session : ℕ) → IsOpen state (seat_of state session)
+unfolding seat_of
+open_seat state session = by (own_xid state session)
+  where
+    by : (own : Option Xid) → IsOpen state (option_map_or (λ xid. seat_in (phase_at state xid) xid) own Free)
+    by None = tt
+    by (Some xid) = in_phase state (phase_at state xid) xid refl
+
+pub open_as : (state : State) (session : ℕ) (seat : Seat) → seat ≡ seat_of state session → IsOpen state seat
+open_as state session seat is = subst (IsOpen state) (sym is) (open_seat state session)
+
+known_found : (found : Option Branch) (phase : Phase) → option_map (λ (b : Branch). b.phase) found ≡ Some phase → is_some found ≡ true
+known_found None phase e = not_none phase e
+known_found (Some branch) phase e = refl
+
+-- a branch in a phase is known
+pub known_in : (state : State) (xid : Xid) (phase : Phase) → phase_at state xid ≡ Some phase → is_known state xid ≡ true
+known_in state xid phase e = known_found (map.get state.branches xid) phase e
+
+-- a PREPARED branch is known
+pub known_prepared : (state : State) (xid : Xid) → is_prepared state xid ≡ true → is_known state xid ≡ true
+known_prepared state xid e = by (map.get state.branches xid) e
+  where
+    by : (found : Option Branch) → option_map_or is_prepared_phase (option_map (λ (b : Branch). b.phase) found) false ≡ true → is_some found ≡ true
+    by None e = absurd (true≢false (sym e))
+    by (Some branch) e = refl
+
+unprepared : (state : State) (xid : Xid) → phase_at state xid ≡ Some PhaseActive → is_prepared state xid ≡ false
+unprepared state xid e = ap (λ phase. option_map_or is_prepared_phase phase false) e
+
+-- ---- tests that let a statement through
+
+passes : (b : Bool) (error : XaError) → is_refused (ok_if b error) ≡ false → b ≡ true
+passes true error e = refl
+passes false error e = absurd (true≢false e)
+
+let_through : (b : Bool) (error : XaError) (reply : Reply) → is_refused (refused_if b error reply) ≡ false → b ≡ false
+let_through true error reply e = absurd (true≢false e)
+let_through false error reply e = refl
+
+own_is : (xid own : Xid) (error : XaError) → is_refused (ok_if (same_xid xid own) error) ≡ false → xid ≡ own
+own_is xid own error e = same_is xids_total exact_xids xid own (passes (same_xid xid own) error e)
+
+-- ---- accepted statements
+
+pub accepted_start : (state : State) (seat : Seat) (xid : Xid) → is_refused (table state seat (Start xid)) ≡ false → (seat ≡ Free) × (is_known state xid ≡ false)
+unfolding table
+accepted_start state Free xid e = (refl, let_through (is_known state xid) _ _ e)
+accepted_start state (Active own) xid e = absurd (true≢false e)
+accepted_start state (Idle own) xid e = absurd (true≢false e)
+
+pub accepted_end : (state : State) (seat : Seat) (xid : Xid) → IsOpen state seat → is_refused (table state seat (End xid)) ≡ false → is_prepared state xid ≡ false
+unfolding table
+accepted_end state Free xid seated e = absurd (true≢false e)
+accepted_end state (Active own) xid seated e = ap (is_prepared state) (own_is xid own _ e) ∙ unprepared state own seated
+accepted_end state (Idle own) xid seated e = absurd (true≢false e)
+
+pub accepted_commit : (state : State) (seat : Seat) (xid : Xid) (one_phase : Bool) → IsOpen state seat → is_refused (table state seat (Commit xid one_phase)) ≡ false → is_known state xid ≡ true
+unfolding table
+accepted_commit state Free xid false seated e = known_prepared state xid (passes (is_prepared state xid) _ e)
+accepted_commit state Free xid true seated e = absurd (never (is_prepared state xid) e)
+  where
+    never : (b : Bool) → is_refused (refused_if (not b) Nota (Refused (Rmfail StatePrepared))) ≡ false → ⊥
+    never true e = true≢false e
+    never false e = true≢false e
+accepted_commit state (Active own) xid false seated e = absurd (true≢false e)
+accepted_commit state (Active own) xid true seated e = absurd (true≢false e)
+accepted_commit state (Idle own) xid false seated e = absurd (true≢false e)
+accepted_commit state (Idle own) xid true seated e = ap (is_known state) (own_is xid own _ e) ∙ known_in state own PhaseIdle seated
+
+pub accepted_rollback : (state : State) (seat : Seat) (xid : Xid) → IsOpen state seat → is_refused (table state seat (Rollback xid)) ≡ false → is_known state xid ≡ true
+unfolding table
+accepted_rollback state Free xid seated e = known_prepared state xid (passes (is_prepared state xid) _ e)
+accepted_rollback state (Active own) xid seated e = absurd (true≢false e)
+accepted_rollback state (Idle own) xid seated e = ap (is_known state) (own_is xid own _ e) ∙ known_in state own PhaseIdle seated
+
+pub accepted_get : (state : State) (own : Xid) (key : List ℕ) → is_refused (table state (Active own) (Get key)) ≡ false → is_held_against state (Active own) key ≡ false
+unfolding table
+accepted_get state own key e = let_through (is_held_against state (Active own) key) _ _ e
+
+pub accepted_put : (state : State) (own : Xid) (key : List ℕ) (value : Text) → is_refused (table state (Active own) (Put key value)) ≡ false → is_held_against state (Active own) key ≡ false
+unfolding table
+accepted_put state own key value e = let_through (is_held_against state (Active own) key) _ _ e
+
+pub accepted_put_free : (state : State) (key : List ℕ) (value : Text) → is_refused (table state Free (Put key value)) ≡ false → is_held_against state Free key ≡ false
+unfolding table
+accepted_put_free state key value e = let_through (is_held_against state Free key) _ _ e
+
+pub accepted_del : (state : State) (own : Xid) (key : List ℕ) → is_refused (table state (Active own) (Del key)) ≡ false → is_held_against state (Active own) key ≡ false
+unfolding table
+accepted_del state own key e = let_through (is_held_against state (Active own) key) _ _ e
+
+pub accepted_del_free : (state : State) (key : List ℕ) → is_refused (table state Free (Del key)) ≡ false → is_held_against state Free key ≡ false
+unfolding table
+accepted_del_free state key e = let_through (is_held_against state Free key) _ _ e
+
+-- ---- a row that the branch holds already
+
+-- to lock it again changes nothing
+pub locked_again : (state : State) (own : Xid) (key : List ℕ) → holds state own key ≡ true → with_changed state own (with_lock key) ≡ state
+locked_again state own key held = by (map.get state.branches own) refl held
+  where
+    unit_is : (found : Option (Unit {0})) → is_some found ≡ true → found ≡ Some tt
+    unit_is None e = absurd (true≢false (sym e))
+    unit_is (Some u) e = refl
+
+    locks : (branch : Branch) → map.contains_key branch.locks key ≡ true → with_lock key branch ≡ branch
+    locks branch e = λ i. record { phase = branch.phase; owner = branch.owner; writes = branch.writes; locks = same i }
+      where
+        same : map.insert branch.locks key tt ≡ branch.locks
+        same = same_map bytes_total exact_texts _ _ (λ other. elim (same_or_apart bytes_total exact_texts other key) [
+          | inl is ↦ rw is (get_inserted bytes_total exact_texts branch.locks key tt ∙ sym (unit_is (map.get branch.locks key) e))
+          | inr apart ↦ get_inserted_apart bytes_total exact_texts branch.locks key tt other apart
+        ])
+
+    by : (found : Option Branch) → map.get state.branches own ≡ found → option_map_or (λ (branch : Branch). map.contains_key branch.locks key) found false ≡ true →
+        option_map_or (λ branch. with_branch state own (with_lock key branch)) found state ≡ state
+    by None is e = absurd (true≢false (sym e))
+    by (Some branch) is e = same_state _ _ (same_branches _ _ (λ other. elim (same_or_apart xids_total exact_xids other own) [
+      | inl o ↦ rw o (get_inserted xids_total exact_xids state.branches own (with_lock key branch) ∙ ap Some (locks branch e) ∙ sym is)
+      | inr apart ↦ get_inserted_apart xids_total exact_xids state.branches own (with_lock key branch) other apart
+    ])) refl
+
+-- ---- statements and their steps
+
+-- an accepted statement that was carried out
+pub step_accepted : (old new : State) (session : ℕ) (seat : Seat) (statement : Statement) (reply : Reply) →
+    seat ≡ seat_of old session → reply ≡ table old seat statement → is_refused reply ≡ false → new ≡ effect old session seat statement → Step old session statement reply new
+unfolding reply_to after
+step_accepted old new session seat statement reply is answered accepted done =
+    let told : reply ≡ table old (seat_of old session) statement = answered ∙ ap (λ s. table old s statement) is in
+    (told, done ∙ ap (λ s. effect old session s statement) is ∙ sym (by (table old (seat_of old session) statement) (ap is_refused (sym told) ∙ accepted)))
+  where
+    by : (r : Reply) → is_refused r ≡ false → unless_refused r old (effect old session (seat_of old session) statement) ≡ effect old session (seat_of old session) statement
+    by Accepted e = refl
+    by (Value value) e = refl
+    by (Recovered xids) e = refl
+    by (Refused error) e = absurd (true≢false e)
+
+-- a refused statement
+pub step_refused : (old : State) (session : ℕ) (seat : Seat) (statement : Statement) (reply : Reply) →
+    seat ≡ seat_of old session → reply ≡ table old seat statement → is_refused reply ≡ true → Step old session statement reply old
+unfolding reply_to after
+step_refused old session seat statement reply is answered refused =
+    let told : reply ≡ table old (seat_of old session) statement = answered ∙ ap (λ s. table old s statement) is in
+    (told, sym (by (table old (seat_of old session) statement) (ap is_refused (sym told) ∙ refused)))
+  where
+    by : (r : Reply) → is_refused r ≡ true → unless_refused r old (effect old session (seat_of old session) statement) ≡ old
+    by Accepted e = absurd (true≢false (sym e))
+    by (Value value) e = absurd (true≢false (sym e))
+    by (Recovered xids) e = absurd (true≢false (sym e))
+    by (Refused error) e = refl
+
+-- want of memory comes only where the statement enters and makes a record
+pub may_run_out : (old : State) (session : ℕ) (seat : Seat) (statement : Statement) (reply : Reply) →
+    seat ≡ seat_of old session → reply ≡ table old seat statement → is_refused reply ≡ false → may_enter old seat statement ≡ true → makes_record statement ≡ true → may_take_memory old session statement ≡ true
+unfolding enters reply_to
+may_run_out old session seat statement reply is answered accepted enters_it makes =
+    ap (λ b. is_recover statement || (not b && may_enter old (seat_of old session) statement && makes_record statement)) (sym (ap is_refused (answered ∙ ap (λ s. table old s statement) is)) ∙ accepted)
+    ∙ ap (λ b. is_recover statement || (b && makes_record statement)) (ap (λ s. may_enter old s statement) (sym is) ∙ enters_it)
+    ∙ ap (λ b. is_recover statement || b) makes ∙ or_true (is_recover statement)
+  where
+    or_true : (b : Bool) → (b || true) ≡ true
+    or_true true = refl
+    or_true false = refl

@@ -1,0 +1,195 @@
+-- What the end of a branch is in the state that the records stand for.
+use Rattle.std.proofs.Common.{◌≡◌, ℕ, List, [], ◌∷◌, refl, ap, sym, ◌∙◌, Bool, true, false, ◌⊎◌, inl, inr}
+use Rattle.std.specs.Prelude.{Option, Some, None, cond, ◌||◌, is_some}
+use Rattle.std.specs.Option.{option_map, option_map_or, option_and_then, unwrap_or}
+use Rattle.std.specs.List.{list_any}
+use Rattle.std.specs.Ordering.{eq_by_cmp}
+use Rattle.std.specs.FinMap as map
+use Rattle.std.specs.FinMap.{get-entries, find, same_map}
+use mathlib.Core.Bool.{true≢false}
+use Rattle.xa_xid.specs.declared.xid.Xid.{Xid}
+use Rattle.xa_xid.specs.Xid.{Text, bytes_cmp, xid_cmp, same_xid}
+use Rattle.xa_xid.proofs.Orders.{xids_total, exact_xids, bytes_total, exact_texts}
+use Rattle.xa_server.specs.declared.branch.BranchRecord.{BranchRecord}
+use Rattle.xa_server.specs.declared.row.Lock.{Lock}
+use Rattle.xa_server.specs.declared.row.RowRecord.{RowRecord}
+use Rattle.xa_server.specs.State.{Write, Branch, State}
+use Rattle.xa_server.specs.Step.{without_branch, with_write, with_writes, committed}
+use Rattle.xa_server.specs.Tables.{BranchMap}
+use Rattle.xa_server.specs.Rows.{RowMap, committed_of, holder_of, write_of, write_by, lock_by, freed_row, is_needed, kept, freed, Frees}
+use Rattle.xa_server.specs.View.{gather, branch_seen, state_of}
+use Rattle.xa_server.proofs.Maps.{same_or_apart, same_itself, get_inserted, get_inserted_apart, get_removed, get_removed_apart}
+use Rattle.xa_server.proofs.Gathered.{get-gather}
+use Rattle.xa_server.proofs.Seen.{get-branches, unlocked, unwritten, lock_of_holder}
+use Rattle.xa_server.proofs.Steps.{same_state, same_branches, gather_same, lock_apart, write_apart, flipped_apart}
+
+-- at each key the newest of the writes, else what stood there
+get-with_writes : (writes : List (List ℕ × Write)) (rows : map.FinMap bytes_cmp Text) (key : List ℕ) → map.get (with_writes writes rows) key ≡ unwrap_or (find bytes_cmp key writes) (map.get rows key)
+get-with_writes [] rows key = refl
+get-with_writes (write ∷ writes) rows key =
+    let rest = get-with_writes writes rows key in
+    elim (same_or_apart bytes_total exact_texts key write.0) [
+      | inl is ↦ ap (map.get (with_write write.0 write.1 (with_writes writes rows))) is ∙ here write.0 write.1 (with_writes writes rows)
+          ∙ ap (λ b. unwrap_or (cond b (Some write.1) (find bytes_cmp key writes)) (map.get rows key)) (sym (ap (eq_by_cmp bytes_cmp key) (sym is) ∙ same_itself bytes_total exact_texts key))
+      | inr apart ↦ beside write.0 write.1 (with_writes writes rows) apart ∙ rest
+          ∙ ap (λ b. unwrap_or (cond b (Some write.1) (find bytes_cmp key writes)) (map.get rows key)) (sym apart)
+    ]
+  where
+    here : (at : List ℕ) (w : Write) (rest : map.FinMap bytes_cmp Text) → map.get (with_write at w rest) at ≡ w
+    here at None rest = get_removed bytes_total exact_texts rest at
+    here at (Some value) rest = get_inserted bytes_total exact_texts rest at value
+
+    beside : (at : List ℕ) (w : Write) (rest : map.FinMap bytes_cmp Text) → eq_by_cmp bytes_cmp key at ≡ false → map.get (with_write at w rest) key ≡ map.get rest key
+    beside at None rest apart = get_removed_apart bytes_total exact_texts rest at key apart
+    beside at (Some value) rest apart = get_inserted_apart bytes_total exact_texts rest at value key apart
+
+-- a record that isn't needed says nothing
+kept_says : {W : Type 0} (says : RowRecord → Option W) → says (record { committed = None; lock = None }) ≡ None → (row : RowRecord) → option_and_then says (kept row) ≡ says row
+kept_says says nothing row = by row.committed row.lock
+  where
+    by : (value : Option Text) (lock : Option Lock) → option_and_then says (kept (record { committed = value; lock = lock })) ≡ says (record { committed = value; lock = lock })
+    by None None = sym nothing
+    by None (Some lock) = refl
+    by (Some text) None = refl
+    by (Some text) (Some lock) = refl
+
+-- what a freed record says is what the record said, where that is so of the row
+freed_says : {W : Type 0} (says : RowRecord → Option W) → says (record { committed = None; lock = None }) ≡ None → (commits : Bool) (xid : Xid) →
+    ((row : RowRecord) → says (freed_row commits xid row) ≡ says row) → (found : Option RowRecord) → option_and_then says (freed commits xid found) ≡ option_and_then says found
+freed_says says nothing commits xid same None = refl
+freed_says says nothing commits xid same (Some row) = kept_says says nothing (freed_row commits xid row) ∙ same row
+
+-- another branch's lock and write stay
+freed_lock : (commits : Bool) (xid other : Xid) → same_xid xid other ≡ false → (row : RowRecord) → lock_by other (freed_row commits xid row) ≡ lock_by other row
+freed_lock commits xid other apart row = by row.committed row.lock
+  where
+    by : (value : Option Text) (lock : Option Lock) → lock_by other (freed_row commits xid (record { committed = value; lock = lock })) ≡ lock_by other (record { committed = value; lock = lock })
+    by value None = refl
+    by value (Some lock) = at (same_xid lock.holder xid) (same_or_apart xids_total exact_xids lock.holder xid) refl
+      where
+        at : (b : Bool) → (lock.holder ≡ xid) ⊎ (same_xid lock.holder xid ≡ false) → same_xid lock.holder xid ≡ b → lock_by other (freed_row commits xid (record { committed = value; lock = Some lock })) ≡ lock_by other (record { committed = value; lock = Some lock })
+        at true (inl is) e = rw e (sym (lock_apart (same_xid lock.holder other) (ap (λ x. same_xid x other) is ∙ apart)))
+        at true (inr not) e = absurd (true≢false (sym e ∙ not))
+        at false _ e = rw e refl
+
+freed_write : (commits : Bool) (xid other : Xid) → same_xid xid other ≡ false → (row : RowRecord) → write_by other (freed_row commits xid row) ≡ write_by other row
+freed_write commits xid other apart row = by row.committed row.lock
+  where
+    by : (value : Option Text) (lock : Option Lock) → write_by other (freed_row commits xid (record { committed = value; lock = lock })) ≡ write_by other (record { committed = value; lock = lock })
+    by value None = refl
+    by value (Some lock) = at (same_xid lock.holder xid) (same_or_apart xids_total exact_xids lock.holder xid) refl
+      where
+        at : (b : Bool) → (lock.holder ≡ xid) ⊎ (same_xid lock.holder xid ≡ false) → same_xid lock.holder xid ≡ b → write_by other (freed_row commits xid (record { committed = value; lock = Some lock })) ≡ write_by other (record { committed = value; lock = Some lock })
+        at true (inl is) e = rw e (sym (write_apart (same_xid lock.holder other) (write_of lock.change) (ap (λ x. same_xid x other) is ∙ apart)))
+        at true (inr not) e = absurd (true≢false (sym e ∙ not))
+        at false _ e = rw e refl
+
+-- the committed value of a record that was freed
+value_after : Bool → Option Write → Option Text → Option Text
+value_after commits write value = cond commits (unwrap_or write value) value
+
+freed_committed : (commits : Bool) (xid : Xid) (row : RowRecord) → (freed_row commits xid row).committed ≡ value_after commits (write_by xid row) row.committed
+unfolding value_after
+freed_committed commits xid row = by row.committed row.lock
+  where
+    same : (b : Bool) (value : Option Text) → value ≡ cond b value value
+    same true value = refl
+    same false value = refl
+
+    by : (value : Option Text) (lock : Option Lock) → (freed_row commits xid (record { committed = value; lock = lock })).committed ≡ cond commits (unwrap_or (write_by xid (record { committed = value; lock = lock })) value) value
+    by value None = same commits value
+    by value (Some lock) = at (same_xid lock.holder xid) refl
+      where
+        at : (b : Bool) → same_xid lock.holder xid ≡ b → (freed_row commits xid (record { committed = value; lock = Some lock })).committed ≡ cond commits (unwrap_or (write_by xid (record { committed = value; lock = Some lock })) value) value
+        at true e = rw e refl
+        at false e = rw e (same commits value)
+
+never : (b : Bool) → ◌≡◌ {A = Option Text} None (cond b None None)
+never true = refl
+never false = refl
+
+-- of a row, where there is one
+freed_value : (commits : Bool) (xid : Xid) (found : Option RowRecord) → committed_of (freed commits xid found) ≡ value_after commits (option_and_then (write_by xid) found) (committed_of found)
+unfolding value_after
+freed_value commits xid None = never commits
+freed_value commits xid (Some row) = kept_says (λ row. row.committed) refl (freed_row commits xid row) ∙ freed_committed commits xid row
+
+-- a row that the branch doesn't hold keeps its value
+unheld_value : (commits : Bool) (xid : Xid) (found : Option RowRecord) → is_some (option_and_then (lock_by xid) found) ≡ false → value_after commits (option_and_then (write_by xid) found) (committed_of found) ≡ committed_of found
+unfolding value_after
+unheld_value commits xid found none = ap (λ write. cond commits (unwrap_or write (committed_of found)) (committed_of found)) (unwritten xid found none) ∙ same commits
+  where
+    same : (b : Bool) → cond b (committed_of found) (committed_of found) ≡ committed_of found
+    same true = refl
+    same false = refl
+
+-- the branch's rows stand in the list
+abbrev pub IsListedIn : Xid → List (List ℕ) → RowMap → Type 0
+IsListedIn xid keys rows = (key : List ℕ) → holder_of (map.get rows key) ≡ Some xid → list_any (eq_by_cmp bytes_cmp key) keys ≡ true
+
+-- what the rows say of another branch
+ended_beside : (commits : Bool) (xid : Xid) (keys : List (List ℕ)) (old new : RowMap) → Frees commits xid keys old new → (other : Xid) → same_xid other xid ≡ false → branch_seen new other ≡ branch_seen old other
+ended_beside commits xid keys old new frees other apart = λ i branch. record { phase = branch.phase; owner = branch.owner; writes = writes i; locks = locks i }
+  where
+    writes : gather (write_by other) new ≡ gather (write_by other) old
+    writes = gather_same (write_by other) old new (λ key. ap (option_and_then (write_by other)) (frees key) ∙ at key (list_any (eq_by_cmp bytes_cmp key) keys))
+      where
+        at : (key : List ℕ) (b : Bool) → option_and_then (write_by other) (cond b (freed commits xid (map.get old key)) (map.get old key)) ≡ option_and_then (write_by other) (map.get old key)
+        at key true = freed_says (write_by other) refl commits xid (freed_write commits xid other (flipped_apart xid other apart)) (map.get old key)
+        at key false = refl
+
+    locks : gather (lock_by other) new ≡ gather (lock_by other) old
+    locks = gather_same (lock_by other) old new (λ key. ap (option_and_then (lock_by other)) (frees key) ∙ at key (list_any (eq_by_cmp bytes_cmp key) keys))
+      where
+        at : (key : List ℕ) (b : Bool) → option_and_then (lock_by other) (cond b (freed commits xid (map.get old key)) (map.get old key)) ≡ option_and_then (lock_by other) (map.get old key)
+        at key true = freed_says (lock_by other) refl commits xid (freed_lock commits xid other (flipped_apart xid other apart)) (map.get old key)
+        at key false = refl
+
+-- the committed value of each row
+ended_value : (commits : Bool) (xid : Xid) (keys : List (List ℕ)) (old new : RowMap) → Frees commits xid keys old new → IsListedIn xid keys old → (key : List ℕ) →
+    committed_of (map.get new key) ≡ value_after commits (option_and_then (write_by xid) (map.get old key)) (committed_of (map.get old key))
+ended_value commits xid keys old new frees listed key = ap committed_of (frees key) ∙ at (list_any (eq_by_cmp bytes_cmp key) keys) refl
+  where
+    unheld : list_any (eq_by_cmp bytes_cmp key) keys ≡ false → (holder : Option Xid) → holder_of (map.get old key) ≡ holder → is_some (option_and_then (lock_by xid) (map.get old key)) ≡ false
+    unheld none None h = ap is_some (unlocked xid (map.get old key) h)
+    unheld none (Some holder) h = lock_of_holder holder xid (map.get old key) h ∙ elim (same_or_apart xids_total exact_xids holder xid) [
+      | inl is ↦ absurd (true≢false (sym (listed key (h ∙ ap Some is)) ∙ none))
+      | inr apart ↦ apart
+    ]
+
+    at : (b : Bool) → list_any (eq_by_cmp bytes_cmp key) keys ≡ b → committed_of (cond b (freed commits xid (map.get old key)) (map.get old key)) ≡ value_after commits (option_and_then (write_by xid) (map.get old key)) (committed_of (map.get old key))
+    at true e = freed_value commits xid (map.get old key)
+    at false e = sym (unheld_value commits xid (map.get old key) (unheld e (holder_of (map.get old key)) refl))
+
+-- the branches without the one that ended
+ended_branches : (branches : BranchMap) (commits : Bool) (xid : Xid) (keys : List (List ℕ)) (old new : RowMap) → Frees commits xid keys old new →
+    (state_of (map.remove branches xid) new).branches ≡ map.remove (state_of branches old).branches xid
+ended_branches branches commits xid keys old new frees = same_branches _ _ (λ other. get-branches (map.remove branches xid) new other ∙ (elim (same_or_apart xids_total exact_xids other xid) [
+  | inl is ↦ rw is (ap (option_map (branch_seen new xid)) (get_removed xids_total exact_xids branches xid) ∙ sym (get_removed xids_total exact_xids (state_of branches old).branches xid))
+  | inr apart ↦ ap (option_map (branch_seen new other)) (get_removed_apart xids_total exact_xids branches xid other apart)
+      ∙ ap (λ (f : BranchRecord → Branch). option_map f (map.get branches other)) (ended_beside commits xid keys old new frees other apart)
+      ∙ sym (get_removed_apart xids_total exact_xids (state_of branches old).branches xid other apart ∙ get-branches branches old other)
+]))
+
+-- a rollback
+pub seen_rolled_back : (branches : BranchMap) (xid : Xid) (keys : List (List ℕ)) (old new : RowMap) → Frees false xid keys old new → IsListedIn xid keys old →
+    state_of (map.remove branches xid) new ≡ without_branch (state_of branches old) xid
+unfolding state_of value_after
+seen_rolled_back branches xid keys old new frees listed = same_state _ _
+    (ended_branches branches false xid keys old new frees)
+    (gather_same (λ row. row.committed) old new (ended_value false xid keys old new frees listed))
+
+-- a commit
+pub seen_committed : (branches : BranchMap) (xid : Xid) (branch : BranchRecord) (keys : List (List ℕ)) (old new : RowMap) → map.get branches xid ≡ Some branch → Frees true xid keys old new → IsListedIn xid keys old →
+    state_of (map.remove branches xid) new ≡ committed (state_of branches old) xid
+unfolding state_of committed value_after
+seen_committed branches xid branch keys old new is frees listed =
+    same_state _ _
+    (ended_branches branches true xid keys old new frees)
+    (same_map bytes_total exact_texts _ _ (λ key.
+    get-gather bytes_total exact_texts (λ row. row.committed) new key ∙ ended_value true xid keys old new frees listed key
+    ∙ (λ i. unwrap_or (sym (get-gather bytes_total exact_texts (write_by xid) old key) i) (sym (get-gather bytes_total exact_texts (λ row. row.committed) old key) i))
+    ∙ ap (λ write. unwrap_or write (map.get (gather (λ row. row.committed) old) key)) (get-entries (gather (write_by xid) old) key)
+    ∙ sym (get-with_writes (map.entries (gather (write_by xid) old)) (gather (λ row. row.committed) old) key)))
+    ∙ ap (λ found. option_map_or (λ (b : Branch). record (without_branch (state_of branches old) xid) { rows = with_writes (map.entries b.writes) (state_of branches old).rows }) found (state_of branches old))
+    (sym (get-branches branches old xid ∙ ap (option_map (branch_seen old xid)) is))

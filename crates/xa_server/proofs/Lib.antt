@@ -1,0 +1,14 @@
+pub mod Maps
+pub mod Index
+pub mod Records
+pub mod Outcomes
+pub mod RowRecords
+pub mod Freeing
+pub mod Gathered
+pub mod Seen
+pub mod Steps
+pub mod Ending
+pub mod Whole
+pub mod Holding
+pub mod Sorted
+pub mod Accepted

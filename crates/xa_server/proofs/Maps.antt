@@ -1,0 +1,70 @@
+-- A `BTreeMap` seen as a finite map: what look-ups, writes and removals of the one are in the other.
+use Rattle.std.proofs.Common.{◌≡◌, ℕ, List, [], ◌∷◌, refl, ap, sym, ◌∙◌, Bool, true, false, ◌⊎◌, inl, inr}
+use mathlib.Core.Bool.{true≢false}
+use Rattle.std.specs.Prelude.{Option, Some, None, cond}
+use Rattle.std.specs.declared.cmp.Ordering.{Ordering}
+use Rattle.std.specs.declared.cmp.Ordering.TheVariants.{Less, Equal, Greater}
+use Rattle.std.specs.Ordering.{eq_by_cmp, is_eq}
+use Rattle.std.proofs.lemmas.Cmp.{tied_itself}
+use Rattle.std.specs.Cmp.{IsTotalOrder, eq_by_cmp_equiv}
+use Rattle.std.specs.Map.{lookup}
+use Rattle.std.specs.BTreeMap as tree
+use Rattle.std.specs.BTreeMap.{BTreeMap, is_at, Updates, IsUnchanged, IsEmpty}
+use Rattle.std.specs.FinMap.{FinMap, find, from_entries, insert, remove, empty, get, same_map, get-from_entries, get-insert, get-remove, get-empty}
+use Rattle.std.proofs.lemmas.Map.Lookups.{CmpEqualImpliesEq}
+
+module _ {K : Type 0} {R : K → K → Ordering} (total : IsTotalOrder R) (exact : CmpEqualImpliesEq R) where
+  by_test : (r : Ordering) (x y : K) → R x y ≡ r → (x ≡ y) ⊎ (is_eq r ≡ false)
+  by_test Less x y is = inr refl
+  by_test Equal x y is = inl (exact x y is)
+  by_test Greater x y is = inr refl
+
+  -- two keys are one, or the order tells them apart
+  pub same_or_apart : (x y : K) → (x ≡ y) ⊎ (eq_by_cmp R x y ≡ false)
+  same_or_apart x y = by_test (R x y) x y refl
+
+  pub same_itself : (x : K) → eq_by_cmp R x x ≡ true
+  same_itself x = ap is_eq (tied_itself total x)
+
+  -- keys that the order calls equal are one
+  pub same_is : (x y : K) → eq_by_cmp R x y ≡ true → x ≡ y
+  same_is x y e = elim (same_or_apart x y) [ inl is ↦ is | inr apart ↦ absurd (true≢false (sym e ∙ apart)) ]
+
+module _ {K X : Type 0} {R : K → K → Ordering} (total : IsTotalOrder R) (exact : CmpEqualImpliesEq R) where
+  find_lookup : (es : List (K × X)) (q : K) → find R q es ≡ lookup (is_at (R q)) es
+  find_lookup [] q = refl
+  find_lookup (e ∷ es) q = ap (cond (is_at (R q) e.0) (Some e.1)) (find_lookup es q)
+
+  -- a look-up in the tree is one in the map
+  pub get_view : (m : BTreeMap K X) (q : K) → get (from_entries {R = R} m.entries) q ≡ tree.get R m q
+  get_view m q = get-from_entries total m.entries q ∙ find_lookup m.entries q
+
+  -- a tree that differs at one key is a map in which that key has this value
+  pub one_set : (m n : BTreeMap K X) (k : K) (v : X) → Updates R m n k (Some v) → from_entries {R = R} n.entries ≡ insert (from_entries m.entries) k v
+  one_set m n k v updates = same_map total exact _ _ (λ q.
+      get_view n q ∙ updates.0 q ∙ ap (λ b. cond b (Some v) (tree.get R m q)) ((eq_by_cmp_equiv total).symm k q)
+      ∙ sym (get-insert total (from_entries m.entries) k v q ∙ ap (cond (eq_by_cmp R q k) (Some v)) (get_view m q)))
+
+  -- or in which it has none
+  pub one_gone : (m n : BTreeMap K X) (k : K) → Updates R m n k None → from_entries {R = R} n.entries ≡ remove (from_entries m.entries) k
+  one_gone m n k updates = same_map total exact _ _ (λ q.
+      get_view n q ∙ updates.0 q ∙ ap (λ b. cond b None (tree.get R m q)) ((eq_by_cmp_equiv total).symm k q)
+      ∙ sym (get-remove total (from_entries m.entries) k q ∙ ap (cond (eq_by_cmp R q k) None) (get_view m q)))
+
+  pub same_view : (m n : BTreeMap K X) → IsUnchanged m n → from_entries {R = R} n.entries ≡ from_entries m.entries
+  same_view m n same = ap from_entries same
+
+  pub empty_view : (m : BTreeMap K X) → IsEmpty m → from_entries {R = R} m.entries ≡ empty
+  empty_view m is = ap from_entries is
+
+  pub get_inserted : (m : FinMap R X) (k : K) (v : X) → get (insert m k v) k ≡ Some v
+  get_inserted m k v = get-insert total m k v k ∙ ap (λ b. cond b (Some v) (get m k)) (same_itself total exact k)
+
+  pub get_inserted_apart : (m : FinMap R X) (k : K) (v : X) (q : K) → eq_by_cmp R q k ≡ false → get (insert m k v) q ≡ get m q
+  get_inserted_apart m k v q apart = get-insert total m k v q ∙ ap (λ b. cond b (Some v) (get m q)) apart
+
+  pub get_removed : (m : FinMap R X) (k : K) → get (remove m k) k ≡ None
+  get_removed m k = get-remove total m k k ∙ ap (λ b. cond b None (get m k)) (same_itself total exact k)
+
+  pub get_removed_apart : (m : FinMap R X) (k q : K) → eq_by_cmp R q k ≡ false → get (remove m k) q ≡ get m q
+  get_removed_apart m k q apart = get-remove total m k q ∙ ap (λ b. cond b None (get m q)) apart

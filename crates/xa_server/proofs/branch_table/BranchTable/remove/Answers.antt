@@ -1,0 +1,59 @@
+use Rattle.std.proofs.Common.{List, ◌≡◌, ◌≢◌, ℕ, [], ◌∷◌, ◌++◌, refl, ap, sym, ◌∙◌, arith, Some, None}
+use Rattle.std.specs.Prelude.{Option}
+use Rattle.std.specs.Option.{option_map, option_and_then}
+use Rattle.std.specs.FinMap as map
+use Rattle.xa_xid.specs.Xid.{xid_cmp}
+use Rattle.xa_xid.specs.declared.xid.Xid.{Xid}
+use Rattle.xa_xid.proofs.Orders.{xids_total, exact_xids}
+use Rattle.xa_server.specs.declared.branch.BranchRecord.{BranchRecord}
+use Rattle.xa_server.specs.declared.branch.Phase.TheVariants.{Active, Idle, Prepared}
+use Rattle.xa_server.specs.Tables.{BranchMap, IsIndexed, owner_of, owned_at, with_record, without_last}
+use Rattle.xa_server.proofs.Maps.{get_view, one_set, one_gone, empty_view}
+use Rattle.xa_server.proofs.Outcomes.{either_way, on_ok, on_err}
+use Rattle.xa_server.proofs.Records.{branches_in, get_branch, removed_in, found_in, changed_in, with_record-same}
+use Rattle.xa_server.proofs.Index.{owners_with, indexed_empty, indexed_moved, indexed_started, indexed_freed, owner_of-changed, owner_of-inserted, owner_of-removed, owners_with-none}
+use Rattle.xa_server.proofs.branch_table.BranchTable.remove.Goals as goal
+use Rattle.xa_server.proofs.branch_table.BranchTable.remove.Goals.{in-Some, in_default}
+
+-- the keys that a record lists
+keys_in : Option BranchRecord → Option (List (List ℕ))
+keys_in found = option_map (λ (branch : BranchRecord). branch.held) found
+
+-- who owns the branch of a record
+owner_in : Option BranchRecord → Option ℕ
+owner_in found = option_and_then (λ (branch : BranchRecord). branch.owner) found
+
+pub returns-in_err-owner-clause-removed : goal.returns-in_err-owner-clause-removed
+returns-in_err-owner-clause-removed c = removed_in c.self.inside.by_xid c.remove.new.self c.args.xid.now c.remove.ensures.updates ∙ ap (λ m. map.remove m c.args.xid.now) c.self.view_is
+
+pub returns-in_err-owner-clause-held : goal.returns-in_err-owner-clause-held
+unfolding keys_in
+returns-in_err-owner-clause-held c =
+    c.from_residual.ensures ∙ ap keys_in (sym c.in_err-owner.was ∙ c.remove.ensures.value ∙ get_branch c.self.inside.by_xid c.args.self.now c.args.xid.now c.self.view_is)
+
+pub invariant_of-self-in-Some : goal.invariant_of-self-in-Some
+unfolding owner_in
+invariant_of-self-in-Some c =
+    rw (removed_in c.self.inside.by_xid c.remove.new.self c.args.xid.now c.remove.ensures.updates, c.place_of.ensures.value)
+    (indexed_freed c.self.inside.owned (branches_in c.self.inside.by_xid) _ c.in-Some.owner c.args.xid.now
+    (rw (← c.place_of.ensures.value) c.place_of.ensures.within)
+    (ap owner_in (found_in c.self.inside.by_xid c.args.xid.now c.remove.result c.remove.ensures.value ∙ c.in_ok-owner.was) ∙ c.in-Some.is)
+    (owner_of-removed _ c.args.xid.now) c.self.invariant)
+
+pub invariant_of-self-in_default : goal.invariant_of-self-in_default
+unfolding owner_in
+invariant_of-self-in_default c =
+    rw (removed_in c.self.inside.by_xid c.remove.new.self c.args.xid.now c.remove.ensures.updates)
+    (indexed_moved c.self.inside.owned (branches_in c.self.inside.by_xid) _
+    (λ other. owner_of-removed _ c.args.xid.now other ∙ owners_with-none _ c.args.xid.now other
+    (ap owner_in (found_in c.self.inside.by_xid c.args.xid.now c.remove.result c.remove.ensures.value ∙ c.in_ok-owner.was) ∙ c.in_default.is))
+    c.self.invariant)
+
+pub returns-clause-removed : goal.returns-clause-removed
+returns-clause-removed c =
+    let same : branches_in c.remove.new.self ≡ map.remove c.args.self.now c.args.xid.now = removed_in c.self.inside.by_xid c.remove.new.self c.args.xid.now c.remove.ensures.updates ∙ ap (λ m. map.remove m c.args.xid.now) c.self.view_is in
+    elim c.match-owner.branch [ in-Some w ↦ w.self-is ∙ same | in_default w ↦ w.self-is ∙ same ]
+
+pub returns-clause-held : goal.returns-clause-held
+unfolding keys_in
+returns-clause-held c = ap keys_in (sym c.in_ok-owner.was ∙ c.remove.ensures.value ∙ get_branch c.self.inside.by_xid c.args.self.now c.args.xid.now c.self.view_is)

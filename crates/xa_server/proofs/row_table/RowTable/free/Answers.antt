@@ -1,0 +1,21 @@
+use Rattle.std.proofs.Common.{subst, ◌≡◌, ℕ, List, [], ◌∷◌, refl, ap, sym, ◌∙◌, Some, None}
+use Rattle.std.specs.FinMap as map
+use Rattle.xa_server.specs.declared.row.RowRecord.{RowRecord}
+use Rattle.xa_server.specs.Rows.{RowMap, held_row, Frees}
+use Rattle.xa_server.proofs.RowRecords.{rows_in, get_row, row_set, row_gone}
+use Rattle.xa_server.proofs.Freeing.{IsFreed, frees_kept, frees_dropped, freed_one_more, holds_known, holds_new}
+use Rattle.xa_server.proofs.row_table.RowTable.free.Goals as goal
+
+pub returns-then-not-free_in : goal.returns-then-not-free_in
+returns-then-not-free_in c =
+    let P : RowMap → Type 0 = λ rows. Frees c.args.commits c.args.xid.now (c.args.key.now ∷ []) rows (rows_in c.remove-row.new.self) in
+    subst P c.self.view_is
+    (frees_dropped c.args.commits c.args.xid.now c.args.key.now c.self.inside.by_key c.free_in.new.by_key c.remove-row.new.self c.free_in.result
+    c.free_in.ensures.changed c.free_in.ensures.needed c.if-not-free_in.true c.remove-row.ensures.updates)
+
+pub returns-else-not-free_in : goal.returns-else-not-free_in
+returns-else-not-free_in c =
+    let P : RowMap → Type 0 = λ rows. Frees c.args.commits c.args.xid.now (c.args.key.now ∷ []) rows (rows_in c.free_in.new.by_key) in
+    subst P c.self.view_is
+    (frees_kept c.args.commits c.args.xid.now c.args.key.now c.self.inside.by_key c.free_in.new.by_key c.free_in.result
+    c.free_in.ensures.changed c.free_in.ensures.needed c.if-not-free_in.false)

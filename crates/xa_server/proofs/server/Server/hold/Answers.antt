@@ -1,0 +1,91 @@
+use Rattle.std.proofs.Common.{◌≡◌, ◌≢◌, ℕ, List, [], ◌∷◌, ◌++◌, refl, ap, sym, ◌∙◌, subst, Bool, true, false, Some, None, Option}
+use Rattle.std.specs.Prelude.{cond, is_some, is_none, OnOk, OnErr}
+use Rattle.std.specs.Option.{option_map, option_map_or, option_and_then}
+use Rattle.std.specs.FinMap as map
+use mathlib.Core.Bool.{true≢false}
+use Rattle.xa_xid.specs.declared.xid.Xid.{Xid}
+use Rattle.xa_server.specs.declared.branch.BranchRecord.{BranchRecord}
+use Rattle.xa_server.specs.declared.branch.Phase.{Phase}
+use Rattle.xa_server.specs.declared.branch.Phase.TheVariants.{Active as PhaseActive, Idle as PhaseIdle, Prepared as PhasePrepared}
+use Rattle.xa_server.specs.declared.seat.Seat.TheVariants.{Free, Active, Idle}
+use Rattle.xa_server.specs.declared.row.Change.{Change}
+use Rattle.xa_server.specs.declared.row.Change.TheVariants.{Nothing}
+use Rattle.xa_server.specs.declared.row.RowRecord.{RowRecord}
+use Rattle.xa_server.specs.State.{State, Branch, is_known, is_prepared, is_prepared_phase, seat_of, committed_value, value_within}
+use Rattle.xa_server.specs.Locks.{holds, is_held_against}
+use Rattle.xa_server.specs.Step.{started_by, with_branch, with_changed, with_write, without_branch, committed}
+use Rattle.xa_server.specs.Tables.{BranchMap, owner_of, with_record, without_last}
+use Rattle.xa_server.specs.Rows.{RowMap, held_row, holder_of, with_change, lock_by}
+use Rattle.xa_server.specs.View.{branch_seen, state_of, is_listed, IsWhole}
+use Rattle.xa_server.proofs.Outcomes.{either_way, on_ok, on_err, at_ok, at_err}
+use Rattle.xa_server.proofs.Index.{same_value, not_none}
+use Rattle.xa_server.proofs.Seen
+use Rattle.xa_server.proofs.Steps
+use Rattle.xa_server.proofs.Ending
+use Rattle.xa_server.proofs.Whole
+use Rattle.xa_server.proofs.Holding
+use Rattle.xa_server.proofs.server.Server.hold.Goals as goal
+
+-- what a row's record says of the branch
+lock_in : (branches : BranchMap) (rows : RowMap) (own : Xid) (key : List ℕ) (found : Option RowRecord) (b : Bool) → found ≡ map.get rows key → b ≡ is_some (option_and_then (lock_by own) found) → is_some (option_and_then (lock_by own) (map.get rows key)) ≡ b
+lock_in branches rows own key found b is told = ap (λ row. is_some (option_and_then (lock_by own) row)) (sym is) ∙ sym told
+
+again : (branches : BranchMap) (rows : RowMap) (state : State) (own : Xid) (key : List ℕ) (change : Change) → state_of branches rows ≡ state → IsWhole branches rows → is_known state own ≡ true →
+    is_held_against state (Active own) key ≡ false → (change ≡ Nothing → holds state own key ≡ false) → is_some (option_and_then (lock_by own) (map.get rows key)) ≡ true →
+    IsWhole branches (map.insert rows key (held_row own change (map.get rows key)))
+    × (state_of branches (map.insert rows key (held_row own change (map.get rows key))) ≡ with_changed state own (with_change key change))
+again branches rows state own key change is whole known unheld new there =
+    let result = Holding.held_again branches rows own key change whole (ap (λ s. is_known s own) is ∙ known) (ap (λ s. is_held_against s (Active own) key) is ∙ unheld) (λ e. ap (λ s. holds s own key) is ∙ new e) there in
+    (result.0, result.1 ∙ ap (λ s. with_changed s own (with_change key change)) is)
+
+anew : (branches : BranchMap) (rows : RowMap) (state : State) (own : Xid) (key : List ℕ) (change : Change) → state_of branches rows ≡ state → IsWhole branches rows → is_known state own ≡ true →
+    is_held_against state (Active own) key ≡ false → is_some (option_and_then (lock_by own) (map.get rows key)) ≡ false →
+    IsWhole (with_record branches own (Holding.longer key)) (map.insert rows key (held_row own change (map.get rows key)))
+    × (state_of (with_record branches own (Holding.longer key)) (map.insert rows key (held_row own change (map.get rows key))) ≡ with_changed state own (with_change key change))
+anew branches rows state own key change is whole known unheld none =
+    let result = Holding.held_anew branches rows own key change whole (ap (λ s. is_known s own) is ∙ known) (ap (λ s. is_held_against s (Active own) key) is ∙ unheld) none in
+    (result.0, result.1 ∙ ap (λ s. with_changed s own (with_change key change)) is)
+
+pub invariant_of-self : goal.invariant_of-self
+invariant_of-self c =
+    either_way c.hold.result c.hold.ensures.ok c.hold.ensures.err
+    (λ ok. rw ok (again c.self.inside.branches c.self.inside.rows c.args.self.now c.args.own.now c.args.key.now c.args.change c.self.view_is c.self.invariant c.requires.known c.requires.unheld c.requires.new_lock
+    (lock_in c.self.inside.branches c.self.inside.rows c.args.own.now c.args.key.now _ _ c.row.ensures c.if-is_held_by.ensures)).0)
+    (λ err. rw err c.self.invariant)
+
+pub returns-then-is_held_by-clause-ok : goal.returns-then-is_held_by-clause-ok
+returns-then-is_held_by-clause-ok c = on_ok c.hold.result c.hold.ensures.ok (λ ok.
+    ap (state_of c.self.inside.branches) ok
+    ∙ (again c.self.inside.branches c.self.inside.rows c.args.self.now c.args.own.now c.args.key.now c.args.change c.self.view_is c.self.invariant c.requires.known c.requires.unheld c.requires.new_lock
+    (lock_in c.self.inside.branches c.self.inside.rows c.args.own.now c.args.key.now _ _ c.row.ensures c.if-is_held_by.ensures)).1)
+
+-- the records once the key was taken out again
+back : (branches listed taken : BranchMap) (own : Xid) (key : List ℕ) → listed ≡ with_record branches own (Holding.longer key) → taken ≡ with_record listed own Holding.shorter → taken ≡ branches
+back branches listed taken own key l t = t ∙ ap (λ b. with_record b own Holding.shorter) l ∙ Holding.unlisted branches own key
+
+pub invariant_of-self-then-is_err : goal.invariant_of-self-then-is_err
+unfolding Holding.longer Holding.shorter
+invariant_of-self-then-is_err c =
+    rw (back c.self.inside.branches c.list.new.self c.unlist.new.self c.args.own.now c.args.key.now c.in_ok-list.ensures.ok c.unlist.ensures, at_err c.hold-held.result c.if-is_err.ensures.value c.hold-held.ensures.err)
+    c.self.invariant
+
+pub invariant_of-self-else-is_err : goal.invariant_of-self-else-is_err
+unfolding Holding.longer
+invariant_of-self-else-is_err c =
+    rw (c.in_ok-list.ensures.ok, at_ok c.hold-held.result c.if-is_err.ensures.value c.hold-held.ensures.ok)
+    (anew c.self.inside.branches c.self.inside.rows c.args.self.now c.args.own.now c.args.key.now c.args.change c.self.view_is c.self.invariant c.requires.known c.requires.unheld
+    (lock_in c.self.inside.branches c.self.inside.rows c.args.own.now c.args.key.now _ _ c.row.ensures c.if-is_held_by.ensures)).0
+
+pub returns-then-is_err-clause-err : goal.returns-then-is_err-clause-err
+unfolding Holding.longer Holding.shorter
+returns-then-is_err-clause-err c = on_err c.hold-held.result c.hold-held.ensures.err (λ err.
+    ap (λ b. state_of b c.hold-held.new.self) (back c.self.inside.branches c.list.new.self c.unlist.new.self c.args.own.now c.args.key.now c.in_ok-list.ensures.ok c.unlist.ensures)
+    ∙ ap (state_of c.self.inside.branches) err ∙ c.self.view_is)
+
+pub returns-else-is_err-clause-ok : goal.returns-else-is_err-clause-ok
+unfolding Holding.longer
+returns-else-is_err-clause-ok c = on_ok c.hold-held.result c.hold-held.ensures.ok (λ ok.
+    ap (λ b. state_of b c.hold-held.new.self) c.in_ok-list.ensures.ok
+    ∙ ap (state_of (with_record c.self.inside.branches c.args.own.now (Holding.longer c.args.key.now))) ok
+    ∙ (anew c.self.inside.branches c.self.inside.rows c.args.self.now c.args.own.now c.args.key.now c.args.change c.self.view_is c.self.invariant c.requires.known c.requires.unheld
+    (lock_in c.self.inside.branches c.self.inside.rows c.args.own.now c.args.key.now _ _ c.row.ensures c.if-is_held_by.ensures)).1)

@@ -1,0 +1,14 @@
+use Rattle.std.proofs.Common.{◌≡◌, refl, ap, sym, ◌∙◌, subst, Bool, true, false, Some, None}
+use Rattle.xa_server.specs.declared.seat.Seat.TheVariants.{Free, Active, Idle}
+use Rattle.xa_server.specs.State.{State, is_known, seat_of, IsOpen}
+use Rattle.xa_server.specs.Locks.{holds, is_held_against}
+use Rattle.xa_server.specs.Step.{effect, may_enter, is_refused, may_take_memory}
+use Rattle.xa_server.proofs.Outcomes.{on_ok, on_err, err_value}
+use Rattle.xa_server.proofs.Accepted
+use Rattle.xa_server.proofs.server.Server.put.Goals as goal
+
+pub put_row-requires : goal.put_row-requires
+put_row-requires c = Accepted.accepted_put_free c.args.self.now c.args.key.now c.args.value.now (rw c.in-Free.is at c.requires.accepted)
+
+pub hold-requires-clause-unheld : goal.hold-requires-clause-unheld
+hold-requires-clause-unheld c = Accepted.accepted_put c.args.self.now c.in-Active.own c.args.key.now c.args.value.now (rw c.in-Active.is at c.requires.accepted)

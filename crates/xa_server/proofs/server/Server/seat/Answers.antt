@@ -1,0 +1,40 @@
+use Rattle.std.proofs.Common.{◌≡◌, ◌≢◌, ℕ, List, [], ◌∷◌, ◌++◌, refl, ap, sym, ◌∙◌, subst, Bool, true, false, Some, None, Option}
+use Rattle.std.specs.Prelude.{cond, is_some, is_none, OnOk, OnErr}
+use Rattle.std.specs.Option.{option_map, option_map_or, option_and_then}
+use Rattle.std.specs.FinMap as map
+use mathlib.Core.Bool.{true≢false}
+use Rattle.xa_xid.specs.declared.xid.Xid.{Xid}
+use Rattle.xa_server.specs.declared.branch.BranchRecord.{BranchRecord}
+use Rattle.xa_server.specs.declared.branch.Phase.{Phase}
+use Rattle.xa_server.specs.declared.branch.Phase.TheVariants.{Active as PhaseActive, Idle as PhaseIdle, Prepared as PhasePrepared}
+use Rattle.xa_server.specs.declared.seat.Seat.TheVariants.{Free, Active, Idle}
+use Rattle.xa_server.specs.State.{State, Branch, is_known, is_prepared, is_prepared_phase, seat_in, seat_of, committed_value, value_within}
+use Rattle.xa_server.specs.Locks.{holds, is_held_against}
+use Rattle.xa_server.specs.Step.{started_by, with_branch, with_changed, with_write, without_branch, committed}
+use Rattle.xa_server.specs.Tables.{BranchMap, owner_of, with_record, without_last}
+use Rattle.xa_server.specs.Rows.{RowMap, held_row, holder_of, with_change}
+use Rattle.xa_server.specs.View.{branch_seen, state_of, is_listed, IsWhole}
+use Rattle.xa_server.proofs.Outcomes.{either_way, on_ok, on_err}
+use Rattle.xa_server.proofs.Index.{same_value, not_none}
+use Rattle.xa_server.proofs.Seen
+use Rattle.xa_server.proofs.Steps
+use Rattle.xa_server.proofs.Ending
+use Rattle.xa_server.proofs.Whole
+use Rattle.xa_server.proofs.server.Server.seat.Goals as goal
+
+-- a session that owns a branch in this phase
+owned : (branches : BranchMap) (rows : RowMap) (session : ℕ) (xid : Xid) (phase : Option Phase) (state : State) → state_of branches rows ≡ state → IsWhole branches rows → owner_of branches xid ≡ Some session →
+    phase ≡ option_map (λ (b : BranchRecord). b.phase) (map.get branches xid) → seat_in phase xid ≡ seat_of state session
+owned branches rows session xid phase state is whole owner in_phase = sym (Seen.seat-owned branches rows session xid phase whole owner (sym in_phase)) ∙ ap (λ s. seat_of s session) is
+
+pub returns-in_default : goal.returns-in_default
+returns-in_default c = sym (Seen.seat-free c.self.inside.branches c.self.inside.rows c.args.session c.in_default.ensures.none) ∙ ap (λ s. seat_of s c.args.session) c.self.view_is
+
+pub returns-in-Some-Active : goal.returns-in-Some-Active
+returns-in-Some-Active c = ap Active c.copy.ensures ∙ owned c.self.inside.branches c.self.inside.rows c.args.session c.in-Some.own.now (Some PhaseActive) c.args.self.now c.self.view_is c.self.invariant c.in-Some.ensures.owner (ap Some (sym c.in-Some-Active.field-0-is) ∙ c.in-Some-Active.ensures)
+
+pub returns-in-Some-Idle : goal.returns-in-Some-Idle
+returns-in-Some-Idle c = ap Idle c.copy-in-Some-Idle.ensures ∙ owned c.self.inside.branches c.self.inside.rows c.args.session c.in-Some.own.now (Some PhaseIdle) c.args.self.now c.self.view_is c.self.invariant c.in-Some.ensures.owner (ap Some (sym c.in-Some-Idle.field-0-is) ∙ c.in-Some-Idle.ensures)
+
+pub returns-in-Some-Prepared : goal.returns-in-Some-Prepared
+returns-in-Some-Prepared c = owned c.self.inside.branches c.self.inside.rows c.args.session c.in-Some.own.now (Some PhasePrepared) c.args.self.now c.self.view_is c.self.invariant c.in-Some.ensures.owner (ap Some (sym c.in-Some-Prepared.field-0-is) ∙ c.in-Some-Prepared.ensures)

@@ -1,0 +1,70 @@
+use Rattle.std.proofs.Common.{◌≡◌, ◌≢◌, ℕ, List, [], ◌∷◌, ◌++◌, refl, ap, sym, ◌∙◌, subst, Bool, true, false, Some, None, Option}
+use Rattle.std.specs.Prelude.{cond, is_some, is_none, OnOk, OnErr}
+use Rattle.std.specs.Option.{option_map, option_map_or, option_and_then}
+use Rattle.std.specs.FinMap as map
+use mathlib.Core.Bool.{true≢false}
+use Rattle.xa_xid.specs.declared.xid.Xid.{Xid}
+use Rattle.xa_server.specs.declared.branch.BranchRecord.{BranchRecord}
+use Rattle.xa_server.specs.declared.branch.Phase.{Phase}
+use Rattle.xa_server.specs.declared.branch.Phase.TheVariants.{Active as PhaseActive, Idle as PhaseIdle, Prepared as PhasePrepared}
+use Rattle.xa_server.specs.declared.seat.Seat.TheVariants.{Free, Active, Idle}
+use Rattle.xa_server.specs.State.{State, Branch, is_known, is_prepared, is_prepared_phase, seat_of, committed_value, value_within}
+use Rattle.xa_server.specs.Locks.{holds, is_held_against}
+use Rattle.xa_server.specs.Step.{started_by, with_branch, with_changed, with_write, without_branch, committed}
+use Rattle.xa_server.specs.Tables.{BranchMap, owner_of, with_record, without_last}
+use Rattle.xa_server.specs.Rows.{RowMap, held_row, holder_of, with_change}
+use Rattle.xa_server.specs.View.{branch_seen, state_of, is_listed, IsWhole}
+use Rattle.xa_server.proofs.Outcomes.{either_way, on_ok, on_err}
+use Rattle.xa_server.proofs.Index.{same_value, not_none}
+use Rattle.xa_server.proofs.Seen
+use Rattle.xa_server.proofs.Steps
+use Rattle.xa_server.proofs.Ending
+use Rattle.xa_server.proofs.Whole
+use Rattle.xa_server.proofs.server.Server.start_branch.Goals as goal
+
+unknown : (branches : BranchMap) (rows : RowMap) (xid : Xid) → is_known (state_of branches rows) xid ≡ false → map.get branches xid ≡ None
+unknown branches rows xid e = by (map.get branches xid) (sym (Seen.is_known-seen branches rows xid) ∙ e)
+  where
+    by : (found : Option BranchRecord) → is_some found ≡ false → found ≡ None
+    by None e = refl
+    by (Some branch) e = absurd (true≢false e)
+
+-- a session that is free owns no branch
+free : (branches : BranchMap) (rows : RowMap) (session : ℕ) → IsWhole branches rows → seat_of (state_of branches rows) session ≡ Free → (other : Xid) → owner_of branches other ≢ Some session
+free branches rows session whole seat other owner = by (map.get branches other) refl
+  where
+    at : (branch : BranchRecord) (phase : Phase) → branch.phase ≡ phase → map.get branches other ≡ Some branch → ⊥
+    at branch PhaseActive p is = let clash : Active other ≡ Free = sym (Seen.seat-owned branches rows session other (Some PhaseActive) whole owner (ap (option_map (λ (b : BranchRecord). b.phase)) is ∙ ap Some p)) ∙ seat in cc
+    at branch PhaseIdle p is = let clash : Idle other ≡ Free = sym (Seen.seat-owned branches rows session other (Some PhaseIdle) whole owner (ap (option_map (λ (b : BranchRecord). b.phase)) is ∙ ap Some p)) ∙ seat in cc
+    at branch PhasePrepared p is = true≢false (sym (whole.attached other branch is ∙ ap is_prepared_phase p) ∙ ap is_none (sym (ap (option_and_then (λ (b : BranchRecord). b.owner)) is) ∙ owner))
+
+    by : (found : Option BranchRecord) → map.get branches other ≡ found → ⊥
+    by None is = not_none session (sym (ap (option_and_then (λ (b : BranchRecord). b.owner)) is) ∙ owner)
+    by (Some branch) is = at branch branch.phase refl is
+
+-- nobody holds a row under an identifier that no branch has
+unheld : (branches : BranchMap) (rows : RowMap) (xid : Xid) → IsWhole branches rows → map.get branches xid ≡ None → (key : List ℕ) → holder_of (map.get rows key) ≢ Some xid
+unheld branches rows xid whole none key e = true≢false (sym (Seen.holder_known branches rows xid key whole e) ∙ ap is_some none)
+
+pub start-requires-clause-unknown : goal.start-requires-clause-unknown
+start-requires-clause-unknown c = unknown c.self.inside.branches c.self.inside.rows c.args.xid.now (ap (λ s. is_known s c.args.xid.now) c.self.view_is ∙ c.requires.unknown)
+
+pub start-requires-clause-free : goal.start-requires-clause-free
+start-requires-clause-free c = free c.self.inside.branches c.self.inside.rows c.args.session c.self.invariant (ap (λ s. seat_of s c.args.session) c.self.view_is ∙ c.requires.free)
+
+pub invariant_of-self : goal.invariant_of-self
+invariant_of-self c =
+    either_way c.start.result c.start.ensures.ok c.start.ensures.err
+    (λ ok. rw ok (Whole.whole_started c.self.inside.branches c.self.inside.rows c.args.xid.now _ c.args.session
+    (unknown c.self.inside.branches c.self.inside.rows c.args.xid.now (ap (λ s. is_known s c.args.xid.now) c.self.view_is ∙ c.requires.unknown)) refl refl
+    (free c.self.inside.branches c.self.inside.rows c.args.session c.self.invariant (ap (λ s. seat_of s c.args.session) c.self.view_is ∙ c.requires.free)) c.self.invariant))
+    (λ err. rw err c.self.invariant)
+
+pub returns-clause-ok : goal.returns-clause-ok
+returns-clause-ok c = on_ok c.start.result c.start.ensures.ok (λ ok.
+    ap (λ b. state_of b c.self.inside.rows) ok
+    ∙ Steps.seen_inserted c.self.inside.branches c.self.inside.rows c.args.xid.now _
+    ∙ ap (with_branch (state_of c.self.inside.branches c.self.inside.rows) c.args.xid.now)
+    (Steps.seen_fresh c.self.inside.rows c.args.xid.now c.args.session (unheld c.self.inside.branches c.self.inside.rows c.args.xid.now c.self.invariant
+    (unknown c.self.inside.branches c.self.inside.rows c.args.xid.now (ap (λ s. is_known s c.args.xid.now) c.self.view_is ∙ c.requires.unknown))))
+    ∙ ap (λ s. with_branch s c.args.xid.now (started_by c.args.session)) c.self.view_is)

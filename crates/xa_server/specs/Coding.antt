@@ -1,0 +1,89 @@
+-- How a state is stored where a proof has to tell states apart: each record as the pairs of its fields.
+use Rattle.std.specs.Prelude.{◌≡◌, ℕ, Option, Some, None, List, zero, suc, refl}
+use Rattle.std.specs.FinMap as map
+use Rattle.std.specs.Coded.{Coded, code_by, coded×, coded⊎, coded_option, coded_ℕ}
+use base.Stored.{coded_unit}
+use Rattle.xa_xid.specs.declared.xid.Xid.{Xid}
+use Rattle.xa_xid.specs.Xid.{Text, bytes_cmp, xid_cmp, coded_text, coded_xid}
+use Rattle.std.specs.Coded.{coded_list}
+use Rattle.xa_server.specs.declared.branch.Phase.{Phase}
+use Rattle.xa_server.specs.declared.branch.Phase.TheVariants.{Active, Idle, Prepared}
+use Rattle.xa_server.specs.declared.branch.BranchRecord.{BranchRecord}
+use Rattle.xa_server.specs.declared.row.Change.{Change}
+use Rattle.xa_server.specs.declared.row.Change.TheVariants.{Nothing, Put, Delete}
+use Rattle.xa_server.specs.declared.row.Lock.{Lock}
+use Rattle.xa_server.specs.declared.row.RowRecord.{RowRecord}
+use Rattle.xa_server.specs.Rows.{write_of}
+use Rattle.xa_server.specs.State.{Write, RowSet, Branch, State}
+
+-- a phase is stored as a number
+abbrev pub number_of_phase : Phase → ℕ
+number_of_phase Active = 0
+number_of_phase Idle = 1
+number_of_phase Prepared = 2
+
+abbrev pub phase_of_number : ℕ → Phase
+phase_of_number zero = Active
+phase_of_number (suc zero) = Idle
+phase_of_number (suc (suc n)) = Prepared
+
+abbrev pub phase_back : (phase : Phase) → phase_of_number (number_of_phase phase) ≡ phase
+phase_back Active = refl
+phase_back Idle = refl
+phase_back Prepared = refl
+
+abbrev pub coded_phase : Coded Phase
+coded_phase = code_by ℕ coded_ℕ number_of_phase phase_of_number phase_back
+
+abbrev pub coded_key : Coded (List ℕ)
+coded_key = coded_list coded_ℕ
+
+abbrev pub coded_branch : Coded Branch
+coded_branch =
+    code_by (Phase × (Option ℕ × (map.FinMap bytes_cmp Write × RowSet)))
+    (coded× coded_phase (coded× (coded_option coded_ℕ) (coded× (map.code coded_key (coded_option coded_text)) (map.code coded_key coded_unit))))
+    (λ b. (b.phase, (b.owner, (b.writes, b.locks))))
+    (λ p. record { phase = p.0; owner = p.1.0; writes = p.1.1.0; locks = p.1.1.1 }) (λ _. refl)
+
+abbrev pub coded_state : Coded State
+coded_state =
+    code_by (map.FinMap xid_cmp Branch × map.FinMap bytes_cmp Text)
+    (coded× (map.code coded_xid coded_branch) (map.code coded_key coded_text))
+    (λ s. (s.branches, s.rows)) (λ p. record { branches = p.0; rows = p.1 }) (λ _. refl)
+
+-- a list of keys is stored as it is
+abbrev pub coded_keys : Coded (List (List ℕ))
+coded_keys = coded_list coded_key
+
+abbrev pub coded_branch_record : Coded BranchRecord
+coded_branch_record =
+    code_by (Phase × (Option ℕ × List (List ℕ))) (coded× coded_phase (coded× (coded_option coded_ℕ) coded_keys))
+    (λ b. (b.phase, (b.owner, b.held))) (λ p. record { phase = p.0; owner = p.1.0; held = p.1.1 }) (λ _. refl)
+
+abbrev pub coded_branches : Coded (map.FinMap xid_cmp BranchRecord)
+coded_branches = map.code coded_xid coded_branch_record
+
+-- a change is stored as what it writes
+abbrev pub change_of : Option Write → Change
+change_of None = Nothing
+change_of (Some (Some value)) = Put value
+change_of (Some None) = Delete
+
+abbrev pub change_back : (change : Change) → change_of (write_of change) ≡ change
+change_back Nothing = refl
+change_back (Put value) = refl
+change_back Delete = refl
+
+abbrev pub coded_change : Coded Change
+coded_change = code_by (Option Write) (coded_option (coded_option coded_text)) write_of change_of change_back
+
+abbrev pub coded_lock : Coded Lock
+coded_lock = code_by (Xid × Change) (coded× coded_xid coded_change) (λ l. (l.holder, l.change)) (λ p. record { holder = p.0; change = p.1 }) (λ _. refl)
+
+abbrev pub coded_row_record : Coded RowRecord
+coded_row_record =
+    code_by (Option Text × Option Lock) (coded× (coded_option coded_text) (coded_option coded_lock))
+    (λ r. (r.committed, r.lock)) (λ p. record { committed = p.0; lock = p.1 }) (λ _. refl)
+
+abbrev pub coded_rows : Coded (map.FinMap bytes_cmp RowRecord)
+coded_rows = map.code coded_key coded_row_record

@@ -1,0 +1,10 @@
+pub mod State
+pub mod Locks
+pub mod Replies
+pub mod Step
+pub mod Finish
+pub mod Coding
+pub mod Tables
+pub mod Rows
+pub mod View
+pub mod Errors

@@ -1,0 +1,65 @@
+-- What each statement is answered, in each state of a session.
+--     table      the table of replies, one line for each statement and each state of the session
+--     reply_to   the reply to a session's statement
+use Rattle.std.specs.Prelude.{ℕ, Bool, true, false, cond, not}
+use Rattle.xa_xid.specs.Xid.{same_xid}
+use Rattle.xa_xid.specs.declared.statement.Statement.{Statement}
+use Rattle.xa_xid.specs.declared.statement.Statement.TheVariants.{Start, End, Prepare, Commit, Rollback, Recover, Unsupported, Get, Put, Del, Disconnect}
+use Rattle.xa_server.specs.declared.reply.Reply.{Reply}
+use Rattle.xa_server.specs.declared.reply.Reply.TheVariants.{Ok as Accepted, Value, Recovered, Refused}
+use Rattle.xa_server.specs.declared.xa_error.XaError.{XaError}
+use Rattle.xa_server.specs.declared.xa_error.XaError.TheVariants.{Nota, Inval, Rmfail, Dupid, RowLocked}
+use Rattle.xa_server.specs.declared.xa_error.BranchState.TheVariants.{NonExisting, Active as StateActive, Idle as StateIdle, Prepared as StatePrepared}
+use Rattle.xa_server.specs.declared.seat.Seat.{Seat}
+use Rattle.xa_server.specs.declared.seat.Seat.TheVariants.{Free, Active, Idle}
+use Rattle.xa_server.specs.State.{State, is_known, is_prepared, seat_of, committed_value, value_within, prepared_xids}
+use Rattle.xa_server.specs.Locks.{is_held_against}
+
+-- the statement is carried out where the test holds, and else refused
+abbrev pub ok_if : Bool → XaError → Reply
+ok_if true error = Accepted
+ok_if false error = Refused error
+
+-- the statement is refused where the test holds, and else answered so
+abbrev pub refused_if : Bool → XaError → Reply → Reply
+refused_if true error reply = Refused error
+refused_if false error reply = reply
+
+-- One line a row and column of docs/BEHAVIOR.md, 'Replies', in its order. `own` is the branch that the session has open.
+-- Which statement is allowed in which state is the manual's ('XA Transaction States') and C193's; the order of the refusals,
+-- what answers an identifier that isn't the session's, ONE PHASE of a PREPARED branch, and the rows are our own rules.
+unfoldable pub table : State → Seat → Statement → Reply
+table state Free (Start xid) = refused_if (is_known state xid) Dupid Accepted
+table state (Active own) (Start xid) = Refused (Rmfail StateActive)
+table state (Idle own) (Start xid) = Refused (Rmfail StateIdle)
+table state Free (End xid) = Refused (Rmfail NonExisting)
+table state (Active own) (End xid) = ok_if (same_xid xid own) Nota
+table state (Idle own) (End xid) = Refused (Rmfail StateIdle)
+table state Free (Prepare xid) = Refused (Rmfail NonExisting)
+table state (Active own) (Prepare xid) = Refused (Rmfail StateActive)
+table state (Idle own) (Prepare xid) = ok_if (same_xid xid own) Nota
+table state Free (Commit xid false) = ok_if (is_prepared state xid) Nota
+table state (Active own) (Commit xid false) = Refused (Rmfail StateActive)
+table state (Idle own) (Commit xid false) = Refused (Rmfail StateIdle)
+table state Free (Commit xid true) = refused_if (not (is_prepared state xid)) Nota (Refused (Rmfail StatePrepared))
+table state (Active own) (Commit xid true) = Refused (Rmfail StateActive)
+table state (Idle own) (Commit xid true) = ok_if (same_xid xid own) (Rmfail StateIdle)
+table state Free (Rollback xid) = ok_if (is_prepared state xid) Nota
+table state (Active own) (Rollback xid) = Refused (Rmfail StateActive)
+table state (Idle own) (Rollback xid) = ok_if (same_xid xid own) (Rmfail StateIdle)
+table state seat (Recover convert) = Recovered (prepared_xids state)
+table state seat Unsupported = Refused Inval
+table state Free (Get key) = Value (committed_value state key)
+table state (Active own) (Get key) = refused_if (is_held_against state (Active own) key) RowLocked (Value (value_within state own key))
+table state (Idle own) (Get key) = Refused (Rmfail StateIdle)
+table state Free (Put key value) = refused_if (is_held_against state Free key) RowLocked Accepted
+table state (Active own) (Put key value) = refused_if (is_held_against state (Active own) key) RowLocked Accepted
+table state (Idle own) (Put key value) = Refused (Rmfail StateIdle)
+table state Free (Del key) = refused_if (is_held_against state Free key) RowLocked Accepted
+table state (Active own) (Del key) = refused_if (is_held_against state (Active own) key) RowLocked Accepted
+table state (Idle own) (Del key) = Refused (Rmfail StateIdle)
+table state seat Disconnect = Accepted
+
+-- the reply to a session's statement
+unfoldable pub reply_to : State → ℕ → Statement → Reply
+reply_to state session statement = table state (seat_of state session) statement

@@ -1,0 +1,106 @@
+-- What a resource manager holds: transaction branches and rows.
+--     Write, RowSet        what a branch does to a row at its commit;  a set of rows
+--     Branch, State        a transaction branch;  all branches, and the committed values of all rows
+--     no_state             no branch, no row
+--     is_known, is_prepared      whether a branch has this identifier;  and is PREPARED
+--     owns                 whether the session owns the branch
+--     seat_of              what the session has open
+--     IsOpen               the branch that a seat names is in that phase
+--     committed_value, value_within      the value of a row as all see it;  as the branch sees it
+--     prepared_xids        the prepared branches, ascending
+use Rattle.std.specs.Prelude.{◌≡◌, ℕ, Bool, true, false, ◌==◌, Option, Some, None, List, find, filter}
+use Rattle.std.specs.Option.{option_map_or, option_and_then, option_map, unwrap_or}
+use Rattle.std.specs.FinMap as map
+use Rattle.xa_xid.specs.declared.xid.Xid.{Xid}
+use Rattle.xa_xid.specs.Xid.{Text, bytes_cmp, xid_cmp}
+use Rattle.xa_server.specs.declared.branch.Phase.{Phase}
+use Rattle.xa_server.specs.declared.branch.Phase.TheVariants.{Active as PhaseActive, Idle as PhaseIdle, Prepared as PhasePrepared}
+use Rattle.xa_server.specs.declared.seat.Seat.{Seat}
+use Rattle.xa_server.specs.declared.seat.Seat.TheVariants.{Free, Active, Idle}
+
+-- what commit does to a row: it gets this value, or with None it loses its value
+abbrev pub Write : Type 0
+Write = Option Text
+
+-- rows, by their keys
+abbrev pub RowSet : Type 0
+RowSet = map.FinMap bytes_cmp (Unit {0})
+
+-- a transaction branch (C193's branch table; the writes and locks are our own)
+pub record Branch : Type 0 where
+  pub phase : Phase
+  -- the session that started it, until it is prepared
+  pub owner : Option ℕ
+  -- its newest write of each row that it wrote
+  pub writes : map.FinMap bytes_cmp Write
+  -- the rows that it holds until it ends
+  pub locks : RowSet
+
+-- a resource manager
+pub record State : Type 0 where
+  pub branches : map.FinMap xid_cmp Branch
+  -- the committed value of each row that has one
+  pub rows : map.FinMap bytes_cmp Text
+
+unfoldable pub no_state : State
+no_state = record { branches = map.empty; rows = map.empty }
+
+-- a branch has this identifier
+abbrev pub is_known : State → Xid → Bool
+is_known state xid = map.contains_key state.branches xid
+
+-- the phase of the branch of this identifier
+abbrev pub phase_at : State → Xid → Option Phase
+phase_at state xid = option_map (λ branch. branch.phase) (map.get state.branches xid)
+
+abbrev pub is_prepared_phase : Phase → Bool
+is_prepared_phase PhaseActive = false
+is_prepared_phase PhaseIdle = false
+is_prepared_phase PhasePrepared = true
+
+abbrev pub is_prepared : State → Xid → Bool
+is_prepared state xid = option_map_or is_prepared_phase (phase_at state xid) false
+
+-- the session that owns the branch of this identifier
+abbrev pub owner_at : State → Xid → Option ℕ
+owner_at state xid = option_and_then (λ branch. branch.owner) (map.get state.branches xid)
+
+abbrev pub owns : State → ℕ → Xid → Bool
+owns state session xid = option_map_or (λ owner. owner == session) (owner_at state xid) false
+
+-- the branch that the session owns
+unfoldable pub own_xid : State → ℕ → Option Xid
+own_xid state session = find (owns state session) (map.keys state.branches)
+
+-- a session whose branch is in this phase; a branch that is PREPARED is nobody's
+abbrev pub seat_in : Option Phase → Xid → Seat
+seat_in None xid = Free
+seat_in (Some PhaseActive) xid = Active xid
+seat_in (Some PhaseIdle) xid = Idle xid
+seat_in (Some PhasePrepared) xid = Free
+
+-- what the session has open (manual, 'XA Transaction States')
+unfoldable pub seat_of : State → ℕ → Seat
+seat_of state session = option_map_or (λ xid. seat_in (phase_at state xid) xid) (own_xid state session) Free
+
+-- the value that all sessions see
+abbrev pub committed_value : State → List ℕ → Option Text
+committed_value state key = map.get state.rows key
+
+-- the branch's own newest write of the row, where it wrote it
+abbrev pub write_at : State → Xid → List ℕ → Option Write
+write_at state xid key = option_and_then (λ branch. map.get branch.writes key) (map.get state.branches xid)
+
+-- the value that the branch sees: its own newest write, else the committed value (own rule)
+abbrev pub value_within : State → Xid → List ℕ → Option Text
+value_within state xid key = unwrap_or (write_at state xid key) (committed_value state key)
+
+-- the identifiers of the prepared branches of the whole resource manager, ascending (manual, XA RECOVER; the order is our own)
+unfoldable pub prepared_xids : State → List Xid
+prepared_xids state = filter (is_prepared state) (map.keys state.branches)
+
+-- the branch that a seat names is in the phase that it names
+abbrev pub IsOpen : State → Seat → Type 0
+IsOpen state Free = Unit {0}
+IsOpen state (Active own) = phase_at state own ≡ Some PhaseActive
+IsOpen state (Idle own) = phase_at state own ≡ Some PhaseIdle

@@ -1,0 +1,166 @@
+-- What each statement does, and what a history of statements leaves.
+--     effect          what an accepted statement does to the state
+--     after           the state after a session's statement
+--     Step            state, session, statement, reply and new state belong together
+--     enters          whether the statement enters the history
+--     after_all       the state after a history
+--     may_take_memory     carrying the statement out may take memory
+use Rattle.std.specs.Prelude.{◌≡◌, ℕ, Bool, true, false, not, ◌&&◌, ◌||◌, Option, Some, None, List, [], ◌∷◌}
+use Rattle.std.specs.Option.{option_map_or}
+use Rattle.std.specs.FinMap as map
+use Rattle.xa_xid.specs.declared.xid.Xid.{Xid}
+use Rattle.xa_xid.specs.Xid.{Text, bytes_cmp}
+use Rattle.xa_xid.specs.declared.statement.Statement.{Statement}
+use Rattle.xa_xid.specs.declared.statement.Statement.TheVariants.{Start, End, Prepare, Commit, Rollback, Recover, Unsupported, Get, Put, Del, Disconnect}
+use Rattle.xa_server.specs.declared.branch.Phase.TheVariants.{Active as PhaseActive, Idle as PhaseIdle, Prepared as PhasePrepared}
+use Rattle.xa_server.specs.declared.reply.Reply.{Reply}
+use Rattle.xa_server.specs.declared.reply.Reply.TheVariants.{Ok as Accepted, Value, Recovered, Refused}
+use Rattle.xa_server.specs.declared.seat.Seat.{Seat}
+use Rattle.xa_server.specs.declared.seat.Seat.TheVariants.{Free, Active, Idle}
+use Rattle.xa_server.specs.State.{Write, Branch, State, seat_of}
+use Rattle.xa_server.specs.Locks.{holds}
+use Rattle.xa_server.specs.Replies.{reply_to}
+
+-- a branch that the session has just started
+abbrev pub started_by : ℕ → Branch
+started_by session = record { phase = PhaseActive; owner = Some session; writes = map.empty; locks = map.empty }
+
+-- the state with this branch at the identifier
+abbrev pub with_branch : State → Xid → Branch → State
+with_branch state xid branch = record state { branches = map.insert state.branches xid branch }
+
+-- the state with the branch of this identifier changed, where there is one
+abbrev pub with_changed : State → Xid → (Branch → Branch) → State
+with_changed state xid change = option_map_or (λ branch. with_branch state xid (change branch)) (map.get state.branches xid) state
+
+-- the state without the branch: its writes are dropped and its rows are free
+abbrev pub without_branch : State → Xid → State
+without_branch state xid = record state { branches = map.remove state.branches xid }
+
+-- the rows after one write
+abbrev pub with_write : List ℕ → Write → map.FinMap bytes_cmp Text → map.FinMap bytes_cmp Text
+with_write key (Some value) rows = map.insert rows key value
+with_write key None rows = map.remove rows key
+
+-- the rows after these writes
+abbrev pub with_writes : List (List ℕ × Write) → map.FinMap bytes_cmp Text → map.FinMap bytes_cmp Text
+with_writes [] rows = rows
+with_writes (write ∷ writes) rows = with_write write.0 write.1 (with_writes writes rows)
+
+-- the state after the branch's commit: its writes are the committed values, and it is gone with its locks
+unfoldable pub committed : State → Xid → State
+committed state xid =
+    option_map_or (λ branch. record (without_branch state xid) { rows = with_writes (map.entries branch.writes) state.rows })
+    (map.get state.branches xid) state
+
+-- the branch holds the row
+abbrev pub with_lock : List ℕ → Branch → Branch
+with_lock key branch = record branch { locks = map.insert branch.locks key tt }
+
+-- the branch holds the row, and writes it
+abbrev pub with_own_write : List ℕ → Write → Branch → Branch
+with_own_write key write branch = record branch { locks = map.insert branch.locks key tt; writes = map.insert branch.writes key write }
+
+-- a row is written: by a free session at once, in a branch under its lock
+abbrev pub row_written : State → Seat → List ℕ → Write → State
+row_written state Free key write = record state { rows = with_write key write state.rows }
+row_written state (Active own) key write = with_changed state own (with_own_write key write)
+row_written state (Idle own) key write = state
+
+-- what an accepted statement does, one line a statement (the phases are the manual's and C193's; rows and DISCONNECT are our own)
+unfoldable pub effect : State → ℕ → Seat → Statement → State
+effect state session seat (Start xid) = with_branch state xid (started_by session)
+effect state session seat (End xid) = with_changed state xid (λ branch. record branch { phase = PhaseIdle })
+effect state session seat (Prepare xid) = with_changed state xid (λ branch. record branch { phase = PhasePrepared; owner = None })
+effect state session seat (Commit xid one_phase) = committed state xid
+effect state session seat (Rollback xid) = without_branch state xid
+effect state session seat (Recover convert) = state
+effect state session seat Unsupported = state
+effect state session Free (Get key) = state
+effect state session (Active own) (Get key) = with_changed state own (with_lock key)
+effect state session (Idle own) (Get key) = state
+effect state session seat (Put key value) = row_written state seat key (Some value)
+effect state session seat (Del key) = row_written state seat key None
+effect state session Free Disconnect = state
+effect state session (Active own) Disconnect = without_branch state own
+effect state session (Idle own) Disconnect = without_branch state own
+
+-- a refused statement leaves the state
+abbrev pub unless_refused : Reply → State → State → State
+unless_refused Accepted old new = new
+unless_refused (Value value) old new = new
+unless_refused (Recovered xids) old new = new
+unless_refused (Refused error) old new = old
+
+-- the state after a session's statement
+unfoldable pub after : State → ℕ → Statement → State
+after state session statement = unless_refused (reply_to state session statement) state (effect state session (seat_of state session) statement)
+
+-- the statement is answered so, and leaves this state
+abbrev pub Step : State → ℕ → Statement → Reply → State → Type 0
+Step old session statement reply new = (reply ≡ reply_to old session statement) × (new ≡ after old session statement)
+
+abbrev pub is_refused : Reply → Bool
+is_refused Accepted = false
+is_refused (Value value) = false
+is_refused (Recovered xids) = false
+is_refused (Refused error) = true
+
+-- whether the statement, if it is accepted, has a place in the history (own rule)
+unfoldable pub may_enter : State → Seat → Statement → Bool
+may_enter state seat (Start xid) = true
+may_enter state seat (End xid) = true
+may_enter state seat (Prepare xid) = true
+may_enter state seat (Commit xid one_phase) = true
+may_enter state seat (Rollback xid) = true
+may_enter state seat (Recover convert) = false
+may_enter state seat Unsupported = false
+may_enter state Free (Get key) = false
+may_enter state (Active own) (Get key) = not (holds state own key)
+may_enter state (Idle own) (Get key) = false
+may_enter state seat (Put key value) = true
+may_enter state seat (Del key) = true
+may_enter state Free Disconnect = false
+may_enter state (Active own) Disconnect = true
+may_enter state (Idle own) Disconnect = true
+
+-- whether the statement enters the history: it isn't refused, and has a place there
+unfoldable pub enters : State → ℕ → Statement → Bool
+enters state session statement = not (is_refused (reply_to state session statement)) && may_enter state (seat_of state session) statement
+
+-- the state after a history of statements, each with its session; one that is refused at its place leaves the state
+abbrev pub after_all : State → List (ℕ × Statement) → State
+after_all state [] = state
+after_all state (entry ∷ entries) = after_all (after state entry.0 entry.1) entries
+
+-- the statement is an XA RECOVER, whose reply is a list
+abbrev pub is_recover : Statement → Bool
+is_recover (Start xid) = false
+is_recover (End xid) = false
+is_recover (Prepare xid) = false
+is_recover (Commit xid one_phase) = false
+is_recover (Rollback xid) = false
+is_recover (Recover convert) = true
+is_recover Unsupported = false
+is_recover (Get key) = false
+is_recover (Put key value) = false
+is_recover (Del key) = false
+is_recover Disconnect = false
+
+-- the statement makes a record, where it is accepted
+abbrev pub makes_record : Statement → Bool
+makes_record (Start xid) = true
+makes_record (End xid) = false
+makes_record (Prepare xid) = false
+makes_record (Commit xid one_phase) = false
+makes_record (Rollback xid) = false
+makes_record (Recover convert) = false
+makes_record Unsupported = false
+makes_record (Get key) = true
+makes_record (Put key value) = true
+makes_record (Del key) = true
+makes_record Disconnect = false
+
+-- carrying the statement out may take memory: XA RECOVER, and of what enters XA START and the row statements (own rule)
+abbrev pub may_take_memory : State → ℕ → Statement → Bool
+may_take_memory state session statement = is_recover statement || (enters state session statement && makes_record statement)

@@ -1,0 +1,59 @@
+-- How the records of branches and rows stand for a state.
+--     gather               the map of what is found in each record
+--     mapped               the map with each value changed
+--     branch_seen          a branch's record, with what the rows say of it
+--     state_of             the state that the records stand for
+--     IsWhole              what the records keep
+use Rattle.std.specs.Prelude.{◌≡◌, ℕ, Bool, true, false, Option, Some, None, List, [], ◌∷◌, is_none}
+use Rattle.std.specs.Option.{option_map_or, option_and_then}
+use Rattle.std.specs.List.{list_any}
+use Rattle.std.specs.declared.cmp.Ordering.{Ordering}
+use Rattle.std.specs.Ordering.{eq_by_cmp}
+use Rattle.std.specs.FinMap as map
+use Rattle.xa_xid.specs.declared.xid.Xid.{Xid}
+use Rattle.xa_xid.specs.Xid.{bytes_cmp}
+use Rattle.xa_server.specs.declared.branch.BranchRecord.{BranchRecord}
+use Rattle.xa_server.specs.State.{Branch, State, is_prepared_phase}
+use Rattle.xa_server.specs.Tables.{BranchMap, owner_of}
+use Rattle.xa_server.specs.Rows.{RowMap, holder_of, write_by, lock_by}
+
+-- the entries with each value changed
+abbrev pub map_values : {K V W : Type 0} → (K → V → W) → List (K × V) → List (K × W)
+map_values change [] = []
+map_values change (entry ∷ entries) = (entry.0, change entry.0 entry.1) ∷ map_values change entries
+
+module _ {K V W : Type 0} {R : K → K → Ordering} where
+  -- what is found in the records at these keys
+  abbrev pub gather_at : (V → Option W) → map.FinMap R V → List K → map.FinMap R W
+  gather_at found records [] = map.empty
+  gather_at found records (key ∷ keys) =
+      option_map_or (λ value. map.insert (gather_at found records keys) key value) (option_and_then found (map.get records key)) (gather_at found records keys)
+
+  -- the map of what is found in each record
+  unfoldable pub gather : (V → Option W) → map.FinMap R V → map.FinMap R W
+  gather found records = gather_at found records (map.keys records)
+
+  -- the map with each value changed
+  unfoldable pub mapped : (K → V → W) → map.FinMap R V → map.FinMap R W
+  mapped change records = map.from_sorted (map_values change (map.entries records))
+
+-- a branch's record, with what the rows say of it
+abbrev pub branch_seen : RowMap → Xid → BranchRecord → Branch
+branch_seen rows xid branch = record { phase = branch.phase; owner = branch.owner; writes = gather (write_by xid) rows; locks = gather (lock_by xid) rows }
+
+-- the state that the records stand for
+unfoldable pub state_of : BranchMap → RowMap → State
+state_of branches rows = record { branches = mapped (branch_seen rows) branches; rows = gather (λ row. row.committed) rows }
+
+-- the branch's record lists the row
+abbrev pub is_listed : BranchMap → Xid → List ℕ → Bool
+is_listed branches xid key = option_map_or (λ branch. list_any (eq_by_cmp bytes_cmp key) branch.held) (map.get branches xid) false
+
+-- what the records keep
+pub record IsWhole (branches : BranchMap) (rows : RowMap) : Type 0 where
+  -- exactly the PREPARED branches are nobody's
+  pub attached : (xid : Xid) (branch : BranchRecord) → map.get branches xid ≡ Some branch → is_none branch.owner ≡ is_prepared_phase branch.phase
+  -- a session owns at most one branch
+  pub one_owned : (session : ℕ) (xid other : Xid) → owner_of branches xid ≡ Some session → owner_of branches other ≡ Some session → xid ≡ other
+  -- a row that is held stands in the list of the branch that holds it
+  pub listed : (key : List ℕ) (xid : Xid) → holder_of (map.get rows key) ≡ Some xid → is_listed branches xid key ≡ true

@@ -1,0 +1,126 @@
+//! What an accepted statement does.
+ghost use Rattle.std.specs.Prelude.{◌≡◌, ℕ, true, false, IfOk, OnOk, OnErr};
+ghost use Rattle.xa_server.specs.Replies.{table};
+ghost use Rattle.xa_server.specs.State.{seat_of, IsOpen};
+ghost use Rattle.xa_server.specs.Step.{Step, effect, is_refused, makes_record, may_enter, may_take_memory, row_written};
+ghost use Rattle.xa_xid.specs.declared.statement.Statement.TheVariants.{Get, Put, Del, Disconnect};
+
+use crate::row::Change;
+use crate::seat::Seat;
+use crate::{Reply, Server};
+use xa_xid::{Bytes, Key, NoMemory, SessionNo, Statement, copy_of};
+
+impl Server {
+    /// Has the session's branch hold a row that it reads. After `NoMemory` the server is as before.
+    #[tactic(auto, unfolding(crate::specs::Step::effect, crate::specs::Step::may_enter))]
+    fn lock_row(&mut self, seat: &Seat, key: &Key) -> Result<(), NoMemory>
+        requires accepted { is_refused (table self.old seat.now (Get key.now)) ≡ false }
+        requires seated { IsOpen self.old seat.now }
+        ensures ok { OnOk result ((session : ℕ) → self.new ≡ effect self.old session seat.now (Get key.now)) }
+        ensures err { OnErr result (self.new ≡ self.old) }
+        ensures memory { OnErr result (may_enter self.old seat.now (Get key.now) ≡ true) }
+    {
+        let Seat::Active(own) = seat else {
+            return Ok(());
+        };
+        if self.holds(own, key) {
+            return Ok(());
+        }
+        self.hold(own, key, Change::Nothing)
+    }
+
+    /// Gives a row a value: at once, or in the session's branch. After `NoMemory` the server is as before.
+    #[tactic(auto, unfolding(crate::specs::Step::effect))]
+    fn put(&mut self, seat: &Seat, key: &Key, value: &Bytes) -> Result<(), NoMemory>
+        requires accepted { is_refused (table self.old seat.now (Put key.now value.now)) ≡ false }
+        requires seated { IsOpen self.old seat.now }
+        ensures ok { OnOk result ((session : ℕ) → self.new ≡ effect self.old session seat.now (Put key.now value.now)) }
+        ensures err { OnErr result (self.new ≡ self.old) }
+    {
+        match seat {
+            Seat::Free => self.put_row(key, value),
+            Seat::Active(own) => self.hold(own, key, Change::Put(copy_of(value))),
+            Seat::Idle(_) => Ok(()),
+        }
+    }
+
+    /// Takes the value of a row away: at once, or in the session's branch. After `NoMemory` the server is as before.
+    #[tactic(auto, unfolding(crate::specs::Step::effect))]
+    fn delete(&mut self, seat: &Seat, key: &Key) -> Result<(), NoMemory>
+        requires accepted { is_refused (table self.old seat.now (Del key.now)) ≡ false }
+        requires seated { IsOpen self.old seat.now }
+        ensures ok { OnOk result ((session : ℕ) → self.new ≡ effect self.old session seat.now (Del key.now)) }
+        ensures err { OnErr result (self.new ≡ self.old) }
+    {
+        match seat {
+            Seat::Free => {
+                self.delete_row(key);
+                Ok(())
+            }
+            Seat::Active(own) => self.hold(own, key, Change::Delete),
+            Seat::Idle(_) => Ok(()),
+        }
+    }
+
+    /// Rolls back the branch that a session leaves open.
+    #[tactic(auto, unfolding(crate::specs::Step::effect))]
+    fn disconnect(&mut self, seat: &Seat)
+        requires { IsOpen self.old seat.now }
+        ensures { (session : ℕ) → self.new ≡ effect self.old session seat.now Disconnect }
+    {
+        match seat {
+            Seat::Free => {}
+            Seat::Active(own) => self.end_branch(own, false),
+            Seat::Idle(own) => self.end_branch(own, false),
+        }
+    }
+
+    /// Carries out a statement that the table of replies accepts. After `NoMemory` the server is as before.
+    #[tactic(auto, unfolding(crate::specs::Step::effect, crate::specs::Step::may_enter))]
+    fn carry_out(
+        &mut self,
+        session: SessionNo,
+        seat: &Seat,
+        statement: &Statement,
+    ) -> Result<(), NoMemory>
+        requires seat { seat.now ≡ seat_of self.old session }
+        requires accepted { is_refused (table self.old seat.now statement.now) ≡ false }
+        ensures ok { OnOk result (self.new ≡ effect self.old session seat.now statement.now) }
+        ensures err { OnErr result (self.new ≡ self.old) }
+        ensures memory { OnErr result (makes_record statement.now ≡ true) }
+        ensures enters { OnErr result (may_enter self.old seat.now statement.now ≡ true) }
+    {
+        match statement {
+            Statement::Start(xid) => return self.start_branch(session, xid),
+            Statement::End(xid) => self.end_work(xid),
+            Statement::Prepare(xid) => self.detach(xid),
+            Statement::Commit { xid, one_phase: _ } => self.end_branch(xid, true),
+            Statement::Rollback(xid) => self.end_branch(xid, false),
+            Statement::Recover { convert: _ } => {}
+            Statement::Unsupported => {}
+            Statement::Get(key) => return self.lock_row(seat, key),
+            Statement::Put(key, value) => return self.put(seat, key, value),
+            Statement::Del(key) => return self.delete(seat, key),
+            Statement::Disconnect => self.disconnect(seat),
+        }
+        Ok(())
+    }
+
+    /// Answers a session's statement and carries it out. A refused statement changes nothing.
+    ///
+    /// May answer `NoMemory`, after which the server is as before: for `XA RECOVER`, and for an `XA START`, `PUT`, `DEL` or
+    /// `GET` that makes a record. What ends a branch takes no memory, so it succeeds. Doesn't wait.
+    /// Source: docs/BEHAVIOR.md, 'Replies' and 'Branches', which say line by line what is the manual's, C193's or our own.
+    pub fn apply(&mut self, session: SessionNo, statement: &Statement) -> Result<Reply, NoMemory>
+        ensures step { IfOk result (λ reply. Step self.old session statement.now reply self.new) }
+        ensures unchanged { OnErr result (self.new ≡ self.old) }
+        ensures memory { OnErr result (may_take_memory self.old session statement.now ≡ true) }
+    {
+        let seat = self.seat(session);
+        let reply = self.decide(&seat, statement)?;
+        if !reply.is_refused() {
+            self.carry_out(session, &seat, statement)?;
+        }
+        Ok(reply)
+    }
+}

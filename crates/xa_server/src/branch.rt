@@ -1,0 +1,56 @@
+//! The record of a transaction branch.
+ghost use Rattle.std.specs.Prelude.{◌≡◌, false};
+ghost use Rattle.std.specs.Option.{option_map_or};
+ghost use Rattle.xa_server.specs.State.{is_prepared_phase};
+
+use crate::keys::Keys;
+use std::alloc::AllocError;
+use xa_xid::SessionNo;
+
+/// How far a transaction branch has come.
+///
+/// Source: MySQL 8.0 Reference Manual, 'XA Transaction States'; X/Open C193, the branch states.
+#[derive(Clone, Copy, Debug, PartialEq, Eq)]
+pub enum Phase {
+    /// After `XA START`: it takes work.
+    Active,
+    /// After `XA END`: its work has ended.
+    Idle,
+    /// After `XA PREPARE`: it has voted for commit, and any free session may end it.
+    Prepared,
+}
+
+/// What the server keeps of a transaction branch, beside the records of the rows that it holds.
+#[derive(Drop)]
+pub struct BranchRecord {
+    /// How far it has come.
+    pub phase: Phase,
+    /// The session that started it, until it is prepared.
+    pub owner: Option<SessionNo>,
+    /// At least the rows that it holds, so that its end visits no others.
+    pub held: Keys,
+}
+
+impl Clone for BranchRecord {
+    ghost is_clone = { λ branch copy. copy ≡ branch };
+
+    fn clone(&self) -> Result<BranchRecord, AllocError> {
+        Ok(BranchRecord {
+            phase: self.phase,
+            owner: self.owner,
+            held: self.held.copy()?,
+        })
+    }
+}
+
+/// Whether a branch in this phase, where there is one, is PREPARED.
+pub fn is_prepared(phase: Option<Phase>) -> bool
+    ensures { result ≡ option_map_or is_prepared_phase phase false }
+{
+    match phase {
+        Some(Phase::Prepared) => true,
+        Some(Phase::Active) => false,
+        Some(Phase::Idle) => false,
+        None => false,
+    }
+}

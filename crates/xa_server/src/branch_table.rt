@@ -1,0 +1,254 @@
+//! The records of all branches, found by identifier and by session.
+ghost use Rattle.std.specs.Prelude.{◌≡◌, ◌≢◌, ℕ, [], ◌∷◌, ◌++◌, OnOk, OnErr, IfOk, IfSome, IfNone, MatchOption, ◌<◌, length};
+ghost use Rattle.std.specs.Option.{option_map, option_and_then};
+ghost use Rattle.std.specs.BTreeMap as tree;
+ghost use Rattle.std.specs.FinMap as map;
+ghost use Rattle.xa_xid.specs.declared.xid.Xid.{Xid as XidSeen};
+ghost use Rattle.xa_xid.specs.Xid.{xid_cmp};
+ghost use Rattle.xa_server.specs.Tables.{owned_at, prepared_keys, without_last};
+
+use crate::branch::{self, BranchRecord, Phase};
+use crate::keys::Keys;
+use std::alloc::Global;
+use std::collections::BTreeMap;
+use std::marker::Model;
+use xa_xid::{Key, NoMemory, SessionNo, Xid};
+
+/// One place for each session number; place 0 stays empty.
+const PLACES: usize = 17;
+
+/// The records of all branches: by identifier in logarithmic time, by session in constant time.
+#[derive(Drop)]
+pub struct BranchTable {
+    by_xid: BTreeMap<Xid, BranchRecord>,
+    /// At each session's number the branch that it owns.
+    owned: [Option<Xid>; PLACES],
+    alloc: Global,
+}
+
+impl Model for BranchTable {
+    ghost use Rattle.std.specs.FinMap as map;
+    ghost use Rattle.xa_xid.specs.Xid.{xid_cmp};
+    ghost use Rattle.xa_server.specs.Coding.{coded_branches};
+    ghost use Rattle.xa_server.specs.Tables.{BranchMap, IsIndexed};
+
+    ghost Value = { BranchMap };
+
+    ghost coded = { coded_branches };
+
+    ghost view = { λ table. map.from_entries {R = xid_cmp} table.by_xid.entries };
+
+    ghost invariant = { λ table. IsIndexed table.owned (map.from_entries {R = xid_cmp} table.by_xid.entries) };
+}
+
+/// The place of a session in the index.
+fn place_of(session: SessionNo) -> usize
+    ensures value { result ≡ session }
+    ensures within { result < 17 }
+{
+    session.get() as usize
+}
+
+/// An index with no branches.
+fn empty_places() -> [Option<Xid>; PLACES]
+    ensures places { length result ≡ 17 }
+    ensures empty { (session : ℕ) → owned_at result session ≡ None }
+{
+    std::array::from_fn(|_| None)
+}
+
+/// Sets the phase of a branch, where there is one.
+fn set_phase(by_xid: &mut BTreeMap<Xid, BranchRecord>, xid: &Xid, phase: Phase)
+    ensures { MatchOption (tree.get xid_cmp by_xid.old xid.now) (by_xid.new ≡ by_xid.old)
+        (λ branch. tree.Updates xid_cmp by_xid.old by_xid.new xid.now (Some (record branch { phase = phase }))) }
+{
+    if let Some(branch) = by_xid.get_mut(xid) {
+        branch.phase = phase;
+    }
+}
+
+/// Detaches a branch and sets its phase to PREPARED, where there is one, and answers who owned it.
+fn set_prepared(by_xid: &mut BTreeMap<Xid, BranchRecord>, xid: &Xid) -> Option<SessionNo>
+    ensures changed { MatchOption (tree.get xid_cmp by_xid.old xid.now) (by_xid.new ≡ by_xid.old)
+        (λ branch. tree.Updates xid_cmp by_xid.old by_xid.new xid.now (Some (record branch { phase = Phase.Prepared; owner = None }))) }
+    ensures owner { result ≡ option_and_then (λ branch. branch.owner) (tree.get xid_cmp by_xid.old xid.now) }
+{
+    let branch = by_xid.get_mut(xid)?;
+    branch.phase = Phase::Prepared;
+    branch.owner.take()
+}
+
+/// Adds a key to those that a branch holds, where there is such a branch.
+fn list_key(by_xid: &mut BTreeMap<Xid, BranchRecord>, xid: &Xid, key: &Key) -> Result<(), NoMemory>
+    ensures ok { OnOk result (MatchOption (tree.get xid_cmp by_xid.old xid.now) (by_xid.new ≡ by_xid.old)
+        (λ branch. tree.Updates xid_cmp by_xid.old by_xid.new xid.now (Some (record branch { held = branch.held ++ key.now ∷ [] })))) }
+    ensures err { OnErr result (MatchOption (tree.get xid_cmp by_xid.old xid.now) (by_xid.new ≡ by_xid.old)
+        (λ branch. tree.Updates xid_cmp by_xid.old by_xid.new xid.now (Some branch))) }
+{
+    match by_xid.get_mut(xid) {
+        Some(branch) => branch.held.push(key),
+        None => Ok(()),
+    }
+}
+
+/// Takes the last key out of those that a branch holds, where there is such a branch.
+fn unlist_key(by_xid: &mut BTreeMap<Xid, BranchRecord>, xid: &Xid)
+    ensures { MatchOption (tree.get xid_cmp by_xid.old xid.now) (by_xid.new ≡ by_xid.old)
+        (λ branch. tree.Updates xid_cmp by_xid.old by_xid.new xid.now (Some (record branch { held = without_last branch.held }))) }
+{
+    if let Some(branch) = by_xid.get_mut(xid) {
+        let _last = branch.held.pop();
+    }
+}
+
+/// The identifiers of the records of PREPARED branches, in order.
+fn prepared_in(alloc: Global, by_xid: &BTreeMap<Xid, BranchRecord>) -> Result<Vec<Xid>, NoMemory>
+    ensures listed { IfOk result (λ xids. xids.items ≡ prepared_keys by_xid.now.entries) }
+    ensures ordered { tree.IsOrdered xid_cmp by_xid.now }
+{
+    let mut xids = Vec::new(alloc);
+    for (xid, branch) in by_xid {
+        if branch::is_prepared(Some(branch.phase)) {
+            xids.push(xid.copy())?;
+        }
+    }
+    Ok(xids)
+}
+
+/// A copy of the records.
+fn copy_of_records(
+    by_xid: &BTreeMap<Xid, BranchRecord>,
+) -> Result<BTreeMap<Xid, BranchRecord>, NoMemory>
+    ensures { IfOk result (λ copy. copy.entries ≡ by_xid.now.entries) }
+{
+    by_xid.clone()
+}
+
+/// A copy of an index.
+fn copy_of_places(owned: &[Option<Xid>; PLACES]) -> [Option<Xid>; PLACES]
+    ensures { result ≡ owned.now }
+{
+    let mut places = empty_places();
+    for session in 0..PLACES {
+        places[session] = match &owned[session] {
+            None => None,
+            Some(own) => Some(own.copy()),
+        };
+    }
+    places
+}
+
+impl BranchTable {
+    ghost use Rattle.xa_server.specs.Tables.{owner_of, prepared_among, with_record};
+
+    /// No branches.
+    pub fn new(alloc: Global) -> BranchTable
+        ensures { result ≡ map.empty }
+    {
+        BranchTable {
+            by_xid: BTreeMap::new(alloc),
+            owned: empty_places(),
+            alloc,
+        }
+    }
+
+    /// A copy of the records.
+    pub fn copy(&self) -> Result<BranchTable, NoMemory>
+        ensures { IfOk result (λ copy. copy ≡ self.now) }
+    {
+        Ok(BranchTable {
+            by_xid: copy_of_records(&self.by_xid)?,
+            owned: copy_of_places(&self.owned),
+            alloc: self.alloc,
+        })
+    }
+
+    /// How far the branch of this identifier has come, where there is one.
+    pub fn phase_of(&self, xid: &Xid) -> Option<Phase>
+        ensures { result ≡ option_map (λ branch. branch.phase) (map.get self.now xid.now) }
+    {
+        match self.by_xid.get(xid) {
+            Some(branch) => Some(branch.phase),
+            None => None,
+        }
+    }
+
+    /// The branch that the session owns, where it owns one.
+    pub fn owned_by(&self, session: SessionNo) -> Option<&Xid>
+        ensures owner { IfSome result (λ own. owner_of self.now own.now ≡ Some session) }
+        ensures none { IfNone result ((xid : XidSeen) → owner_of self.now xid ≢ Some session) }
+    {
+        self.owned[place_of(session)].as_ref()
+    }
+
+    /// The identifiers of the PREPARED branches, ascending.
+    pub fn prepared(&self) -> Result<Vec<Xid>, NoMemory>
+        ensures { IfOk result (λ xids. xids.items ≡ prepared_among self.now) }
+    {
+        prepared_in(self.alloc, &self.by_xid)
+    }
+
+    /// Starts a branch for a session. After `NoMemory` the records are as before.
+    pub fn start(&mut self, session: SessionNo, xid: &Xid) -> Result<(), NoMemory>
+        requires unknown { map.get self.old xid.now ≡ None }
+        requires free { (other : XidSeen) → owner_of self.old other ≢ Some session }
+        ensures ok { OnOk result (self.new ≡ map.insert self.old xid.now (record { phase = Phase.Active; owner = Some session; held = [] })) }
+        ensures err { OnErr result (self.new ≡ self.old) }
+    {
+        let branch = BranchRecord {
+            phase: Phase::Active,
+            owner: Some(session),
+            held: Keys::new(self.alloc),
+        };
+        self.by_xid.insert(xid.copy(), branch)?;
+        self.owned[place_of(session)] = Some(xid.copy());
+        Ok(())
+    }
+
+    /// Sets the phase of a branch to IDLE, where there is one.
+    pub fn end_work(&mut self, xid: &Xid)
+        ensures { self.new ≡ with_record self.old xid.now (λ branch. record branch { phase = Phase.Idle }) }
+    {
+        set_phase(&mut self.by_xid, xid, Phase::Idle);
+    }
+
+    /// Detaches a branch from its owner and sets its phase to PREPARED, where there is one.
+    pub fn detach(&mut self, xid: &Xid)
+        ensures { self.new ≡ with_record self.old xid.now (λ branch. record branch { phase = Phase.Prepared; owner = None }) }
+    {
+        if let Some(owner) = set_prepared(&mut self.by_xid, xid) {
+            self.owned[place_of(owner)] = None;
+        }
+    }
+
+    /// Adds a key to those that a branch holds, where there is such a branch. After `NoMemory` the records are as before.
+    pub fn list(&mut self, xid: &Xid, key: &Key) -> Result<(), NoMemory>
+        ensures ok { OnOk result (self.new ≡ with_record self.old xid.now (λ branch. record branch { held = branch.held ++ key.now ∷ [] })) }
+        ensures err { OnErr result (self.new ≡ self.old) }
+    {
+        list_key(&mut self.by_xid, xid, key)
+    }
+
+    /// Takes the last key out of those that a branch holds, where there is such a branch.
+    pub fn unlist(&mut self, xid: &Xid)
+        ensures { self.new ≡ with_record self.old xid.now (λ branch. record branch { held = without_last branch.held }) }
+    {
+        unlist_key(&mut self.by_xid, xid);
+    }
+
+    /// Takes the record of a branch out, and answers the keys that it holds.
+    pub fn remove(&mut self, xid: &Xid) -> Option<Keys>
+        ensures removed { self.new ≡ map.remove self.old xid.now }
+        ensures held { result ≡ option_map (λ branch. branch.held) (map.get self.old xid.now) }
+    {
+        let BranchRecord {
+            phase: _,
+            owner,
+            held,
+        } = self.by_xid.remove(xid)?;
+        if let Some(owner) = owner {
+            self.owned[place_of(owner)] = None;
+        }
+        Some(held)
+    }
+}

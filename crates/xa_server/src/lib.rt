@@ -1,0 +1,22 @@
+//! The sequential server: transaction branches over rows, one statement after another.
+#![tactic(auto)]
+
+mod apply;
+mod branch;
+mod branch_table;
+mod decide;
+mod keys;
+mod reply;
+mod row;
+mod row_table;
+mod seat;
+mod server;
+#[cfg(test)]
+mod tests;
+mod xa_error;
+
+pub use branch::Phase;
+pub use reply::{Reply, XidList};
+pub use seat::Seat;
+pub use server::Server;
+pub use xa_error::{BranchState, XaError};

@@ -1,0 +1,74 @@
+//! What a statement is answered.
+ghost use Rattle.std.specs.Prelude.{◌≡◌};
+
+use crate::XaError;
+use std::marker::Model;
+use xa_xid::{Bytes, Xid};
+
+/// What a statement is answered.
+#[derive(Debug, Drop)]
+pub enum Reply {
+    /// The statement was carried out.
+    Ok,
+    /// The value of a row, or none.
+    Value(Option<Bytes>),
+    /// The identifiers of the prepared branches, ascending.
+    Recovered(XidList),
+    /// The statement was refused, and nothing changed.
+    Refused(XaError),
+}
+
+impl Reply {
+    ghost use Rattle.xa_server.specs.Step.{is_refused as is_refused_reply};
+
+    /// Whether the statement was refused.
+    ///
+    /// Takes no memory. Doesn't wait.
+    pub fn is_refused(&self) -> bool
+        ensures { result ≡ is_refused_reply self.now }
+    {
+        match self {
+            Reply::Refused(_) => true,
+            Reply::Ok => false,
+            Reply::Value(_) => false,
+            Reply::Recovered(_) => false,
+        }
+    }
+}
+
+/// A list of identifiers. A contract sees it as that list.
+#[derive(Debug, Drop)]
+pub struct XidList {
+    xids: Vec<Xid>,
+}
+
+impl Model for XidList {
+    ghost use Rattle.std.specs.Prelude.{List};
+    ghost use Rattle.std.specs.Coded.{coded_list};
+    ghost use Rattle.xa_xid.specs.declared.xid.Xid.{Xid};
+    ghost use Rattle.xa_xid.specs.Xid.{coded_xid};
+
+    ghost Value = { List Xid };
+
+    ghost coded = { coded_list coded_xid };
+
+    ghost view = { λ list. list.xids.items };
+}
+
+impl XidList {
+    /// The list of these identifiers.
+    pub(crate) fn of(xids: Vec<Xid>) -> XidList
+        ensures { result ≡ xids.items }
+    {
+        XidList { xids }
+    }
+
+    /// The identifiers, in order.
+    ///
+    /// Takes no memory. Doesn't wait.
+    pub fn as_slice(&self) -> &[Xid]
+        ensures { result.now ≡ self.now }
+    {
+        self.xids.as_slice()
+    }
+}

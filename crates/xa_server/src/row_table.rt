@@ -1,0 +1,153 @@
+//! The records of all rows, found by key.
+ghost use Rattle.std.specs.Prelude.{◌≡◌, true, [], ◌∷◌, IfOk, OnOk, OnErr, MatchOption};
+ghost use Rattle.std.specs.Option.{option_copied};
+ghost use Rattle.std.specs.BTreeMap as tree;
+ghost use Rattle.std.specs.FinMap as map;
+ghost use Rattle.xa_xid.specs.Xid.{bytes_cmp};
+ghost use Rattle.xa_server.specs.Rows.{held_row, freed_row, is_needed, Frees};
+
+use crate::keys::Keys;
+use crate::row::{Change, Lock, RowRecord, free};
+use std::alloc::Global;
+use std::collections::BTreeMap;
+use std::marker::Model;
+use xa_xid::{Bytes, Key, NoMemory, Xid, copy_of};
+
+/// The records of all rows, by key in logarithmic time.
+#[derive(Drop)]
+pub struct RowTable {
+    by_key: BTreeMap<Key, RowRecord>,
+}
+
+impl Model for RowTable {
+    ghost use Rattle.std.specs.FinMap as map;
+    ghost use Rattle.xa_xid.specs.Xid.{bytes_cmp};
+    ghost use Rattle.xa_server.specs.Coding.{coded_rows};
+    ghost use Rattle.xa_server.specs.Rows.{RowMap};
+
+    ghost Value = { RowMap };
+
+    ghost coded = { coded_rows };
+
+    ghost view = { λ table. map.from_entries {R = bytes_cmp} table.by_key.entries };
+}
+
+/// Has a row's record held by a lock, or gives the lock back where the row has no record.
+fn set_lock(by_key: &mut BTreeMap<Key, RowRecord>, key: &Key, lock: Lock) -> Option<Lock>
+    ensures changed { MatchOption (tree.get bytes_cmp by_key.old key.now) (by_key.new ≡ by_key.old)
+        (λ row. tree.Updates bytes_cmp by_key.old by_key.new key.now (Some (record row { lock = Some lock }))) }
+    ensures back { MatchOption (tree.get bytes_cmp by_key.old key.now) (result ≡ Some lock) (λ row. result ≡ None) }
+{
+    match by_key.get_mut(key) {
+        None => Some(lock),
+        Some(row) => {
+            row.lock = Some(lock);
+            None
+        }
+    }
+}
+
+/// Ends a branch's hold of a row's record, where there is one, and answers whether the record is still needed.
+fn free_in(by_key: &mut BTreeMap<Key, RowRecord>, key: &Key, xid: &Xid, commits: bool) -> bool
+    ensures changed { MatchOption (tree.get bytes_cmp by_key.old key.now) (by_key.new ≡ by_key.old)
+        (λ row. tree.Updates bytes_cmp by_key.old by_key.new key.now (Some (freed_row commits xid.now row))) }
+    ensures needed { MatchOption (tree.get bytes_cmp by_key.old key.now) (result ≡ true)
+        (λ row. result ≡ is_needed (freed_row commits xid.now row)) }
+{
+    match by_key.get_mut(key) {
+        None => true,
+        Some(row) => free(row, xid, commits),
+    }
+}
+
+/// A copy of the records.
+fn copy_of_records(by_key: &BTreeMap<Key, RowRecord>) -> Result<BTreeMap<Key, RowRecord>, NoMemory>
+    ensures { IfOk result (λ copy. copy.entries ≡ by_key.now.entries) }
+{
+    by_key.clone()
+}
+
+impl RowTable {
+    /// No rows.
+    pub fn new(alloc: Global) -> RowTable
+        ensures { result ≡ map.empty }
+    {
+        RowTable {
+            by_key: BTreeMap::new(alloc),
+        }
+    }
+
+    /// A copy of the records.
+    pub fn copy(&self) -> Result<RowTable, NoMemory>
+        ensures { IfOk result (λ copy. copy ≡ self.now) }
+    {
+        Ok(RowTable {
+            by_key: copy_of_records(&self.by_key)?,
+        })
+    }
+
+    /// The record of a row, where there is one.
+    pub fn row(&self, key: &Key) -> Option<&RowRecord>
+        ensures { option_copied result ≡ map.get self.now key.now }
+    {
+        self.by_key.get(key)
+    }
+
+    /// Has a branch hold a row, and do this to it. After `NoMemory` the records are as before.
+    pub fn hold(&mut self, key: &Key, xid: &Xid, change: Change) -> Result<(), NoMemory>
+        ensures ok { OnOk result (self.new ≡ map.insert self.old key.now (held_row xid.now change (map.get self.old key.now))) }
+        ensures err { OnErr result (self.new ≡ self.old) }
+    {
+        let lock = Lock {
+            holder: xid.copy(),
+            change,
+        };
+        let Some(lock) = set_lock(&mut self.by_key, key, lock) else {
+            return Ok(());
+        };
+        let row = RowRecord {
+            committed: None,
+            lock: Some(lock),
+        };
+        self.by_key.insert(key.copy(), row)?;
+        Ok(())
+    }
+
+    /// Gives a row that nobody holds a value. After `NoMemory` the records are as before.
+    pub fn put(&mut self, key: &Key, value: &Bytes) -> Result<(), NoMemory>
+        ensures ok { OnOk result (self.new ≡ map.insert self.old key.now (record { committed = Some value.now; lock = None })) }
+        ensures err { OnErr result (self.new ≡ self.old) }
+    {
+        let row = RowRecord {
+            committed: Some(copy_of(value)),
+            lock: None,
+        };
+        self.by_key.insert(key.copy(), row)?;
+        Ok(())
+    }
+
+    /// Takes the record of a row that nobody holds out.
+    pub fn delete(&mut self, key: &Key)
+        ensures { self.new ≡ map.remove self.old key.now }
+    {
+        let _row = self.by_key.remove(key);
+    }
+
+    /// Ends a branch's hold of a row, where it holds it: what it does to the row is done if it commits.
+    pub fn free(&mut self, key: &Key, xid: &Xid, commits: bool)
+        ensures { Frees commits xid.now (key.now ∷ []) self.old self.new }
+    {
+        if !free_in(&mut self.by_key, key, xid, commits) {
+            let _row = self.by_key.remove(key);
+        }
+    }
+
+    /// Ends a branch's hold of the rows of these keys.
+    pub fn free_all(&mut self, mut keys: Keys, xid: &Xid, commits: bool)
+        ensures { Frees commits xid.now keys self.old self.new }
+    {
+        while let Some(key) = keys.pop() {
+            self.free(&key, xid, commits);
+        }
+    }
+}

@@ -1,0 +1,206 @@
+//! The server: its records, and what they say of its state.
+ghost use Rattle.std.specs.Prelude.{◌≡◌, true, false, cond, is_some, Some, None, OnOk, OnErr, IfOk};
+ghost use Rattle.std.specs.FinMap as map;
+
+use crate::branch::{self, Phase};
+use crate::branch_table::BranchTable;
+use crate::reply::XidList;
+use crate::row::{self, Change};
+use crate::row_table::RowTable;
+use crate::seat::Seat;
+use std::alloc::Global;
+use std::marker::Model;
+use xa_xid::{Bytes, Key, NoMemory, SessionNo, Xid};
+
+/// A resource manager: transaction branches over rows, one statement after another. A contract sees it as a `State`.
+///
+/// It finds a branch by identifier, and a row by key, in logarithmic time, and a session's branch in constant time. Ending
+/// a branch costs what the branch did, whatever else is there, and takes no memory.
+#[derive(Drop)]
+pub struct Server {
+    branches: BranchTable,
+    rows: RowTable,
+}
+
+impl Model for Server {
+    ghost use Rattle.xa_server.specs.State.{State};
+    ghost use Rattle.xa_server.specs.Coding.{coded_state};
+    ghost use Rattle.xa_server.specs.View.{state_of, IsWhole};
+
+    ghost Value = { State };
+
+    ghost coded = { coded_state };
+
+    ghost view = { λ server. state_of server.branches server.rows };
+
+    ghost invariant = { λ server. IsWhole server.branches server.rows };
+}
+
+impl Server {
+    ghost use Rattle.xa_server.specs.State.{no_state, is_known, is_prepared, seat_of, prepared_xids as prepared_xids_of, committed_value as committed_value_of, value_within as value_within_of};
+    ghost use Rattle.xa_server.specs.Locks.{holds as holds_of, is_held_against as is_held_against_of};
+    ghost use Rattle.xa_server.specs.Step.{started_by, with_branch, with_changed, with_write, without_branch, committed};
+    ghost use Rattle.xa_server.specs.Rows.{with_change};
+    ghost use Rattle.xa_server.specs.declared.branch.Phase.TheVariants.{Idle as PhaseIdle, Prepared as PhasePrepared};
+    ghost use Rattle.xa_server.specs.declared.seat.Seat.TheVariants.{Free, Active};
+    ghost use Rattle.xa_server.specs.declared.row.Change.TheVariants.{Nothing};
+
+    /// A server with no branches and no rows.
+    ///
+    /// Takes no memory. Doesn't wait.
+    pub fn new(alloc: Global) -> Server
+        ensures { result ≡ no_state }
+    {
+        Server {
+            branches: BranchTable::new(alloc),
+            rows: RowTable::new(alloc),
+        }
+    }
+
+    /// A server with the same branches and rows.
+    ///
+    /// May answer `NoMemory`. Doesn't wait.
+    pub fn copy(&self) -> Result<Server, NoMemory>
+        ensures { IfOk result (λ copy. copy ≡ self.now) }
+    {
+        Ok(Server {
+            branches: self.branches.copy()?,
+            rows: self.rows.copy()?,
+        })
+    }
+
+    /// What the session has open.
+    pub(crate) fn seat(&self, session: SessionNo) -> Seat
+        ensures { result ≡ seat_of self.now session }
+    {
+        let Some(own) = self.branches.owned_by(session) else {
+            return Seat::Free;
+        };
+        match self.branches.phase_of(own) {
+            Some(Phase::Active) => Seat::Active(own.copy()),
+            Some(Phase::Idle) => Seat::Idle(own.copy()),
+            Some(Phase::Prepared) => Seat::Free,
+            None => Seat::Free,
+        }
+    }
+
+    /// Whether a branch has this identifier.
+    pub(crate) fn knows(&self, xid: &Xid) -> bool
+        ensures { result ≡ is_known self.now xid.now }
+    {
+        self.branches.phase_of(xid).is_some()
+    }
+
+    /// Whether the branch of this identifier is PREPARED.
+    pub(crate) fn has_prepared(&self, xid: &Xid) -> bool
+        ensures { result ≡ is_prepared self.now xid.now }
+    {
+        branch::is_prepared(self.branches.phase_of(xid))
+    }
+
+    /// The value of a row that all sessions see.
+    pub(crate) fn committed_value(&self, key: &Key) -> Option<Bytes>
+        ensures { result ≡ committed_value_of self.now key.now }
+    {
+        row::committed_value(self.rows.row(key))
+    }
+
+    /// The value of a row that a branch sees.
+    pub(crate) fn value_within(&self, own: &Xid, key: &Key) -> Option<Bytes>
+        ensures { result ≡ value_within_of self.now own.now key.now }
+    {
+        row::value_within(own, self.rows.row(key))
+    }
+
+    /// Whether a branch that isn't the session's own holds the row.
+    pub(crate) fn is_held_against(&self, seat: &Seat, key: &Key) -> bool
+        ensures { result ≡ is_held_against_of self.now seat.now key.now }
+    {
+        row::is_held_against(seat, self.rows.row(key))
+    }
+
+    /// Whether the branch holds the row.
+    pub(crate) fn holds(&self, own: &Xid, key: &Key) -> bool
+        ensures { result ≡ holds_of self.now own.now key.now }
+    {
+        row::is_held_by(own, self.rows.row(key))
+    }
+
+    /// The identifiers of the PREPARED branches, ascending.
+    pub(crate) fn prepared_xids(&self) -> Result<XidList, NoMemory>
+        ensures { IfOk result (λ xids. xids ≡ prepared_xids_of self.now) }
+    {
+        Ok(XidList::of(self.branches.prepared()?))
+    }
+
+    /// Starts a branch for a free session, under an identifier that no branch has. After `NoMemory` the server is as before.
+    pub(crate) fn start_branch(&mut self, session: SessionNo, xid: &Xid) -> Result<(), NoMemory>
+        requires unknown { is_known self.old xid.now ≡ false }
+        requires free { seat_of self.old session ≡ Free }
+        ensures ok { OnOk result (self.new ≡ with_branch self.old xid.now (started_by session)) }
+        ensures err { OnErr result (self.new ≡ self.old) }
+    {
+        self.branches.start(session, xid)
+    }
+
+    /// Ends the work of a branch that isn't PREPARED.
+    pub(crate) fn end_work(&mut self, xid: &Xid)
+        requires { is_prepared self.old xid.now ≡ false }
+        ensures { self.new ≡ with_changed self.old xid.now (λ branch. record branch { phase = PhaseIdle }) }
+    {
+        self.branches.end_work(xid);
+    }
+
+    /// Prepares a branch, and detaches it from its session.
+    pub(crate) fn detach(&mut self, xid: &Xid)
+        ensures { self.new ≡ with_changed self.old xid.now (λ branch. record branch { phase = PhasePrepared; owner = None }) }
+    {
+        self.branches.detach(xid);
+    }
+
+    /// Has a branch hold a row that no other branch holds, and do this to it. After `NoMemory` the server is as before.
+    pub(crate) fn hold(&mut self, own: &Xid, key: &Key, change: Change) -> Result<(), NoMemory>
+        requires known { is_known self.old own.now ≡ true }
+        requires unheld { is_held_against_of self.old (Active own.now) key.now ≡ false }
+        requires new_lock { change ≡ Nothing → holds_of self.old own.now key.now ≡ false }
+        ensures ok { OnOk result (self.new ≡ with_changed self.old own.now (with_change key.now change)) }
+        ensures err { OnErr result (self.new ≡ self.old) }
+    {
+        if row::is_held_by(own, self.rows.row(key)) {
+            return self.rows.hold(key, own, change);
+        }
+        self.branches.list(own, key)?;
+        let held = self.rows.hold(key, own, change);
+        if held.is_err() {
+            self.branches.unlist(own);
+        }
+        held
+    }
+
+    /// Gives a row that nobody holds a value. After `NoMemory` the server is as before.
+    pub(crate) fn put_row(&mut self, key: &Key, value: &Bytes) -> Result<(), NoMemory>
+        requires { is_held_against_of self.old Free key.now ≡ false }
+        ensures ok { OnOk result (self.new ≡ record self.old { rows = with_write key.now (Some value.now) self.old.rows }) }
+        ensures err { OnErr result (self.new ≡ self.old) }
+    {
+        self.rows.put(key, value)
+    }
+
+    /// Takes the value of a row that nobody holds away.
+    pub(crate) fn delete_row(&mut self, key: &Key)
+        requires { is_held_against_of self.old Free key.now ≡ false }
+        ensures { self.new ≡ record self.old { rows = with_write key.now None self.old.rows } }
+    {
+        self.rows.delete(key);
+    }
+
+    /// Ends a branch: what it wrote is the committed value if it commits, and else is dropped; its rows are free.
+    pub(crate) fn end_branch(&mut self, xid: &Xid, commits: bool)
+        requires { is_known self.old xid.now ≡ true }
+        ensures { self.new ≡ cond commits (committed self.old xid.now) (without_branch self.old xid.now) }
+    {
+        if let Some(keys) = self.branches.remove(xid) {
+            self.rows.free_all(keys, xid, commits);
+        }
+    }
+}
