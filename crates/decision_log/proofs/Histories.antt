@@ -1,0 +1,104 @@
+-- Lists of entries: the ring of lemmas on prefixes, and that on the entries of a session.
+use Rattle.std.proofs.Common.{◌≡◌, ◌≢◌, ◌⊎◌, ℕ, zero, suc, ◌≤◌, List, [], ◌∷◌, ◌++◌, length, take, drop, get_or, refl, ap, sym, ◌∙◌, subst, inl, inr, ⊎_elim, Some, None, arith, eq-eqb, ne_eqb, length-append, append-nil}
+use Rattle.std.specs.Prelude.{slice_get, All}
+use Rattle.std.proofs.lemmas.List.{take_all, take-append-le, take-append-drop, length-take}
+use Rattle.std.proofs.lemmas.List.Elements.{filter-append}
+use Rattle.std.proofs.lemmas.Option.{slice_get-get_or}
+use Rattle.std.proofs.Math.Seq.{take-append_seam}
+use Rattle.xa_words.specs.Entry.{Entry}
+use Rattle.decision_log.specs.History.{Begins, is_of, entries_of}
+
+-- prefixes
+
+pub begins_itself : (xs : List Entry) → Begins xs xs
+begins_itself xs = take_all (length xs) xs (omega arith)
+
+pub begins_nothing : (xs : List Entry) → Begins [] xs
+begins_nothing xs = refl
+
+pub begins_append : (xs ys : List Entry) → Begins xs (xs ++ ys)
+begins_append xs ys = take-append_seam xs ys
+
+pub length_begins : (xs ys : List Entry) → Begins xs ys → length xs ≤ length ys
+length_begins xs ys is = omega (arith, length-take (length xs) ys, ap length is)
+
+pub begins_more : (xs ys zs : List Entry) → Begins xs ys → Begins xs (ys ++ zs)
+begins_more xs ys zs is = take-append-le (length xs) ys zs (length_begins xs ys is) ∙ is
+
+-- the rest behind a prefix
+pub behind : (xs ys : List Entry) → Begins xs ys → xs ++ drop (length xs) ys ≡ ys
+behind xs ys is = ap (λ front. front ++ drop (length xs) ys) (sym is) ∙ take-append-drop (length xs) ys
+
+pub begins_through : (xs ys zs : List Entry) → Begins xs ys → Begins ys zs → Begins xs zs
+begins_through xs ys zs xy yz = subst (λ list. Begins xs list) (behind ys zs yz) (begins_more xs ys (drop (length ys) zs) xy)
+
+pub begins_same : (xs ys : List Entry) → Begins xs ys → length ys ≤ length xs → xs ≡ ys
+begins_same xs ys is long = sym is ∙ take_all (length xs) ys long
+
+-- of two prefixes of one list the shorter begins the longer
+pub begins_between : (xs ys zs : List Entry) → Begins xs zs → Begins ys zs → length xs ≤ length ys → Begins xs ys
+begins_between xs ys zs xz yz short =
+    sym (take-append-le (length xs) ys (drop (length ys) zs) short) ∙ ap (take (length xs)) (behind ys zs yz) ∙ xz
+
+pub get_append : (xs ys : List Entry) (place : ℕ) (entry : Entry) → slice_get xs place ≡ Some entry → slice_get (xs ++ ys) place ≡ Some entry
+get_append [] ys place entry is = cc
+get_append (x ∷ xs) ys zero entry is = is
+get_append (x ∷ xs) ys (suc place) entry is = get_append xs ys place entry is
+
+pub get_begins : (xs ys : List Entry) (place : ℕ) (entry : Entry) → Begins xs ys → slice_get xs place ≡ Some entry → slice_get ys place ≡ Some entry
+get_begins xs ys place entry begins is = subst (λ list. slice_get list place ≡ Some entry) (behind xs ys begins) (get_append xs (drop (length xs) ys) place entry is)
+
+some_injective : (a b : Entry) → Some a ≡ Some b → a ≡ b
+some_injective a b is = cc
+
+-- the entries of a longer list: an old one, or the last
+pub get_last : (xs : List Entry) (last : Entry) (place : ℕ) (entry : Entry) → slice_get (xs ++ last ∷ []) place ≡ Some entry
+    → (slice_get xs place ≡ Some entry) ⊎ ((place ≡ length xs) × (last ≡ entry))
+get_last [] last zero entry is = inr (refl, some_injective last entry is)
+get_last [] last (suc place) entry is = absurd (never is)
+  where
+    never : None ≡ Some entry → ⊥
+    never is = cc
+get_last (x ∷ xs) last zero entry is = inl is
+get_last (x ∷ xs) last (suc place) entry is = ⊎_elim (λ h. inl h) (λ h. inr (ap suc h.0, h.1)) (get_last xs last place entry is)
+
+-- what holds of each entry by its place holds of all
+pub all_from_places : (P : Entry → Type 0) (xs : List Entry) → ((place : ℕ) (entry : Entry) → slice_get xs place ≡ Some entry → P entry) → All P xs
+all_from_places P xs each place other below = each place (get_or xs place other) (slice_get-get_or xs place other below)
+
+-- the entries of a session
+
+pub own_append : (number : ℕ) (xs ys : List Entry) → entries_of number (xs ++ ys) ≡ entries_of number xs ++ entries_of number ys
+own_append number xs ys = filter-append (is_of number) xs ys
+
+pub own_last : (number : ℕ) (xs : List Entry) (entry : Entry) → entry.session ≡ number → entries_of number (xs ++ entry ∷ []) ≡ entries_of number xs ++ entry ∷ []
+own_last number xs entry own =
+    own_append number xs (entry ∷ []) ∙ ap (λ rest. entries_of number xs ++ rest) (rw (eq-eqb entry.session number own) refl)
+
+pub own_other : (number : ℕ) (xs : List Entry) (entry : Entry) → entry.session ≢ number → entries_of number (xs ++ entry ∷ []) ≡ entries_of number xs
+own_other number xs entry other =
+    own_append number xs (entry ∷ []) ∙ ap (λ rest. entries_of number xs ++ rest) (nothing entry other) ∙ append-nil (entries_of number xs)
+  where
+    nothing : (entry : Entry) → entry.session ≢ number → entries_of number (entry ∷ []) ≡ []
+    nothing entry other = rw (ne_eqb entry.session number other) refl
+
+nothing_left : (xs ys : List Entry) → length (xs ++ ys) ≡ length xs → ys ≡ []
+nothing_left xs [] is = refl
+nothing_left xs (y ∷ ys) is = absurd (omega (arith, length-append xs (y ∷ ys)))
+
+-- a session with no entry between two prefixes has none behind the first of them
+pub own_between : (number : ℕ) (xs ys zs mine : List Entry) → Begins xs ys → Begins ys zs → entries_of number xs ≡ mine → entries_of number zs ≡ mine → entries_of number ys ≡ mine
+own_between number xs ys zs mine xy yz own_x own_z =
+    let r = drop (length xs) ys in
+    let t = drop (length ys) zs in
+    let whole_y : entries_of number ys ≡ entries_of number xs ++ entries_of number r = ap (entries_of number) (sym (behind xs ys xy)) ∙ own_append number xs r in
+    let whole_z : entries_of number zs ≡ entries_of number ys ++ entries_of number t = ap (entries_of number) (sym (behind ys zs yz)) ∙ own_append number ys t in
+    let none : entries_of number r ≡ [] =
+    nothing_left (entries_of number xs) (entries_of number r)
+    (omega (arith, ap length whole_y, ap length whole_z, ap length own_x, ap length own_z, length-append (entries_of number ys) (entries_of number t), length-append (entries_of number xs) (entries_of number r))) in
+    whole_y ∙ ap (λ rest. entries_of number xs ++ rest) none ∙ append-nil (entries_of number xs) ∙ own_x
+
+-- a number that no entry has has no entries
+pub own_none : (number : ℕ) (xs : List Entry) → ((place : ℕ) (entry : Entry) → slice_get xs place ≡ Some entry → entry.session ≢ number) → entries_of number xs ≡ []
+own_none number [] none = refl
+own_none number (x ∷ xs) none = rw (ne_eqb x.session number (none 0 x refl)) (own_none number xs (λ place entry is. none (suc place) entry is))

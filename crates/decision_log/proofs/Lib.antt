@@ -1,0 +1,6 @@
+pub mod Histories
+pub mod SeatLemmas
+pub mod MachineLaw
+pub mod TurnSteps
+pub mod TurnStores
+pub mod TurnSeats

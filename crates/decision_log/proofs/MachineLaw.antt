@@ -1,0 +1,64 @@
+-- The law of the machine: what a session knows is a prefix of the history with its own entries in it.
+use Rattle.std.proofs.Common.{◌≡◌, ℕ, List, [], ◌∷◌, ◌++◌, refl, ap, sym, ◌∙◌, subst}
+use native.Mathlib.Decide.{ℕ_discrete}
+use mathlib.Core.Logic.{dite}
+use Rattle.xa_words.specs.Entry.{Entry}
+use Rattle.decision_log.specs.History.{Begins, entries_of}
+use Rattle.decision_log.specs.Machine.{Seen, Machine, Event, Look, Add, Looks, Appends, Happens, Runs, opening}
+use Rattle.decision_log.proofs.Histories.{begins_itself, begins_more, own_last, own_other}
+
+record Knows (history : List Entry) (session : ℕ) (known : Seen) : Type 0 where
+  pub begins : Begins known.seen history
+  pub own : entries_of session history ≡ known.mine
+  pub part : entries_of session known.seen ≡ known.mine
+
+Sound : Machine → Type 0
+Sound machine = (session : ℕ) → Knows machine.history session (machine.knows session)
+
+seen_by : (old new : Seen) → new.seen ≡ old.seen → new.mine ≡ old.mine → new ≡ old
+seen_by old new s m i = record { seen = s i; mine = m i }
+
+after_look : (session : ℕ) (old new : Machine) → Looks session old new → Sound old → Sound new
+unfolding Sound
+after_look session old new is sound other =
+    dite (ℕ_discrete other session)
+    (λ e. subst (λ n. Knows new.history n (new.knows n)) (sym e)
+    (rw is.history
+    (record { begins = subst (λ list. Begins list old.history) (sym is.seen) (begins_itself old.history); own = (sound session).own ∙ sym is.mine; part = ap (entries_of session) is.seen ∙ (sound session).own ∙ sym is.mine })))
+    (λ n. rw (is.history, is.others other n) (sound other))
+
+after_add : (session : ℕ) (entry : Entry) (old new : Machine) → Appends session entry old new → Sound old → Sound new
+unfolding Sound
+after_add session entry old new is sound other =
+    dite (ℕ_discrete other session)
+    (λ e. subst (λ n. Knows new.history n (new.knows n)) (sym e)
+    (rw is.history
+    (record {
+      begins = subst (λ list. Begins list (old.history ++ entry ∷ [])) (ap (λ list. list ++ entry ∷ []) (sym is.whole) ∙ sym is.seen) (begins_itself (old.history ++ entry ∷ []));
+      own = own_last session old.history entry is.own ∙ ap (λ list. list ++ entry ∷ []) (sound session).own ∙ sym is.mine;
+      part = ap (entries_of session) is.seen ∙ own_last session (old.knows session).seen entry is.own ∙ ap (λ list. list ++ entry ∷ []) (sound session).part ∙ sym is.mine;
+    })))
+    (λ n.
+    let own = is.own in
+    rw (is.history, is.others other n)
+    (record {
+      begins = begins_more (old.knows other).seen old.history (entry ∷ []) (sound other).begins;
+      own = own_other other old.history entry (λ e. n (sym e ∙ own)) ∙ (sound other).own;
+      part = (sound other).part;
+    }))
+
+after_event : (event : Event) (old new : Machine) → Happens event old new → Sound old → Sound new
+after_event (Look session) old new is sound = after_look session old new is sound
+after_event (Add session entry) old new is sound = after_add session entry old new is sound
+
+after_events : (events : List Event) (old new : Machine) → Runs events old new → Sound old → Sound new
+after_events [] old new is sound = subst Sound (sym is) sound
+after_events (event ∷ events) old new is sound = after_events events is.0 new is.2 (after_event event old is.0 is.1 sound)
+
+at_start : (capacity : ℕ) → Sound (opening capacity)
+unfolding Sound
+at_start capacity session = record { begins = refl; own = refl; part = refl }
+
+pub mine_is_own : (capacity : ℕ) (events : List Event) (machine : Machine) → Runs events (opening capacity) machine → (session : ℕ) → entries_of session (machine.knows session).seen ≡ (machine.knows session).mine
+unfolding Sound
+mine_is_own capacity events machine is session = (after_events events (opening capacity) machine is (at_start capacity) session).part

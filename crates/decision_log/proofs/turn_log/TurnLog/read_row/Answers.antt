@@ -1,0 +1,41 @@
+use Rattle.std.proofs.Common.{◌≡◌, ◌+◌, ◌<◌, ℕ, List, Some, length, get_or, set, arith, sym, ap, ◌∙◌, refl}
+use Rattle.std.specs.Prelude.{slice_get}
+use mathlib.Core.Logic.{dite}
+use native.Mathlib.Decide.{ℕ_discrete}
+use Rattle.std.proofs.lemmas.List.{length-set, get_or-set_same, get_or-set_other, ext_get_or}
+use Rattle.xa_words.specs.Words.{words_of}
+use Rattle.xa_words.proofs.Spelling.{length-words_of}
+use Rattle.decision_log.specs.Seats.{hand_of}
+use Rattle.decision_log.proofs.turn_log.TurnLog.read_row.Goals as goal
+
+-- one more word is read
+one_more : (words spelled : List ℕ) (index word : ℕ) → index < length words → word ≡ get_or spelled index 0 → ((k : ℕ) → k < index → get_or words k 0 ≡ get_or spelled k 0) → (k : ℕ) → k < index + 1 → get_or (set words index word) k 0 ≡ get_or spelled k 0
+one_more words spelled index word within is before k below =
+    dite (ℕ_discrete k index)
+    (λ e. ap (λ n. get_or (set words index word) n 0) e ∙ get_or-set_same words index word 0 within ∙ is ∙ ap (λ n. get_or spelled n 0) (sym e))
+    (λ n. get_or-set_other words index k word 0 n ∙ before k (omega arith))
+
+pub loop-index-preserved : goal.loop-index-preserved
+loop-index-preserved c =
+    let inv = c.loop-index.invariant in
+    record {
+      seat = c.load_word.ensures.seat;
+      sized = length-set c.loop-index.words c.loop-index.index c.load_word.result ∙ inv.sized;
+      same = c.load_word.ensures.same ∙ inv.same;
+      read =
+          λ entry is.
+          let there : slice_get (hand_of c.loop-index.seat.me.0).known.seen c.args.place ≡ Some entry = ap (λ h. slice_get h.known.seen c.args.place) inv.same ∙ is in
+          let told = c.load_word.ensures.read c.args.place c.loop-index.index entry refl c.loop-index-test.true there in (
+            (λ p. told.0),
+            one_more c.loop-index.words (words_of entry) c.loop-index.index c.load_word.result (omega (arith, inv.sized, c.loop-index-test.true)) told.1 (inv.read entry is).1,
+          );
+    }
+
+pub returns-clause-read : goal.returns-clause-read
+returns-clause-read c entry is =
+    let inv = c.loop-index.invariant in
+    let done = c.loop-index-test.false in
+    let told = inv.read entry is in (
+      told.0 (omega arith),
+      ext_get_or 0 c.loop-index.words (words_of entry) (inv.sized ∙ sym (length-words_of entry)) (λ k below. told.1 k (omega (arith, inv.sized))),
+    )

@@ -1,0 +1,9 @@
+use Rattle.std.proofs.Common.{◌≡◌, take}
+use Rattle.decision_log.specs.TurnSeat.{IsSeat, hand, with_draft}
+use Rattle.decision_log.proofs.turn_log.TurnLog.write_entry.Given as goal
+
+abbrev pub invariant-loop-index : goal.invariant-loop-index
+invariant-loop-index l = record {
+  seat : IsSeat l.self l.seat;
+  drafted : hand l.seat ≡ with_draft (hand l.fn.seat) (take l.index l.words);
+}

@@ -1,0 +1,71 @@
+-- What the calls of a log tell of a pass.
+--     Looked          a look
+--     IsAdded, IsOvertaken, IsBusy      the answers to an add, with those that change nothing but counts
+--     Adds            an add, by its answer
+--     MeetsFirst, MeetsSecond     a meeting of two passes
+use Rattle.std.specs.Prelude.{◌≡◌, ◌<◌, ◌≤◌, ◌+◌, ℕ, Bool, IsTrue, [], ◌∷◌, ◌++◌, length, Result, Ok, Err}
+use Rattle.xa_words.specs.Entry.{Entry}
+use Rattle.decision_log.specs.declared.known.Known.{Known}
+use Rattle.decision_log.specs.declared.fault.AddFault.{AddFault}
+use Rattle.decision_log.specs.declared.fault.AddFault.TheVariants.{Overtaken, Full, Busy}
+use Rattle.decision_log.specs.History.{Begins, entries_of}
+
+-- one step at which the history was all of what is seen now
+pub record Looked (old new : Known) : Type 0 where
+  pub number : new.number ≡ old.number
+  pub seen : Begins old.seen new.seen
+  pub mine : new.mine ≡ old.mine
+  pub looks : new.looks ≡ old.looks + 1
+  pub tries : new.tries ≡ old.tries
+
+-- the entry stands behind all that was seen, and nothing else was added
+pub record IsAdded (entry : Entry) (old new : Known) : Type 0 where
+  pub number : new.number ≡ old.number
+  pub seen : new.seen ≡ old.seen ++ entry ∷ []
+  pub mine : new.mine ≡ old.mine ++ entry ∷ []
+  pub looks : old.looks ≤ new.looks
+  pub tries : new.tries ≡ old.tries + 1
+
+-- others were faster: more is seen, and nothing was added
+pub record IsOvertaken (count : ℕ) (old new : Known) : Type 0 where
+  pub number : new.number ≡ old.number
+  pub seen : Begins old.seen new.seen
+  pub longer : length old.seen < length new.seen
+  pub front : length new.seen ≡ count
+  pub mine : new.mine ≡ old.mine
+  pub looks : old.looks ≤ new.looks
+  pub tries : new.tries ≡ old.tries + 1
+
+-- another has the turn: the lists stay
+pub record IsBusy (old new : Known) : Type 0 where
+  pub number : new.number ≡ old.number
+  pub seen : new.seen ≡ old.seen
+  pub mine : new.mine ≡ old.mine
+  pub looks : old.looks ≤ new.looks
+  pub tries : new.tries ≡ old.tries + 1
+
+-- an add in a log of a capacity, with a turn or without; at Full nothing changes
+abbrev pub Adds : Bool → ℕ → Entry → Result (Unit {0}) AddFault → Known → Known → Type 0
+Adds turns capacity entry (Ok _) old new = IsAdded entry old new
+Adds turns capacity entry (Err (Overtaken front)) old new = IsOvertaken front old new
+Adds turns capacity entry (Err Full) old new = (length old.seen ≡ capacity) × (new ≡ old)
+Adds turns capacity entry (Err Busy) old new = IsTrue turns × IsBusy old new
+
+-- the first of two that meet
+pub record MeetsFirst (old new : Known) : Type 0 where
+  pub number : new.number ≡ old.number
+  pub seen : new.seen ≡ old.seen
+  pub mine : new.mine ≡ old.mine
+  pub looks : old.looks ≤ new.looks
+  pub tries : new.tries ≡ old.tries
+
+-- the second of two that meet: it has seen all that the first has, and the entries of the first's number there are the first's own
+pub record MeetsSecond (other old new : Known) : Type 0 where
+  pub number : new.number ≡ old.number
+  pub seen : Begins old.seen new.seen
+  pub whole : Begins other.seen new.seen
+  pub of_other : entries_of other.number new.seen ≡ other.mine
+  pub stays : length other.seen ≤ length old.seen → new.seen ≡ old.seen
+  pub mine : new.mine ≡ old.mine
+  pub looks : old.looks ≤ new.looks
+  pub tries : new.tries ≡ old.tries

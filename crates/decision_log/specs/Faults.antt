@@ -1,0 +1,20 @@
+-- The numbers of the faults.
+--     number_of_open_fault      why a log wasn't opened
+--     number_of_add_fault       why an entry wasn't added
+use Rattle.std.specs.Prelude.{ℕ}
+use Rattle.decision_log.specs.declared.fault.OpenFault.{OpenFault}
+use Rattle.decision_log.specs.declared.fault.OpenFault.TheVariants.{CapacityOutOfRange, SessionsOutOfRange, NoMemory}
+use Rattle.decision_log.specs.declared.fault.AddFault.{AddFault}
+use Rattle.decision_log.specs.declared.fault.AddFault.TheVariants.{Overtaken, Full, Busy}
+
+-- in the order of test
+abbrev pub number_of_open_fault : OpenFault → ℕ
+number_of_open_fault CapacityOutOfRange = 1
+number_of_open_fault SessionsOutOfRange = 2
+number_of_open_fault NoMemory = 3
+
+-- lost, full, or another's turn
+abbrev pub number_of_add_fault : AddFault → ℕ
+number_of_add_fault (Overtaken front) = 1
+number_of_add_fault Full = 2
+number_of_add_fault Busy = 3

@@ -1,0 +1,11 @@
+pub mod History
+pub mod Machine
+pub mod Faults
+pub mod Known
+pub mod Calls
+pub mod Seats
+pub mod TurnRule
+pub mod TurnPlays
+pub mod TurnSeat
+pub mod TurnPass
+pub mod Opens

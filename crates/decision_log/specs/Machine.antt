@@ -1,0 +1,58 @@
+-- The log as a machine: one history, which grows at its end, and what each session knows of it.
+--     Seen            what one session knows: a prefix of the history, and its own entries
+--     Machine         a history, a capacity, and what each session knows
+--     Event           a session looks, or it adds an entry
+--     Happens         one event, from one machine to the next
+--     Runs            any list of events
+--     opening         the machine at the start
+use Rattle.std.specs.Prelude.{◌≡◌, ◌≢◌, ◌<◌, ℕ, List, [], ◌∷◌, ◌++◌, length}
+use Rattle.xa_words.specs.Entry.{Entry}
+
+-- a prefix of the history, and the history's entries of one's own number
+pub record Seen : Type 0 where
+  pub seen : List Entry
+  pub mine : List Entry
+
+-- the history, how many entries it may have, and what the session of each number knows
+pub record Machine : Type 0 where
+  pub history : List Entry
+  pub capacity : ℕ
+  pub knows : ℕ → Seen
+
+-- what a session can do
+pub data Event : Type 0 where
+  Look : ℕ → Event
+  Add : ℕ → Entry → Event
+
+-- the session learns the whole history, and nothing else changes
+pub record Looks (session : ℕ) (old new : Machine) : Type 0 where
+  pub history : new.history ≡ old.history
+  pub capacity : new.capacity ≡ old.capacity
+  pub seen : (new.knows session).seen ≡ old.history
+  pub mine : (new.knows session).mine ≡ (old.knows session).mine
+  pub others : (other : ℕ) → other ≢ session → new.knows other ≡ old.knows other
+
+-- the session, which has seen the whole history, puts an entry of its own at the end of a history that isn't full
+pub record Appends (session : ℕ) (entry : Entry) (old new : Machine) : Type 0 where
+  pub own : entry.session ≡ session
+  pub whole : (old.knows session).seen ≡ old.history
+  pub room : length old.history < old.capacity
+  pub history : new.history ≡ old.history ++ entry ∷ []
+  pub capacity : new.capacity ≡ old.capacity
+  pub seen : (new.knows session).seen ≡ (old.knows session).seen ++ entry ∷ []
+  pub mine : (new.knows session).mine ≡ (old.knows session).mine ++ entry ∷ []
+  pub others : (other : ℕ) → other ≢ session → new.knows other ≡ old.knows other
+
+-- one event
+abbrev pub Happens : Event → Machine → Machine → Type 0
+Happens (Look session) old new = Looks session old new
+Happens (Add session entry) old new = Appends session entry old new
+
+-- events one after another
+abbrev pub Runs : List Event → Machine → Machine → Type 0
+Runs [] old new = new ≡ old
+Runs (event ∷ events) old new = (next : Machine) × Happens event old next × Runs events next new
+
+-- nothing has happened
+abbrev pub opening : ℕ → Machine
+opening capacity = record { history = []; capacity = capacity; knows = λ session. record { seen = []; mine = [] } }

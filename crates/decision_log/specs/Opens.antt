@@ -1,0 +1,33 @@
+-- What opening a log gives, and why it is refused.
+--     CanOpen         both sizes are in range
+--     Opens           the passes that a log begins with
+--     Refuses         the only cause of each fault
+use Rattle.std.specs.Prelude.{◌≡◌, ◌≤◌, ◌+◌, ℕ, List, length, slice_get, Some, All}
+use Rattle.decision_log.specs.declared.known.Known.{Known}
+use Rattle.decision_log.specs.declared.fault.OpenFault.{OpenFault}
+use Rattle.decision_log.specs.declared.fault.OpenFault.TheVariants.{CapacityOutOfRange, SessionsOutOfRange, NoMemory}
+use Rattle.decision_log.specs.Known.{Place, newcomer}
+
+-- from 1 to 1024 entries (own rule)
+abbrev pub IsCapacity : ℕ → Type 0
+IsCapacity capacity = (1 ≤ capacity) × (capacity ≤ 1024)
+
+-- from 1 to 16 sessions (own rule)
+abbrev pub IsCount : ℕ → Type 0
+IsCount sessions = (1 ≤ sessions) × (sessions ≤ 16)
+
+-- the passes of sessions 1 to the last, in order, each of this log and with nothing seen
+pub record Opens {Pass : Type 0} (home : Pass → Place) (known : Pass → Known) (capacity sessions : ℕ) (place : Place) (passes : List Pass) : Type 0 where
+  pub capacity_is : place.capacity ≡ capacity
+  pub sessions_is : place.sessions ≡ sessions
+  pub capacity_fits : IsCapacity capacity
+  pub sessions_fit : IsCount sessions
+  pub count : length passes ≡ sessions
+  pub homes : All (λ pass. home pass ≡ place) passes
+  pub numbers : (index : ℕ) (pass : Pass) → slice_get passes index ≡ Some pass → known pass ≡ newcomer (index + 1)
+
+-- in the order of test
+abbrev pub Refuses : ℕ → ℕ → OpenFault → Type 0
+Refuses capacity sessions CapacityOutOfRange = IsCapacity capacity → ⊥
+Refuses capacity sessions SessionsOutOfRange = IsCapacity capacity × (IsCount sessions → ⊥)
+Refuses capacity sessions NoMemory = IsCapacity capacity × IsCount sessions

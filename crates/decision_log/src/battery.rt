@@ -1,0 +1,211 @@
+//! What every log has to show when it runs: one set of scenes, generic over the log.
+//!
+//! Each scene answers whether the log did what was asked of it. Contracts say what an answer means; a scene shows that
+//! the answers are given, so that a log that always answers `Busy` fails here.
+//!
+//! Own rule: docs/LOG.md, 'What a log promises'.
+ghost use Rattle.std.specs.Prelude.{◌≡◌, IfSome};
+
+use crate::{AddFault, DecisionLog};
+use std::thread::{Threads, join};
+use xa_words::Entry;
+use xa_xid::{Bytes, Key, SessionNo, Statement, Xid};
+
+/// How often an add is tried before a scene gives up.
+const TRIES: u64 = 100_000_000;
+
+/// How many entries each thread adds.
+const EACH: u64 = 8;
+
+fn name(letter: u8) -> Bytes {
+    let mut text = Bytes::new();
+    text.push(letter);
+    text
+}
+
+fn xid(letter: u8) -> Xid {
+    Xid {
+        format_id: 1,
+        gtrid: name(letter),
+        bqual: Bytes::new(),
+    }
+}
+
+fn start(session: SessionNo, letter: u8) -> Option<Entry>
+    ensures { IfSome result (λ entry. entry.session ≡ session) }
+{
+    Entry::of(session, &Statement::Start(xid(letter)))
+}
+
+fn end(session: SessionNo, letter: u8) -> Option<Entry>
+    ensures { IfSome result (λ entry. entry.session ≡ session) }
+{
+    Entry::of(session, &Statement::End(xid(letter)))
+}
+
+fn delete(session: SessionNo, letter: u8) -> Option<Entry>
+    ensures { IfSome result (λ entry. entry.session ≡ session) }
+{
+    Entry::of(session, &Statement::Del(Key::of(name(letter))?))
+}
+
+/// Two passes of a log of capacity 2 on one thread: an add, one that is overtaken and then stands, and one that finds the log full.
+///
+/// Takes no memory. Doesn't wait.
+pub fn adds_in_turn<L: DecisionLog>(log: &L, first: &mut L::Pass, second: &mut L::Pass) -> bool
+    requires first { L.home first.old ≡ L.place log.now }
+    requires second { L.home second.old ≡ L.place log.now }
+    ensures first { L.home first.new ≡ L.home first.old }
+    ensures second { L.home second.new ≡ L.home second.old }
+{
+    let Some(start_a) = start(log.number(first), b'a') else {
+        return false;
+    };
+    let Some(start_b) = start(log.number(second), b'b') else {
+        return false;
+    };
+    let Some(end_a) = end(log.number(first), b'a') else {
+        return false;
+    };
+    if log.look(first) != 0 {
+        return false;
+    }
+    if log.try_add(first, &start_a) != Ok(()) {
+        return false;
+    }
+    if log.try_add(second, &start_b) != Err(AddFault::Overtaken { front: 1 }) {
+        return false;
+    }
+    if log.try_add(second, &start_b) != Ok(()) {
+        return false;
+    }
+    if log.look(first) != 2 {
+        return false;
+    }
+    if log.entry(first, 1) != start_b {
+        return false;
+    }
+    log.try_add(first, &end_a) == Err(AddFault::Full)
+}
+
+/// Two passes of a log with room for three entries: the second sees what the first added, and adds behind what it saw later.
+///
+/// Takes no memory. Doesn't wait.
+pub fn looks_and_meets<L: DecisionLog>(log: &L, first: &mut L::Pass, second: &mut L::Pass) -> bool
+    requires first { L.home first.old ≡ L.place log.now }
+    requires second { L.home second.old ≡ L.place log.now }
+    ensures first { L.home first.new ≡ L.home first.old }
+    ensures second { L.home second.new ≡ L.home second.old }
+{
+    let Some(start_a) = start(log.number(first), b'a') else {
+        return false;
+    };
+    let Some(end_a) = end(log.number(first), b'a') else {
+        return false;
+    };
+    let Some(delete_k) = delete(log.number(second), b'k') else {
+        return false;
+    };
+    if log.try_add(first, &start_a) != Ok(()) || log.look(second) != 1 {
+        return false;
+    }
+    if log.try_add(first, &end_a) != Ok(()) {
+        return false;
+    }
+    log.meet(first, second);
+    if log.length(second) != 2 || log.length(first) != 2 {
+        return false;
+    }
+    if log.entry(second, 0) != start_a || log.entry(second, 1) != end_a {
+        return false;
+    }
+    if log.try_add(second, &delete_k) != Ok(()) {
+        return false;
+    }
+    log.meet(first, second);
+    log.length(first) == 2 && log.length(second) == 3 && log.look(first) == 3
+}
+
+/// Adds an entry, trying again where others were faster or have the turn.
+fn add<L: DecisionLog>(log: &L, pass: &mut L::Pass, entry: &Entry) -> bool
+    requires home { L.home pass.old ≡ L.place log.now }
+    requires own { entry.now.session ≡ (L.known pass.old).number }
+    ensures home { L.home pass.new ≡ L.home pass.old }
+    ensures number { (L.known pass.new).number ≡ (L.known pass.old).number }
+{
+    for _ in 0..TRIES {
+        match log.try_add(pass, entry) {
+            Ok(()) => return true,
+            Err(AddFault::Full) => return false,
+            Err(_) => {}
+        }
+    }
+    false
+}
+
+/// Adds `EACH` entries, each of its own step.
+fn add_each<L: DecisionLog>(log: &L, mut pass: L::Pass) -> (L::Pass, bool)
+    requires { L.home pass ≡ L.place log.now }
+    ensures { L.home result.0 ≡ L.place log.now }
+{
+    let session = log.number(&pass);
+    for step in 0..EACH {
+        let Some(entry) = delete(session, step as u8) else {
+            return (pass, false);
+        };
+        if !add(log, &mut pass, &entry) {
+            return (pass, false);
+        }
+    }
+    (pass, true)
+}
+
+/// Whether the entries of a session that the pass has seen are those that `add_each` adds, in their order.
+fn has_each<L: DecisionLog>(log: &L, pass: &mut L::Pass, session: SessionNo) -> bool
+    requires { L.home pass.old ≡ L.place log.now }
+    ensures { L.home pass.new ≡ L.home pass.old }
+{
+    let mut step = 0_u64;
+    for at in 0..log.length(pass) {
+        let entry = log.entry(pass, at);
+        if entry.session() == session {
+            let Some(wanted) = delete(session, u64::min(step, 255) as u8) else {
+                return false;
+            };
+            if entry != wanted {
+                return false;
+            }
+            step = u64::wrapping_add(step, 1);
+        }
+    }
+    step == EACH
+}
+
+/// Two threads add `EACH` entries each to a log with room for them; then the passes meet, and the second has seen each one's in its order.
+///
+/// Takes no memory of its own. Waits for its threads.
+pub fn two_threads_add<L: DecisionLog + Sync, R: Threads + Sync>(
+    rt: &R,
+    log: &L,
+    first: L::Pass,
+    second: L::Pass,
+) -> bool
+where
+    L::Pass: Send + Drop,
+    requires first { L.home first ≡ L.place log.now }
+    requires second { L.home second ≡ L.place log.now }
+{
+    let ((mut first, first_added), (mut second, second_added)) = join(
+        rt,
+        move || add_each(log, first),
+        move || add_each(log, second),
+    );
+    log.meet(&mut first, &mut second);
+    let one = log.number(&first);
+    let two = log.number(&second);
+    first_added
+        && second_added
+        && log.length(&second) == 2 * EACH
+        && has_each(log, &mut second, one)
+        && has_each(log, &mut second, two)
+}

@@ -1,0 +1,58 @@
+//! Why a log wasn't opened, and why an entry wasn't added.
+ghost use Rattle.std.specs.Prelude.{◌≡◌};
+ghost use Rattle.decision_log.specs.Faults.{number_of_open_fault, number_of_add_fault};
+
+/// Why a log wasn't opened.
+#[derive(Clone, Copy, Debug, PartialEq, Eq)]
+pub enum OpenFault {
+    /// The capacity isn't in `[1, 1024]`.
+    CapacityOutOfRange,
+    /// The number of sessions isn't in `[1, 16]`.
+    SessionsOutOfRange,
+    /// There was no memory.
+    NoMemory,
+}
+
+impl OpenFault {
+    /// The fault's number, in `[1, 3]`, in the order of test.
+    ///
+    /// Takes no memory. Doesn't wait.
+    pub fn number(&self) -> u64
+        ensures { result ≡ number_of_open_fault self.now }
+    {
+        match self {
+            OpenFault::CapacityOutOfRange => 1,
+            OpenFault::SessionsOutOfRange => 2,
+            OpenFault::NoMemory => 3,
+        }
+    }
+}
+
+/// Why an entry wasn't added. Nothing of it stands in the history.
+#[derive(Clone, Copy, Debug, PartialEq, Eq)]
+pub enum AddFault {
+    /// The history had more entries than the pass had seen. It has now seen `front` of them.
+    Overtaken {
+        /// How many entries the pass has seen now.
+        front: u64,
+    },
+    /// The history has as many entries as the log can have.
+    Full,
+    /// Another pass has the turn.
+    Busy,
+}
+
+impl AddFault {
+    /// The fault's number, in `[1, 3]`.
+    ///
+    /// Takes no memory. Doesn't wait.
+    pub fn number(&self) -> u64
+        ensures { result ≡ number_of_add_fault self.now }
+    {
+        match self {
+            AddFault::Overtaken { .. } => 1,
+            AddFault::Full => 2,
+            AddFault::Busy => 3,
+        }
+    }
+}

@@ -1,0 +1,22 @@
+//! The shared history of entries: what a log promises to a session, and a log with a turn.
+#![tactic(auto)]
+
+pub mod battery;
+mod fault;
+mod known;
+pub mod laws;
+mod log;
+mod seating;
+mod sizes;
+#[cfg(test)]
+mod tests;
+mod turn_log;
+mod view;
+
+pub use fault::{AddFault, OpenFault};
+pub use known::Known;
+pub use log::DecisionLog;
+pub use seating::Seating;
+pub use sizes::{MOST_ENTRIES, Sizes};
+pub use turn_log::{TurnLog, TurnPass};
+pub use view::{Hand, Turn, View};

@@ -1,0 +1,34 @@
+//! A log with a turn: who adds takes the turn first.
+ghost use Rattle.std.specs.Prelude.{◌≡◌, ◌≤◌};
+ghost use Rattle.decision_log.specs.TurnRule.{row_at};
+
+mod calls;
+mod layout;
+mod open;
+mod pass;
+mod plays;
+mod rows;
+mod rule;
+mod seats;
+mod steps;
+
+use crate::{Sizes, View};
+use atomic_table::Table;
+pub use pass::TurnPass;
+pub use rule::Turns;
+use std::alloc::Global;
+use xa_words::Entry;
+
+/// A log with a turn. Who adds takes the turn, looks, writes its entry's words, counts it and gives the turn back.
+///
+/// A pass that stops while it has the turn leaves the others `Busy`.
+#[derive(Drop)]
+pub struct TurnLog {
+    table: Table<Entry, View, Sizes, Turns, Global>,
+    sessions: u64,
+    capacity: u64,
+    ghost wide: { table.shared.table_id.words ≡ row_at capacity },
+    ghost sizes: { table.shared.key ≡ record { sessions = sessions; capacity = capacity } },
+    ghost low: { (1 ≤ sessions) × (1 ≤ capacity) },
+    ghost high: { (sessions ≤ 16) × (capacity ≤ 1024) },
+}

@@ -1,0 +1,81 @@
+//! A log with a turn keeps the promises of a log.
+
+use super::{TurnLog, TurnPass};
+use crate::{AddFault, DecisionLog};
+use xa_words::Entry;
+use xa_xid::SessionNo;
+
+impl DecisionLog for TurnLog {
+    ghost use Rattle.std.specs.Prelude.{true};
+    ghost use Rattle.decision_log.specs.TurnPass.{place_of, home_of, known_of};
+
+    type Pass = TurnPass;
+
+    const TURNS: bool = true;
+
+    ghost TURNS = { true };
+
+    ghost place = { place_of };
+
+    ghost home = { home_of };
+
+    ghost known = { known_of };
+
+    fn number(&self, pass: &TurnPass) -> SessionNo {
+        pass.number
+    }
+
+    fn length(&self, pass: &TurnPass) -> u64 {
+        pass.front
+    }
+
+    fn look(&self, pass: &mut TurnPass) -> u64 {
+        let front = self.load_count(&mut pass.seat);
+        pass.front = front;
+        front
+    }
+
+    fn entry(&self, pass: &mut TurnPass, at: u64) -> Entry {
+        self.read_entry(&mut pass.seat, at)
+    }
+
+    fn try_add(&self, pass: &mut TurnPass, entry: &Entry) -> Result<(), AddFault> {
+        if pass.front == self.capacity {
+            return Err(AddFault::Full);
+        }
+        let had = self.take_turn(&mut pass.seat, pass.number.get());
+        if had != 0 {
+            return Err(AddFault::Busy);
+        }
+        let front = self.load_count(&mut pass.seat);
+        if front != pass.front {
+            self.give_turn(&mut pass.seat);
+            pass.front = front;
+            return Err(AddFault::Overtaken { front });
+        }
+        self.write_entry(&mut pass.seat, front, entry);
+        self.store_count(&mut pass.seat, entry, front + 1);
+        self.give_turn(&mut pass.seat);
+        pass.front = front + 1;
+        Ok(())
+    }
+
+    fn meet(&self, first: &mut TurnPass, second: &mut TurnPass) {
+        let spare = self.spare(&mut first.seat);
+        let other = std::mem::replace(&mut second.seat, spare);
+        self.join(&mut first.seat, other);
+        let count = self.load_both(&mut first.seat);
+        second.seat = self.split(&mut first.seat);
+        if second.front < first.front {
+            second.front = count;
+        }
+    }
+
+    ghost own_part = { λ pass. pass.state.part };
+
+    ghost among = { λ pass. pass.state.among };
+
+    ghost numbered = { λ pass. (pass.state.first, pass.state.last) };
+
+    ghost within = { λ pass. pass.state.within };
+}

@@ -1,0 +1,18 @@
+//! The rule of the log.
+
+use crate::{Sizes, View};
+use atomic_table::TableRule;
+use xa_words::Entry;
+
+/// The rule of a log with a turn. It holds between any two steps.
+pub struct Turns;
+
+impl TableRule<Entry, View, Sizes> for Turns {
+    ghost use Rattle.decision_log.specs.Seats.{newcomer_hand};
+    ghost use Rattle.decision_log.specs.TurnRule.{TurnRule};
+    ghost use Rattle.decision_log.specs.declared.view.View.TheVariants.{Rest};
+
+    ghost holds = { λ sizes state. TurnRule sizes state.words state.views };
+
+    ghost first = { λ sizes. Rest (newcomer_hand sizes.sessions sizes.capacity 1) };
+}

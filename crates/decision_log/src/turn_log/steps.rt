@@ -1,0 +1,89 @@
+//! The steps of a log with a turn, one function each.
+ghost use Rattle.std.specs.Prelude.{◌≡◌, ◌≢◌, ◌<◌, ◌≤◌, ◌+◌, ℕ, List, length, slice_get, slice_index, Some};
+ghost use Rattle.xa_words.specs.Entry.{Entry, IsEntry};
+ghost use Rattle.xa_words.specs.Words.{words_of};
+ghost use Rattle.decision_log.specs.Seats.{hand_of};
+ghost use Rattle.decision_log.specs.TurnRule.{row_at};
+ghost use Rattle.decision_log.specs.TurnPlays.{looked, tried, drafted, published, released, HistoryIs};
+ghost use Rattle.decision_log.specs.TurnSeat.{IsSeat, hand};
+ghost use Rattle.decision_log.specs.declared.view.Turn.TheVariants.{Without, Won, Fresh};
+
+use super::TurnLog;
+use super::layout::{COUNT, TURN};
+use super::plays::{DraftWord, Publish, ReadWord, Release, SeeAll, TakeTurn};
+use crate::View;
+use atomic_table::Seat;
+use xa_words::Entry;
+
+impl TurnLog {
+    /// Loads the count: the pass has then seen the whole history.
+    pub(super) fn load_count(&self, seat: &mut Seat<Entry, View>) -> u64
+        requires { IsSeat self.now seat.old }
+        ensures seat { IsSeat self.now seat.new }
+        ensures seen { (seen : List Entry) × (hand seat.new ≡ looked (hand seat.old) seen) × (result ≡ length seen) × HistoryIs (hand seat.old) seen }
+    {
+        self.table.shared.load::<SeeAll>(seat, COUNT)
+    }
+
+    /// Loads a word of the row of an entry that was seen.
+    pub(super) fn load_word(&self, seat: &mut Seat<Entry, View>, word: usize) -> u64
+        requires seat { IsSeat self.now seat.old }
+        requires word { word < row_at self.now.capacity }
+        ensures seat { IsSeat self.now seat.new }
+        ensures same { hand seat.new ≡ hand seat.old }
+        ensures read { (place index : ℕ) (entry : Entry) → word ≡ row_at place + index → index < 21 → slice_get (hand seat.old).known.seen place ≡ Some entry → IsEntry entry × (result ≡ slice_index (words_of entry) index) }
+    {
+        self.table.shared.load::<ReadWord>(seat, word)
+    }
+
+    /// Tries to take the turn; the answer is who had it, or 0.
+    pub(super) fn take_turn(&self, seat: &mut Seat<Entry, View>, number: u64) -> u64
+        requires seat { IsSeat self.now seat.old }
+        requires number { number ≡ (hand seat.old).known.number }
+        ensures seat { IsSeat self.now seat.new }
+        ensures won { result ≡ 0 → hand seat.new ≡ tried (hand seat.old) Won }
+        ensures lost { result ≢ 0 → hand seat.new ≡ tried (hand seat.old) Without }
+    {
+        self.table
+            .shared
+            .compare_exchange::<TakeTurn>(seat, TURN, 0, number)
+    }
+
+    /// Stores a word of an entry into the row at the count.
+    pub(super) fn store_word(&self, seat: &mut Seat<Entry, View>, word: usize, new: u64)
+        requires seat { IsSeat self.now seat.old }
+        requires fresh { (hand seat.old).turn ≡ Fresh }
+        requires room { length (hand seat.old).known.seen < (hand seat.old).capacity }
+        requires sized { (hand seat.old).capacity ≡ self.now.capacity }
+        requires place { (index : ℕ) × (word ≡ row_at (length (hand seat.old).known.seen) + index) × (index ≤ length (hand seat.old).draft) × (index < 21) }
+        ensures seat { IsSeat self.now seat.new }
+        ensures stored { (index : ℕ) → word ≡ row_at (length (hand seat.old).known.seen) + index → hand seat.new ≡ drafted (hand seat.old) index new }
+    {
+        self.table.shared.store::<DraftWord>(seat, word, new)
+    }
+
+    /// Stores the count: the entry is added.
+    pub(super) fn store_count(&self, seat: &mut Seat<Entry, View>, entry: &Entry, new: u64)
+        requires seat { IsSeat self.now seat.old }
+        requires fresh { (hand seat.old).turn ≡ Fresh }
+        requires room { length (hand seat.old).known.seen < (hand seat.old).capacity }
+        requires next { new ≡ length (hand seat.old).known.seen + 1 }
+        requires own { entry.now.session ≡ (hand seat.old).known.number }
+        requires whole { (hand seat.old).draft ≡ words_of entry.now }
+        ensures seat { IsSeat self.now seat.new }
+        ensures added { hand seat.new ≡ published (hand seat.old) entry.now }
+    {
+        let _session = entry.session();
+        self.table.shared.store::<Publish>(seat, COUNT, new)
+    }
+
+    /// Stores 0 to the turn.
+    pub(super) fn give_turn(&self, seat: &mut Seat<Entry, View>)
+        requires seat { IsSeat self.now seat.old }
+        requires fresh { (hand seat.old).turn ≡ Fresh }
+        ensures seat { IsSeat self.now seat.new }
+        ensures released { hand seat.new ≡ released (hand seat.old) }
+    {
+        self.table.shared.store::<Release>(seat, TURN, 0)
+    }
+}

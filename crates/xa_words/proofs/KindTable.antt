@@ -1,0 +1,69 @@
+-- A statement and its parts: the parts give the statement back.
+use Rattle.std.proofs.Common.{◌≡◌, ◌<◌, ◌≤◌, ◌^◌, true, false, cond, nat_eq, IsTrue, [], refl, ap, sym, ◌∙◌, arith, lit<, lit≤}
+use Rattle.xa_xid.specs.declared.xid.Xid.{Xid}
+use Rattle.xa_xid.specs.declared.statement.Statement.{Statement}
+use Rattle.xa_xid.specs.declared.statement.Statement.TheVariants.{Start, End, Prepare, Commit, Rollback, Recover, Unsupported, Get, Put, Del, Disconnect}
+use Rattle.xa_words.specs.Entry.{IsText, may_enter, KeepsLimits}
+use Rattle.xa_words.specs.Words.{Parts, parts_of, RowParts}
+
+xid_of : Parts → Xid
+xid_of p = record { format_id = p.format_id; gtrid = record { items = p.first }; bqual = record { items = p.second } }
+
+-- the statement of some parts
+statement_of : Parts → Statement
+statement_of p =
+    cond (nat_eq p.kind 1) (Start (xid_of p))
+    (cond (nat_eq p.kind 2) (End (xid_of p))
+    (cond (nat_eq p.kind 3) (Prepare (xid_of p))
+    (cond (nat_eq p.kind 4) (Commit (xid_of p) false)
+    (cond (nat_eq p.kind 5) (Commit (xid_of p) true)
+    (cond (nat_eq p.kind 6) (Rollback (xid_of p))
+    (cond (nat_eq p.kind 7) (Get p.first)
+    (cond (nat_eq p.kind 8) (Put p.first (record { items = p.second }))
+    (cond (nat_eq p.kind 9) (Del p.first) Disconnect))))))))
+
+again : (st : Statement) → IsTrue (may_enter st) → statement_of (parts_of st) ≡ st
+unfolding statement_of xid_of
+again (Start xid) may = refl
+again (End xid) may = refl
+again (Prepare xid) may = refl
+again (Commit xid false) may = refl
+again (Commit xid true) may = refl
+again (Rollback xid) may = refl
+again (Recover convert) may = cc
+again Unsupported may = cc
+again (Get key) may = refl
+again (Put key value) may = refl
+again (Del key) may = refl
+again Disconnect may = refl
+
+-- statements of the same parts are one
+pub one_statement : (left right : Statement) → IsTrue (may_enter left) → IsTrue (may_enter right) → parts_of left ≡ parts_of right → left ≡ right
+one_statement left right l r same = sym (again left l) ∙ ap statement_of same ∙ again right r
+
+empty : IsText []
+empty = record { fits = lit≤ tt; bytes = λ i. lit< tt }
+
+-- what the limits of a statement say of its parts
+pub record Within (p : Parts) : Type 0 where
+  pub low : 0 < p.kind
+  pub high : p.kind ≤ 10
+  pub format_id : p.format_id < 2 ^ 64
+  pub first : IsText p.first
+  pub second : IsText p.second
+  pub none : 6 < p.kind → p.format_id ≡ 0
+  pub row : 6 < p.kind → RowParts p
+
+pub within : (st : Statement) → IsTrue (may_enter st) → KeepsLimits st → Within (parts_of st)
+within (Start xid) may k = record { low = omega arith; high = omega arith; format_id = k.format_id; first = k.gtrid; second = k.bqual; none = λ h. absurd (omega arith); row = λ h. absurd (omega arith) }
+within (End xid) may k = record { low = omega arith; high = omega arith; format_id = k.format_id; first = k.gtrid; second = k.bqual; none = λ h. absurd (omega arith); row = λ h. absurd (omega arith) }
+within (Prepare xid) may k = record { low = omega arith; high = omega arith; format_id = k.format_id; first = k.gtrid; second = k.bqual; none = λ h. absurd (omega arith); row = λ h. absurd (omega arith) }
+within (Commit xid false) may k = record { low = omega arith; high = omega arith; format_id = k.format_id; first = k.gtrid; second = k.bqual; none = λ h. absurd (omega arith); row = λ h. absurd (omega arith) }
+within (Commit xid true) may k = record { low = omega arith; high = omega arith; format_id = k.format_id; first = k.gtrid; second = k.bqual; none = λ h. absurd (omega arith); row = λ h. absurd (omega arith) }
+within (Rollback xid) may k = record { low = omega arith; high = omega arith; format_id = k.format_id; first = k.gtrid; second = k.bqual; none = λ h. absurd (omega arith); row = λ h. absurd (omega arith) }
+within (Recover convert) may k = cc
+within Unsupported may k = cc
+within (Get key) may k = record { low = omega arith; high = omega arith; format_id = omega arith; first = k.text; second = empty; none = λ h. refl; row = λ h. record { low = omega arith; high = omega arith; key = λ b. k.not_empty; no_key = λ e. absurd (omega arith); no_value = λ n. refl } }
+within (Put key value) may k = record { low = omega arith; high = omega arith; format_id = omega arith; first = k.0.text; second = k.1; none = λ h. refl; row = λ h. record { low = omega arith; high = omega arith; key = λ b. k.0.not_empty; no_key = λ e. absurd (omega arith); no_value = λ n. absurd (n refl) } }
+within (Del key) may k = record { low = omega arith; high = omega arith; format_id = omega arith; first = k.text; second = empty; none = λ h. refl; row = λ h. record { low = omega arith; high = omega arith; key = λ b. k.not_empty; no_key = λ e. absurd (omega arith); no_value = λ n. refl } }
+within Disconnect may k = record { low = omega arith; high = omega arith; format_id = omega arith; first = empty; second = empty; none = λ h. refl; row = λ h. record { low = omega arith; high = omega arith; key = λ b. absurd (omega arith); no_key = λ e. refl; no_value = λ n. refl } }

@@ -1,0 +1,90 @@
+-- A text and its eight words: each gives the other back.
+use Rattle.std.proofs.Common.{◌≡◌, ℕ, zero, suc, ◌+◌, ◌*◌, ◌/◌, ◌%◌, ◌^◌, ◌<◌, List, length, get_or, refl, ap, sym, ◌∙◌, arith, lit<}
+use Rattle.std.specs.Int.{w64, from_be_bytes, to_be_bytes}
+use Rattle.std.proofs.lemmas.List.{ext_get_or}
+use Rattle.std.proofs.lemmas.Nat.{from_be_bytes-to_be_bytes_8, be_bytes_8}
+use Rattle.xa_words.specs.Entry.{IsText}
+use Rattle.xa_words.specs.Words.{eight_bytes, text_word, text_words, byte_of}
+
+-- what holds of the first eight numbers
+below_eight : (P : ℕ → Type 0) → P 0 → P 1 → P 2 → P 3 → P 4 → P 5 → P 6 → P 7 → (n : ℕ) → n < 8 → P n
+below_eight P a b c d e f g h zero l = a
+below_eight P a b c d e f g h (suc zero) l = b
+below_eight P a b c d e f g h (suc (suc zero)) l = c
+below_eight P a b c d e f g h (suc (suc (suc zero))) l = d
+below_eight P a b c d e f g h (suc (suc (suc (suc zero)))) l = e
+below_eight P a b c d e f g h (suc (suc (suc (suc (suc zero))))) l = f
+below_eight P a b c d e f g h (suc (suc (suc (suc (suc (suc zero)))))) l = g
+below_eight P a b c d e f g h (suc (suc (suc (suc (suc (suc (suc zero))))))) l = h
+below_eight P a b c d e f g h (suc (suc (suc (suc (suc (suc (suc (suc n)))))))) l = absurd (omega arith)
+
+word_at : (text : List ℕ) (index : ℕ) → index < 8 → get_or (text_words text) index 0 ≡ text_word text (8 * index)
+word_at text = below_eight (λ n. get_or (text_words text) n 0 ≡ text_word text (8 * n)) refl refl refl refl refl refl refl refl
+
+byte_at : (text : List ℕ) (place index : ℕ) → index < 8 → get_or (eight_bytes text place) index 0 ≡ get_or text (place + index) 0
+byte_at text place =
+    below_eight (λ n. get_or (eight_bytes text place) n 0 ≡ get_or text (place + n) 0) (ap (λ n. get_or text n 0) (omega arith)) refl refl refl refl refl refl refl
+
+Small : List ℕ → Type 0
+Small text = (i : ℕ) → get_or text i 0 < 256
+
+bytes_small : (text : List ℕ) → ((i : ℕ) → get_or text i 0 < 256) → (place index : ℕ) → get_or (eight_bytes text place) index 0 < 256
+bytes_small text small place zero = small place
+bytes_small text small place (suc zero) = small (place + 1)
+bytes_small text small place (suc (suc zero)) = small (place + 2)
+bytes_small text small place (suc (suc (suc zero))) = small (place + 3)
+bytes_small text small place (suc (suc (suc (suc zero)))) = small (place + 4)
+bytes_small text small place (suc (suc (suc (suc (suc zero))))) = small (place + 5)
+bytes_small text small place (suc (suc (suc (suc (suc (suc zero)))))) = small (place + 6)
+bytes_small text small place (suc (suc (suc (suc (suc (suc (suc zero))))))) = small (place + 7)
+bytes_small text small place (suc (suc (suc (suc (suc (suc (suc (suc n)))))))) = lit< tt
+
+word_bytes : (text : List ℕ) → ((i : ℕ) → get_or text i 0 < 256) → (place : ℕ) → to_be_bytes w64 (text_word text place) ≡ eight_bytes text place
+unfolding text_word
+word_bytes text small place = be_bytes_8 (eight_bytes text place) (from_be_bytes w64 (eight_bytes text place)) refl (bytes_small text small place) refl
+
+-- the words of a text hold its bytes
+pub spread : (text : List ℕ) → IsText text → (place : ℕ) → place < 64 → byte_of (text_words text) place ≡ get_or text place 0
+unfolding byte_of
+spread text is place within =
+    ap (λ n. get_or (to_be_bytes w64 n) (place % 8) 0) (word_at text (place / 8) (omega arith))
+    ∙ ap (λ bs. get_or bs (place % 8) 0) (word_bytes text is.bytes (8 * (place / 8)))
+    ∙ byte_at text (8 * (place / 8)) (place % 8) (omega arith)
+    ∙ ap (λ n. get_or text n 0) (omega arith)
+
+-- texts of one length and the same words are one
+pub one_text : (left right : List ℕ) → IsText left → IsText right → length left ≡ length right → text_words left ≡ text_words right → left ≡ right
+one_text left right l r len same =
+    ext_get_or 0 left right len
+    (λ i below. sym (spread left l i (omega (arith, l.fits))) ∙ ap (λ ws. byte_of ws i) same ∙ spread right r i (omega (arith, l.fits)))
+
+-- eight numbers of 64 bits whose bytes are those of a text are its words
+pub gathered : (words text : List ℕ) → length words ≡ 8 → ((i : ℕ) → get_or words i 0 < 2 ^ 64) → ((place : ℕ) → place < 64 → byte_of words place ≡ get_or text place 0) → text_words text ≡ words
+unfolding byte_of text_word
+gathered words text len small bytes =
+    ext_get_or 0 (text_words text) words (sym len)
+    (λ index below.
+    let eight : index < 8 = below in
+    let these : eight_bytes text (8 * index) ≡ to_be_bytes w64 (get_or words index 0) =
+    ext_get_or 0 (eight_bytes text (8 * index)) (to_be_bytes w64 (get_or words index 0)) refl
+    (λ j less.
+    let q : (8 * index + j) / 8 ≡ index = omega (arith, less) in
+    let r : (8 * index + j) % 8 ≡ j = omega (arith, less) in
+    byte_at text (8 * index) j less ∙ sym (bytes (8 * index + j) (omega (arith, less)))
+    ∙ ap (λ n. get_or (to_be_bytes w64 (get_or words n 0)) ((8 * index + j) % 8) 0) q
+    ∙ ap (λ n. get_or (to_be_bytes w64 (get_or words index 0)) n 0) r) in
+    word_at text index eight ∙ ap (from_be_bytes w64) these ∙ from_be_bytes-to_be_bytes_8 (get_or words index 0) (small index))
+
+-- a word of a text is of 64 bits
+pub text_word-fits : (text : List ℕ) → IsText text → (place : ℕ) → text_word text place < 2 ^ 64
+unfolding text_word
+text_word-fits text is place =
+    let a = is.bytes place in
+    let b = is.bytes (place + 1) in
+    let c = is.bytes (place + 2) in
+    let d = is.bytes (place + 3) in
+    let e = is.bytes (place + 4) in
+    let f = is.bytes (place + 5) in
+    let g = is.bytes (place + 6) in
+    let h = is.bytes (place + 7) in
+    omega arith

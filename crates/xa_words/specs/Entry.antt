@@ -1,0 +1,60 @@
+-- Which statements of which session make an entry of the history.
+--     Entry           an entry as a contract sees it: a session and a statement
+--     IsText          a text of at most 64 bytes
+--     IsXid           an identifier within its limits
+--     IsKey           a key within its limits
+--     may_enter       whether the history takes statements of this kind
+--     KeepsLimits     the texts and the formatID of a statement are within their limits
+--     IsEntry         the session's number and the statement are those of an entry
+use Rattle.std.specs.Prelude.{ℕ, ◌<◌, ◌≤◌, ◌^◌, Bool, true, false, IsTrue, List, length, slice_index}
+use Rattle.xa_xid.specs.declared.xid.Xid.{Xid}
+use Rattle.xa_xid.specs.declared.statement.Statement.{Statement}
+use Rattle.xa_xid.specs.declared.statement.Statement.TheVariants.{Start, End, Prepare, Commit, Rollback, Recover, Unsupported, Get, Put, Del, Disconnect}
+
+-- a session's number and the statement that it gave
+pub record Entry : Type 0 where
+  pub session : ℕ
+  pub statement : Statement
+
+-- at most 64 bytes (C193 for gtrid and bqual, own rule for values)
+pub record IsText (text : List ℕ) : Type 0 where
+  pub fits : length text ≤ 64
+  pub bytes : (i : ℕ) → slice_index text i < 256
+
+-- the formatID is of 64 bits, gtrid and bqual are texts (manual; the range is our own)
+pub record IsXid (xid : Xid) : Type 0 where
+  pub format_id : xid.format_id < 2 ^ 64
+  pub gtrid : IsText xid.gtrid.items
+  pub bqual : IsText xid.bqual.items
+
+-- a text that isn't empty (own rule)
+pub record IsKey (key : List ℕ) : Type 0 where
+  pub not_empty : 0 < length key
+  pub text : IsText key
+
+-- every kind but XA RECOVER and a statement that isn't supported (own rule)
+abbrev pub may_enter : Statement → Bool
+may_enter (Recover convert) = false
+may_enter Unsupported = false
+may_enter statement = true
+
+-- what a statement carries is within the limits of its type
+abbrev pub KeepsLimits : Statement → Type 0
+KeepsLimits (Start xid) = IsXid xid
+KeepsLimits (End xid) = IsXid xid
+KeepsLimits (Prepare xid) = IsXid xid
+KeepsLimits (Commit xid one_phase) = IsXid xid
+KeepsLimits (Rollback xid) = IsXid xid
+KeepsLimits (Recover convert) = Unit {0}
+KeepsLimits Unsupported = Unit {0}
+KeepsLimits (Get key) = IsKey key
+KeepsLimits (Put key value) = IsKey key × IsText value.items
+KeepsLimits (Del key) = IsKey key
+KeepsLimits Disconnect = Unit {0}
+
+-- a session from 1 to 16, and a statement that may enter (own rule)
+pub record IsEntry (entry : Entry) : Type 0 where
+  pub first_session : 1 ≤ entry.session
+  pub last_session : entry.session ≤ 16
+  pub kind : IsTrue (may_enter entry.statement)
+  pub limits : KeepsLimits entry.statement

@@ -1,0 +1,83 @@
+//! An entry of the history.
+ghost use Rattle.std.specs.Prelude.{◌≡◌, if◌then◌else◌, Some, None};
+ghost use Rattle.xa_words.specs.Entry.{IsEntry, may_enter};
+
+use crate::limits;
+use std::marker::Model;
+use xa_xid::{SessionNo, Statement};
+
+/// An entry of the history: a session and a statement of it that may enter.
+///
+/// A contract sees it as the record of a session's number and a statement.
+///
+/// Own rule: docs/LOG.md, 'An entry'.
+#[derive(Debug, Drop, PartialEq, Eq)]
+pub struct Entry {
+    session: SessionNo,
+    statement: Statement,
+}
+
+impl Model for Entry {
+    ghost use Rattle.xa_words.specs.Entry.{Entry, IsEntry};
+
+    ghost Value = { Entry };
+
+    ghost view = { λ e. record { session = e.session; statement = e.statement } };
+
+    ghost invariant = { λ e. IsEntry (record { session = e.session; statement = e.statement }) };
+
+    ghost inverse = { λ e. record { session = e.session; statement = e.statement } };
+}
+
+impl Entry {
+    /// The entry of a session and a statement, or `None` for `XA RECOVER` and for a statement that isn't supported.
+    ///
+    /// Takes no memory. Doesn't wait.
+    pub fn of(session: SessionNo, statement: &Statement) -> Option<Entry>
+        ensures { result ≡ (if may_enter statement.now then Some (record { session = session; statement = statement.now }) else None) }
+    {
+        match statement {
+            Statement::Recover { .. } | Statement::Unsupported => None,
+            _ => {
+                limits::of_statement(statement);
+                let _number = session.get();
+                Some(Entry {
+                    session,
+                    statement: statement.copy(),
+                })
+            }
+        }
+    }
+
+    /// The session.
+    ///
+    /// Takes no memory. Doesn't wait.
+    pub fn session(&self) -> SessionNo
+        ensures value { result ≡ self.now.session }
+        ensures entry { IsEntry self.now }
+    {
+        self.session
+    }
+
+    /// The statement.
+    ///
+    /// Takes no memory. Doesn't wait.
+    pub fn statement(&self) -> &Statement
+        ensures value { result.now ≡ self.now.statement }
+        ensures entry { IsEntry self.now }
+    {
+        &self.statement
+    }
+
+    /// A copy of the entry.
+    ///
+    /// Takes no memory. Doesn't wait.
+    pub fn copy(&self) -> Entry
+        ensures { result ≡ self.now }
+    {
+        Entry {
+            session: self.session,
+            statement: self.statement.copy(),
+        }
+    }
+}

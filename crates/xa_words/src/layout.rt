@@ -1,0 +1,115 @@
+//! What the words of an entry hold, and where.
+ghost use Rattle.std.specs.Prelude.{◌≡◌, ◌<◌, length, slice_index};
+ghost use Rattle.xa_words.specs.Words.{parts_of, text_word, text_words, byte_of};
+
+use xa_xid::{Key, Statement, Xid};
+
+/// How many words an entry has.
+pub const WORDS: usize = 21;
+
+/// How many bytes a text has at most.
+pub(crate) const MOST_BYTES: u64 = 64;
+
+/// What the words tell of a statement: the number of its kind, its formatID and its two texts.
+pub(crate) struct Parts<'a> {
+    pub(crate) kind: u64,
+    pub(crate) format_id: u64,
+    pub(crate) first: &'a [u8],
+    pub(crate) second: &'a [u8],
+}
+
+impl<'a> Parts<'a> {
+    fn of_xid(kind: u64, xid: &'a Xid) -> Parts<'a>
+        ensures { (result.kind ≡ kind) × (result.format_id ≡ xid.now.format_id) × (result.first.now ≡ xid.now.gtrid.items) × (result.second.now ≡ xid.now.bqual.items) }
+    {
+        Parts {
+            kind,
+            format_id: xid.format_id,
+            first: xid.gtrid.as_slice(),
+            second: xid.bqual.as_slice(),
+        }
+    }
+
+    fn of_texts(kind: u64, key: &'a [u8], value: &'a [u8]) -> Parts<'a>
+        ensures { (result.kind ≡ kind) × (result.format_id ≡ 0) × (result.first.now ≡ key.now) × (result.second.now ≡ value.now) }
+    {
+        Parts {
+            kind,
+            format_id: 0,
+            first: key,
+            second: value,
+        }
+    }
+
+    /// The parts of a statement; the kind is 0 where it can't enter.
+    pub(crate) fn of(statement: &'a Statement) -> Parts<'a>
+        ensures kind { result.kind ≡ (parts_of statement.now).kind }
+        ensures format_id { result.format_id ≡ (parts_of statement.now).format_id }
+        ensures first { result.first.now ≡ (parts_of statement.now).first }
+        ensures second { result.second.now ≡ (parts_of statement.now).second }
+    {
+        match statement {
+            Statement::Start(xid) => Self::of_xid(1, xid),
+            Statement::End(xid) => Self::of_xid(2, xid),
+            Statement::Prepare(xid) => Self::of_xid(3, xid),
+            Statement::Commit { xid, one_phase } => {
+                Self::of_xid(if *one_phase { 5 } else { 4 }, xid)
+            }
+            Statement::Rollback(xid) => Self::of_xid(6, xid),
+            Statement::Get(key) => Self::of_texts(7, key.as_slice(), &[]),
+            Statement::Put(key, value) => Self::of_texts(8, key.as_slice(), value.as_slice()),
+            Statement::Del(key) => Self::of_texts(9, key.as_slice(), &[]),
+            Statement::Disconnect => Self::of_texts(10, &[], &[]),
+            Statement::Recover { .. } | Statement::Unsupported => Self::of_texts(0, &[], &[]),
+        }
+    }
+}
+
+/// The byte at a place of a text, or 0 past its end.
+fn byte_or_zero(text: &[u8], place: usize) -> u8
+    ensures { result ≡ slice_index text.now place }
+{
+    if place < text.len() { text[place] } else { 0 }
+}
+
+/// The eight bytes of a text from a place on, as one number.
+fn text_word(text: &[u8], place: usize) -> u64
+    requires { place < 64 }
+    ensures { result ≡ text_word text.now place }
+{
+    u64::from_be_bytes([
+        byte_or_zero(text, place),
+        byte_or_zero(text, place + 1),
+        byte_or_zero(text, place + 2),
+        byte_or_zero(text, place + 3),
+        byte_or_zero(text, place + 4),
+        byte_or_zero(text, place + 5),
+        byte_or_zero(text, place + 6),
+        byte_or_zero(text, place + 7),
+    ])
+}
+
+/// A text as eight words.
+pub(crate) fn text_words(text: &[u8]) -> [u64; 8]
+    ensures { result ≡ text_words text.now }
+{
+    [
+        text_word(text, 0),
+        text_word(text, 8),
+        text_word(text, 16),
+        text_word(text, 24),
+        text_word(text, 32),
+        text_word(text, 40),
+        text_word(text, 48),
+        text_word(text, 56),
+    ]
+}
+
+/// The byte that eight words hold at a place.
+pub(crate) fn byte_of(words: &[u64], place: usize) -> u8
+    requires length { length words.now ≡ 8 }
+    requires place { place < 64 }
+    ensures { result ≡ byte_of words.now place }
+{
+    words[place / 8].to_be_bytes()[place % 8]
+}

@@ -1,0 +1,51 @@
+//! What the types of a statement's parts say of its limits.
+ghost use Rattle.std.specs.Prelude.{◌≤◌, length};
+ghost use Rattle.xa_words.specs.Entry.{IsText, IsXid, IsKey, KeepsLimits};
+
+use xa_xid::{Bytes, Key, Statement, Xid};
+
+fn of_bytes(bytes: &[u8])
+    requires { length bytes.now ≤ 64 }
+    ensures { IsText bytes.now }
+{}
+
+/// A text is of at most 64 bytes.
+pub(crate) fn of_text(text: &Bytes)
+    ensures { IsText text.now.items }
+{
+    of_bytes(text.as_slice());
+}
+
+fn of_xid(xid: &Xid)
+    ensures { IsXid xid.now }
+{
+    let _format_id = xid.format_id;
+    of_text(&xid.gtrid);
+    of_text(&xid.bqual);
+}
+
+fn of_key(key: &Key)
+    ensures { IsKey key.now }
+{
+    of_bytes(key.as_slice());
+}
+
+/// A statement is within the limits of its types.
+pub(crate) fn of_statement(statement: &Statement)
+    ensures { KeepsLimits statement.now }
+{
+    match statement {
+        Statement::Start(xid) => of_xid(xid),
+        Statement::End(xid) => of_xid(xid),
+        Statement::Prepare(xid) => of_xid(xid),
+        Statement::Commit { xid, .. } => of_xid(xid),
+        Statement::Rollback(xid) => of_xid(xid),
+        Statement::Get(key) => of_key(key),
+        Statement::Put(key, value) => {
+            of_key(key);
+            of_text(value);
+        }
+        Statement::Del(key) => of_key(key),
+        _ => {}
+    }
+}

@@ -1,0 +1,113 @@
+//! Reading an entry.
+ghost use Rattle.std.specs.Prelude.{◌≡◌, ◌<◌, ◌≤◌, ℕ, List, length, Some, IfSome, IfNone, IsTrue};
+ghost use Rattle.xa_words.specs.Entry.{IsText, IsEntry, KeepsLimits, may_enter};
+ghost use Rattle.xa_words.specs.Words.{parts_of, of_xid, of_texts, text_words, words_of, RowParts};
+ghost use Rattle.xa_words.specs.Entry.{Entry};
+ghost use Rattle.xa_xid.specs.declared.statement.Statement.{Statement};
+
+use crate::layout::{MOST_BYTES, WORDS, byte_of};
+use crate::{Entry, limits};
+use xa_xid::{Bytes, Key, SessionNo, Statement, Xid};
+
+/// The text of this many bytes that eight words hold, or `None` where they hold none.
+fn text_of(words: &[u64], size: u64) -> Option<Bytes>
+    requires { length words.now ≡ 8 }
+    ensures text { IfSome result (λ text. IsText text.items) }
+    ensures read { IfSome result (λ text. (length text.items ≡ size) × (text_words text.items ≡ words.now)) }
+    ensures none { IfNone result ((text : List ℕ) → IsText text → length text ≡ size → text_words text ≡ words.now → ⊥) }
+{
+    if size > MOST_BYTES {
+        return None;
+    }
+    let mut text = Bytes::new();
+    for place in 0..64 {
+        let byte = byte_of(words, place);
+        if (place as u64) < size {
+            text.push(byte);
+        } else if byte != 0 {
+            return None;
+        }
+    }
+    limits::of_text(&text);
+    Some(text)
+}
+
+/// The statement of a kind with an identifier, or `None` where there is no such kind.
+fn with_xid(kind: u64, xid: Xid) -> Option<Statement>
+    requires { kind ≤ 6 }
+    ensures some { IfSome result (λ statement. IsTrue (may_enter statement) × (parts_of statement ≡ of_xid kind xid)) }
+    ensures none { IfNone result (kind ≡ 0) }
+{
+    match kind {
+        1 => Some(Statement::Start(xid)),
+        2 => Some(Statement::End(xid)),
+        3 => Some(Statement::Prepare(xid)),
+        4 => Some(Statement::Commit {
+            xid,
+            one_phase: false,
+        }),
+        5 => Some(Statement::Commit {
+            xid,
+            one_phase: true,
+        }),
+        6 => Some(Statement::Rollback(xid)),
+        _ => None,
+    }
+}
+
+/// The statement of a kind without an identifier, or `None` where there is none of these texts.
+fn with_texts(kind: u64, first: Bytes, second: Bytes) -> Option<Statement>
+    requires { 6 < kind }
+    ensures some { IfSome result (λ statement. IsTrue (may_enter statement) × (parts_of statement ≡ of_texts kind first.items second.items)) }
+    ensures none { IfNone result (RowParts (of_texts kind first.items second.items) → ⊥) }
+{
+    if kind == 10 {
+        let empty = first.is_empty() && second.is_empty();
+        return if empty {
+            Some(Statement::Disconnect)
+        } else {
+            None
+        };
+    }
+    let key = Key::of(first)?;
+    match kind {
+        7 if second.is_empty() => Some(Statement::Get(key)),
+        8 => Some(Statement::Put(key, second)),
+        9 if second.is_empty() => Some(Statement::Del(key)),
+        _ => None,
+    }
+}
+
+/// The statement of these parts, or `None` where there is none.
+fn statement_of(kind: u64, format_id: u64, first: Bytes, second: Bytes) -> Option<Statement>
+    ensures some { IfSome result (λ statement. IsTrue (may_enter statement) × (parts_of statement ≡ record { kind = kind; format_id = format_id; first = first.items; second = second.items })) }
+    ensures none { IfNone result ((statement : Statement) → IsTrue (may_enter statement) → KeepsLimits statement → parts_of statement ≡ record { kind = kind; format_id = format_id; first = first.items; second = second.items } → ⊥) }
+{
+    if kind <= 6 {
+        let xid = Xid {
+            format_id,
+            gtrid: first,
+            bqual: second,
+        };
+        with_xid(kind, xid)
+    } else if format_id == 0 {
+        with_texts(kind, first, second)
+    } else {
+        None
+    }
+}
+
+/// The entry that these words are the words of, or `None` where there is none.
+///
+/// Takes no memory. Doesn't wait.
+/// Own rule: docs/LOG.md, 'The words of an entry'.
+pub fn decode(words: &[u64; WORDS]) -> Option<Entry>
+    ensures read { IfSome result (λ entry. words.now ≡ words_of entry) }
+    ensures every { (entry : Entry) → IsEntry entry → words.now ≡ words_of entry → result ≡ Some entry }
+{
+    let session = SessionNo::of(words[0])?;
+    let first = text_of(&words[5..13], words[2])?;
+    let second = text_of(&words[13..21], words[3])?;
+    let statement = statement_of(words[1], words[4], first, second)?;
+    Entry::of(session, &statement)
+}
