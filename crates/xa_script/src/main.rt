@@ -1,0 +1,111 @@
+//! Runs scripts of XA statements: `xa_script run` reads a script from the standard input, and writes what answers it.
+#![tactic(auto)]
+
+ghost use Rattle.std.specs.Prelude.{◌≡◌};
+ghost use Rattle.xa_script.specs.Status.{status_after};
+
+mod command;
+
+use clap::Error;
+use clap::error::ErrorKind;
+pub use command::{Job, read_command};
+use std::alloc::Global;
+use std::env::Env;
+use std::io::{BufWriter, Write};
+use std::process::ExitCode;
+use std::{env, io};
+pub use xa_transcript::{CutReader, CutWriter, ScriptFault, run_script};
+
+/// The status of a run that was done, and of help.
+const DONE: u8 = 0;
+
+/// The status where the script can't be read, or its answers can't be written.
+const STREAM_FAULT: u8 = 1;
+
+/// The status of a command line that isn't read.
+const COMMAND_FAULT: u8 = 2;
+
+/// The status where memory ran out.
+const OUT_OF_MEMORY: u8 = 3;
+
+fn main(rt: HostRuntime) -> ExitCode {
+    ExitCode::from(status(&rt))
+}
+
+/// Does what the command line asks for, and says how it went.
+fn status<R: Env + Input + Print + Eprint + Alloc<A = Global>>(rt: &R) -> u8 {
+    let words = match words(rt) {
+        Ok(words) => words,
+        Err(error) => return refuse_words(rt, &error),
+    };
+    match read_command(rt.alloc(), words.as_slice()) {
+        Ok(Job::Run) => match run(rt) {
+            Ok(()) => DONE,
+            Err(fault) => {
+                tell(rt, &fault);
+                status_of(fault)
+            }
+        },
+        Err(error) => refuse(rt, &error),
+    }
+}
+
+/// The words of the process's command line.
+fn words<R: Env + Alloc<A = Global>>(rt: &R) -> io::Result<Vec<String>> {
+    Ok(env::args(rt)?.collect(rt.alloc())?)
+}
+
+/// Tells why the words can't be had.
+fn refuse_words<R: Eprint>(rt: &R, error: &io::Error) -> u8 {
+    if error.kind() == io::ErrorKind::OutOfMemory {
+        tell(rt, &ScriptFault::NoMemory);
+        return OUT_OF_MEMORY;
+    }
+    let _ = eprintln!(rt; "error: a word of the command line isn't UTF-8");
+    COMMAND_FAULT
+}
+
+/// Runs the script of the standard input.
+fn run<R: Input + Print + Alloc<A = Global>>(rt: &R) -> Result<(), ScriptFault> {
+    let mut input = rt.reader();
+    let Ok(mut output) = BufWriter::new(rt.alloc(), io::writer(rt)) else {
+        return Err(ScriptFault::NoMemory);
+    };
+    let result = run_script(rt.alloc(), &mut input, &mut output);
+    if output.flush().is_err() {
+        return Err(ScriptFault::Write);
+    }
+    result
+}
+
+/// Tells why a command line isn't carried out.
+fn refuse<R: Print + Eprint>(rt: &R, error: &Error) -> u8 {
+    if error.kind() == ErrorKind::OutOfMemory {
+        tell(rt, &ScriptFault::NoMemory);
+        return OUT_OF_MEMORY;
+    }
+    let printed = error.print(rt);
+    if error.use_stderr() {
+        COMMAND_FAULT
+    } else if printed.is_err() {
+        tell(rt, &ScriptFault::Write);
+        STREAM_FAULT
+    } else {
+        DONE
+    }
+}
+
+/// The status of a run that ended in this fault.
+fn status_of(fault: ScriptFault) -> u8
+    ensures { result ≡ status_after fault }
+{
+    match fault {
+        ScriptFault::Read | ScriptFault::TooLong | ScriptFault::Write => STREAM_FAULT,
+        ScriptFault::NoMemory => OUT_OF_MEMORY,
+    }
+}
+
+/// Tells a fault on the standard error, where that takes it.
+fn tell<R: Eprint>(rt: &R, fault: &ScriptFault) {
+    let _ = eprintln!(rt; "xa_script: {fault}");
+}

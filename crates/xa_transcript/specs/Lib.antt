@@ -1,0 +1,4 @@
+pub mod Script
+pub mod Printed
+pub mod Transcript
+pub mod Cut

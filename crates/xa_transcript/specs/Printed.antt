@@ -1,0 +1,84 @@
+-- How replies are printed.
+--     part            the text of a key's or value's bytes
+--     row_text        the line of a recovered identifier
+--     error_text      the text of a refusal
+--     reply_text      the text of a reply
+--     syntax_text     the text where a statement isn't read
+--     answer_text     the line of an answer
+use Rattle.std.specs.Prelude.{ℕ, Bool, true, false, Some, None, List, [], ◌∷◌, ◌++◌, length, codes, decimal}
+use Rattle.hex.specs.Hex.{encode_lower}
+use Rattle.xa_xid.specs.declared.xid.Xid.{Xid}
+use Rattle.xa_xid.specs.declared.statement.Statement.{Statement}
+use Rattle.xa_xid.specs.declared.statement.Statement.TheVariants.{Start, End, Prepare, Commit, Rollback, Recover, Unsupported, Get, Put, Del, Disconnect}
+use Rattle.xa_server.specs.declared.reply.Reply.{Reply}
+use Rattle.xa_server.specs.declared.reply.Reply.TheVariants.{Ok as Accepted, Value, Recovered, Refused}
+use Rattle.xa_server.specs.declared.xa_error.XaError.{XaError}
+use Rattle.xa_server.specs.declared.xa_error.XaError.TheVariants.{Nota, Inval, Rmfail, Dupid, RowLocked}
+use Rattle.xa_server.specs.declared.xa_error.BranchState.{BranchState}
+use Rattle.xa_server.specs.declared.xa_error.BranchState.TheVariants.{NonExisting, Active, Idle, Prepared}
+
+-- `0x` and two small digits for each byte, and `X''` where there is no byte
+abbrev pub part : List ℕ → List ℕ
+part [] = codes "X''"
+part (byte ∷ bytes) = codes "0x" ++ encode_lower (byte ∷ bytes)
+
+-- the bytes of a recovered identifier: as they are, or with CONVERT XID as `0x` and two small digits for each
+-- (manual, XA RECOVER; `0x` alone for no byte is our own)
+abbrev pub row_data : Bool → List ℕ → List ℕ
+row_data false bytes = bytes
+row_data true bytes = codes "0x" ++ encode_lower bytes
+
+-- formatID, the lengths of gtrid and bqual, and both as one (manual, XA RECOVER)
+abbrev pub row_text : Bool → Xid → List ℕ
+row_text convert xid =
+    decimal xid.format_id ++ codes " " ++ decimal (length xid.gtrid.items) ++ codes " " ++ decimal (length xid.bqual.items) ++ codes " "
+    ++ row_data convert (xid.gtrid.items ++ xid.bqual.items)
+
+-- each row on a line of its own, after what stands before it
+abbrev pub rows_text : Bool → List Xid → List ℕ
+rows_text convert [] = []
+rows_text convert (xid ∷ xids) = codes "\n" ++ row_text convert xid ++ rows_text convert xids
+
+abbrev pub state_text : BranchState → List ℕ
+state_text NonExisting = codes "NON-EXISTING"
+state_text Active = codes "ACTIVE"
+state_text Idle = codes "IDLE"
+state_text Prepared = codes "PREPARED"
+
+-- one line a refusal (numbers, SQLSTATEs and names are the manual's; the words after them are our own)
+abbrev pub error_text : XaError → List ℕ
+error_text Nota = codes "ERROR 1397 (XAE04): XAER_NOTA unknown xid"
+error_text Inval = codes "ERROR 1398 (XAE05): XAER_INVAL clause not supported"
+error_text (Rmfail state) = codes "ERROR 1399 (XAE07): XAER_RMFAIL state " ++ state_text state
+error_text Dupid = codes "ERROR 1440 (XAE08): XAER_DUPID xid already exists"
+error_text RowLocked = codes "ERROR 3572 (HY000): row locked by another branch"
+
+-- one line a reply (own rule)
+abbrev pub reply_text : Bool → Reply → List ℕ
+reply_text convert Accepted = codes "OK"
+reply_text convert (Value None) = codes "NONE"
+reply_text convert (Value (Some value)) = codes "VALUE " ++ part value.items
+reply_text convert (Recovered xids) = codes "ROWS " ++ decimal (length xids) ++ rows_text convert xids
+reply_text convert (Refused error) = error_text error
+
+-- a statement that isn't read, with the place of the byte where its text goes wrong
+abbrev pub syntax_text : ℕ → List ℕ
+syntax_text place = codes "ERROR 1064 (42000): syntax fault at byte " ++ decimal place
+
+-- XA RECOVER CONVERT XID asks for identifiers in digits
+abbrev pub converts : Statement → Bool
+converts (Start xid) = false
+converts (End xid) = false
+converts (Prepare xid) = false
+converts (Commit xid one_phase) = false
+converts (Rollback xid) = false
+converts (Recover convert) = convert
+converts Unsupported = false
+converts (Get key) = false
+converts (Put key value) = false
+converts (Del key) = false
+converts Disconnect = false
+
+-- who is answered, what, and the end of the line
+abbrev pub answer_text : List ℕ → List ℕ → List ℕ
+answer_text who text = who ++ codes " " ++ text ++ codes "\n"

@@ -1,0 +1,109 @@
+//! The lines of a script, and what each says.
+ghost use Rattle.std.specs.Prelude.{◌≡◌, ◌≤◌, ◌<◌, ◌∷◌, ◌==◌, not, length, IsTrue, MatchOption, None, Some};
+ghost use Rattle.std.specs.List.{prefix_len};
+ghost use Rattle.xa_transcript.specs.Script.{is_blank, is_no_blank, first_word, after_word, without_blanks, session_named, line_of, lines_of};
+ghost use Rattle.xa_transcript.specs.Script.{line_seen};
+
+use xa_xid::SessionNo;
+
+/// Whether the byte stands between words: space, tab, line feed or carriage return.
+pub fn is_blank_byte(byte: u8) -> bool
+    ensures { result ≡ is_blank byte }
+{
+    byte == b' ' || byte == b'\t' || byte == b'\n' || byte == b'\r'
+}
+
+/// How many bytes stand before the first line feed.
+pub fn line_length(text: &[u8]) -> usize
+    ensures length { result ≡ prefix_len (λ byte. not (byte == 10)) text.now }
+    ensures within { result ≤ length text.now }
+{
+    text.iter()
+        .position(|byte| *byte == b'\n')
+        .unwrap_or(text.len())
+}
+
+/// How many blanks the text begins with.
+fn blanks_length(text: &[u8]) -> usize
+    ensures length { result ≡ prefix_len is_blank text.now }
+    ensures within { result ≤ length text.now }
+{
+    text.iter()
+        .position(|byte| !is_blank_byte(*byte))
+        .unwrap_or(text.len())
+}
+
+/// How many bytes stand before the first blank.
+fn word_length(text: &[u8]) -> usize
+    ensures length { result ≡ prefix_len is_no_blank text.now }
+    ensures within { result ≤ length text.now }
+{
+    text.iter()
+        .position(|byte| is_blank_byte(*byte))
+        .unwrap_or(text.len())
+}
+
+/// The session that the word names.
+fn session_of(word: &[u8]) -> Option<SessionNo>
+    ensures { result ≡ session_named word.now }
+{
+    match word {
+        [one @ b'1'..=b'9'] => SessionNo::of(u64::from(*one - b'0')),
+        [b'1', one @ b'0'..=b'6'] => SessionNo::of(10 + u64::from(*one - b'0')),
+        _ => None,
+    }
+}
+
+/// What a line of a script says.
+pub enum ScriptLine<'a> {
+    /// Nothing: it has no answer.
+    Blank,
+    /// It isn't written as a line is.
+    Bad,
+    /// The session gives the statement of this text.
+    Given(SessionNo, &'a [u8]),
+}
+
+/// The text without the blanks at its beginning.
+pub fn skip_blanks(text: &[u8]) -> &[u8]
+    ensures value { result.now ≡ without_blanks text.now }
+    ensures within { length result.now ≤ length text.now }
+{
+    text.split_at(blanks_length(text)).1
+}
+
+/// The first line, without its line feed, and what stands after that.
+pub fn split_line(text: &[u8]) -> (&[u8], &[u8])
+    requires { 0 < length text.now }
+    ensures lines { lines_of text.now ≡ result.0.now ∷ lines_of result.1.now }
+    ensures shorter { length result.1.now < length text.now }
+{
+    let (line, rest) = text.split_at(line_length(text));
+    match rest {
+        [] => (line, rest),
+        [_, lines @ ..] => (line, lines),
+    }
+}
+
+/// The text up to its first blank, and from there on.
+fn split_word(text: &[u8]) -> (&[u8], &[u8])
+    ensures word { result.0.now ≡ first_word text.now }
+    ensures rest { result.1.now ≡ after_word text.now }
+{
+    text.split_at(word_length(text))
+}
+
+/// What the line says.
+pub fn read_line(line: &[u8]) -> ScriptLine<'_>
+    ensures { line_seen result ≡ line_of line.now }
+{
+    let text = skip_blanks(line);
+    if text.is_empty() {
+        return ScriptLine::Blank;
+    }
+    let (word, rest) = split_word(text);
+    match session_of(word) {
+        None => ScriptLine::Bad,
+        Some(session) => ScriptLine::Given(session, skip_blanks(rest)),
+    }
+}

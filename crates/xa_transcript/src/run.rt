@@ -1,0 +1,106 @@
+//! Runs a script.
+ghost use Rattle.std.specs.Prelude.{◌≡◌, ◌≤◌, ◌<◌, ◌++◌, length, take, vec_len, IfOk, IfErr, OnOk, OnErr, IfSome, ◌≢◌, Err};
+ghost use Rattle.std.specs.Io.KnownBytes.{Appends, Consumes, IsAtEnd, Keeps};
+ghost use Rattle.xa_transcript.specs.Transcript.{AppendsPrefix, ConsumesMoreThan, AfterFault, IsOfRun, IsOfReading, transcript};
+
+use crate::ScriptFault;
+use crate::answer::answer_line;
+use crate::lines::split_line;
+use std::alloc::Global;
+use std::io::{Read, Write};
+use xa_server::Server;
+
+/// The greatest length of a script, in bytes.
+const SCRIPT_BYTES: usize = 1_048_576;
+
+/// The greatest number of reads that a script takes.
+const SCRIPT_READS: u64 = 2_097_152;
+
+/// Reads all that the reader gives.
+fn read_all<R: Read>(alloc: Global, reader: &mut R) -> Result<Vec<u8>, ScriptFault>
+    ensures all { IfOk result (λ script. Consumes (R.remaining reader.old) (R.remaining reader.new) script.items) }
+    ensures end { OnOk result (IsAtEnd (R.remaining reader.new)) }
+    ensures short { IfOk result (λ script. vec_len script ≤ SCRIPT_BYTES) }
+    ensures fault { IfErr result IsOfReading }
+    ensures too_long { result ≡ Err ScriptFault.TooLong → ConsumesMoreThan SCRIPT_BYTES (R.remaining reader.old) (R.remaining reader.new) }
+{
+    let mut script = Vec::new(alloc);
+    let mut piece = [0u8; 4096];
+    for _ in 0..SCRIPT_READS {
+        let Ok(count) = reader.read(&mut piece) else {
+            return Err(ScriptFault::Read);
+        };
+        if count == 0 {
+            return Ok(script);
+        }
+        if count > SCRIPT_BYTES - script.len() {
+            return Err(ScriptFault::TooLong);
+        }
+        if script.extend_from_slice(&piece[..count]).is_err() {
+            return Err(ScriptFault::NoMemory);
+        }
+    }
+    Err(ScriptFault::Read)
+}
+
+/// Writes all of the bytes, or as many as the writer takes until a write fails.
+fn write_whole<W: Write>(writer: &mut W, bytes: &[u8]) -> Result<(), ScriptFault>
+    ensures all { OnOk result (Appends (W.contents writer.old) (W.contents writer.new) bytes.now) }
+    ensures fault { IfErr result (λ fault. fault ≡ ScriptFault.Write) }
+    ensures prefix { OnErr result (AppendsPrefix (W.contents writer.old) (W.contents writer.new) bytes.now) }
+{
+    let mut written = 0;
+    while written < bytes.len() {
+        match writer.write(&bytes[written..]) {
+            Ok(count) if count > 0 => written += count,
+            _ => return Err(ScriptFault::Write),
+        }
+    }
+    Ok(())
+}
+
+/// Gives the script's lines to a server that holds nothing at first, and writes each answer as it is found.
+fn run_lines<W: Write>(alloc: Global, script: &[u8], writer: &mut W) -> Result<(), ScriptFault>
+    ensures all { OnOk result (Appends (W.contents writer.old) (W.contents writer.new) (transcript script.now)) }
+    ensures fault { IfErr result IsOfRun }
+    ensures prefix { OnErr result (AppendsPrefix (W.contents writer.old) (W.contents writer.new) (transcript script.now)) }
+{
+    let mut server = Server::new(alloc);
+    let mut rest = script;
+    while !rest.is_empty() {
+        let (line, lines) = split_line(rest);
+        let Ok(answer) = answer_line(alloc, &mut server, line) else {
+            return Err(ScriptFault::NoMemory);
+        };
+        write_whole(writer, answer.as_slice())?;
+        rest = lines;
+    }
+    Ok(())
+}
+
+/// Runs a script: reads all of it, and writes the answer to each of its lines.
+///
+/// A script is at most 1,048,576 bytes, and takes at most 2,097,152 reads. Each line gives a statement of a session to one
+/// server, which holds nothing at first. Each answer is written as it is found. Any fault of a read or a write, whatever its
+/// kind, ends the run at once. What is written isn't flushed.
+/// Errors: `Read` where a read failed, or too many reads were needed; `TooLong` where the script is longer; `NoMemory`
+/// where a growth was refused; `Write` where a write failed or took nothing. After `Read` and `TooLong` nothing was
+/// written, after `Write` and `NoMemory` a prefix of the transcript.
+/// May answer `NoMemory`. Doesn't wait, unless the reader or the writer does.
+/// Own rule: docs/BEHAVIOR.md, 'Scripts'.
+pub fn run_script<R: Read, W: Write>(
+    alloc: Global,
+    reader: &mut R,
+    writer: &mut W,
+) -> Result<(), ScriptFault>
+    // All was read, and what was written is the transcript of it.
+    ensures read { OnOk result (IsAtEnd (R.remaining reader.new)) }
+    ensures written { OnOk result (IfSome (R.remaining reader.old) (λ script. Appends (W.contents writer.old) (W.contents writer.new) (transcript script))) }
+    ensures short { OnOk result (IfSome (R.remaining reader.old) (λ script. length script ≤ SCRIPT_BYTES)) }
+
+    ensures fault { IfErr result (λ fault. AfterFault fault (R.remaining reader.old) (W.contents writer.old) (W.contents writer.new)) }
+    ensures too_long { result ≡ Err ScriptFault.TooLong → ConsumesMoreThan SCRIPT_BYTES (R.remaining reader.old) (R.remaining reader.new) }
+{
+    let script = read_all(alloc, reader)?;
+    run_lines(alloc, script.as_slice(), writer)
+}
