@@ -1,0 +1,75 @@
+//! What a commit costs.
+use anyhow::{Context, Result};
+use std::alloc::Global;
+use std::time::{Clock, Instant};
+use xa_server::Server;
+use xa_xid::{Bytes, Key, SessionNo, Statement, Xid};
+
+/// How many rows each writes.
+const WRITES: u32 = 10;
+
+/// The key of a number.
+fn key(number: u32) -> Result<Key> {
+    let bytes = Bytes::try_from(number.to_be_bytes().as_slice())?;
+    Key::of(bytes).context("a key of four bytes")
+}
+
+/// A row statement.
+fn put(number: u32) -> Result<Statement> {
+    let value = Bytes::try_from(number.to_be_bytes().as_slice())?;
+    Ok(Statement::Put(key(number)?, value))
+}
+
+/// The identifier of a number.
+fn xid(number: u32) -> Result<Xid> {
+    Ok(Xid {
+        format_id: 1,
+        gtrid: Bytes::try_from(number.to_be_bytes().as_slice())?,
+        bqual: Bytes::new(),
+    })
+}
+
+/// A server with so many rows.
+fn filled(alloc: Global, session: SessionNo, rows: u32) -> Result<Server> {
+    let mut server = Server::new(alloc);
+    for number in 0..rows {
+        let _reply = server.apply(session, &put(number)?)?;
+    }
+    Ok(server)
+}
+
+/// Has a branch write its rows, spread over the store, and prepares it.
+fn prepare(server: &mut Server, session: SessionNo, round: u32, rows: u32) -> Result<()> {
+    let _reply = server.apply(session, &Statement::Start(xid(round)?))?;
+    for write in 0..WRITES {
+        let place = u64::from(round) * 7919 + u64::from(write) * 104_729;
+        let number = (place % u64::from(rows.max(1))) as u32;
+        let _reply = server.apply(session, &put(number)?)?;
+    }
+    let _reply = server.apply(session, &Statement::End(xid(round)?))?;
+    let _reply = server.apply(session, &Statement::Prepare(xid(round)?))?;
+    Ok(())
+}
+
+/// The nanoseconds that the commit of a branch takes in a store of so many rows, as a mean.
+pub fn nanoseconds_a_commit<R: Clock + Alloc<A = Global>>(
+    rt: &R,
+    rows: u32,
+    rounds: u32,
+) -> Result<u64> {
+    let session = SessionNo::of(1).context("a session")?;
+    let mut server = filled(rt.alloc(), session, rows)?;
+    let mut total = 0u64;
+    for round in 0..rounds {
+        prepare(&mut server, session, round, rows)?;
+        let commit = Statement::Commit {
+            xid: xid(round)?,
+            one_phase: false,
+        };
+        let begun = Instant::now(rt)?;
+        let _reply = server.apply(session, &commit)?;
+        let taken = begun.elapsed(rt)?.as_nanos();
+        total = total.saturating_add(u64::try_from(taken).unwrap_or(u64::MAX));
+    }
+    Ok(total.checked_div(u64::from(rounds)).unwrap_or(0))
+}
