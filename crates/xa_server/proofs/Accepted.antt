@@ -69,7 +69,7 @@ unprepared state xid e = ap (λ phase. option_map_or is_prepared_phase phase fal
 
 -- ---- tests that let a statement through
 
-passes : (b : Bool) (error : XaError) → is_refused (ok_if b error) ≡ false → b ≡ true
+pub passes : (b : Bool) (error : XaError) → is_refused (ok_if b error) ≡ false → b ≡ true
 passes true error e = refl
 passes false error e = absurd (true≢false e)
 
@@ -77,7 +77,7 @@ let_through : (b : Bool) (error : XaError) (reply : Reply) → is_refused (refus
 let_through true error reply e = absurd (true≢false e)
 let_through false error reply e = refl
 
-own_is : (xid own : Xid) (error : XaError) → is_refused (ok_if (same_xid xid own) error) ≡ false → xid ≡ own
+pub own_is : (xid own : Xid) (error : XaError) → is_refused (ok_if (same_xid xid own) error) ≡ false → xid ≡ own
 own_is xid own error e = same_is xids_total exact_xids xid own (passes (same_xid xid own) error e)
 
 -- ---- accepted statements

@@ -123,7 +123,7 @@ held_anew branches rows own key change whole known unheld none =
           ∙ ap (λ s. with_changed s own (with_change key change)) (seen_listed branches rows own key),
     )
 
-holder_from_lock : (own : Xid) (row : Option RowRecord) → is_some (option_and_then (lock_by own) row) ≡ true → holder_of row ≡ Some own
+pub holder_from_lock : (own : Xid) (row : Option RowRecord) → is_some (option_and_then (lock_by own) row) ≡ true → holder_of row ≡ Some own
 holder_from_lock own row e = by (holder_of row) refl
   where
     by : (holder : Option Xid) → holder_of row ≡ holder → holder_of row ≡ Some own

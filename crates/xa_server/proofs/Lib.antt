@@ -12,3 +12,10 @@ pub mod Whole
 pub mod Holding
 pub mod Sorted
 pub mod Accepted
+pub mod LockLaws
+pub mod Changes
+pub mod Finishing
+pub mod Entering
+pub mod Others
+pub mod Listing
+pub mod Keeping

@@ -78,7 +78,7 @@ is_prepared-seen branches rows xid = ap (λ p. option_map_or is_prepared_phase p
 
 -- ---- what a session has open
 
-find_none : {A : Type 0} (p : A → Bool) (xs : List A) → ((x : A) → p x ≡ false) → find p xs ≡ None
+pub find_none : {A : Type 0} (p : A → Bool) (xs : List A) → ((x : A) → p x ≡ false) → find p xs ≡ None
 find_none p [] none = refl
 find_none p (x ∷ xs) none = ap (λ b. cond b (Some x) (find p xs)) (none x) ∙ find_none p xs none
 
@@ -87,7 +87,7 @@ found_first p x xid rest later only true is = ap Some (sym (only x is))
 found_first p x xid rest later only false is = later
 
 -- the one element that passes
-find_one : (p : Xid → Bool) (xs : List Xid) (xid : Xid) → list_any (same_xid xid) xs ≡ true → p xid ≡ true → ((other : Xid) → p other ≡ true → xid ≡ other) → find p xs ≡ Some xid
+pub find_one : (p : Xid → Bool) (xs : List Xid) (xid : Xid) → list_any (same_xid xid) xs ≡ true → p xid ≡ true → ((other : Xid) → p other ≡ true → xid ≡ other) → find p xs ≡ Some xid
 find_one p [] xid there here only = absurd (true≢false (sym there))
 find_one p (x ∷ xs) xid there here only = elim (same_or_apart xids_total exact_xids xid x) [
   | inl is ↦ ap (λ b. cond b (Some x) (find p xs)) (ap p (sym is) ∙ here) ∙ ap Some (sym is)
@@ -97,7 +97,7 @@ find_one p (x ∷ xs) xid there here only = elim (same_or_apart xids_total exact
 owns-seen : (branches : BranchMap) (rows : RowMap) (session : ℕ) (xid : Xid) → owns (state_of branches rows) session xid ≡ option_map_or (λ owner. owner == session) (owner_of branches xid) false
 owns-seen branches rows session xid = ap (λ owner. option_map_or (λ owner. owner == session) owner false) (owner_at-seen branches rows xid)
 
-owned_is : (owner : Option ℕ) (session : ℕ) → option_map_or (λ owner. owner == session) owner false ≡ true → owner ≡ Some session
+pub owned_is : (owner : Option ℕ) (session : ℕ) → option_map_or (λ owner. owner == session) owner false ≡ true → owner ≡ Some session
 owned_is None session e = absurd (true≢false (sym e))
 owned_is (Some owner) session e = ap Some (eqb-true owner session e)
 
@@ -213,7 +213,7 @@ any_none : (p : Xid → Bool) (xs : List Xid) → ((x : Xid) → p x ≡ false) 
 any_none p [] none = refl
 any_none p (x ∷ xs) none = ap (λ b. b || list_any p xs) (none x) ∙ any_none p xs none
 
-any_some : (p : Xid → Bool) (xs : List Xid) (xid : Xid) → list_any (same_xid xid) xs ≡ true → p xid ≡ true → list_any p xs ≡ true
+pub any_some : (p : Xid → Bool) (xs : List Xid) (xid : Xid) → list_any (same_xid xid) xs ≡ true → p xid ≡ true → list_any p xs ≡ true
 any_some p [] xid there here = there
 any_some p (x ∷ xs) xid there here = elim (same_or_apart xids_total exact_xids xid x) [
   | inl is ↦ ap (λ b. b || list_any p xs) (ap p (sym is) ∙ here)

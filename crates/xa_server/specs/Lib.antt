@@ -3,6 +3,7 @@ pub mod Locks
 pub mod Replies
 pub mod Step
 pub mod Finish
+pub mod Laws
 pub mod Coding
 pub mod Tables
 pub mod Rows

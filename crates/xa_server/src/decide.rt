@@ -1,5 +1,6 @@
 //! What a statement is answered: the table of replies.
 ghost use Rattle.std.specs.Prelude.{◌≡◌, true, IfOk, OnErr};
+ghost use Rattle.xa_server.specs.Locks.{LockLaw};
 ghost use Rattle.xa_server.specs.Replies.{table, reply_to, ok_if as ok_reply_if};
 ghost use Rattle.xa_server.specs.Step.{may_enter as may_enter_in, enters, is_recover};
 ghost use Rattle.xa_xid.specs.declared.statement.Statement.TheVariants.{Start, End, Prepare, Commit, Rollback, Get, Put, Del};
@@ -193,6 +194,7 @@ impl Server {
     }
 
     /// The reply to a session's statement, and whether the statement would enter the history. Nothing changes.
+    /// The server that answers keeps the lock law, as every server does.
     ///
     /// May answer `NoMemory` for `XA RECOVER`, whose reply is a list, and for no other statement. Doesn't wait.
     /// Source: docs/BEHAVIOR.md, 'Replies', which says line by line what is the manual's, C193's or our own.
@@ -205,6 +207,7 @@ impl Server {
         ensures reply { IfOk result (λ answer. answer.0 ≡ reply_to self.now session statement.now) }
         ensures enters { IfOk result (λ answer. answer.1 ≡ enters self.now session statement.now) }
         ensures memory { OnErr result (is_recover statement.now ≡ true) }
+        ensures lock_law { LockLaw self.now }
     {
         let seat = self.seat(session);
         let reply = self.decide(&seat, statement)?;

@@ -6,6 +6,7 @@ mod branch;
 mod branch_table;
 mod decide;
 mod keys;
+pub mod laws;
 mod reply;
 mod row;
 mod row_table;
@@ -15,8 +16,6 @@ mod server;
 mod tests;
 mod xa_error;
 
-pub use branch::Phase;
 pub use reply::{Reply, XidList};
-pub use seat::Seat;
 pub use server::Server;
 pub use xa_error::{BranchState, XaError};

@@ -38,7 +38,7 @@ impl Model for Server {
 
 impl Server {
     ghost use Rattle.xa_server.specs.State.{no_state, is_known, is_prepared, seat_of, prepared_xids as prepared_xids_of, committed_value as committed_value_of, value_within as value_within_of};
-    ghost use Rattle.xa_server.specs.Locks.{holds as holds_of, is_held_against as is_held_against_of};
+    ghost use Rattle.xa_server.specs.Locks.{LockLaw, holds as holds_of, is_held_against as is_held_against_of};
     ghost use Rattle.xa_server.specs.Step.{started_by, with_branch, with_changed, with_write, without_branch, committed};
     ghost use Rattle.xa_server.specs.Rows.{with_change};
     ghost use Rattle.xa_server.specs.declared.branch.Phase.TheVariants.{Idle as PhaseIdle, Prepared as PhasePrepared};
@@ -69,9 +69,10 @@ impl Server {
         })
     }
 
-    /// What the session has open.
+    /// What the session has open. Every server keeps the lock law.
     pub(crate) fn seat(&self, session: SessionNo) -> Seat
-        ensures { result ≡ seat_of self.now session }
+        ensures seat { result ≡ seat_of self.now session }
+        ensures lock_law { LockLaw self.now }
     {
         let Some(own) = self.branches.owned_by(session) else {
             return Seat::Free;

@@ -9,32 +9,49 @@ use Rattle.xa_server.specs.declared.branch.Phase.{Phase}
 use Rattle.xa_server.specs.declared.branch.Phase.TheVariants.{Active as PhaseActive, Idle as PhaseIdle, Prepared as PhasePrepared}
 use Rattle.xa_server.specs.declared.seat.Seat.TheVariants.{Free, Active, Idle}
 use Rattle.xa_server.specs.State.{State, Branch, is_known, is_prepared, is_prepared_phase, seat_in, seat_of, committed_value, value_within}
-use Rattle.xa_server.specs.Locks.{holds, is_held_against}
+use Rattle.xa_server.specs.Locks.{LockLaw, holds, is_held_against}
 use Rattle.xa_server.specs.Step.{started_by, with_branch, with_changed, with_write, without_branch, committed}
 use Rattle.xa_server.specs.Tables.{BranchMap, owner_of, with_record, without_last}
 use Rattle.xa_server.specs.Rows.{RowMap, held_row, holder_of, with_change}
 use Rattle.xa_server.specs.View.{branch_seen, state_of, is_listed, IsWhole}
 use Rattle.xa_server.proofs.Outcomes.{either_way, on_ok, on_err}
 use Rattle.xa_server.proofs.Index.{same_value, not_none}
+use Rattle.xa_server.proofs.LockLaws.{lock_law}
 use Rattle.xa_server.proofs.Seen
 use Rattle.xa_server.proofs.Steps
 use Rattle.xa_server.proofs.Ending
 use Rattle.xa_server.proofs.Whole
 use Rattle.xa_server.proofs.server.Server.seat.Goals as goal
 
+-- what the server keeps
+kept : (branches : BranchMap) (rows : RowMap) (state : State) → state_of branches rows ≡ state → IsWhole branches rows → LockLaw state
+kept branches rows state is whole = subst LockLaw is (lock_law branches rows whole)
+
 -- a session that owns a branch in this phase
 owned : (branches : BranchMap) (rows : RowMap) (session : ℕ) (xid : Xid) (phase : Option Phase) (state : State) → state_of branches rows ≡ state → IsWhole branches rows → owner_of branches xid ≡ Some session →
     phase ≡ option_map (λ (b : BranchRecord). b.phase) (map.get branches xid) → seat_in phase xid ≡ seat_of state session
 owned branches rows session xid phase state is whole owner in_phase = sym (Seen.seat-owned branches rows session xid phase whole owner (sym in_phase)) ∙ ap (λ s. seat_of s session) is
 
-pub returns-in_default : goal.returns-in_default
-returns-in_default c = sym (Seen.seat-free c.self.inside.branches c.self.inside.rows c.args.session c.in_default.ensures.none) ∙ ap (λ s. seat_of s c.args.session) c.self.view_is
+pub returns-in_default-clause-seat : goal.returns-in_default-clause-seat
+returns-in_default-clause-seat c = sym (Seen.seat-free c.self.inside.branches c.self.inside.rows c.args.session c.in_default.ensures.none) ∙ ap (λ s. seat_of s c.args.session) c.self.view_is
 
-pub returns-in-Some-Active : goal.returns-in-Some-Active
-returns-in-Some-Active c = ap Active c.copy.ensures ∙ owned c.self.inside.branches c.self.inside.rows c.args.session c.in-Some.own.now (Some PhaseActive) c.args.self.now c.self.view_is c.self.invariant c.in-Some.ensures.owner (ap Some (sym c.in-Some-Active.field-0-is) ∙ c.in-Some-Active.ensures)
+pub returns-in-Some-Active-clause-seat : goal.returns-in-Some-Active-clause-seat
+returns-in-Some-Active-clause-seat c = ap Active c.copy.ensures ∙ owned c.self.inside.branches c.self.inside.rows c.args.session c.in-Some.own.now (Some PhaseActive) c.args.self.now c.self.view_is c.self.invariant c.in-Some.ensures.owner (ap Some (sym c.in-Some-Active.field-0-is) ∙ c.in-Some-Active.ensures)
 
-pub returns-in-Some-Idle : goal.returns-in-Some-Idle
-returns-in-Some-Idle c = ap Idle c.copy-in-Some-Idle.ensures ∙ owned c.self.inside.branches c.self.inside.rows c.args.session c.in-Some.own.now (Some PhaseIdle) c.args.self.now c.self.view_is c.self.invariant c.in-Some.ensures.owner (ap Some (sym c.in-Some-Idle.field-0-is) ∙ c.in-Some-Idle.ensures)
+pub returns-in-Some-Idle-clause-seat : goal.returns-in-Some-Idle-clause-seat
+returns-in-Some-Idle-clause-seat c = ap Idle c.copy-in-Some-Idle.ensures ∙ owned c.self.inside.branches c.self.inside.rows c.args.session c.in-Some.own.now (Some PhaseIdle) c.args.self.now c.self.view_is c.self.invariant c.in-Some.ensures.owner (ap Some (sym c.in-Some-Idle.field-0-is) ∙ c.in-Some-Idle.ensures)
 
-pub returns-in-Some-Prepared : goal.returns-in-Some-Prepared
-returns-in-Some-Prepared c = owned c.self.inside.branches c.self.inside.rows c.args.session c.in-Some.own.now (Some PhasePrepared) c.args.self.now c.self.view_is c.self.invariant c.in-Some.ensures.owner (ap Some (sym c.in-Some-Prepared.field-0-is) ∙ c.in-Some-Prepared.ensures)
+pub returns-in-Some-Prepared-clause-seat : goal.returns-in-Some-Prepared-clause-seat
+returns-in-Some-Prepared-clause-seat c = owned c.self.inside.branches c.self.inside.rows c.args.session c.in-Some.own.now (Some PhasePrepared) c.args.self.now c.self.view_is c.self.invariant c.in-Some.ensures.owner (ap Some (sym c.in-Some-Prepared.field-0-is) ∙ c.in-Some-Prepared.ensures)
+
+pub returns-in_default-clause-lock_law : goal.returns-in_default-clause-lock_law
+returns-in_default-clause-lock_law c = kept c.self.inside.branches c.self.inside.rows c.args.self.now c.self.view_is c.self.invariant
+
+pub returns-in-Some-Active-clause-lock_law : goal.returns-in-Some-Active-clause-lock_law
+returns-in-Some-Active-clause-lock_law c = kept c.self.inside.branches c.self.inside.rows c.args.self.now c.self.view_is c.self.invariant
+
+pub returns-in-Some-Idle-clause-lock_law : goal.returns-in-Some-Idle-clause-lock_law
+returns-in-Some-Idle-clause-lock_law c = kept c.self.inside.branches c.self.inside.rows c.args.self.now c.self.view_is c.self.invariant
+
+pub returns-in-Some-Prepared-clause-lock_law : goal.returns-in-Some-Prepared-clause-lock_law
+returns-in-Some-Prepared-clause-lock_law c = kept c.self.inside.branches c.self.inside.rows c.args.self.now c.self.view_is c.self.invariant

@@ -1,0 +1,46 @@
+-- A statement that doesn't enter the history changes nothing.
+use Rattle.std.proofs.Common.{◌≡◌, ℕ, refl, ap, sym, ◌∙◌, Bool, true, false}
+use Rattle.std.specs.Prelude.{not, ◌&&◌}
+use mathlib.Core.Bool.{true≢false}
+use Rattle.xa_xid.specs.declared.statement.Statement.{Statement}
+use Rattle.xa_xid.specs.declared.statement.Statement.TheVariants.{Start, End, Prepare, Commit, Rollback, Recover, Unsupported, Get, Put, Del, Disconnect}
+use Rattle.xa_server.specs.declared.seat.Seat.{Seat}
+use Rattle.xa_server.specs.declared.seat.Seat.TheVariants.{Free, Active, Idle}
+use Rattle.xa_server.specs.State.{State, seat_of}
+use Rattle.xa_server.specs.Locks.{holds}
+use Rattle.xa_server.specs.Replies.{reply_to}
+use Rattle.xa_server.specs.Step.{effect, is_refused, after, enters, may_enter}
+use Rattle.xa_server.proofs.Accepted.{locked_again}
+use Rattle.xa_server.proofs.Changes.{refused_leaves, accepted_done}
+
+refuted : (b : Bool) → not b ≡ false → b ≡ true
+refuted true e = refl
+refuted false e = absurd (true≢false e)
+
+-- what has no place in the history does nothing
+idles : (state : State) (session : ℕ) (seat : Seat) (statement : Statement) → may_enter state seat statement ≡ false → effect state session seat statement ≡ state
+unfolding effect may_enter
+idles state session seat (Start xid) e = absurd (true≢false e)
+idles state session seat (End xid) e = absurd (true≢false e)
+idles state session seat (Prepare xid) e = absurd (true≢false e)
+idles state session seat (Commit xid one_phase) e = absurd (true≢false e)
+idles state session seat (Rollback xid) e = absurd (true≢false e)
+idles state session seat (Recover convert) e = refl
+idles state session seat Unsupported e = refl
+idles state session Free (Get key) e = refl
+idles state session (Active own) (Get key) e = locked_again state own key (refuted (holds state own key) e)
+idles state session (Idle own) (Get key) e = refl
+idles state session seat (Put key value) e = absurd (true≢false e)
+idles state session seat (Del key) e = absurd (true≢false e)
+idles state session Free Disconnect e = refl
+idles state session (Active own) Disconnect e = absurd (true≢false e)
+idles state session (Idle own) Disconnect e = absurd (true≢false e)
+
+pub unentered_leaves : (state : State) (session : ℕ) (statement : Statement) → enters state session statement ≡ false → after state session statement ≡ state
+unfolding enters
+unentered_leaves state session statement e = by (is_refused (reply_to state session statement)) refl
+  where
+    by : (b : Bool) → is_refused (reply_to state session statement) ≡ b → after state session statement ≡ state
+    by true refused = refused_leaves state session statement refused
+    by false accepted = accepted_done state session statement accepted
+        ∙ idles state session (seat_of state session) statement (sym (ap (λ b. not b && may_enter state (seat_of state session) statement) accepted) ∙ e)

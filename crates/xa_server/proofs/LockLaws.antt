@@ -1,0 +1,69 @@
+-- The state that the records stand for keeps the lock law.
+use Rattle.std.proofs.Common.{◌≡◌, ℕ, List, refl, ap, sym, ◌∙◌, Bool, true, false}
+use Rattle.std.specs.Prelude.{Option, Some, None, is_some, is_none}
+use Rattle.std.specs.Option.{option_map, option_map_or, option_and_then}
+use Rattle.std.specs.FinMap as map
+use mathlib.Core.Bool.{true≢false}
+use Rattle.xa_xid.specs.declared.xid.Xid.{Xid}
+use Rattle.xa_server.specs.declared.branch.BranchRecord.{BranchRecord}
+use Rattle.xa_server.specs.declared.row.RowRecord.{RowRecord}
+use Rattle.xa_server.specs.State.{Write, is_known, is_prepared, is_prepared_phase, owner_at, write_at}
+use Rattle.xa_server.specs.Locks.{LockLaw, holds}
+use Rattle.xa_server.specs.Tables.{BranchMap, owner_of}
+use Rattle.xa_server.specs.Rows.{RowMap, holder_of, lock_by, write_by}
+use Rattle.xa_server.specs.View.{state_of, IsWhole}
+use Rattle.xa_server.proofs.Index.{same_value}
+use Rattle.xa_server.proofs.Seen.{holds-seen, is_known-seen, is_prepared-seen, owner_at-seen, owns_owner, unwritten, write_at-seen}
+use Rattle.xa_server.proofs.Holding.{holder_from_lock}
+
+-- the branch that holds a row in the state is the one that the row's record names
+holder_is : (branches : BranchMap) (rows : RowMap) → IsWhole branches rows → (xid : Xid) (key : List ℕ) → holds (state_of branches rows) xid key ≡ true → holder_of (map.get rows key) ≡ Some xid
+holder_is branches rows whole xid key e = holder_from_lock xid (map.get rows key) (sym (holds-seen branches rows xid key whole) ∙ e)
+
+is_prepared_in : Option BranchRecord → Bool
+is_prepared_in found = option_map_or is_prepared_phase (option_map (λ (b : BranchRecord). b.phase) found) false
+
+nobody : (owner : Option ℕ) → is_none owner ≡ true → owner ≡ None
+nobody None e = refl
+nobody (Some owner) e = absurd (true≢false (sym e))
+
+somebody : (owner : Option ℕ) → is_none owner ≡ false → is_some owner ≡ true
+somebody None e = absurd (true≢false e)
+somebody (Some owner) e = refl
+
+-- a PREPARED branch has no owner
+detached : (branches : BranchMap) (rows : RowMap) → IsWhole branches rows → (xid : Xid) → is_prepared (state_of branches rows) xid ≡ true → owner_at (state_of branches rows) xid ≡ None
+unfolding is_prepared_in
+detached branches rows whole xid e = owner_at-seen branches rows xid ∙ by (map.get branches xid) refl (sym (is_prepared-seen branches rows xid) ∙ e)
+  where
+    by : (found : Option BranchRecord) → map.get branches xid ≡ found → is_prepared_in found ≡ true → option_and_then (λ (b : BranchRecord). b.owner) found ≡ None
+    by None is e = absurd (true≢false (sym e))
+    by (Some branch) is e = nobody branch.owner (whole.attached xid branch is ∙ e)
+
+-- an ACTIVE or IDLE branch has one
+attached : (branches : BranchMap) (rows : RowMap) → IsWhole branches rows → (xid : Xid) → is_known (state_of branches rows) xid ≡ true → is_prepared (state_of branches rows) xid ≡ false →
+    is_some (owner_at (state_of branches rows) xid) ≡ true
+unfolding is_prepared_in
+attached branches rows whole xid known e =
+    ap is_some (owner_at-seen branches rows xid) ∙ by (map.get branches xid) refl (sym (is_known-seen branches rows xid) ∙ known) (sym (is_prepared-seen branches rows xid) ∙ e)
+  where
+    by : (found : Option BranchRecord) → map.get branches xid ≡ found → is_some found ≡ true → is_prepared_in found ≡ false → is_some (option_and_then (λ (b : BranchRecord). b.owner) found) ≡ true
+    by None is there e = absurd (true≢false (sym there))
+    by (Some branch) is there e = somebody branch.owner (whole.attached xid branch is ∙ e)
+
+-- what writes a row holds it
+written_held : (xid : Xid) (row : Option RowRecord) → is_some (option_and_then (write_by xid) row) ≡ true → is_some (option_and_then (lock_by xid) row) ≡ true
+written_held xid row e = by (is_some (option_and_then (lock_by xid) row)) refl
+  where
+    by : (b : Bool) → is_some (option_and_then (lock_by xid) row) ≡ b → b ≡ true
+    by true is = refl
+    by false is = absurd (true≢false (sym e ∙ ap is_some (unwritten xid row is)))
+
+pub lock_law : (branches : BranchMap) (rows : RowMap) → IsWhole branches rows → LockLaw (state_of branches rows)
+lock_law branches rows whole = record {
+  one_holder = λ xid other key e f. same_value xid other (sym (holder_is branches rows whole xid key e) ∙ holder_is branches rows whole other key f);
+  one_branch = λ session xid other e f. whole.one_owned session xid other (owns_owner branches rows session xid e) (owns_owner branches rows session other f);
+  detached = detached branches rows whole;
+  attached = attached branches rows whole;
+  held_writes = λ xid key e. holds-seen branches rows xid key whole ∙ written_held xid (map.get rows key) (sym (ap is_some (write_at-seen branches rows xid key whole)) ∙ e);
+}

@@ -1,0 +1,283 @@
+-- A statement of one session leaves what another session has open.
+use Rattle.std.proofs.Common.{◌≡◌, ◌≢◌, ℕ, List, [], ◌∷◌, refl, ap, sym, ◌∙◌, Bool, true, false, ◌⊎◌, inl, inr}
+use Rattle.std.specs.Prelude.{Option, Some, None, cond, ◌==◌, is_some, find, not}
+use Rattle.std.specs.Option.{option_map, option_map_or, option_and_then}
+use Rattle.std.specs.List.{list_any}
+use Rattle.std.specs.FinMap as map
+use Rattle.std.specs.FinMap.{contains_key-keys}
+use mathlib.Core.Bool.{true≢false}
+use borrow.Author.Tests.{eqb-true}
+use Rattle.xa_xid.specs.declared.xid.Xid.{Xid}
+use Rattle.xa_xid.specs.Xid.{Text, same_xid}
+use Rattle.xa_xid.proofs.Orders.{xids_total, exact_xids}
+use Rattle.xa_xid.specs.declared.statement.Statement.{Statement}
+use Rattle.xa_xid.specs.declared.statement.Statement.TheVariants.{Start, End, Prepare, Commit, Rollback, Recover, Unsupported, Get, Put, Del, Disconnect}
+use Rattle.xa_server.specs.declared.branch.Phase.{Phase}
+use Rattle.xa_server.specs.declared.branch.Phase.TheVariants.{Active as PhaseActive, Idle as PhaseIdle, Prepared as PhasePrepared}
+use Rattle.xa_server.specs.declared.xa_error.XaError.{XaError}
+use Rattle.xa_server.specs.declared.xa_error.XaError.TheVariants.{Nota, Rmfail}
+use Rattle.xa_server.specs.declared.xa_error.BranchState.TheVariants.{Prepared as StatePrepared}
+use Rattle.xa_server.specs.declared.reply.Reply.TheVariants.{Refused}
+use Rattle.xa_server.specs.declared.seat.Seat.{Seat}
+use Rattle.xa_server.specs.declared.seat.Seat.TheVariants.{Free, Active, Idle}
+use Rattle.xa_server.specs.State.{Write, Branch, State, is_known, is_prepared, owner_at, owns, own_xid, phase_at, seat_in, seat_of, IsOpen}
+use Rattle.xa_server.specs.Locks.{LockLaw}
+use Rattle.xa_server.specs.Replies.{ok_if, refused_if, table, reply_to}
+use Rattle.xa_server.specs.Step.{started_by, with_lock, with_own_write, effect, is_refused, after}
+use Rattle.xa_server.specs.Laws.{LeavesSession}
+use Rattle.xa_server.proofs.Maps.{same_is, same_or_apart, same_itself}
+use Rattle.xa_server.proofs.Index.{same_value, not_none}
+use Rattle.xa_server.proofs.Seen.{find_one, find_none, owned_is}
+use Rattle.xa_server.proofs.Accepted.{open_seat, accepted_start, own_is, passes}
+use Rattle.xa_server.proofs.Changes.{idle, detached, branch_after, effect-branch, outcome}
+
+-- the session owns the branch
+unfoldable pub is_owned : ℕ → Option Branch → Bool
+is_owned session found = option_map_or (λ owner. owner == session) (option_and_then (λ (b : Branch). b.owner) found) false
+
+-- ---- what a session has open, it owns
+
+-- the branch that a seat names is the session's
+abbrev pub IsOwn : State → ℕ → Seat → Type 0
+IsOwn state session Free = Unit {0}
+IsOwn state session (Active own) = owns state session own ≡ true
+IsOwn state session (Idle own) = owns state session own ≡ true
+
+passing : (p : Xid → Bool) (x : Xid) (rest : Option Xid) (xid : Xid) → (rest ≡ Some xid → p xid ≡ true) → (b : Bool) → p x ≡ b → cond b (Some x) rest ≡ Some xid → p xid ≡ true
+passing p x rest xid later true is e = ap p (sym (same_value x xid e)) ∙ is
+passing p x rest xid later false is e = later e
+
+-- what is found passes
+find_passes : (p : Xid → Bool) (xs : List Xid) (xid : Xid) → find p xs ≡ Some xid → p xid ≡ true
+find_passes p [] xid e = not_none xid e
+find_passes p (x ∷ xs) xid e = passing p x (find p xs) xid (find_passes p xs xid) (p x) refl e
+
+in_phase : (state : State) (session : ℕ) (phase : Option Phase) (xid : Xid) → owns state session xid ≡ true → IsOwn state session (seat_in phase xid)
+in_phase state session None xid e = tt
+in_phase state session (Some PhaseActive) xid e = e
+in_phase state session (Some PhaseIdle) xid e = e
+in_phase state session (Some PhasePrepared) xid e = tt
+
+pub own_seat : (state : State) (session : ℕ) → IsOwn state session (seat_of state session)
+unfolding seat_of own_xid
+own_seat state session = by (own_xid state session) refl
+  where
+    by : (own : Option Xid) → own_xid state session ≡ own → IsOwn state session (option_map_or (λ xid. seat_in (phase_at state xid) xid) own Free)
+    by None e = tt
+    by (Some xid) e = in_phase state session (phase_at state xid) xid (find_passes (owns state session) (map.keys state.branches) xid e)
+
+pub known_owned : (session : ℕ) (found : Option Branch) → is_owned session found ≡ true → is_some found ≡ true
+unfolding is_owned
+known_owned session None e = absurd (true≢false (sym e))
+known_owned session (Some branch) e = refl
+
+-- a branch that the session alone of all branches could own, and owns, is the one that is found
+pub own_found : (state : State) (session : ℕ) (xid : Xid) → owns state session xid ≡ true → ((other : Xid) → owns state session other ≡ true → xid ≡ other) → own_xid state session ≡ Some xid
+unfolding own_xid is_owned
+own_found state session xid e only = find_one (owns state session) (map.keys state.branches) xid
+    (sym (contains_key-keys state.branches xid) ∙ known_owned session (map.get state.branches xid) e) e only
+
+-- the branch that is found is the session's
+pub find_owned : (state : State) (session : ℕ) (xid : Xid) → own_xid state session ≡ Some xid → owns state session xid ≡ true
+unfolding own_xid
+find_owned state session xid e = find_passes (owns state session) (map.keys state.branches) xid e
+
+-- where the session owns no branch, none is found
+pub none_found : (state : State) (session : ℕ) → ((xid : Xid) → owns state session xid ≢ true) → own_xid state session ≡ None
+unfolding own_xid
+none_found state session none = find_none (owns state session) (map.keys state.branches) (λ xid. by xid (owns state session xid) refl)
+  where
+    by : (xid : Xid) (b : Bool) → owns state session xid ≡ b → b ≡ false
+    by xid true e = absurd (none xid e)
+    by xid false e = refl
+
+-- ---- whose branch an accepted statement changes
+
+pub accepted_end_own : (state : State) (session : ℕ) (seat : Seat) (xid : Xid) → IsOwn state session seat → is_refused (table state seat (End xid)) ≡ false → owns state session xid ≡ true
+unfolding table
+accepted_end_own state session Free xid own e = absurd (true≢false e)
+accepted_end_own state session (Active seated) xid own e = ap (owns state session) (own_is xid seated _ e) ∙ own
+accepted_end_own state session (Idle seated) xid own e = absurd (true≢false e)
+
+pub accepted_prepare_own : (state : State) (session : ℕ) (seat : Seat) (xid : Xid) → IsOwn state session seat → is_refused (table state seat (Prepare xid)) ≡ false → owns state session xid ≡ true
+unfolding table
+accepted_prepare_own state session Free xid own e = absurd (true≢false e)
+accepted_prepare_own state session (Active seated) xid own e = absurd (true≢false e)
+accepted_prepare_own state session (Idle seated) xid own e = ap (owns state session) (own_is xid seated _ e) ∙ own
+
+never_done : {A : Type 0} (b : Bool) → is_refused (refused_if (not b) Nota (Refused (Rmfail StatePrepared))) ≡ false → A
+never_done true e = absurd (true≢false e)
+never_done false e = absurd (true≢false e)
+
+-- the session's own branch, or one that is PREPARED
+abbrev pub IsFinishable : State → ℕ → Xid → Type 0
+IsFinishable state session xid = (owns state session xid ≡ true) ⊎ (is_prepared state xid ≡ true)
+
+pub accepted_commit_own : (state : State) (session : ℕ) (seat : Seat) (xid : Xid) (one_phase : Bool) → IsOwn state session seat → is_refused (table state seat (Commit xid one_phase)) ≡ false → IsFinishable state session xid
+unfolding table
+accepted_commit_own state session Free xid false own e = inr (passes (is_prepared state xid) _ e)
+accepted_commit_own state session Free xid true own e = never_done (is_prepared state xid) e
+accepted_commit_own state session (Active seated) xid false own e = absurd (true≢false e)
+accepted_commit_own state session (Active seated) xid true own e = absurd (true≢false e)
+accepted_commit_own state session (Idle seated) xid false own e = absurd (true≢false e)
+accepted_commit_own state session (Idle seated) xid true own e = inl (ap (owns state session) (own_is xid seated _ e) ∙ own)
+
+pub accepted_rollback_own : (state : State) (session : ℕ) (seat : Seat) (xid : Xid) → IsOwn state session seat → is_refused (table state seat (Rollback xid)) ≡ false → IsFinishable state session xid
+unfolding table
+accepted_rollback_own state session Free xid own e = inr (passes (is_prepared state xid) _ e)
+accepted_rollback_own state session (Active seated) xid own e = absurd (true≢false e)
+accepted_rollback_own state session (Idle seated) xid own e = inl (ap (owns state session) (own_is xid seated _ e) ∙ own)
+
+-- ---- such a branch isn't another session's
+
+one_owner : (session other : ℕ) (owner : Option ℕ) → session ≢ other → option_map_or (λ o. o == session) owner false ≡ true → option_map_or (λ o. o == other) owner false ≡ false
+one_owner session other owner apart e = by (option_map_or (λ o. o == other) owner false) refl
+  where
+    by : (b : Bool) → option_map_or (λ o. o == other) owner false ≡ b → b ≡ false
+    by true f = absurd (apart (same_value session other (sym (owned_is owner session e) ∙ owned_is owner other f)))
+    by false f = refl
+
+not_others : (state : State) (session other : ℕ) (xid : Xid) → session ≢ other → owns state session xid ≡ true → owns state other xid ≡ false
+not_others state session other xid apart e = one_owner session other (owner_at state xid) apart e
+
+pub nobodys : (state : State) (other : ℕ) (xid : Xid) → LockLaw state → is_prepared state xid ≡ true → owns state other xid ≡ false
+nobodys state other xid law e = ap (λ owner. option_map_or (λ o. o == other) owner false) (law.detached xid e)
+
+not_anothers : (state : State) (session other : ℕ) (xid : Xid) → LockLaw state → session ≢ other → IsFinishable state session xid → owns state other xid ≡ false
+not_anothers state session other xid law apart (inl e) = not_others state session other xid apart e
+not_anothers state session other xid law apart (inr e) = nobodys state other xid law e
+
+unknown_owned : (other : ℕ) (found : Option Branch) → is_some found ≡ false → is_owned other found ≡ false
+unfolding is_owned
+unknown_owned other None e = refl
+unknown_owned other (Some branch) e = absurd (true≢false e)
+
+-- ---- another session's branch stays as it is
+
+spared : (state : State) (other : ℕ) (touched at : Xid) (new : Option Branch) → owns state other touched ≡ false → owns state other at ≡ true → cond (same_xid at touched) new (map.get state.branches at) ≡ map.get state.branches at
+spared state other touched at new no_owner e = elim (same_or_apart xids_total exact_xids at touched) [
+  | inl is ↦ absurd (true≢false (sym e ∙ ap (owns state other) is ∙ no_owner))
+  | inr apart ↦ ap (λ b. cond b new (map.get state.branches at)) apart
+]
+
+kept : (state : State) (session other : ℕ) → LockLaw state → session ≢ other → (seat : Seat) → IsOwn state session seat → (statement : Statement) → is_refused (table state seat statement) ≡ false →
+    (at : Xid) → owns state other at ≡ true → branch_after session seat statement at (map.get state.branches at) ≡ map.get state.branches at
+unfolding branch_after is_owned
+kept state session other law apart seat own (Start xid) accepted at e = spared state other xid at _ (unknown_owned other (map.get state.branches xid) (accepted_start state seat xid accepted).1) e
+kept state session other law apart seat own (End xid) accepted at e = spared state other xid at _ (not_others state session other xid apart (accepted_end_own state session seat xid own accepted)) e
+kept state session other law apart seat own (Prepare xid) accepted at e = spared state other xid at _ (not_others state session other xid apart (accepted_prepare_own state session seat xid own accepted)) e
+kept state session other law apart seat own (Commit xid one_phase) accepted at e = spared state other xid at _ (not_anothers state session other xid law apart (accepted_commit_own state session seat xid one_phase own accepted)) e
+kept state session other law apart seat own (Rollback xid) accepted at e = spared state other xid at _ (not_anothers state session other xid law apart (accepted_rollback_own state session seat xid own accepted)) e
+kept state session other law apart seat own (Recover convert) accepted at e = refl
+kept state session other law apart seat own Unsupported accepted at e = refl
+kept state session other law apart Free own (Get key) accepted at e = refl
+kept state session other law apart (Active seated) own (Get key) accepted at e = spared state other seated at _ (not_others state session other seated apart own) e
+kept state session other law apart (Idle seated) own (Get key) accepted at e = refl
+kept state session other law apart Free own (Put key value) accepted at e = refl
+kept state session other law apart (Active seated) own (Put key value) accepted at e = spared state other seated at _ (not_others state session other seated apart own) e
+kept state session other law apart (Idle seated) own (Put key value) accepted at e = refl
+kept state session other law apart Free own (Del key) accepted at e = refl
+kept state session other law apart (Active seated) own (Del key) accepted at e = spared state other seated at _ (not_others state session other seated apart own) e
+kept state session other law apart (Idle seated) own (Del key) accepted at e = refl
+kept state session other law apart Free own Disconnect accepted at e = refl
+kept state session other law apart (Active seated) own Disconnect accepted at e = spared state other seated at _ (not_others state session other seated apart own) e
+kept state session other law apart (Idle seated) own Disconnect accepted at e = spared state other seated at _ (not_others state session other seated apart own) e
+
+-- ---- another session gets no branch
+
+either : (other : ℕ) (b : Bool) (new found : Option Branch) → (is_owned other new ≡ true → is_owned other found ≡ true) → is_owned other (cond b new found) ≡ true → is_owned other found ≡ true
+either other true new found from e = from e
+either other false new found from e = e
+
+same_owner : (other : ℕ) (change : Branch → Branch) → ((branch : Branch) → (change branch).owner ≡ branch.owner) → (found : Option Branch) → is_owned other (option_map change found) ≡ true → is_owned other found ≡ true
+unfolding is_owned
+same_owner other change same None e = e
+same_owner other change same (Some branch) e = ap (λ owner. option_map_or (λ o. o == other) owner false) (sym (same branch)) ∙ e
+
+ownerless : (other : ℕ) (found : Option Branch) → is_owned other (option_map detached found) ≡ true → is_owned other found ≡ true
+unfolding is_owned detached
+ownerless other None e = absurd (true≢false (sym e))
+ownerless other (Some branch) e = absurd (true≢false (sym e))
+
+removed : (other : ℕ) (found : Option Branch) → is_owned other None ≡ true → is_owned other found ≡ true
+unfolding is_owned
+removed other found e = absurd (true≢false (sym e))
+
+-- a branch that the session has just started
+abbrev pub IsStarted : ℕ → ℕ → Statement → Xid → Type 0
+IsStarted session who statement at = (statement ≡ Start at) × (session ≡ who)
+
+-- a branch that a session owns after a statement, it owned before, or has just started
+pub owned_before : (session who : ℕ) (seat : Seat) (statement : Statement) (at : Xid) (found : Option Branch) → is_owned who (branch_after session seat statement at found) ≡ true →
+    (is_owned who found ≡ true) ⊎ IsStarted session who statement at
+unfolding branch_after idle is_owned
+owned_before session who seat (Start xid) at found e = elim (same_or_apart xids_total exact_xids at xid) [
+  | inl is ↦ inr (ap Start (sym is), same_value session who (owned_is (Some session) who (ap (λ b. is_owned who (cond b (Some (started_by session)) found)) (sym (ap (λ x. same_xid x xid) is ∙ same_itself xids_total exact_xids xid)) ∙ e)))
+  | inr apart ↦ inl (ap (λ b. is_owned who (cond b (Some (started_by session)) found)) (sym apart) ∙ e)
+]
+owned_before session who seat (End xid) at found e = inl (either who (same_xid at xid) _ found (same_owner who idle (λ b. refl) found) e)
+owned_before session who seat (Prepare xid) at found e = inl (either who (same_xid at xid) _ found (ownerless who found) e)
+owned_before session who seat (Commit xid one_phase) at found e = inl (either who (same_xid at xid) _ found (removed who found) e)
+owned_before session who seat (Rollback xid) at found e = inl (either who (same_xid at xid) _ found (removed who found) e)
+owned_before session who seat (Recover convert) at found e = inl e
+owned_before session who seat Unsupported at found e = inl e
+owned_before session who Free (Get key) at found e = inl e
+owned_before session who (Active own) (Get key) at found e = inl (either who (same_xid at own) _ found (same_owner who (with_lock key) (λ b. refl) found) e)
+owned_before session who (Idle own) (Get key) at found e = inl e
+owned_before session who Free (Put key value) at found e = inl e
+owned_before session who (Active own) (Put key value) at found e = inl (either who (same_xid at own) _ found (same_owner who (with_own_write key (Some value)) (λ b. refl) found) e)
+owned_before session who (Idle own) (Put key value) at found e = inl e
+owned_before session who Free (Del key) at found e = inl e
+owned_before session who (Active own) (Del key) at found e = inl (either who (same_xid at own) _ found (same_owner who (with_own_write key None) (λ b. refl) found) e)
+owned_before session who (Idle own) (Del key) at found e = inl e
+owned_before session who Free Disconnect at found e = inl e
+owned_before session who (Active own) Disconnect at found e = inl (either who (same_xid at own) _ found (removed who found) e)
+owned_before session who (Idle own) Disconnect at found e = inl (either who (same_xid at own) _ found (removed who found) e)
+
+-- so another session gets none
+gained : (session other : ℕ) → session ≢ other → (seat : Seat) (statement : Statement) (at : Xid) (found : Option Branch) → is_owned other (branch_after session seat statement at found) ≡ true → is_owned other found ≡ true
+gained session other apart seat statement at found e = elim (owned_before session other seat statement at found e) [
+  | inl before ↦ before
+  | inr started ↦ absurd (apart started.1)
+]
+
+-- ---- the law
+
+-- states in which the session owns the same branches, which are as they were
+same_session : (old new : State) (session : ℕ) → LockLaw old → ((xid : Xid) → owns old session xid ≡ true → map.get new.branches xid ≡ map.get old.branches xid) →
+    ((xid : Xid) → owns new session xid ≡ true → owns old session xid ≡ true) → LeavesSession old new session
+unfolding is_owned seat_of
+same_session old new session law same back = record { own = own; seat = seat (own_xid old session) refl; phase = phase; branch = same }
+  where
+    phase : (xid : Xid) → owns old session xid ≡ true → phase_at new xid ≡ phase_at old xid
+    phase xid e = ap (option_map (λ (b : Branch). b.phase)) (same xid e)
+
+    found : (xid : Xid) → owns old session xid ≡ true → own_xid new session ≡ Some xid
+    found xid e = own_found new session xid (ap (is_owned session) (same xid e) ∙ e) (λ other f. law.one_branch session xid other e (back other f))
+
+    by : (was : Option Xid) → own_xid old session ≡ was → own_xid new session ≡ was
+    by (Some xid) is = found xid (find_owned old session xid is)
+    by None is = none_found new session (λ xid e. not_none xid (sym is ∙ own_found old session xid (back xid e) (λ other f. law.one_branch session xid other (back xid e) f)))
+
+    own : own_xid new session ≡ own_xid old session
+    own = by (own_xid old session) refl
+
+    seat : (was : Option Xid) → own_xid old session ≡ was → seat_of new session ≡ seat_of old session
+    seat None is = ap (λ own. option_map_or (λ xid. seat_in (phase_at new xid) xid) own Free) (own ∙ is) ∙ sym (ap (λ own. option_map_or (λ xid. seat_in (phase_at old xid) xid) own Free) is)
+    seat (Some xid) is =
+        ap (λ own. option_map_or (λ xid. seat_in (phase_at new xid) xid) own Free) (own ∙ is)
+        ∙ ap (λ p. seat_in p xid) (phase xid (find_owned old session xid is))
+        ∙ sym (ap (λ own. option_map_or (λ xid. seat_in (phase_at old xid) xid) own Free) is)
+
+pub others_left : (state : State) → LockLaw state → (session other : ℕ) (statement : Statement) → session ≢ other → LeavesSession state (after state session statement) other
+unfolding is_owned
+others_left state law session other statement apart = elim (outcome state session statement) [
+  | inl (refused, same) ↦ same_session state (after state session statement) other law
+      (λ xid e. ap (λ (s : State). map.get s.branches xid) same)
+      (λ xid e. sym (ap (λ s. owns s other xid) same) ∙ e)
+  | inr (accepted, done) ↦ same_session state (after state session statement) other law
+      (λ xid e. ap (λ (s : State). map.get s.branches xid) done ∙ effect-branch state session (seat_of state session) statement xid
+      ∙ kept state session other law apart (seat_of state session) (own_seat state session) statement accepted xid e)
+      (λ xid e. gained session other apart (seat_of state session) statement xid (map.get state.branches xid)
+      (ap (is_owned other) (sym (effect-branch state session (seat_of state session) statement xid)) ∙ sym (ap (λ s. owns s other xid) done) ∙ e))
+]

@@ -1,0 +1,27 @@
+-- What holds of every state and every history.
+--     IsPreparedBetween    an accepted XA PREPARE of the branch stands between two places of a history
+--     LeavesSession        what a session has open is as it was
+use Rattle.std.specs.Prelude.{◌≡◌, ℕ, ◌<◌, true, List, Option}
+use Rattle.std.specs.FinMap as map
+use Rattle.xa_xid.specs.declared.xid.Xid.{Xid}
+use Rattle.xa_xid.specs.declared.statement.Statement.{Statement}
+use Rattle.xa_server.specs.State.{State, owns, own_xid, phase_at, seat_of}
+use Rattle.xa_server.specs.Finish.{PreparesAt}
+
+-- an accepted XA PREPARE of the branch stands between two places of a history
+pub record IsPreparedBetween (base : State) (history : List (ℕ × Statement)) (first second : ℕ) (xid : Xid) : Type 0 where
+  pub place : ℕ
+  pub after_first : first < place
+  pub before_second : place < second
+  pub prepares : PreparesAt base history place xid
+
+-- what a session has open is as it was
+pub record LeavesSession (old new : State) (session : ℕ) : Type 0 where
+  -- the session owns the branch that it owned
+  pub own : own_xid new session ≡ own_xid old session
+  -- and has it open as it had
+  pub seat : seat_of new session ≡ seat_of old session
+  -- the branch is in the phase in which it was
+  pub phase : (xid : Xid) → owns old session xid ≡ true → phase_at new xid ≡ phase_at old xid
+  -- and has the owner, the writes and the locks that it had
+  pub branch : (xid : Xid) → owns old session xid ≡ true → map.get new.branches xid ≡ map.get old.branches xid
