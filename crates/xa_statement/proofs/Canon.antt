@@ -1,27 +1,25 @@
 -- The canonical text of a statement spells that statement.
-use Rattle.std.proofs.Common.{◌≡◌, ℕ, ◌^◌, ◌<◌, ◌≤◌, suc, Bool, true, false, ◌==◌, ◌||◌, nat_lt, List, [], ◌∷◌, ◌++◌, length, codes, decimal, is_none, Option, Some, None, Result, Ok, Err, refl, sym, ◌∙◌, ap, arith, append_assoc}
+use Rattle.std.proofs.Common.{◌≡◌, ℕ, ◌^◌, ◌<◌, ◌≤◌, Bool, true, false, ◌||◌, nat_lt, List, [], ◌∷◌, ◌++◌, length, codes, decimal, is_none, Option, Some, None, Ok, refl, sym, ◌∙◌, ap, arith}
 use Rattle.std.proofs.lemmas.Bool.{agree_below_at, ne_eqb, le-ltb, true≢false}
 use Rattle.std.proofs.lemmas.List.{append-nil}
 use Rattle.std.proofs.lemmas.Fmt.{decimal_is_IsNumeral}
-use Rattle.std.proofs.lemmas.Str.Parse.{digit_from_value}
 use Rattle.std.specs.Str.Parse.{IsNumeral}
-use Rattle.hex.specs.Hex.{IsBytes, encode_lower, encode_with}
+use Rattle.hex.specs.Hex.{IsBytes, encode_lower}
 use Rattle.xa_xid.specs.Bytes.{belongs, front, behind, run, after_run, unblank, StartsNo}
-use Rattle.xa_xid.specs.Literal.{Reading, literal_at, opens_text, opens_hex, is_quote, is_x}
+use Rattle.xa_xid.specs.Literal.{literal_at}
 use Rattle.xa_xid.specs.Number.{number_at}
 use Rattle.xa_xid.specs.Xid.{Text}
-use Rattle.xa_xid.specs.XidText.{IsWritable, part_text, xid_text, xid_of}
-use Rattle.xa_xid.specs.declared.byte_class.ByteClass.TheVariants.{Word as word_byte, Blank as blank_byte}
+use Rattle.xa_xid.specs.XidText.{IsWritable, part_text, xid_text}
+use Rattle.xa_xid.specs.declared.byte_class.ByteClass.TheVariants.{Word as word_byte}
 use Rattle.xa_xid.specs.declared.xid.Xid.{Xid}
-use Rattle.xa_xid.specs.declared.statement.Statement.{Statement}
-use Rattle.xa_xid.specs.declared.statement.Statement.TheVariants.{Start, End, Prepare, Commit, Rollback, Recover, Unsupported, Get, Put, Del, Disconnect}
+use Rattle.xa_xid.specs.declared.statement.Statement.TheVariants.{Start, End, Prepare, Commit, Rollback, Recover, Get, Put, Del, Disconnect}
 use Rattle.xa_xid.proofs.Written.{Passes, front-append, behind-append, part_back, part_word, number_back, decimal_word, part_unblank, number_unblank, xid_text-append, comma_no_word, decimal_byte}
 use Rattle.xa_statement.specs.declared.token.Keyword.{Keyword}
 use Rattle.xa_statement.specs.declared.token.Keyword.TheVariants.{Xa as XA, Start as START, End as END, Prepare as PREPARE, Commit as COMMIT, Rollback as ROLLBACK, Recover as RECOVER, One as ONE, Phase as PHASE, Convert as CONVERT, Xid as XID, Get as GET, Put as PUT, Del as DEL, Disconnect as DISCONNECT}
 use Rattle.xa_statement.specs.declared.token.Token.{Token}
 use Rattle.xa_statement.specs.declared.token.Token.TheVariants.{Word, Comma, Value}
 use Rattle.xa_statement.specs.Canonical.{statement_text, IsKey}
-use Rattle.xa_statement.specs.Grammar.{XidTokens, gtrid_bqual_format, is_start, Row, start, end, prepare, commit, commit_one, rollback, recover, recover_convert, get, put, del, disconnect, Says, bare_row, Spells}
+use Rattle.xa_statement.specs.Grammar.{XidTokens, gtrid_bqual_format, is_start, start, end, prepare, commit, commit_one, rollback, recover, recover_convert, get, put, del, disconnect, bare_row, Spells}
 use Rattle.xa_statement.specs.Token.{is_word, statement_word, clause_word, keyword_of, part_of, run_token, run_at, quoted_at, opens_quoted, token_at, pieces, tokens_of, bare}
 use Rattle.xa_statement.proofs.Pieces.{IsUnblank, first_token, tokens-unblank, pieces-nil}
 
@@ -110,7 +108,7 @@ digit_no_word : (byte : ℕ) (more : List ℕ) → 48 ≤ byte → byte ≤ 57 �
 unfolding keyword_of statement_word clause_word is_word
 digit_no_word byte more low high =
     let known : (nat_lt byte 48 || is_none (keyword_of (byte ∷ more))) ≡ true =
-      agree_below_at (λ n. nat_lt n 48 || is_none (keyword_of (n ∷ more))) (λ _. true) 58 byte refl (omega arith) in
+    agree_below_at (λ n. nat_lt n 48 || is_none (keyword_of (n ∷ more))) (λ _. true) 58 byte refl (omega arith) in
     let above : nat_lt byte 48 ≡ false = le-ltb byte 48 low in
     not_some (keyword_of (byte ∷ more)) (ap (λ b. b || is_none (keyword_of (byte ∷ more))) (sym above) ∙ known)
 
@@ -130,7 +128,7 @@ digit_token byte body rest low high word s =
     let none : keyword_of (run text) ≡ None = ap keyword_of cut ∙ digit_no_word byte body low high in
     let quote : opens_quoted text ≡ false = no_quote byte (body ++ rest) low high in
     let ran : run_at text ≡ (Value (part_of (literal_at text)) (part_of (number_at text)), rest) =
-      ap (λ k. (run_token k text, after_run text)) none ∙ ap (λ r. (run_token None text, r)) left in
+    ap (λ k. (run_token k text, after_run text)) none ∙ ap (λ r. (run_token None text, r)) left in
     rw (ne_eqb byte 44 (λ e. omega arith), ne_eqb byte 59 (λ e. omega arith), quote, word.0) ran
 
 -- the token of a part
@@ -143,7 +141,7 @@ unfolding token_at
 part_token [] rest all fits s = record {
   number = None;
   tokens = token_next (part_text [] ++ rest) (39 ∷ 39 ∷ rest) rest 88 (Value (Some (record { items = [] })) None)
-    (part_unblank [] rest) (ap quoted_at (part_back [] rest all fits s)) (part_unblank [] rest);
+      (part_unblank [] rest) (ap quoted_at (part_back [] rest all fits s)) (part_unblank [] rest);
 }
 part_token (byte ∷ bytes) rest all fits s =
     let text = part_text (byte ∷ bytes) ++ rest in
@@ -151,11 +149,11 @@ part_token (byte ∷ bytes) rest all fits s =
     let number = part_of (number_at text) in
     let literal : part_of (literal_at text) ≡ Some (record { items = byte ∷ bytes }) = ap part_of (part_back (byte ∷ bytes) rest all fits s) in
     let cut : token_at text ≡ (Value (Some (record { items = byte ∷ bytes })) number, rest) =
-      digit_token 48 body rest (omega arith) (omega arith) (part_word byte bytes all) s ∙ ap (λ l. (Value l number, rest)) literal in
+    digit_token 48 body rest (omega arith) (omega arith) (part_word byte bytes all) s ∙ ap (λ l. (Value l number, rest)) literal in
     record {
       number = number;
       tokens = token_next text (body ++ rest) rest 48 (Value (Some (record { items = byte ∷ bytes })) number)
-        (part_unblank (byte ∷ bytes) rest) cut (part_unblank (byte ∷ bytes) rest);
+          (part_unblank (byte ∷ bytes) rest) cut (part_unblank (byte ∷ bytes) rest);
     }
 
 -- the token of a number
@@ -172,7 +170,7 @@ digits_token n (digit ∷ digits) rest is word s blank e =
     let range = decimal_byte digit is.1.0 in
     let number : part_of (number_at text) ≡ Some n = ap part_of e in
     let cut : token_at text ≡ (Value literal (Some n), rest) =
-      digit_token digit digits rest range.0 range.1 word s ∙ ap (λ v. (Value literal v, rest)) number in
+    digit_token digit digits rest range.0 range.1 word s ∙ ap (λ v. (Value literal v, rest)) number in
     record { literal = literal; tokens = token_next text (digits ++ rest) rest digit (Value literal (Some n)) blank cut blank }
 
 number_token : (n : ℕ) (rest : List ℕ) → n < 2 ^ 64 → StartsNo (belongs word_byte) rest → NumberToken n (decimal n) rest
@@ -198,12 +196,12 @@ xid_tokens xid rest is s =
       x = gtrid ∷ Comma ∷ bqual ∷ Comma ∷ Value f.literal (Some xid.format_id) ∷ [];
       form = gtrid_bqual_format xid.gtrid xid.bqual g.number b.number f.literal xid.format_id;
       tokens =
-        ap (λ t. bare (tokens_of t)) (xid_text-append xid rest)
-        ∙ g.tokens
-        ∙ ap (λ ts. gtrid ∷ ts) (comma_next third)
-        ∙ ap (λ ts. gtrid ∷ Comma ∷ ts) b.tokens
-        ∙ ap (λ ts. gtrid ∷ Comma ∷ bqual ∷ ts) (comma_next number)
-        ∙ ap (λ ts. gtrid ∷ Comma ∷ bqual ∷ Comma ∷ ts) f.tokens;
+          ap (λ t. bare (tokens_of t)) (xid_text-append xid rest)
+          ∙ g.tokens
+          ∙ ap (λ ts. gtrid ∷ ts) (comma_next third)
+          ∙ ap (λ ts. gtrid ∷ Comma ∷ ts) b.tokens
+          ∙ ap (λ ts. gtrid ∷ Comma ∷ bqual ∷ ts) (comma_next number)
+          ∙ ap (λ ts. gtrid ∷ Comma ∷ bqual ∷ Comma ∷ ts) f.tokens;
     }
 
 -- an identifier at the end of a text
@@ -261,7 +259,7 @@ commit_spelled xid true is =
     let words = codes " ONE PHASE" in
     let x = xid_tokens xid words is one_phase_no_word in
     rw (xa_word (codes "COMMIT " ++ (xid_text xid ++ words))
-      ∙ ap (λ ts. Word XA ∷ ts) (commit_word (xid_text xid ++ words) ∙ ap (λ ts. Word COMMIT ∷ ts) (x.tokens ∙ ap (λ ts. x.x ++ ts) one_phase_end)))
+    ∙ ap (λ ts. Word XA ∷ ts) (commit_word (xid_text xid ++ words) ∙ ap (λ ts. Word COMMIT ∷ ts) (x.tokens ∙ ap (λ ts. x.x ++ ts) one_phase_end)))
     (bare_row (commit_one x.form))
 
 pub recover_spelled : (convert : Bool) → Spells (statement_text (Recover convert)) (Recover convert)

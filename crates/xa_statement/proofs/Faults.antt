@@ -1,5 +1,5 @@
 -- The reading against the grammar, both ways. It knows the grammar by what the machine's states lead to alone.
-use Rattle.std.proofs.Common.{◌≡◌, ℕ, ◌+◌, ◌-◌, ◌≤◌, zero, suc, List, [], ◌∷◌, ◌++◌, length, append_assoc, Option, Some, None, Result, Ok, Err, IfOk, IfErr, ◌⊎◌, inl, inr, refl, sym, ◌∙◌, ap, arith}
+use Rattle.std.proofs.Common.{◌≡◌, ℕ, ◌+◌, ◌-◌, ◌≤◌, zero, suc, List, [], ◌∷◌, ◌++◌, length, Option, Some, None, Result, Ok, Err, IfOk, IfErr, ◌⊎◌, inl, inr, refl, sym, ◌∙◌, ap, arith}
 use Rattle.std.proofs.Math.Nat.{le_refl}
 use Rattle.std.proofs.lemmas.List.{append-nil}
 use Rattle.xa_xid.specs.Bytes.{belongs, unblank}
@@ -11,14 +11,14 @@ use Rattle.xa_statement.specs.declared.state.State.TheVariants.{AtFirst}
 use Rattle.xa_statement.specs.declared.syntax_fault.SyntaxFault.{SyntaxFault}
 use Rattle.xa_statement.specs.declared.token.Token.{Token}
 use Rattle.xa_statement.specs.FaultPlace.{FaultAt, at_token, at_end}
-use Rattle.xa_statement.specs.Grammar.{Says, Spells, MayGoOn}
+use Rattle.xa_statement.specs.Grammar.{Spells, MayGoOn}
 use Rattle.xa_statement.specs.Machine.{step, finish}
 use Rattle.xa_statement.specs.Reading.{read_from, read_end, placed_in, read_of, seen_of}
 use Rattle.xa_statement.specs.Token.{Piece, pieces, tokens_of, first_piece, token_at, bare}
-use Rattle.xa_statement.proofs.Fronts.{Front, FrontOf, next}
-use Rattle.xa_statement.proofs.Pieces.{token-short, pieces-suc, go_on}
+use Rattle.xa_statement.proofs.Fronts.{Front, next}
+use Rattle.xa_statement.proofs.Pieces.{token-short, go_on}
 use Rattle.xa_statement.proofs.Run.{from_next, read_from-cons, read_from-nil, read_from-stop}
-use Rattle.xa_statement.proofs.Viable.{SaysOf, said, reach, goes_on, viable, stuck, some_reached, none_is_some}
+use Rattle.xa_statement.proofs.Viable.{said, reach, goes_on, viable, stuck, none_is_some}
 use Rattle.xa_statement.proofs.Walk.{walk, walk_on, walk-nil, walk-cons, answer, said_read}
 
 bare-append : (front back : List Piece) → bare (front ++ back) ≡ bare front ++ bare back
@@ -71,7 +71,10 @@ ended_ok (Some other) statement e = let same : other ≡ statement = cc in ap (�
 later_stop : (state next : State) (piece : Piece) (more : List Piece) (left : ℕ) → step state piece.0 ≡ Some next
     → StopsAt next more left ⊎ StopsEnd next more left → StopsAt state (piece ∷ more) left ⊎ StopsEnd state (piece ∷ more) left
 later_stop state next piece more left e (inl s) = inl (record {
-  front = piece ∷ s.front; back = s.back; token = s.token; last = s.last;
+  front = piece ∷ s.front;
+  back = s.back;
+  token = s.token;
+  last = s.last;
   cut = ap (λ ps. piece ∷ ps) s.cut;
   led = walk-cons state piece.0 (bare s.front) ∙ ap (λ o. walk_on o (bare s.front)) e ∙ s.led;
   stops = s.stops;
@@ -79,14 +82,20 @@ later_stop state next piece more left e (inl s) = inl (record {
 later_stop state next piece more left e (inr s) = inr (record {
   last = s.last;
   led = walk-cons state piece.0 (bare more) ∙ ap (λ o. walk_on o (bare more)) e ∙ s.led;
-  unfinished = s.unfinished; none_left = s.none_left;
+  unfinished = s.unfinished;
+  none_left = s.none_left;
 })
 
 stop_here : (state : State) (piece : Piece) (more : List Piece) (left : ℕ) → step state piece.0 ≡ None → piece.1 ≡ left
     → StopsAt state (piece ∷ more) left
 stop_here state piece more left stops same = record {
-  front = []; back = more; token = piece.0; last = state;
-  cut = ap (λ n. (piece.0, n) ∷ more) same; led = walk-nil state; stops = stops;
+  front = [];
+  back = more;
+  token = piece.0;
+  last = state;
+  cut = ap (λ n. (piece.0, n) ∷ more) same;
+  led = walk-nil state;
+  stops = stops;
 }
 
 err_next : (reached : Option State) (state : State) (piece : Piece) (more : List Piece) (left : ℕ) → step state piece.0 ≡ reached
@@ -133,7 +142,7 @@ spelled : (text : List ℕ) (statement : Statement) → read_from AtFirst (token
 spelled text statement read last e =
     let ran : read_from AtFirst (tokens_of text ++ []) ≡ read_from last [] = run_on (tokens_of text) [] AtFirst last e in
     let ends : read_end (finish last) ≡ Ok statement =
-      sym (read_from-nil last) ∙ sym ran ∙ ap (read_from AtFirst) (append-nil (tokens_of text)) ∙ read in
+    sym (read_from-nil last) ∙ sym ran ∙ ap (read_from AtFirst) (append-nil (tokens_of text)) ∙ read in
     rw (ended_ok (finish last) statement ends) at (said last (bare (tokens_of text)) (led_on (bare (tokens_of text)) last e))
 
 -- what is read is led along all tokens
@@ -174,7 +183,7 @@ unspelled text last led unfinished statement s =
 fault_of : (text : List ℕ) (left : ℕ) → StopsAt AtFirst (tokens_of text) left ⊎ StopsEnd AtFirst (tokens_of text) left → FaultAt text (length text - left)
 fault_of text left (inl s) =
     let within : left ≤ length text =
-      within_at (length text) s.front s.back (s.token, left) (rw s.cut at (within_pieces (length text) (length text) text (le_refl (length text)))) in
+    within_at (length text) s.front s.back (s.token, left) (rw s.cut at (within_pieces (length text) (length text) text (le_refl (length text)))) in
     at_token (length text - left) left s.front s.back s.token s.cut
     (goes_on s.last (bare s.front) (led_on (bare s.front) s.last s.led))
     (stuck (bare s.front) s.token s.last s.led s.stops)
@@ -182,7 +191,7 @@ fault_of text left (inl s) =
 fault_of text left (inr s) =
     let place : length text ≡ length text - left = omega (arith, s.none_left) in
     rw (← place) (at_end (unspelled text s.last s.led s.unfinished)
-      (goes_on s.last (bare (tokens_of text)) (led_on (bare (tokens_of text)) s.last s.led)))
+    (goes_on s.last (bare (tokens_of text)) (led_on (bare (tokens_of text)) s.last s.led)))
 
 -- where a reading stops, the text stops being a statement
 pub err_sound : (text : List ℕ) (left : ℕ) → read_from AtFirst (tokens_of text) ≡ Err left → FaultAt text (length text - left)
@@ -202,7 +211,7 @@ fault_read text place left front back token cut may never sum =
     let led = viable (bare front) may in
     let stops : step led.0 token ≡ None = stops_there (bare front) token led.0 led.1 never (step led.0 token) refl in
     let read : read_from AtFirst (tokens_of text) ≡ Err left =
-      ap (read_from AtFirst) cut ∙ run_on front ((token, left) ∷ back) AtFirst led.0 led.1 ∙ read_from-stop led.0 (token, left) back stops in
+    ap (read_from AtFirst) cut ∙ run_on front ((token, left) ∷ back) AtFirst led.0 led.1 ∙ read_from-stop led.0 (token, left) back stops in
     (left, (read, omega arith))
 
 -- the machine has no statement where none is spelled
@@ -218,8 +227,8 @@ end_read text never may =
     let led = viable (bare (tokens_of text)) may in
     let none : finish led.0 ≡ None = unfinished_there text led.0 led.1 never (finish led.0) refl in
     let read : read_from AtFirst (tokens_of text) ≡ Err 0 =
-      ap (read_from AtFirst) (sym (append-nil (tokens_of text)))
-      ∙ run_on (tokens_of text) [] AtFirst led.0 led.1 ∙ read_from-nil led.0 ∙ ap read_end none in
+    ap (read_from AtFirst) (sym (append-nil (tokens_of text)))
+    ∙ run_on (tokens_of text) [] AtFirst led.0 led.1 ∙ read_from-nil led.0 ∙ ap read_end none in
     (0, (read, omega arith))
 
 -- and only there
@@ -247,15 +256,15 @@ found_of text = read_as text (read_from AtFirst (tokens_of text)) refl
 pub reads_spelled : (text : List ℕ) (statement : Statement) → (read_of text ≡ Ok statement → Spells text statement) × (Spells text statement → read_of text ≡ Ok statement)
 reads_spelled text statement = (
   λ e. ok_sound text statement (placed_ok text (read_from AtFirst (tokens_of text)) statement (sym (found_of text) ∙ e)),
-  λ s. read_as text (Ok statement) (ok_complete text statement s)
+  λ s. read_as text (Ok statement) (ok_complete text statement s),
 )
 
 -- a fault is found exactly where it stands
 pub reads_fault : (text : List ℕ) (place : ℕ) → (read_of text ≡ Err place → FaultAt text place) × (FaultAt text place → read_of text ≡ Err place)
 reads_fault text place = (
   λ e. let left = placed_err text (read_from AtFirst (tokens_of text)) place (sym (found_of text) ∙ e) in
-    rw left.1.1 at (err_sound text left.0 left.1.0),
-  λ f. let found = err_complete text place f in read_as text (Err found.0) found.1.0 ∙ ap (λ n. Err n) (sym found.1.1)
+      rw left.1.1 at (err_sound text left.0 left.1.0),
+  λ f. let found = err_complete text place f in read_as text (Err found.0) found.1.0 ∙ ap (λ n. Err n) (sym found.1.1),
 )
 
 same_ok : (one other : Statement) → ◌≡◌ {A = Result Statement ℕ} (Ok one) (Ok other) → one ≡ other

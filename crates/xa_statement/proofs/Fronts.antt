@@ -1,11 +1,10 @@
 -- The tokens that lead to each state, and that each state can still become a statement.
-use Rattle.std.proofs.Common.{◌≡◌, ◌<◌, ℕ, length, arith, Bool, true, false, List, [], ◌∷◌, ◌++◌, append_assoc, Option, Some, None, refl, sym, ◌∙◌, ap}
-use Rattle.std.proofs.lemmas.List.{append-nil}
+use Rattle.std.proofs.Common.{◌≡◌, ◌<◌, ℕ, length, arith, List, [], ◌∷◌, ◌++◌, append_assoc, Option, Some, None, refl, ◌∙◌, ap}
 use Rattle.xa_xid.specs.Xid.{Text}
 use Rattle.xa_xid.specs.XidText.{xid_of, no_text}
 use Rattle.xa_xid.specs.declared.xid.Xid.{Xid}
 use Rattle.xa_xid.specs.declared.statement.Statement.{Statement}
-use Rattle.xa_xid.specs.declared.statement.Statement.TheVariants.{Start, End, Prepare, Commit, Rollback, Recover, Unsupported, Get, Put, Del, Disconnect}
+use Rattle.xa_xid.specs.declared.statement.Statement.TheVariants.{Put}
 use Rattle.xa_statement.specs.declared.token.Keyword.{Keyword}
 use Rattle.xa_statement.specs.declared.token.Keyword.TheVariants.{Xa as XA, Start as START, Begin as BEGIN, End as END, Prepare as PREPARE, Commit as COMMIT, Rollback as ROLLBACK, Recover as RECOVER, Join as JOIN, Resume as RESUME, Suspend as SUSPEND, For as FOR, Migrate as MIGRATE, One as ONE, Phase as PHASE, Convert as CONVERT, Xid as XID, Get as GET, Put as PUT, Del as DEL, Disconnect as DISCONNECT}
 use Rattle.xa_statement.specs.declared.token.Token.{Token}
@@ -16,9 +15,8 @@ use Rattle.xa_statement.specs.declared.state.RowVerb.{RowVerb}
 use Rattle.xa_statement.specs.declared.state.RowVerb.TheVariants.{Gets, Puts, Deletes}
 use Rattle.xa_statement.specs.declared.state.State.{State}
 use Rattle.xa_statement.specs.declared.state.State.TheVariants.{AtFirst, AfterXa, WantsGtrid, AfterGtrid, WantsBqual, AfterBqual, WantsFormatId, AfterXid, AfterSuspend, AfterFor, AfterOne, AfterRecover, AfterConvert, WantsKey, AfterKey, WantsValue, Whole, Ended}
-use Rattle.xa_statement.specs.Grammar.{XidTokens, gtrid, gtrid_bqual, gtrid_bqual_format, StartWord, is_start, is_begin, JoinWord, is_join, is_resume, Row, start, start_clause, end, end_suspend, end_suspend_for, prepare, commit, commit_one, rollback, recover, recover_convert, get, put, del, disconnect, Says, bare_row, ended_row, MayGoOn}
-use Rattle.xa_statement.specs.Machine.{step, finish, unended, ended, statement_of, xid_word, key_state, after_word, after_comma, after_value}
-use Rattle.xa_statement.proofs.Walk.{walk, walk_on, walk-nil, walk-cons, answer}
+use Rattle.xa_statement.specs.Grammar.{XidTokens, gtrid, gtrid_bqual, gtrid_bqual_format, StartWord, is_start, is_begin, is_join, is_resume, Row, start, start_clause, end, end_suspend, end_suspend_for, prepare, commit, commit_one, rollback, recover, recover_convert, get, put, del, disconnect, Says, ended_row}
+use Rattle.xa_statement.specs.Machine.{step, unended, ended, statement_of, xid_word, key_state, after_word, after_comma, after_value}
 
 -- the words that lead to a verb
 abbrev pub VerbWord : Verb → Keyword → Type 0
@@ -101,13 +99,19 @@ opened_more verb tail tokens token o = record { word = o.word; is = o.is; same =
 
 clause_more : (word : Keyword) (tail tokens : List Token) (token : Token) → ClauseOf word tail tokens → ClauseOf word (tail ++ token ∷ []) (tokens ++ token ∷ [])
 clause_more word tail tokens token c = record {
-  x = c.x; xid = c.xid; form = c.form;
+  x = c.x;
+  xid = c.xid;
+  form = c.form;
   same = ap (λ ts. ts ++ token ∷ []) c.same ∙ ap (λ ts. Word XA ∷ Word word ∷ ts) (append_assoc c.x tail (token ∷ []));
 }
 
 key_more : (key : List ℕ) (tail tokens : List Token) (token : Token) → KeyOf key tail tokens → KeyOf key (tail ++ token ∷ []) (tokens ++ token ∷ [])
 key_more key tail tokens token k = record {
-  text = k.text; number = k.number; some = k.some; is = k.is; same = ap (λ ts. ts ++ token ∷ []) k.same;
+  text = k.text;
+  number = k.number;
+  some = k.some;
+  is = k.is;
+  same = ap (λ ts. ts ++ token ∷ []) k.same;
 }
 
 -- a word behind an xid
@@ -115,10 +119,15 @@ xid_next : (verb : Verb) (xid : Xid) (word : Keyword) (tokens : List Token) → 
 xid_next Starts xid JOIN tokens f = rw f.before.same (start_clause f.before.is f.form is_join)
 xid_next Starts xid RESUME tokens f = rw f.before.same (start_clause f.before.is f.form is_resume)
 xid_next Ends xid SUSPEND tokens f = record {
-  x = f.x; xid = xid; form = f.form; same = ap (λ ts. ts ++ Word SUSPEND ∷ []) f.before.same ∙ ap (λ w. Word XA ∷ Word w ∷ (f.x ++ Word SUSPEND ∷ [])) f.before.is;
+  x = f.x;
+  xid = xid;
+  form = f.form;
+  same = ap (λ ts. ts ++ Word SUSPEND ∷ []) f.before.same ∙ ap (λ w. Word XA ∷ Word w ∷ (f.x ++ Word SUSPEND ∷ [])) f.before.is;
 }
 xid_next Commits xid ONE tokens f = record {
-  x = f.x; form = f.form; same = ap (λ ts. ts ++ Word ONE ∷ []) f.before.same ∙ ap (λ w. Word XA ∷ Word w ∷ (f.x ++ Word ONE ∷ [])) f.before.is;
+  x = f.x;
+  form = f.form;
+  same = ap (λ ts. ts ++ Word ONE ∷ []) f.before.same ∙ ap (λ w. Word XA ∷ Word w ∷ (f.x ++ Word ONE ∷ [])) f.before.is;
 }
 xid_next _ xid word tokens f = tt
 
@@ -149,7 +158,7 @@ word_next AfterSuspend FOR tokens f = clause_more END (Word SUSPEND ∷ []) toke
 word_next AfterFor MIGRATE tokens f = let more = clause_more END (Word SUSPEND ∷ Word FOR ∷ []) tokens (Word MIGRATE) f in rw more.same (end_suspend_for more.form)
 word_next (AfterOne xid) PHASE tokens f =
     let e : tokens ++ Word PHASE ∷ [] ≡ Word XA ∷ Word COMMIT ∷ (f.x ++ Word ONE ∷ Word PHASE ∷ []) =
-      ap (λ ts. ts ++ Word PHASE ∷ []) f.same ∙ ap (λ ts. Word XA ∷ Word COMMIT ∷ ts) (append_assoc f.x (Word ONE ∷ []) (Word PHASE ∷ [])) in
+    ap (λ ts. ts ++ Word PHASE ∷ []) f.same ∙ ap (λ ts. Word XA ∷ Word COMMIT ∷ ts) (append_assoc f.x (Word ONE ∷ []) (Word PHASE ∷ [])) in
     rw e (commit_one f.form)
 word_next AfterRecover CONVERT tokens f = ap (λ ts. ts ++ Word CONVERT ∷ []) f
 word_next AfterConvert XID tokens f = rw f recover_convert

@@ -1,8 +1,8 @@
 -- The tokens of a text, one after another.
-use Rattle.std.proofs.Common.{◌≡◌, ℕ, ◌≤◌, ◌<◌, zero, suc, Bool, true, false, ◌||◌, ◌==◌, if◌then◌else◌, List, [], ◌∷◌, length, Option, Some, None, Result, Ok, Err, refl, sym, ◌∙◌, ap, arith}
+use Rattle.std.proofs.Common.{◌≡◌, ℕ, ◌≤◌, ◌<◌, zero, suc, Bool, true, false, ◌==◌, if◌then◌else◌, List, [], ◌∷◌, length, Option, Some, None, Ok, Err, refl, sym, ◌∙◌, ap, arith}
 use Rattle.std.proofs.Math.Nat.{le_refl}
 use Rattle.std.proofs.lemmas.Bool.{cond_both}
-use Rattle.xa_xid.specs.Bytes.{belongs, behind, unblank, run, after_run}
+use Rattle.xa_xid.specs.Bytes.{belongs, behind, unblank}
 use Rattle.xa_xid.specs.Literal.{Reading, literal_at}
 use Rattle.xa_xid.specs.Xid.{Text}
 use Rattle.xa_xid.specs.declared.byte_class.ByteClass.TheVariants.{Word as word_byte, Blank as blank_byte}
@@ -30,11 +30,11 @@ token-short byte text =
     let semicolon : Token × List ℕ = if byte == 59 then (Semicolon, text) else quoted in
     cond_both (byte == 44) (Comma, text) semicolon (Leaves most) (λ _. le_refl most)
     (λ _. cond_both (byte == 59) (Semicolon, text) quoted (Leaves most) (λ _. le_refl most)
-      (λ _. cond_both (opens_quoted (byte ∷ text)) (quoted_at (literal_at (byte ∷ text))) word (Leaves most)
-        (λ opens. leaves_quoted most (literal_at (byte ∷ text)) (literal-short byte text opens))
-        (λ _. cond_both (belongs word_byte byte) (run_at (byte ∷ text)) stray (Leaves most)
-          (λ is. rw (behind-passes (belongs word_byte) byte text is) (behind-short (belongs word_byte) text))
-          (λ _. omega arith))))
+    (λ _. cond_both (opens_quoted (byte ∷ text)) (quoted_at (literal_at (byte ∷ text))) word (Leaves most)
+    (λ opens. leaves_quoted most (literal_at (byte ∷ text)) (literal-short byte text opens))
+    (λ _. cond_both (belongs word_byte byte) (run_at (byte ∷ text)) stray (Leaves most)
+    (λ is. rw (behind-passes (belongs word_byte) byte text is) (behind-short (belongs word_byte) text))
+    (λ _. omega arith))))
 
 -- a first token leaves fewer bytes
 abbrev Fewer : ℕ → Option (Piece × List ℕ) → Type 0
@@ -93,8 +93,8 @@ behind-behind : (p : ℕ → Bool) (text : List ℕ) → behind p (behind p text
 behind-behind p [] = rw (behind-nil p, behind-nil p) refl
 behind-behind p (byte ∷ text) =
     elim (p byte) as (λ b. p byte ≡ b → behind p (behind p (byte ∷ text)) ≡ behind p (byte ∷ text)) [
-      true ↦ λ e. rw (behind-passes p byte text e) (behind-behind p text)
-    | false ↦ λ e. rw (behind-stops p byte text e) (behind-stops p byte text e)
+      | true ↦ λ e. rw (behind-passes p byte text e) (behind-behind p text)
+      | false ↦ λ e. rw (behind-stops p byte text e) (behind-stops p byte text e)
     ] refl
 
 pub unblank-unblank : (text : List ℕ) → IsUnblank (unblank text)
@@ -108,7 +108,7 @@ first_token byte text is =
     pieces-suc (length text) (byte ∷ text)
     ∙ ap (λ t. go_on (length text) (first_piece t)) is.same
     ∙ ap (λ more. ((token_at (byte ∷ text)).0, length (byte ∷ text)) ∷ more)
-      (stable (length text) (length rest) rest (token-short byte text) (le_refl (length rest)))
+    (stable (length text) (length rest) rest (token-short byte text) (le_refl (length rest)))
 
 same_start : (most : ℕ) (text : List ℕ) → pieces most (unblank text) ≡ pieces most text
 unfolding pieces

@@ -1,17 +1,15 @@
 -- A statement read token by token, while the rest of the text gets shorter.
-use Rattle.std.proofs.Common.{◌≡◌, ℕ, ◌≤◌, ◌<◌, ◌-◌, suc, List, [], ◌∷◌, length, Option, Some, None, Result, Ok, Err, ok_or, true, false, ◌==◌, refl, sym, ◌∙◌, ap, arith}
-use Rattle.std.proofs.Math.Nat.{le_refl}
+use Rattle.std.proofs.Common.{◌≡◌, ℕ, ◌≤◌, ◌<◌, ◌-◌, List, [], ◌∷◌, length, Option, Some, None, Result, Err, ok_or, true, false, ◌==◌, refl, sym, ◌∙◌, ap, arith}
 use Rattle.std.proofs.lemmas.Bool.{eqb-true, eqb-false}
-use Rattle.xa_xid.specs.Bytes.{belongs, behind, unblank}
+use Rattle.xa_xid.specs.Bytes.{belongs, unblank}
 use Rattle.xa_xid.specs.declared.byte_class.ByteClass.TheVariants.{Blank as blank_byte}
 use Rattle.xa_xid.specs.declared.statement.Statement.{Statement}
 use Rattle.xa_xid.proofs.Shorter.{behind-short}
 use Rattle.xa_statement.specs.declared.state.State.{State}
 use Rattle.xa_statement.specs.declared.state.State.TheVariants.{AtFirst}
-use Rattle.xa_statement.specs.declared.syntax_fault.SyntaxFault.{SyntaxFault}
 use Rattle.xa_statement.specs.Machine.{step, finish}
 use Rattle.xa_statement.specs.Reading.{read_from, read_end, placed_in, read_of, seen_of}
-use Rattle.xa_statement.specs.Token.{Piece, token_at, pieces, tokens_of}
+use Rattle.xa_statement.specs.Token.{Piece, token_at, tokens_of}
 use Rattle.xa_statement.proofs.Pieces.{IsUnblank, unblank-unblank, first_token, tokens-unblank, token-short, pieces-nil}
 
 -- what is read from a state on
@@ -30,8 +28,8 @@ read_from-go state next piece more e = rw (e, read_from) refl
 pub read_from-cons : (state : State) (piece : Piece) (more : List Piece) → read_from state (piece ∷ more) ≡ from_next (step state piece.0) piece.1 more
 read_from-cons state piece more =
     elim (step state piece.0) as (λ o. step state piece.0 ≡ o → read_from state (piece ∷ more) ≡ from_next o piece.1 more) [
-      None ↦ λ e. read_from-stop state piece more e
-    | Some next ↦ λ e. read_from-go state next piece more e
+      | None ↦ λ e. read_from-stop state piece more e
+      | Some next ↦ λ e. read_from-go state next piece more e
     ] refl
 
 pub read_from-nil : (state : State) → read_from state [] ≡ read_end (finish state)
@@ -72,10 +70,10 @@ read_step text rest later state next some steps e before =
       within = omega arith;
       front = unblank-unblank (token_at rest).1;
       same =
-        ap (read_from next) (tokens-unblank (token_at rest).1)
-        ∙ ap (λ o. from_next o (length rest) (tokens_of (token_at rest).1)) (sym steps)
-        ∙ sym (step_of state rest some before.front)
-        ∙ before.same;
+          ap (read_from next) (tokens-unblank (token_at rest).1)
+          ∙ ap (λ o. from_next o (length rest) (tokens_of (token_at rest).1)) (sym steps)
+          ∙ sym (step_of state rest some before.front)
+          ∙ before.same;
     })
 
 seen : (text : List ℕ) (found : Result Statement ℕ) → read_from AtFirst (tokens_of text) ≡ found → seen_of (read_of text) ≡ seen_of (placed_in text found)

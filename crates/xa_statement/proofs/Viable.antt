@@ -1,5 +1,5 @@
 -- Each state can still become a statement, and none that there isn't can.
-use Rattle.std.proofs.Common.{◌≡◌, ℕ, true, false, List, [], ◌∷◌, ◌++◌, append_assoc, Option, Some, None, refl, sym, ◌∙◌, ap}
+use Rattle.std.proofs.Common.{◌≡◌, true, false, List, [], ◌∷◌, ◌++◌, append_assoc, Option, Some, None, refl, sym, ◌∙◌, ap}
 use Rattle.std.proofs.lemmas.List.{append-nil}
 use Rattle.xa_xid.specs.Xid.{Text}
 use Rattle.xa_xid.specs.XidText.{xid_of, no_text}
@@ -11,7 +11,7 @@ use Rattle.xa_statement.specs.declared.token.Token.TheVariants.{Word, Comma, Val
 use Rattle.xa_statement.specs.declared.state.RowVerb.TheVariants.{Gets, Puts, Deletes}
 use Rattle.xa_statement.specs.declared.state.State.{State}
 use Rattle.xa_statement.specs.declared.state.State.TheVariants.{AtFirst, AfterXa, WantsGtrid, AfterGtrid, WantsBqual, AfterBqual, WantsFormatId, AfterXid, AfterSuspend, AfterFor, AfterOne, AfterRecover, AfterConvert, WantsKey, AfterKey, WantsValue, Whole, Ended}
-use Rattle.xa_statement.specs.Grammar.{Row, Says, bare_row, MayGoOn}
+use Rattle.xa_statement.specs.Grammar.{Says, bare_row, MayGoOn}
 use Rattle.xa_statement.specs.Machine.{step, finish, unended, statement_of}
 use Rattle.xa_statement.proofs.Walk.{walk, walk_on, walk-nil, walk-cons, walk_then, walk-append, walk-stop, answer, said_read}
 use Rattle.xa_statement.proofs.Fronts.{Front, FrontOf, RowOf, row_of, next}
@@ -56,7 +56,9 @@ said_of (Some state) tokens f = said state tokens f
 -- one way on from a state to a statement
 way : (state : State) (tokens more : List Token) (statement : Statement) → answer (walk state more) ≡ Some statement → Front state tokens → MayGoOn tokens
 way state tokens more statement e f = record {
-  more = more; statement = statement; says = rw e at (said_of (walk state more) (tokens ++ more) (reach more state tokens f));
+  more = more;
+  statement = statement;
+  says = rw e at (said_of (walk state more) (tokens ++ more) (reach more state tokens f));
 }
 
 abbrev any_literal : Token

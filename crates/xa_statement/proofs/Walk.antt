@@ -1,20 +1,19 @@
 -- The machine led along tokens, and that it answers each row of the grammar.
-use Rattle.std.proofs.Common.{◌≡◌, ◌<◌, ℕ, length, arith, Bool, true, false, List, [], ◌∷◌, ◌++◌, Option, Some, None, refl, sym, ◌∙◌, ap}
-use Rattle.xa_xid.specs.Xid.{Text}
+use Rattle.std.proofs.Common.{◌≡◌, ◌<◌, ℕ, length, arith, true, List, [], ◌∷◌, ◌++◌, Option, Some, None, refl, sym, ◌∙◌, ap}
 use Rattle.xa_xid.specs.XidText.{xid_of}
 use Rattle.xa_xid.specs.declared.xid.Xid.{Xid}
 use Rattle.xa_xid.specs.declared.statement.Statement.{Statement}
-use Rattle.xa_xid.specs.declared.statement.Statement.TheVariants.{Start, End, Prepare, Commit, Rollback, Recover, Unsupported, Get, Put, Del, Disconnect}
+use Rattle.xa_xid.specs.declared.statement.Statement.TheVariants.{Commit, Recover, Unsupported, Get, Put, Del, Disconnect}
 use Rattle.xa_statement.specs.declared.token.Keyword.{Keyword}
-use Rattle.xa_statement.specs.declared.token.Keyword.TheVariants.{Xa as XA, Start as START, Begin as BEGIN, End as END, Suspend as SUSPEND, For as FOR, Migrate as MIGRATE, One as ONE, Phase as PHASE, Commit as COMMIT, Join as JOIN, Resume as RESUME}
+use Rattle.xa_statement.specs.declared.token.Keyword.TheVariants.{Xa as XA, Suspend as SUSPEND, For as FOR, Migrate as MIGRATE, One as ONE, Phase as PHASE}
 use Rattle.xa_statement.specs.declared.token.Token.{Token}
-use Rattle.xa_statement.specs.declared.token.Token.TheVariants.{Word, Comma, Semicolon, Value}
+use Rattle.xa_statement.specs.declared.token.Token.TheVariants.{Word, Semicolon}
 use Rattle.xa_statement.specs.declared.state.Verb.{Verb}
 use Rattle.xa_statement.specs.declared.state.Verb.TheVariants.{Starts, Ends, Prepares, Commits, RollsBack}
 use Rattle.xa_statement.specs.declared.state.RowVerb.{RowVerb}
 use Rattle.xa_statement.specs.declared.state.RowVerb.TheVariants.{Gets, Puts, Deletes}
 use Rattle.xa_statement.specs.declared.state.State.{State}
-use Rattle.xa_statement.specs.declared.state.State.TheVariants.{AtFirst, AfterXa, WantsGtrid, AfterGtrid, AfterBqual, AfterXid, AfterSuspend, AfterFor, AfterOne, AfterRecover, Whole, Ended}
+use Rattle.xa_statement.specs.declared.state.State.TheVariants.{AtFirst, WantsGtrid, AfterGtrid, AfterBqual, AfterXid, AfterSuspend, AfterOne, AfterRecover, Whole, Ended}
 use Rattle.xa_statement.specs.Grammar.{XidTokens, gtrid, gtrid_bqual, gtrid_bqual_format, StartWord, is_start, is_begin, JoinWord, is_join, is_resume, Row, start, start_clause, end, end_suspend, end_suspend_for, prepare, commit, commit_one, rollback, recover, recover_convert, get, put, del, disconnect, Says, bare_row, ended_row}
 use Rattle.xa_statement.specs.Machine.{step, finish, unended, ended, statement_of, xid_word, key_state, after_key}
 
@@ -48,8 +47,8 @@ walk-go state next token more e = rw (e, walk) refl
 pub walk-cons : (state : State) (token : Token) (more : List Token) → walk state (token ∷ more) ≡ walk_on (step state token) more
 walk-cons state token more =
     elim (step state token) as (λ o. step state token ≡ o → walk state (token ∷ more) ≡ walk_on o more) [
-      None ↦ λ e. walk-stop state token more e
-    | Some next ↦ λ e. walk-go state next token more e
+      | None ↦ λ e. walk-stop state token more e
+      | Some next ↦ λ e. walk-go state next token more e
     ] refl
 
 walk_on-append : (reached : Option State) (front back : List Token) → ((s : State) → walk s (front ++ back) ≡ walk_on (walk s front) back)
@@ -159,5 +158,5 @@ said_read _ statement (bare_row {tokens} row) =
 said_read _ statement (ended_row {tokens} row) =
     let read = row_read tokens statement row in
     ap answer (walk_then tokens (Semicolon ∷ []) AtFirst read.state read.reached
-      ∙ walk-go read.state (Ended statement) Semicolon [] (semicolon_step read.state statement read.open_end)
-      ∙ walk-nil (Ended statement))
+    ∙ walk-go read.state (Ended statement) Semicolon [] (semicolon_step read.state statement read.open_end)
+    ∙ walk-nil (Ended statement))

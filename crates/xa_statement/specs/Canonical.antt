@@ -1,5 +1,5 @@
 -- The canonical text of a statement: capitals, one space between tokens, no ; (own rule).
-use Rattle.std.specs.Prelude.{ℕ, ◌<◌, ◌≤◌, Bool, true, false, List, [], ◌∷◌, ◌++◌, length, codes}
+use Rattle.std.specs.Prelude.{ℕ, ◌<◌, ◌≤◌, true, false, List, [], ◌∷◌, ◌++◌, length, codes}
 use Rattle.hex.specs.Hex.{IsBytes}
 use Rattle.xa_xid.specs.XidText.{part_text, xid_text}
 use Rattle.xa_xid.specs.declared.statement.Statement.{Statement}

@@ -4,7 +4,7 @@
 --     Says tokens statement      the same, with at most one ; behind it
 --     Spells text statement      the text is blanks and such tokens
 --     MayGoOn tokens             a statement's tokens begin with these
-use Rattle.std.specs.Prelude.{ℕ, Bool, true, false, ◌<◌, Option, Some, List, [], ◌∷◌, ◌++◌, length}
+use Rattle.std.specs.Prelude.{ℕ, true, false, ◌<◌, Option, Some, List, [], ◌∷◌, ◌++◌, length}
 use Rattle.xa_xid.specs.Xid.{Text}
 use Rattle.xa_xid.specs.XidText.{xid_of, no_text}
 use Rattle.xa_xid.specs.declared.xid.Xid.{Xid}

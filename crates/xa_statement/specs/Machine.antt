@@ -1,7 +1,7 @@
 -- How far a statement is read after each token: a machine whose states carry what was read.
 --     step state token       the state after one token more
 --     finish state           the statement, where the tokens so far are one
-use Rattle.std.specs.Prelude.{ℕ, Bool, true, false, ◌==◌, if◌then◌else◌, Option, Some, None, option_map, option_and_then, List, [], ◌∷◌, length}
+use Rattle.std.specs.Prelude.{ℕ, true, false, Option, Some, None, List, [], ◌∷◌}
 use Rattle.xa_xid.specs.Xid.{Text}
 use Rattle.xa_xid.specs.XidText.{xid_of, no_text}
 use Rattle.xa_xid.specs.declared.xid.Xid.{Xid}

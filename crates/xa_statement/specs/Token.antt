@@ -4,7 +4,7 @@
 --     token_at text          the token that a text begins with, and what stands behind it
 --     tokens_of text         the tokens of a text, each with how many bytes the text has from it on
 --     bare tokens            the tokens alone
-use Rattle.std.specs.Prelude.{◌≡◌, ℕ, Bool, true, false, ◌==◌, ◌||◌, if◌then◌else◌, List, [], ◌∷◌, length, map, codes, zero, suc, Option, Some, None, Result, Ok, Err, bytes_eq}
+use Rattle.std.specs.Prelude.{ℕ, Bool, ◌==◌, ◌||◌, if◌then◌else◌, List, [], ◌∷◌, length, map, codes, zero, suc, Option, Some, None, Ok, Err, bytes_eq}
 use Rattle.std.specs.Char.{to_ascii_lowercase}
 use Rattle.xa_xid.specs.Bytes.{belongs, run, after_run, unblank}
 use Rattle.xa_xid.specs.Literal.{Reading, literal_at, opens_text, opens_hex}

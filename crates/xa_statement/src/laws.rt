@@ -16,16 +16,14 @@ use xa_xid::{Key, Statement};
 pub fn reading_is_the_grammar()
     ensures spelled { (text : List ℕ) (statement : Statement) → (read_of text ≡ Ok statement) ↔ Spells text statement }
     ensures fault { (text : List ℕ) (place : ℕ) → (read_of text ≡ Err place) ↔ FaultAt text place }
-{
-}
+{}
 
 /// A text spells at most one statement.
 ///
 /// Takes no memory. Doesn't wait.
 pub fn spelled_statement_is_the_only_one()
     ensures { (text : List ℕ) (one other : Statement) → Spells text one → Spells text other → one ≡ other }
-{
-}
+{}
 
 /// The canonical text of a statement spells that statement.
 ///

@@ -36,9 +36,13 @@ fn read_tokens(text: &[u8]) -> Result<Statement, SyntaxFault>
         let (token, tail) = token_of(rest);
         match state.step(token) {
             Some(next) => state = next,
-            None => return Err(SyntaxFault { at: (text.len() - rest.len()) as u64 }),
+            None => return Err(SyntaxFault {
+                at: (text.len() - rest.len()) as u64,
+            }),
         }
         rest = skip_blanks(tail);
     }
-    state.finish().ok_or(SyntaxFault { at: text.len() as u64 })
+    state.finish().ok_or(SyntaxFault {
+        at: text.len() as u64,
+    })
 }

@@ -100,14 +100,10 @@ impl State {
                 _ => None,
             },
             State::AfterOne(xid) => match word {
-                Keyword::Phase => Some(
-                    State::Whole(
-                        Statement::Commit {
-                            xid,
-                            one_phase: true,
-                        },
-                    ),
-                ),
+                Keyword::Phase => Some(State::Whole(Statement::Commit {
+                    xid,
+                    one_phase: true,
+                })),
                 _ => None,
             },
             State::AfterRecover => match word {

@@ -4,13 +4,11 @@ use std::test::Fail;
 use xa_xid::{Bytes, Key, Statement, Xid};
 
 fn xid(gtrid: &[u8], bqual: &[u8], format_id: u64) -> Result<Xid, Fail> {
-    Ok(
-        Xid {
-            format_id,
-            gtrid: Bytes::try_from(gtrid)?,
-            bqual: Bytes::try_from(bqual)?,
-        },
-    )
+    Ok(Xid {
+        format_id,
+        gtrid: Bytes::try_from(gtrid)?,
+        bqual: Bytes::try_from(bqual)?,
+    })
 }
 
 fn key(bytes: &[u8]) -> Result<Key, Fail> {
@@ -31,21 +29,39 @@ fn every_row_is_read(rt: HostRuntime) -> Result<(), Fail> {
         (b"XA START 'a'", Statement::Start(xid(b"a", b"", 1)?)),
         (b"XA BEGIN 'a'", Statement::Start(xid(b"a", b"", 1)?)),
         (b"xa start 'a','b'", Statement::Start(xid(b"a", b"b", 1)?)),
-        (b"Xa bEgIn 'a' , 'b' , 7", Statement::Start(xid(b"a", b"b", 7)?)),
+        (
+            b"Xa bEgIn 'a' , 'b' , 7",
+            Statement::Start(xid(b"a", b"b", 7)?),
+        ),
         (b"XA START'a'JOIN", Statement::Unsupported),
         (b"XA START 'a','b' RESUME", Statement::Unsupported),
         (b"XA BEGIN 'a','b',3 join;", Statement::Unsupported),
         (b"XA END 'a'", Statement::End(xid(b"a", b"", 1)?)),
         (b"XA END 'a' SUSPEND", Statement::Unsupported),
-        (b"xa end 'a','',0 suspend for migrate ;", Statement::Unsupported),
+        (
+            b"xa end 'a','',0 suspend for migrate ;",
+            Statement::Unsupported,
+        ),
         (b"XA PREPARE 0x61", Statement::Prepare(xid(b"a", b"", 1)?)),
         (b"XA COMMIT x'6162'", commit(xid(b"ab", b"", 1)?, false)),
         (b"XA COMMIT 'a' ONE PHASE", commit(xid(b"a", b"", 1)?, true)),
-        (b"XA COMMIT 'a','',2 one\tphase;", commit(xid(b"a", b"", 2)?, true)),
-        (b"XA ROLLBACK \"a\",\"b\"", Statement::Rollback(xid(b"a", b"b", 1)?)),
+        (
+            b"XA COMMIT 'a','',2 one\tphase;",
+            commit(xid(b"a", b"", 2)?, true),
+        ),
+        (
+            b"XA ROLLBACK \"a\",\"b\"",
+            Statement::Rollback(xid(b"a", b"b", 1)?),
+        ),
         (b"XA RECOVER", Statement::Recover { convert: false }),
-        (b"\t XA\r\nRECOVER \n;\t", Statement::Recover { convert: false }),
-        (b"XA RECOVER CONVERT XID", Statement::Recover { convert: true }),
+        (
+            b"\t XA\r\nRECOVER \n;\t",
+            Statement::Recover { convert: false },
+        ),
+        (
+            b"XA RECOVER CONVERT XID",
+            Statement::Recover { convert: true },
+        ),
         (b"GET 'k'", Statement::Get(key(b"k")?)),
         (b"get\"k\";", Statement::Get(key(b"k")?)),
         (b"PUT 'k','v'", put(b"k", b"v")?),
@@ -54,12 +70,27 @@ fn every_row_is_read(rt: HostRuntime) -> Result<(), Fail> {
         (b"DEL 'k'", Statement::Del(key(b"k")?)),
         (b"DISCONNECT", Statement::Disconnect),
         (b" disConnect ; ", Statement::Disconnect),
-        (b"XA START 0x414,X'',0x1", Statement::Start(xid(b"\x04\x14", b"", 1)?)),
+        (
+            b"XA START 0x414,X'',0x1",
+            Statement::Start(xid(b"\x04\x14", b"", 1)?),
+        ),
         (b"XA END X'0414'", Statement::End(xid(b"\x04\x14", b"", 1)?)),
-        (b"XA PREPARE 0x0414,\"\",1;", Statement::Prepare(xid(b"\x04\x14", b"", 1)?)),
-        (b"XA START 'a','',18446744073709551615", Statement::Start(xid(b"a", b"", u64::MAX)?)),
-        (b"XA START '',X'',0xFFFFFFFFFFFFFFFF", Statement::Start(xid(b"", b"", u64::MAX)?)),
-        (b"XA START 'a','',000000000000000000000000000042", Statement::Start(xid(b"a", b"", 42)?)),
+        (
+            b"XA PREPARE 0x0414,\"\",1;",
+            Statement::Prepare(xid(b"\x04\x14", b"", 1)?),
+        ),
+        (
+            b"XA START 'a','',18446744073709551615",
+            Statement::Start(xid(b"a", b"", u64::MAX)?),
+        ),
+        (
+            b"XA START '',X'',0xFFFFFFFFFFFFFFFF",
+            Statement::Start(xid(b"", b"", u64::MAX)?),
+        ),
+        (
+            b"XA START 'a','',000000000000000000000000000042",
+            Statement::Start(xid(b"a", b"", 42)?),
+        ),
     ];
     for (text, wanted) in table.iter() {
         match read_statement(text) {
@@ -147,7 +178,10 @@ fn faults_stand_where_the_first_token_goes_wrong(rt: HostRuntime) -> Result<(), 
         (b"DISCONNECT 'k'", 11),
     ];
     for (text, at) in table.iter() {
-        assert!(rt; read_statement(text) == Err(SyntaxFault { at: *at }), "{text:?}");
+        assert!(rt;
+            read_statement(text) == Err(SyntaxFault { at: *at }),
+            "{text:?}"
+        );
     }
     Ok(())
 }
@@ -179,7 +213,10 @@ fn each_escape_stands_for_its_bytes(rt: HostRuntime) -> Result<(), Fail> {
         (b"DEL X'0aFf'", b"\x0a\xff"),
     ];
     for (text, bytes) in table.iter() {
-        assert!(rt; read_statement(text) == Ok(Statement::Del(key(bytes)?)), "{text:?}");
+        assert!(rt;
+            read_statement(text) == Ok(Statement::Del(key(bytes)?)),
+            "{text:?}"
+        );
     }
     Ok(())
 }
@@ -194,7 +231,9 @@ fn every_byte_may_stand_between_quotes_and_few_outside(rt: HostRuntime) -> Resul
             Ok(Statement::Get(key(&[byte])?))
         };
         assert!(rt; read_statement(&text) == wanted, "{byte}");
-        let text = [b'X', b'A', b' ', b'R', b'E', b'C', b'O', b'V', b'E', b'R', b' ', byte];
+        let text = [
+            b'X', b'A', b' ', b'R', b'E', b'C', b'O', b'V', b'E', b'R', b' ', byte,
+        ];
         let wanted = if b" \t\n\r;".contains(&byte) {
             Ok(Statement::Recover { convert: false })
         } else {
@@ -245,12 +284,24 @@ fn canonical_texts_are_written_and_read_back(rt: HostRuntime) -> Result<(), Fail
     let table: [(Statement, &[u8]); 13] = [
         (Statement::Start(xid(b"a", b"", 1)?), b"XA START 0x61,X'',1"),
         (Statement::End(xid(b"", b"", 0)?), b"XA END X'',X'',0"),
-        (Statement::Prepare(xid(b"abc", b"def", 7)?), b"XA PREPARE 0x616263,0x646566,7"),
+        (
+            Statement::Prepare(xid(b"abc", b"def", 7)?),
+            b"XA PREPARE 0x616263,0x646566,7",
+        ),
         (commit(xid(b"a", b"", 1)?, false), b"XA COMMIT 0x61,X'',1"),
-        (commit(xid(b"a", b"", 1)?, true), b"XA COMMIT 0x61,X'',1 ONE PHASE"),
-        (Statement::Rollback(xid(b"\xff", b"\n", u64::MAX)?), b"XA ROLLBACK 0xff,0x0a,18446744073709551615"),
+        (
+            commit(xid(b"a", b"", 1)?, true),
+            b"XA COMMIT 0x61,X'',1 ONE PHASE",
+        ),
+        (
+            Statement::Rollback(xid(b"\xff", b"\n", u64::MAX)?),
+            b"XA ROLLBACK 0xff,0x0a,18446744073709551615",
+        ),
         (Statement::Recover { convert: false }, b"XA RECOVER"),
-        (Statement::Recover { convert: true }, b"XA RECOVER CONVERT XID"),
+        (
+            Statement::Recover { convert: true },
+            b"XA RECOVER CONVERT XID",
+        ),
         (Statement::Get(key(b"k")?), b"GET 0x6b"),
         (put(b"k", b"v")?, b"PUT 0x6b,0x76"),
         (put(b"k", b"")?, b"PUT 0x6b,X''"),

@@ -1,5 +1,5 @@
 -- How a text is cut where a kind of byte ends, place by place.
-use Rattle.std.proofs.Common.{◌≡◌, ℕ, ◌+◌, ◌<◌, ◌≤◌, Bool, true, false, List, [], ◌∷◌, ◌++◌, length, take, drop, get_or, refl, sym, ◌∙◌, ap, add-one, append_assoc, drop-cons, suc}
+use Rattle.std.proofs.Common.{◌≡◌, ℕ, ◌+◌, ◌<◌, ◌≤◌, Bool, true, false, List, [], ◌∷◌, ◌++◌, length, take, drop, get_or, refl, sym, ◌∙◌, add-one, append_assoc, drop-cons, suc}
 use Rattle.std.proofs.Math.Nat.{le_refl}
 use Rattle.std.proofs.Math.Seq.{take-suc}
 use Rattle.std.proofs.lemmas.List.{drop_all, take_all, append-nil}
@@ -45,7 +45,7 @@ pub passed_stop : (p : ℕ → Bool) (text : List ℕ) (place : ℕ) → place <
     → Passed p text place → (front p text ≡ take place text) × (behind p text ≡ drop place text)
 passed_stop p text place within fails so_far = (
   so_far.before ∙ rw (drop-cons text place 0 within, front-stops p _ _ fails) (append-nil _),
-  so_far.left ∙ rw (drop-cons text place 0 within) (behind-stops p _ _ fails)
+  so_far.left ∙ rw (drop-cons text place 0 within) (behind-stops p _ _ fails),
 )
 
 pub passed_all : (p : ℕ → Bool) (text : List ℕ) (place : ℕ) → length text ≤ place → Passed p text place
@@ -53,5 +53,5 @@ pub passed_all : (p : ℕ → Bool) (text : List ℕ) (place : ℕ) → length t
 passed_all p text place past so_far =
     let none : drop place text ≡ [] = drop_all place text past in (
       so_far.before ∙ rw (none, front-nil p, append-nil, take_all place text past) (sym (take_all (length text) text (le_refl _))),
-      so_far.left ∙ rw none (behind-nil p ∙ sym (drop_all (length text) text (le_refl _)))
+      so_far.left ∙ rw none (behind-nil p ∙ sym (drop_all (length text) text (le_refl _))),
     )

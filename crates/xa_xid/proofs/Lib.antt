@@ -3,5 +3,6 @@ pub mod Numbers
 pub mod Orders
 pub mod Reading
 pub mod Shorter
+pub mod Spelling
 pub mod Texts
 pub mod Written

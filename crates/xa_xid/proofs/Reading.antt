@@ -1,5 +1,5 @@
 -- A text literal, read byte by byte.
-use Rattle.std.proofs.Common.{◌≡◌, ℕ, ◌+◌, ◌<◌, ◌≤◌, suc, List, [], ◌∷◌, ◌++◌, length, drop, get_or, Option, Some, None, refl, sym, ◌∙◌, ap, add-one, drop-cons, append_assoc}
+use Rattle.std.proofs.Common.{◌≡◌, ℕ, ◌+◌, ◌<◌, ◌≤◌, List, [], ◌∷◌, ◌++◌, length, drop, get_or, Option, Some, None, refl, sym, ◌∙◌, ap, add-one, drop-cons, append_assoc}
 use Rattle.std.proofs.lemmas.Bool.{eq-eqb, ne_eqb}
 use Rattle.std.proofs.lemmas.List.{drop_all, append-nil}
 use Rattle.xa_xid.specs.Literal.{kept, sized, text_literal_of}
@@ -61,7 +61,6 @@ pub record ReadTo (quote : ℕ) (text : List ℕ) (mode : Mode) (held : Option T
 
 pub read_none : (quote : ℕ) (text : List ℕ) (held : Option Text) → held ≡ kept [] → ReadTo quote text Plain held 0
 read_none quote text held e = record { so_far = []; held_is = e; same = onto-nil _ }
-
 
 -- one byte that stands for nothing itself
 pub read_mark : (quote : ℕ) (text : List ℕ) (mode next : Mode) (held : Option Text) (place : ℕ) → place < length text

@@ -1,5 +1,5 @@
 -- What stands behind a token is shorter than the text.
-use Rattle.std.proofs.Common.{◌≡◌, ℕ, ◌≤◌, suc, Bool, true, false, not, nat_lt, ◌%◌, if◌then◌else◌, ◌||◌, ◌==◌, List, [], ◌∷◌, ◌++◌, length, drop, Option, Some, None, Result, Ok, Err, refl, sym, ◌∙◌, arith}
+use Rattle.std.proofs.Common.{◌≡◌, ℕ, ◌≤◌, suc, Bool, true, false, not, nat_lt, ◌%◌, if◌then◌else◌, ◌||◌, ◌==◌, List, [], ◌∷◌, length, drop, Option, Some, None, Ok, Err, sym, ◌∙◌, arith}
 use Rattle.std.proofs.Math.Nat.{le_refl}
 use Rattle.std.proofs.lemmas.Bool.{cond_both, or_from, true≢false}
 use Rattle.hex.specs.Hex.{decode_of}
@@ -40,8 +40,8 @@ quoted-short quote Plain (byte ∷ text) =
     cond_both (byte == quote) _ _ (Short (suc (length text)))
     (λ _. short-more (length text) (quoted quote Quote text) (quoted-short quote Quote text))
     (λ _. cond_both (byte == 92) _ _ (Short (suc (length text)))
-      (λ _. short-more (length text) (quoted quote Escape text) (quoted-short quote Escape text))
-      (λ _. short-onto (length text) (byte ∷ []) (quoted quote Plain text) (quoted-short quote Plain text)))
+    (λ _. short-more (length text) (quoted quote Escape text) (quoted-short quote Escape text))
+    (λ _. short-onto (length text) (byte ∷ []) (quoted quote Plain text) (quoted-short quote Plain text)))
 quoted-short quote Escape [] = tt
 quoted-short quote Escape (byte ∷ text) = short-onto (length text) (escaped byte) (quoted quote Plain text) (quoted-short quote Plain text)
 quoted-short quote Quote [] = le_refl 0
@@ -66,8 +66,8 @@ short-text most (Some (bytes, rest)) short = short-sized most (kept bytes) rest 
 short-decoded : (most : ℕ) (digits rest : List ℕ) → length rest ≤ most → ShortReading most (decoded digits rest)
 short-decoded most digits rest short =
     elim (decode_of digits) as (λ found. ShortReading most (elim found [ Ok bytes ↦ Ok (record { items = bytes }, rest) | Err _ ↦ Err NotALiteral ])) [
-      Ok bytes ↦ short
-    | Err fault ↦ tt
+      | Ok bytes ↦ short
+      | Err fault ↦ tt
     ]
 
 short-guard : (most : ℕ) (test : Bool) (fault : LiteralFault) (other : Reading Text) → ShortReading most other
@@ -83,7 +83,7 @@ short-hex most digits (byte ∷ rest) short =
     let shorter : length rest ≤ most = omega arith in
     short-guard most (not (byte == 39)) NotALiteral odd
     (short-guard most (length digits % 2 == 1) OddHex long
-      (short-guard most (nat_lt 128 (length digits)) TooLong (decoded digits rest) (short-decoded most digits rest shorter)))
+    (short-guard most (nat_lt 128 (length digits)) TooLong (decoded digits rest) (short-decoded most digits rest shorter)))
 
 length-drop-2 : (byte : ℕ) (text : List ℕ) → length (drop 2 (byte ∷ text)) ≤ length text
 length-drop-2 byte [] = le_refl 0
@@ -97,6 +97,6 @@ literal-short byte text opens =
     cond_both (opens_text (byte ∷ text)) _ _ (ShortReading (length text))
     (λ _. short-text (length text) (quoted byte Plain text) (quoted-short byte Plain text))
     (λ no. cond_both (opens_hex (byte ∷ text)) _ _ (ShortReading (length text))
-      (λ _. short-hex (length text) (front hex (drop 2 (byte ∷ text))) (behind hex (drop 2 (byte ∷ text)))
-        (omega (arith, behind-short hex (drop 2 (byte ∷ text)), length-drop-2 byte text)))
-      (λ none. let never : true ≡ false = sym opens ∙ or_from _ _ no none in absurd (true≢false never)))
+    (λ _. short-hex (length text) (front hex (drop 2 (byte ∷ text))) (behind hex (drop 2 (byte ∷ text)))
+    (omega (arith, behind-short hex (drop 2 (byte ∷ text)), length-drop-2 byte text)))
+    (λ none. let never : true ≡ false = sym opens ∙ or_from _ _ no none in absurd (true≢false never)))

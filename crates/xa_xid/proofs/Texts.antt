@@ -1,14 +1,14 @@
 -- Bytes that are kept while they are few enough.
-use Rattle.std.proofs.Common.{◌≡◌, ℕ, ◌+◌, ◌<◌, ◌≤◌, List, [], ◌∷◌, ◌++◌, length, Some, None, refl, sym, ◌∙◌, ap, arith, length-append, inl, inr}
+use Rattle.std.proofs.Common.{◌≡◌, ℕ, ◌<◌, ◌≤◌, List, [], ◌∷◌, ◌++◌, length, Some, None, refl, sym, ◌∙◌, ap, arith, length-append, inl, inr}
 use Rattle.std.proofs.lemmas.Bool.{le-leb, lt-leb, cases_lt}
 use Rattle.xa_xid.specs.Literal.{kept}
 use Rattle.xa_xid.specs.Xid.{Text}
 
-kept-fits : (bytes : List ℕ) → length bytes ≤ 64 → kept bytes ≡ Some (record { items = bytes })
+pub kept-fits : (bytes : List ℕ) → length bytes ≤ 64 → kept bytes ≡ Some (record { items = bytes })
 unfolding kept
 kept-fits bytes fits = rw (le-leb (length bytes) 64 fits) refl
 
-kept-past : (bytes : List ℕ) → 64 < length bytes → kept bytes ≡ None
+pub kept-past : (bytes : List ℕ) → 64 < length bytes → kept bytes ≡ None
 unfolding kept
 kept-past bytes past = rw (lt-leb (length bytes) 64 past) refl
 
@@ -17,14 +17,14 @@ none_is_some value e = cc
 
 items_of : (bytes : List ℕ) (text : Text) → Some text ≡ kept bytes → (text.items ≡ bytes) × (length bytes ≤ 64)
 items_of bytes text e = elim (cases_lt 64 (length bytes)) as (λ _. (text.items ≡ bytes) × (length bytes ≤ 64)) [
-    inl past ↦ absurd (none_is_some text (sym (e ∙ kept-past bytes past)))
+  | inl past ↦ absurd (none_is_some text (sym (e ∙ kept-past bytes past)))
   | inr fits ↦ let some : Some text ≡ Some (record { items = bytes }) = e ∙ kept-fits bytes fits in
       let same : text ≡ record { items = bytes } = cc in (ap (λ t. t.items) same, fits)
 ]
 
 past_of : (bytes : List ℕ) → None ≡ kept bytes → 64 < length bytes
 past_of bytes e = elim (cases_lt 64 (length bytes)) as (λ _. 64 < length bytes) [
-    inl past ↦ past
+  | inl past ↦ past
   | inr fits ↦ let text : Text = record { items = bytes } in absurd (none_is_some text (e ∙ kept-fits bytes fits))
 ]
 

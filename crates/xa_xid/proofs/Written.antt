@@ -1,19 +1,18 @@
 -- What is written in canonical form is read back.
-use Rattle.std.proofs.Common.{◌≡◌, ℕ, ◌+◌, ◌*◌, ◌/◌, ◌%◌, ◌^◌, ◌<◌, ◌≤◌, suc, Bool, true, false, ◌==◌, ◌&&◌, not, List, [], ◌∷◌, ◌++◌, length, Option, Some, None, Result, Ok, Err, get_or, refl, sym, ◌∙◌, ap, arith, append_assoc, decimal}
-use Rattle.std.proofs.lemmas.Bool.{agree_below, agree_below_at, lt-ltb, le-ltb, ne_eqb, eq-eqb, le-leb}
+use Rattle.std.proofs.Common.{◌≡◌, ℕ, ◌*◌, ◌/◌, ◌%◌, ◌^◌, ◌<◌, ◌≤◌, suc, Bool, true, false, ◌==◌, List, [], ◌∷◌, ◌++◌, length, Some, Result, Ok, Err, get_or, refl, sym, ◌∙◌, ap, arith, append_assoc, decimal}
+use Rattle.std.proofs.lemmas.Bool.{agree_below_at, lt-ltb, le-ltb, ne_eqb}
 use Rattle.std.proofs.lemmas.Bool.Decides.{nat_tests}
 use Rattle.std.proofs.lemmas.Fmt.{decimal_is_IsNumeral}
 use Rattle.std.proofs.lemmas.Str.Parse.{digit_from_value}
-use Rattle.std.specs.Char.{digit_value, is_digit}
+use Rattle.std.specs.Char.{digit_value}
 use Rattle.std.specs.Str.Parse.{digits_value, AllDigits, IsNumeral}
-use Rattle.hex.specs.Hex.{IsBytes, encode_lower, encode_with, lower_digits, decode_of, decode_pairs}
+use Rattle.hex.specs.Hex.{IsBytes, encode_lower, encode_with, lower_digits, decode_pairs}
 use Rattle.hex.proofs.HexLemmas.{decode_of-encode_lower, length-encode_with}
-use Rattle.xa_xid.specs.Bytes.{belongs, is_word, is_blank, front, behind, only, run, after_run, unblank, StartsNo}
+use Rattle.xa_xid.specs.Bytes.{belongs, front, behind, run, after_run, unblank, StartsNo}
 use Rattle.xa_xid.specs.Literal.{Reading, literal_at, hex_run_of, hex_digits_of, evened, decoded}
-use Rattle.xa_xid.specs.Number.{number_at, number_in, fitting}
+use Rattle.xa_xid.specs.Number.{number_at, number_in}
 use Rattle.xa_xid.specs.Xid.{Text}
 use Rattle.xa_xid.specs.XidText.{Parse, xid_at, part_text, xid_text, xid_of, gtrid_next, bqual_next, format_id_next, after_gtrid, after_bqual, comma_next, IsWritable}
-use Rattle.xa_xid.specs.declared.byte_class.ByteClass.{ByteClass}
 use Rattle.xa_xid.specs.declared.byte_class.ByteClass.TheVariants.{Blank, Word, Decimal, Hexadecimal}
 use Rattle.xa_xid.specs.declared.literal_fault.LiteralFault.{LiteralFault}
 use Rattle.xa_xid.specs.declared.literal_fault.LiteralFault.TheVariants.{NotALiteral}
@@ -78,7 +77,7 @@ hex_digits_back digit digits e = rw e refl
 even_digits : (bytes : List ℕ) → length (encode_lower bytes) % 2 ≡ 0
 even_digits bytes = let twice : length (encode_lower bytes) ≡ 2 * length bytes = length-encode_with lower_digits bytes in omega arith
 
-abbrev decoded_found : List ℕ → Result (List ℕ) FromHexError → Reading Text
+abbrev pub decoded_found : List ℕ → Result (List ℕ) FromHexError → Reading Text
 decoded_found rest (Ok bytes) = Ok (record { items = bytes }, rest)
 decoded_found rest (Err fault) = Err NotALiteral
 
@@ -102,7 +101,7 @@ filled_back byte bytes rest all fits s =
     let cut : run (48 ∷ 120 ∷ digits ++ rest) ≡ 48 ∷ 120 ∷ digits = front-append (belongs Word) (48 ∷ 120 ∷ digits) rest word s in
     let left : after_run (48 ∷ 120 ∷ digits ++ rest) ≡ rest = behind-append (belongs Word) (48 ∷ 120 ∷ digits) rest word s in
     let hex : hex_digits_of (48 ∷ 120 ∷ digits) ≡ Some digits =
-      hex_digits_back _ _ (only_passes (belongs Hexadecimal) digits (digits_pass (belongs Hexadecimal) digit_is_hex (byte ∷ bytes) all)) in
+    hex_digits_back _ _ (only_passes (belongs Hexadecimal) digits (digits_pass (belongs Hexadecimal) digit_is_hex (byte ∷ bytes) all)) in
     ap (λ r. hex_run_of (hex_digits_of r) (after_run (48 ∷ 120 ∷ digits ++ rest))) cut
     ∙ ap (λ d. hex_run_of d (after_run (48 ∷ 120 ∷ digits ++ rest))) hex
     ∙ ap (λ r. hex_run_of (Some digits) r) left
@@ -240,8 +239,8 @@ xid_back xid rest is s =
     let third = part_text xid.bqual.items ++ (44 ∷ number) in
     first_back xid.gtrid.items (xid_text xid ++ rest) third (Ok (xid, rest)) (xid_text-append xid rest) is.gtrid_bytes is.gtrid_fits
     (second_back xid.gtrid xid.bqual.items third number (Ok (xid, rest)) refl is.bqual_bytes is.bqual_fits
-      (third_back xid.gtrid xid.bqual xid.format_id number rest (number_unblank xid.format_id rest is.format_fits)
-        (number_back xid.format_id rest is.format_fits s)))
+    (third_back xid.gtrid xid.bqual xid.format_id number rest (number_unblank xid.format_id rest is.format_fits)
+    (number_back xid.format_id rest is.format_fits s)))
 
 -- the digits of a part are word bytes
 pub part_word : (byte : ℕ) (bytes : List ℕ) → IsBytes (byte ∷ bytes) → Passes (belongs Word) (48 ∷ 120 ∷ encode_lower (byte ∷ bytes))

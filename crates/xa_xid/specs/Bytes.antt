@@ -6,7 +6,7 @@
 --     unblank text           the text from its first byte on that isn't a blank
 --     run text, after_run text      the word bytes that a text begins with, and what stands behind them
 --     StartsNo p text        the text is empty, or its first byte doesn't pass
-use Rattle.std.specs.Prelude.{◌≡◌, ℕ, Bool, true, false, ◌==◌, ◌||◌, ◌&&◌, nat_le, if◌then◌else◌, List, [], ◌∷◌, length}
+use Rattle.std.specs.Prelude.{◌≡◌, ℕ, Bool, false, ◌==◌, ◌||◌, ◌&&◌, nat_le, if◌then◌else◌, List, [], ◌∷◌, length}
 use Rattle.std.specs.Char.{is_digit}
 use Rattle.xa_xid.specs.declared.byte_class.ByteClass.{ByteClass}
 use Rattle.xa_xid.specs.declared.byte_class.ByteClass.TheVariants.{Blank, Word, Decimal, Hexadecimal}

@@ -3,7 +3,7 @@
 --     Quoted quote written bytes     `written`, up to and with the closing quote, stands for `bytes`
 --     QuotedAt quote text bytes rest     the same of the beginning of a text, and `rest` stands behind it
 --     quoted quote mode text     how it is read, byte by byte
-use Rattle.std.specs.Prelude.{◌≡◌, ◌≢◌, ℕ, Bool, ◌==◌, ◌||◌, if◌then◌else◌, List, [], ◌∷◌, ◌++◌, Option, Some, None}
+use Rattle.std.specs.Prelude.{◌≡◌, ◌≢◌, ℕ, ◌==◌, if◌then◌else◌, List, [], ◌∷◌, ◌++◌, Option, Some, None}
 use Rattle.xa_xid.specs.Bytes.{StartsNo}
 use Rattle.xa_xid.specs.declared.quoted.Mode.{Mode}
 use Rattle.xa_xid.specs.declared.quoted.Mode.TheVariants.{Plain, Escape, Quote}
@@ -11,15 +11,15 @@ use Rattle.xa_xid.specs.declared.quoted.Mode.TheVariants.{Plain, Escape, Quote}
 -- what a backslash and a letter stand for; upper and lower case differ (manual, 'String Literals')
 unfoldable pub escaped : ℕ → List ℕ
 escaped letter =
-    if letter == 48 then 0 ∷ [] else        -- \0
-    if letter == 98 then 8 ∷ [] else        -- \b
-    if letter == 110 then 10 ∷ [] else      -- \n
-    if letter == 114 then 13 ∷ [] else      -- \r
-    if letter == 116 then 9 ∷ [] else       -- \t
-    if letter == 90 then 26 ∷ [] else       -- \Z
+    if letter == 48 then 0 ∷ [] else  -- \0
+    if letter == 98 then 8 ∷ [] else  -- \b
+    if letter == 110 then 10 ∷ [] else  -- \n
+    if letter == 114 then 13 ∷ [] else  -- \r
+    if letter == 116 then 9 ∷ [] else  -- \t
+    if letter == 90 then 26 ∷ [] else  -- \Z
     if letter == 37 then 92 ∷ 37 ∷ [] else  -- \%
     if letter == 95 then 92 ∷ 95 ∷ [] else  -- \_
-    letter ∷ []                             -- \' \" \\ and any other: that byte
+    letter ∷ []  -- \' \" \\ and any other: that byte
 
 -- the text up to and with the closing quote, and the bytes that it stands for
 pub data Quoted (quote : ℕ) : List ℕ → List ℕ → Type 0 where

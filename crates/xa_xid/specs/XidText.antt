@@ -31,7 +31,7 @@ comma_next (byte ∷ text) = if byte == 44 then Some text else None
 -- a formatID behind the second comma
 abbrev pub format_id_next : Text → Text → List ℕ → Parse
 format_id_next gtrid bqual text = elim (number_at text) [
-    Ok found ↦ Ok (xid_of gtrid bqual found.0, found.1)
+  | Ok found ↦ Ok (xid_of gtrid bqual found.0, found.1)
   | Err fault ↦ Err (fault, text)
 ]
 
@@ -43,7 +43,7 @@ after_bqual gtrid bqual rest (Some text) = format_id_next gtrid bqual (unblank t
 -- a bqual behind the first comma
 abbrev pub bqual_next : Text → List ℕ → Parse
 bqual_next gtrid text = elim (literal_at text) [
-    Ok found ↦ after_bqual gtrid found.0 found.1 (comma_next (unblank found.1))
+  | Ok found ↦ after_bqual gtrid found.0 found.1 (comma_next (unblank found.1))
   | Err fault ↦ Err (fault, text)
 ]
 
@@ -55,7 +55,7 @@ after_gtrid gtrid rest (Some text) = bqual_next gtrid (unblank text)
 -- the gtrid, and what follows
 abbrev pub gtrid_next : List ℕ → Parse
 gtrid_next text = elim (literal_at text) [
-    Ok found ↦ after_gtrid found.0 found.1 (comma_next (unblank found.1))
+  | Ok found ↦ after_gtrid found.0 found.1 (comma_next (unblank found.1))
   | Err fault ↦ Err (fault, text)
 ]
 

@@ -1,9 +1,10 @@
 //! What `==` and `cmp` of the types decide, and that what is written is read back, as contracts over the definitions.
-ghost use Rattle.std.specs.Prelude.{◌≡◌, ◌↔◌, ◌<◌, ◌^◌, ◌++◌, List, ℕ, IsTrue};
+ghost use Rattle.std.specs.Prelude.{◌≡◌, ◌↔◌, ◌<◌, ◌≤◌, ◌^◌, ◌++◌, List, ℕ, length, IsTrue};
 ghost use Rattle.hex.specs.Hex.{IsBytes};
 ghost use Rattle.std.specs.declared.cmp.Ordering.TheVariants.{Equal};
-ghost use Rattle.xa_xid.specs.Xid.{bytes_cmp, xid_cmp};
+ghost use Rattle.xa_xid.specs.Xid.{Text, bytes_cmp, xid_cmp};
 ghost use Rattle.xa_xid.specs.Bytes.{belongs, StartsNo};
+ghost use Rattle.xa_xid.specs.Literal.{LiteralAt, kept, literal_at, sized};
 ghost use Rattle.xa_xid.specs.XidText.{xid_at, xid_text, IsWritable};
 
 use crate::{ByteClass, Key, Xid};
@@ -38,6 +39,16 @@ pub fn order_of_keys(left_key: &Key, right_key: &Key) -> Ordering
     left_key.cmp(right_key)
 }
 
+/// A text is read as a literal only where it begins with that literal, of at most 64 bytes; and one that begins with a
+/// literal is read as its bytes, or is too long.
+///
+/// Takes no memory. Doesn't wait.
+pub fn literals_are_read_as_spelled()
+    ensures sound { (text : List ℕ) (found : Text) (rest : List ℕ) → literal_at text ≡ Ok (found, rest)
+        → LiteralAt text found.items rest × (length found.items ≤ 64) }
+    ensures complete { (text bytes rest : List ℕ) → LiteralAt text bytes rest → literal_at text ≡ sized (kept bytes) rest }
+{}
+
 /// The canonical text of an identifier is read as that identifier, whatever stands behind it but a word byte.
 ///
 /// Takes no memory. Doesn't wait.
@@ -63,11 +74,9 @@ pub fn is_writable(xid: &Xid)
 /// Takes no memory. Doesn't wait.
 pub fn are_bytes(text: &[u8])
     ensures { IsBytes text.now }
-{
-}
+{}
 
 /// A number of 64 bits is below 2^64.
 fn is_below_2_to_the_64(number: u64)
     ensures { number < 2 ^ 64 }
-{
-}
+{}

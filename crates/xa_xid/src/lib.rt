@@ -28,9 +28,9 @@ pub use literal_fault::LiteralFault;
 pub use number::{number_of, read_number};
 pub use session_no::SessionNo;
 pub use statement::Statement;
+use std::alloc::AllocError;
 pub use xid::Xid;
 pub use xid_text::{read_xid, with_part, with_xid, write_xid};
-use std::alloc::AllocError;
 
 /// The allocator's error: there was no memory.
 pub type NoMemory = AllocError;

@@ -63,8 +63,8 @@ fn hex_in_quotes(body: &[u8]) -> Result<(Bytes, &[u8]), LiteralFault>
     ensures value { let digits = front (belongs ByteClass.Hexadecimal) body.now in
         let rest = behind (belongs ByteClass.Hexadecimal) body.now in
         MatchResult result
-            (λ found. hex_in_quotes_of digits rest ≡ Ok (found.0, found.1.now))
-            (λ fault. hex_in_quotes_of digits rest ≡ Err fault) }
+        (λ found. hex_in_quotes_of digits rest ≡ Ok (found.0, found.1.now))
+        (λ fault. hex_in_quotes_of digits rest ≡ Err fault) }
     ensures within { IfOk result (λ found. length found.1.now ≤ length body.now) }
 {
     let (digits, rest) = ByteClass::Hexadecimal.split(body);
@@ -85,8 +85,8 @@ fn hex_in_quotes(body: &[u8]) -> Result<(Bytes, &[u8]), LiteralFault>
 fn hex_run(text: &[u8]) -> Result<(Bytes, &[u8]), LiteralFault>
     ensures value { let digits = hex_digits_of (run text.now) in
         MatchResult result
-            (λ found. hex_run_of digits (after_run text.now) ≡ Ok (found.0, found.1.now))
-            (λ fault. hex_run_of digits (after_run text.now) ≡ Err fault) }
+        (λ found. hex_run_of digits (after_run text.now) ≡ Ok (found.0, found.1.now))
+        (λ fault. hex_run_of digits (after_run text.now) ≡ Err fault) }
     ensures within { IfOk result (λ found. length found.1.now ≤ length text.now) }
 {
     let (run, rest) = ByteClass::Word.split(text);

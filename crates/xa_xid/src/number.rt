@@ -75,7 +75,9 @@ fn value_in(digits: &[u8], base: u64) -> Option<u64>
 {
     let mut value: u64 = 0;
     for digit in digits {
-        value = value.checked_mul(base)?.checked_add(value_of_digit(*digit))?;
+        value = value
+            .checked_mul(base)?
+            .checked_add(value_of_digit(*digit))?;
     }
     Some(value)
 }

@@ -44,7 +44,14 @@ fn read_gtrid(text: &[u8]) -> Parse<'_>
     match literal_of(text) {
         Ok((gtrid, rest)) => match after_comma(rest) {
             Some(next) => read_bqual(gtrid, skip_blanks(next)),
-            None => Ok((Xid { format_id: 1, gtrid, bqual: Bytes::new() }, rest)),
+            None => Ok((
+                Xid {
+                    format_id: 1,
+                    gtrid,
+                    bqual: Bytes::new(),
+                },
+                rest,
+            )),
         },
         Err(fault) => Err((fault, text)),
     }
@@ -61,7 +68,14 @@ fn read_bqual(gtrid: Bytes, text: &[u8]) -> Parse<'_>
     match literal_of(text) {
         Ok((bqual, rest)) => match after_comma(rest) {
             Some(next) => read_format_id(gtrid, bqual, skip_blanks(next)),
-            None => Ok((Xid { format_id: 1, gtrid, bqual }, rest)),
+            None => Ok((
+                Xid {
+                    format_id: 1,
+                    gtrid,
+                    bqual,
+                },
+                rest,
+            )),
         },
         Err(fault) => Err((fault, text)),
     }
@@ -76,7 +90,14 @@ fn read_format_id(gtrid: Bytes, bqual: Bytes, text: &[u8]) -> Parse<'_>
         (λ fault. length fault.1.now ≤ length text.now) }
 {
     match number_of(text) {
-        Ok((format_id, rest)) => Ok((Xid { format_id, gtrid, bqual }, rest)),
+        Ok((format_id, rest)) => Ok((
+            Xid {
+                format_id,
+                gtrid,
+                bqual,
+            },
+            rest,
+        )),
         Err(fault) => Err((fault, text)),
     }
 }

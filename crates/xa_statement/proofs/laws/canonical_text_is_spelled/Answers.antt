@@ -26,7 +26,7 @@ pub returns-in-Put : goal.returns-in-Put
 returns-in-Put c =
     rw c.in-Put.is
     (put_spelled c.in-Put.key c.in-Put.value c.is_key-in-Put.ensures
-      (rw c.as_slice.ensures.value at c.are_bytes.ensures) (rw c.as_slice.ensures.value at c.as_slice.ensures.fits))
+    (rw c.as_slice.ensures.value at c.are_bytes.ensures) (rw c.as_slice.ensures.value at c.as_slice.ensures.fits))
 
 pub returns-in-Del : goal.returns-in-Del
 returns-in-Del c = rw c.in-Del.is (del_spelled c.in-Del.key c.is_key-in-Del.ensures)

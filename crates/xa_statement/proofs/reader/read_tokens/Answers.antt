@@ -1,4 +1,4 @@
-use Rattle.std.proofs.Common.{◌≡◌, ◌<◌, ◌∙◌, sym, ap, length, ok_or}
+use Rattle.std.proofs.Common.{◌≡◌, ◌∙◌, sym, ap, length, ok_or}
 use Rattle.xa_xid.specs.Bytes.{unblank}
 use Rattle.xa_statement.specs.Token.{token_at}
 use Rattle.xa_statement.specs.Machine.{step}
@@ -11,15 +11,15 @@ loop-rest-init c = read_start c.args.text.now c.skip_blanks-rest.result.now c.sk
 pub returns-in-None : goal.returns-in-None
 returns-in-None c =
     let rest = c.loop-rest.rest.now in
-      read_stop c.args.text.now rest c.loop-rest.state (some_left rest c.loop-rest-test.ensures)
-        (ap (λ t. step c.loop-rest.state t) (sym (ap (λ cut. cut.0) c.token_of-token.ensures)) ∙ sym c.step.ensures ∙ c.in-None.is)
-        c.loop-rest.invariant
+    read_stop c.args.text.now rest c.loop-rest.state (some_left rest c.loop-rest-test.ensures)
+    (ap (λ t. step c.loop-rest.state t) (sym (ap (λ cut. cut.0) c.token_of-token.ensures)) ∙ sym c.step.ensures ∙ c.in-None.is)
+    c.loop-rest.invariant
 
 pub loop-rest-smaller : goal.loop-rest-smaller
 loop-rest-smaller c =
     let rest = c.loop-rest.rest.now in
     let later : c.skip_blanks-rest-in-loop-rest.result.now ≡ unblank (token_at rest).1 =
-      c.skip_blanks-rest-in-loop-rest.ensures.value ∙ ap (λ cut. unblank cut.1) c.token_of-token.ensures in
+    c.skip_blanks-rest-in-loop-rest.ensures.value ∙ ap (λ cut. unblank cut.1) c.token_of-token.ensures in
     rw later (rest-short rest (some_left rest c.loop-rest-test.ensures))
 
 pub loop-rest-preserved : goal.loop-rest-preserved

@@ -1,4 +1,4 @@
-use Rattle.std.proofs.Common.{◌≡◌, ℕ, List, ◌≢◌, get_or, ◌∷◌, [], drop, length, ap, inl, inr}
+use Rattle.std.proofs.Common.{get_or, ◌∷◌, [], ap, inl, inr}
 use Rattle.std.proofs.Math.Nat.{le_refl}
 use Rattle.std.proofs.lemmas.List.{drop_all}
 use Rattle.xa_xid.specs.Literal.{text_literal_of}
@@ -18,16 +18,16 @@ loop-i-preserved c =
     let place = c.loop-i.i in
     let byte = get_or body place 0 in
     elim c.match-mode.branch [
-      in-Plain+then-byte-quote w ↦
-        rw (w.mode-is, w.kept-is) (read_mark quote body Plain Quote _ place c.loop-i-test.true (λ rest. plain_quote quote byte rest w.if-byte-quote.true) (rw w.in-Plain.is at c.loop-i.invariant))
-    | in-Plain+else-byte-quote+then-byte-eq92 w ↦
-        rw (w.mode-is, w.kept-is) (read_mark quote body Plain Escape _ place c.loop-i-test.true (λ rest. plain_backslash quote byte rest w.if-byte-quote.false w.if-byte-eq92.true) (rw w.in-Plain.is at c.loop-i.invariant))
-    | in-Plain+else-byte-quote+else-byte-eq92 w ↦
-        rw (w.mode-is, w.in-Plain.is, w.kept-is) (read_more quote body Plain Plain _ _ place (byte ∷ []) c.loop-i-test.true (λ rest. plain_byte quote byte rest w.if-byte-quote.false w.if-byte-eq92.false) w.add.ensures (rw w.in-Plain.is at c.loop-i.invariant))
-    | in-Escape w ↦
-        rw (w.mode-is, w.kept-is) (read_more quote body Escape Plain _ _ place (escaped byte) c.loop-i-test.true (λ rest. escape_letter quote byte rest) w.add_escaped.ensures (rw w.in-Escape.is at c.loop-i.invariant))
-    | in-Quote+else-byte-quote-2 w ↦
-        rw (w.mode-is, w.kept-is) (read_more quote body Quote Plain _ _ place (quote ∷ []) c.loop-i-test.true (λ rest. quote_again quote byte rest w.if-byte-quote-2.false) w.add-in-Quote.ensures (rw w.in-Quote.is at c.loop-i.invariant))
+      | in-Plain+then-byte-quote w ↦
+          rw (w.mode-is, w.kept-is) (read_mark quote body Plain Quote _ place c.loop-i-test.true (λ rest. plain_quote quote byte rest w.if-byte-quote.true) (rw w.in-Plain.is at c.loop-i.invariant))
+      | in-Plain+else-byte-quote+then-byte-eq92 w ↦
+          rw (w.mode-is, w.kept-is) (read_mark quote body Plain Escape _ place c.loop-i-test.true (λ rest. plain_backslash quote byte rest w.if-byte-quote.false w.if-byte-eq92.true) (rw w.in-Plain.is at c.loop-i.invariant))
+      | in-Plain+else-byte-quote+else-byte-eq92 w ↦
+          rw (w.mode-is, w.in-Plain.is, w.kept-is) (read_more quote body Plain Plain _ _ place (byte ∷ []) c.loop-i-test.true (λ rest. plain_byte quote byte rest w.if-byte-quote.false w.if-byte-eq92.false) w.add.ensures (rw w.in-Plain.is at c.loop-i.invariant))
+      | in-Escape w ↦
+          rw (w.mode-is, w.kept-is) (read_more quote body Escape Plain _ _ place (escaped byte) c.loop-i-test.true (λ rest. escape_letter quote byte rest) w.add_escaped.ensures (rw w.in-Escape.is at c.loop-i.invariant))
+      | in-Quote+else-byte-quote-2 w ↦
+          rw (w.mode-is, w.kept-is) (read_more quote body Quote Plain _ _ place (quote ∷ []) c.loop-i-test.true (λ rest. quote_again quote byte rest w.if-byte-quote-2.false) w.add-in-Quote.ensures (rw w.in-Quote.is at c.loop-i.invariant))
     ]
 
 pub returns-then-byte-quote-2-clause-value : goal.returns-then-byte-quote-2-clause-value
@@ -46,6 +46,6 @@ returns-in-Plain-mode c =
     let body = c.args.body.now in
     let place = c.loop-i.i in
     elim c.in-Plain-mode.is [
-      inl e ↦ record { value = ap text_literal_of (read_plain_end quote body _ place c.loop-i-test.false (rw e at c.loop-i.invariant)); within = tt }
-    | inr e ↦ record { value = ap text_literal_of (read_escape_end quote body _ place c.loop-i-test.false (rw e at c.loop-i.invariant)); within = tt }
+      | inl e ↦ record { value = ap text_literal_of (read_plain_end quote body _ place c.loop-i-test.false (rw e at c.loop-i.invariant)); within = tt }
+      | inr e ↦ record { value = ap text_literal_of (read_escape_end quote body _ place c.loop-i-test.false (rw e at c.loop-i.invariant)); within = tt }
     ]
