@@ -1,16 +1,15 @@
 -- What follows for the state where a statement is accepted.
-use Rattle.std.proofs.Common.{◌≡◌, ◌≢◌, ℕ, List, refl, ap, sym, ◌∙◌, subst, Bool, true, false, inl, inr}
-use Rattle.std.specs.Prelude.{Option, Some, None, cond, is_some, not, ◌&&◌, ◌||◌}
-use Rattle.std.specs.Option.{option_map, option_map_or, unwrap_or}
-use Rattle.std.specs.Ordering.{eq_by_cmp}
+use Rattle.std.proofs.Common.{◌≡◌, ℕ, List, refl, ap, sym, ◌∙◌, subst, Bool, true, false, inl, inr}
+use Rattle.std.specs.Prelude.{Option, Some, None, is_some, not, ◌&&◌, ◌||◌}
+use Rattle.std.specs.Option.{option_map, option_map_or}
 use Rattle.std.specs.FinMap as map
 use Rattle.std.specs.FinMap.{same_map}
 use mathlib.Core.Bool.{true≢false}
 use Rattle.xa_xid.specs.declared.xid.Xid.{Xid}
-use Rattle.xa_xid.specs.Xid.{Text, bytes_cmp, same_xid}
+use Rattle.xa_xid.specs.Xid.{Text, same_xid}
 use Rattle.xa_xid.proofs.Orders.{xids_total, exact_xids, bytes_total, exact_texts}
 use Rattle.xa_xid.specs.declared.statement.Statement.{Statement}
-use Rattle.xa_xid.specs.declared.statement.Statement.TheVariants.{Start, End, Prepare, Commit, Rollback, Get, Put, Del}
+use Rattle.xa_xid.specs.declared.statement.Statement.TheVariants.{Start, End, Commit, Rollback, Get, Put, Del}
 use Rattle.xa_server.specs.declared.branch.Phase.{Phase}
 use Rattle.xa_server.specs.declared.branch.Phase.TheVariants.{Active as PhaseActive, Idle as PhaseIdle, Prepared as PhasePrepared}
 use Rattle.xa_server.specs.declared.reply.Reply.{Reply}
@@ -24,8 +23,8 @@ use Rattle.xa_server.specs.State.{Branch, State, is_known, phase_at, is_prepared
 use Rattle.xa_server.specs.Locks.{holds, is_held_against}
 use Rattle.xa_server.specs.Replies.{ok_if, refused_if, table, reply_to}
 use Rattle.xa_server.specs.Step.{Step, after, effect, enters, may_enter, makes_record, may_take_memory, is_recover, is_refused, unless_refused, with_branch, with_changed, with_lock}
-use Rattle.xa_server.proofs.Maps.{same_is, same_or_apart, same_itself, get_inserted, get_inserted_apart}
-use Rattle.xa_server.proofs.Index.{same_value, not_none}
+use Rattle.xa_server.proofs.Maps.{same_is, same_or_apart, get_inserted, get_inserted_apart}
+use Rattle.xa_server.proofs.Index.{not_none}
 use Rattle.xa_server.proofs.Steps.{same_state, same_branches}
 
 -- ---- what a session has seated

@@ -1,5 +1,5 @@
 -- What each accepted statement does to the branch of an identifier.
-use Rattle.std.proofs.Common.{◌≡◌, ℕ, List, refl, ap, sym, ◌∙◌, Bool, true, false, ◌⊎◌, inl, inr}
+use Rattle.std.proofs.Common.{◌≡◌, ℕ, refl, ap, sym, ◌∙◌, Bool, true, false, ◌⊎◌, inl, inr}
 use Rattle.std.specs.Prelude.{Option, Some, None, cond}
 use Rattle.std.specs.Option.{option_map, option_map_or}
 use Rattle.std.specs.FinMap as map
@@ -18,7 +18,7 @@ use Rattle.xa_server.specs.declared.seat.Seat.TheVariants.{Free, Active, Idle}
 use Rattle.xa_server.specs.State.{Branch, State, seat_of}
 use Rattle.xa_server.specs.Replies.{table, reply_to}
 use Rattle.xa_server.specs.Step.{started_by, with_branch, with_changed, with_writes, without_branch, committed, with_lock, with_own_write, effect, is_refused, unless_refused, after}
-use Rattle.xa_server.proofs.Maps.{same_or_apart, same_itself, get_removed}
+use Rattle.xa_server.proofs.Maps.{same_or_apart}
 
 unfoldable pub idle : Branch → Branch
 idle branch = record branch { phase = PhaseIdle }

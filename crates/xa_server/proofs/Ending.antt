@@ -1,6 +1,6 @@
 -- What the end of a branch is in the state that the records stand for.
 use Rattle.std.proofs.Common.{◌≡◌, ℕ, List, [], ◌∷◌, refl, ap, sym, ◌∙◌, Bool, true, false, ◌⊎◌, inl, inr}
-use Rattle.std.specs.Prelude.{Option, Some, None, cond, ◌||◌, is_some}
+use Rattle.std.specs.Prelude.{Option, Some, None, cond, is_some}
 use Rattle.std.specs.Option.{option_map, option_map_or, option_and_then, unwrap_or}
 use Rattle.std.specs.List.{list_any}
 use Rattle.std.specs.Ordering.{eq_by_cmp}
@@ -8,15 +8,15 @@ use Rattle.std.specs.FinMap as map
 use Rattle.std.specs.FinMap.{get-entries, find, same_map}
 use mathlib.Core.Bool.{true≢false}
 use Rattle.xa_xid.specs.declared.xid.Xid.{Xid}
-use Rattle.xa_xid.specs.Xid.{Text, bytes_cmp, xid_cmp, same_xid}
+use Rattle.xa_xid.specs.Xid.{Text, bytes_cmp, same_xid}
 use Rattle.xa_xid.proofs.Orders.{xids_total, exact_xids, bytes_total, exact_texts}
 use Rattle.xa_server.specs.declared.branch.BranchRecord.{BranchRecord}
 use Rattle.xa_server.specs.declared.row.Lock.{Lock}
 use Rattle.xa_server.specs.declared.row.RowRecord.{RowRecord}
-use Rattle.xa_server.specs.State.{Write, Branch, State}
+use Rattle.xa_server.specs.State.{Write, Branch}
 use Rattle.xa_server.specs.Step.{without_branch, with_write, with_writes, committed}
 use Rattle.xa_server.specs.Tables.{BranchMap}
-use Rattle.xa_server.specs.Rows.{RowMap, committed_of, holder_of, write_of, write_by, lock_by, freed_row, is_needed, kept, freed, Frees}
+use Rattle.xa_server.specs.Rows.{RowMap, committed_of, holder_of, write_of, write_by, lock_by, freed_row, kept, freed, Frees}
 use Rattle.xa_server.specs.View.{gather, branch_seen, state_of}
 use Rattle.xa_server.proofs.Maps.{same_or_apart, same_itself, get_inserted, get_inserted_apart, get_removed, get_removed_apart}
 use Rattle.xa_server.proofs.Gathered.{get-gather}

@@ -1,11 +1,11 @@
 -- Between two finishes of a prepared branch in one history stands an accepted XA PREPARE of it.
-use Rattle.std.proofs.Common.{◌≡◌, ℕ, zero, suc, ◌<◌, List, [], ◌∷◌, refl, ap, sym, ◌∙◌, Bool, true, false, ◌⊎◌, inl, inr, take, slice_get, arith}
+use Rattle.std.proofs.Common.{◌≡◌, ℕ, zero, suc, ◌<◌, List, [], ◌∷◌, refl, ap, sym, ◌∙◌, Bool, true, false, inl, inr, take, arith}
 use Rattle.std.specs.Prelude.{Option, Some, None, cond}
 use Rattle.std.specs.Option.{option_map, option_map_or}
 use Rattle.std.specs.FinMap as map
 use mathlib.Core.Bool.{true≢false}
 use Rattle.xa_xid.specs.declared.xid.Xid.{Xid}
-use Rattle.xa_xid.specs.Xid.{Text, same_xid}
+use Rattle.xa_xid.specs.Xid.{same_xid}
 use Rattle.xa_xid.proofs.Orders.{xids_total, exact_xids}
 use Rattle.xa_xid.specs.declared.statement.Statement.{Statement}
 use Rattle.xa_xid.specs.declared.statement.Statement.TheVariants.{Start, End, Prepare, Commit, Rollback, Recover, Unsupported, Get, Put, Del, Disconnect}
@@ -15,7 +15,7 @@ use Rattle.xa_server.specs.declared.seat.Seat.{Seat}
 use Rattle.xa_server.specs.declared.seat.Seat.TheVariants.{Free, Active, Idle}
 use Rattle.xa_server.specs.State.{Write, Branch, State, is_prepared, is_prepared_phase, seat_of}
 use Rattle.xa_server.specs.Replies.{ok_if, table, reply_to}
-use Rattle.xa_server.specs.Step.{started_by, with_lock, with_own_write, effect, is_refused, after, after_all}
+use Rattle.xa_server.specs.Step.{started_by, with_lock, with_own_write, is_refused, after, after_all}
 use Rattle.xa_server.specs.Finish.{Finishes, commits, rolls_back, FinishesAt, PreparesAt}
 use Rattle.xa_server.specs.Laws.{IsPreparedBetween}
 use Rattle.xa_server.proofs.Maps.{same_or_apart, same_itself}

@@ -1,7 +1,6 @@
 -- What ending a branch does to the records of rows.
 use Rattle.std.proofs.Common.{◌≡◌, ℕ, List, [], ◌∷◌, ◌++◌, refl, ap, sym, ◌∙◌, Bool, true, false, inl, inr}
-use Rattle.std.specs.Prelude.{Option, Some, None, cond, ◌||◌, MatchOption, is_some}
-use Rattle.std.specs.Option.{option_map_or, option_and_then}
+use Rattle.std.specs.Prelude.{Option, Some, None, cond, ◌||◌, MatchOption}
 use Rattle.std.specs.List.{list_any}
 use Rattle.std.specs.Ordering.{eq_by_cmp}
 use Rattle.std.specs.BTreeMap as tree
@@ -13,7 +12,7 @@ use Rattle.xa_xid.proofs.Orders.{bytes_total, exact_texts}
 use Rattle.xa_server.specs.declared.row.Change.{Change}
 use Rattle.xa_server.specs.declared.row.Lock.{Lock}
 use Rattle.xa_server.specs.declared.row.RowRecord.{RowRecord}
-use Rattle.xa_server.specs.Rows.{RowMap, committed_of, held_row, freed_row, is_needed, kept, freed, Frees}
+use Rattle.xa_server.specs.Rows.{RowMap, held_row, freed_row, is_needed, kept, freed, Frees}
 use Rattle.xa_server.proofs.Maps.{get_view, same_or_apart, same_itself, get_inserted, get_inserted_apart, get_removed, get_removed_apart}
 use Rattle.xa_server.proofs.RowRecords.{rows_in, row_set, row_gone}
 use Rattle.xa_server.proofs.Index.{same_value, not_none}

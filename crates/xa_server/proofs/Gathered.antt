@@ -1,5 +1,5 @@
 -- What stands in maps that are gathered from records, or whose values are changed.
-use Rattle.std.proofs.Common.{◌≡◌, ℕ, List, [], ◌∷◌, refl, ap, sym, ◌∙◌, Bool, true, false, inl, inr, map, subst}
+use Rattle.std.proofs.Common.{◌≡◌, List, [], ◌∷◌, refl, ap, sym, ◌∙◌, Bool, true, false, inl, inr, map, subst}
 use Rattle.std.specs.Prelude.{Option, Some, None, cond, ◌&&◌, ◌||◌, is_some}
 use lib.Dec.{T}
 use Rattle.std.specs.Option.{option_map, option_map_or, option_and_then}
@@ -7,7 +7,7 @@ use Rattle.std.specs.List.{list_any}
 use Rattle.std.specs.declared.cmp.Ordering.{Ordering}
 use Rattle.std.specs.Ordering.{eq_by_cmp, is_lt}
 use Rattle.std.specs.Cmp.{IsTotalOrder}
-use Rattle.std.specs.FinMap.{FinMap, get, insert, empty, keys, entries, find, from_sorted, entries_sorted, entries-from_sorted, get-from_sorted, get-entries, get-empty, contains_key-keys, is_sorted}
+use Rattle.std.specs.FinMap.{FinMap, get, insert, keys, entries, find, entries_sorted, entries-from_sorted, get-entries, get-empty, contains_key-keys, is_sorted}
 use Rattle.std.specs.FinMap.Entries.{below_all}
 use Rattle.std.proofs.lemmas.Map.Lookups.{CmpEqualImpliesEq}
 use Rattle.xa_server.specs.View.{gather_at, gather, map_values, mapped}

@@ -1,7 +1,7 @@
 -- A branch comes to hold a row: it lists the row first, and the row then names it.
-use Rattle.std.proofs.Common.{◌≡◌, ℕ, List, [], ◌∷◌, ◌++◌, refl, ap, sym, ◌∙◌, Bool, true, false, inl, inr, length, take, arith}
-use Rattle.std.specs.Prelude.{Option, Some, None, cond, ◌||◌, ◌-◌, is_some}
-use Rattle.std.specs.Option.{option_map, option_map_or, option_and_then}
+use Rattle.std.proofs.Common.{◌≡◌, ℕ, List, [], ◌∷◌, ◌++◌, refl, ap, sym, ◌∙◌, Bool, true, false, inl, inr, length, arith}
+use Rattle.std.specs.Prelude.{Option, Some, None, ◌||◌, ◌-◌, is_some}
+use Rattle.std.specs.Option.{option_map_or, option_and_then}
 use Rattle.std.specs.List.{list_any}
 use Rattle.std.specs.Ordering.{eq_by_cmp}
 use Rattle.std.specs.FinMap as map
@@ -11,12 +11,11 @@ use Rattle.std.proofs.Common.{length-append, ◌+◌}
 use Rattle.std.proofs.Math.Seq.{take-append_seam}
 use mathlib.Core.Bool.{true≢false}
 use Rattle.xa_xid.specs.declared.xid.Xid.{Xid}
-use Rattle.xa_xid.specs.Xid.{bytes_cmp, xid_cmp, same_xid}
+use Rattle.xa_xid.specs.Xid.{bytes_cmp}
 use Rattle.xa_xid.proofs.Orders.{xids_total, exact_xids, bytes_total, exact_texts}
 use Rattle.xa_server.specs.declared.branch.BranchRecord.{BranchRecord}
 use Rattle.xa_server.specs.declared.row.Change.{Change}
 use Rattle.xa_server.specs.declared.row.Change.TheVariants.{Nothing}
-use Rattle.xa_server.specs.declared.row.Lock.{Lock}
 use Rattle.xa_server.specs.declared.row.RowRecord.{RowRecord}
 use Rattle.xa_server.specs.declared.seat.Seat.TheVariants.{Active}
 use Rattle.xa_server.specs.State.{Branch, State, is_known}
@@ -24,9 +23,8 @@ use Rattle.xa_server.specs.Locks.{holds, is_held_against}
 use Rattle.xa_server.specs.Step.{with_branch, with_changed}
 use Rattle.xa_server.specs.Tables.{BranchMap, with_record, without_last}
 use Rattle.xa_server.specs.Rows.{RowMap, holder_of, lock_by, held_row, with_change}
-use Rattle.xa_server.specs.View.{branch_seen, state_of, is_listed, IsWhole}
+use Rattle.xa_server.specs.View.{state_of, is_listed, IsWhole}
 use Rattle.xa_server.proofs.Maps.{same_or_apart, same_itself, get_inserted, get_inserted_apart}
-use Rattle.xa_server.proofs.Index.{not_none}
 use Rattle.xa_server.proofs.Seen.{holds-seen, free_row, known_record, lock_of_holder, unlocked}
 use Rattle.xa_server.proofs.Steps.{same_state, same_branches, seen_changed, seen_held}
 use Rattle.xa_server.proofs.Whole.{whole_changed, whole_held}

@@ -1,13 +1,12 @@
 -- Each statement, and so each history, keeps the lock law.
-use Rattle.std.proofs.Common.{◌≡◌, ◌≢◌, ℕ, List, [], ◌∷◌, refl, ap, sym, ◌∙◌, subst, Bool, true, false, ◌⊎◌, inl, inr}
+use Rattle.std.proofs.Common.{◌≡◌, ℕ, List, [], ◌∷◌, refl, ap, sym, ◌∙◌, subst, Bool, true, false, ◌⊎◌, inl, inr}
 use Rattle.std.specs.Prelude.{Option, Some, None, cond, not, ◌&&◌, is_some}
 use Rattle.std.specs.Option.{option_map, option_map_or, option_and_then}
-use Rattle.std.specs.Ordering.{eq_by_cmp}
 use Rattle.std.specs.FinMap as map
 use Rattle.std.specs.FinMap.{contains_key-keys, get-empty}
 use mathlib.Core.Bool.{true≢false}
 use Rattle.xa_xid.specs.declared.xid.Xid.{Xid}
-use Rattle.xa_xid.specs.Xid.{Text, bytes_cmp, same_xid}
+use Rattle.xa_xid.specs.Xid.{bytes_cmp, same_xid}
 use Rattle.xa_xid.proofs.Orders.{xids_total, exact_xids, bytes_total, exact_texts}
 use Rattle.xa_xid.specs.declared.statement.Statement.{Statement}
 use Rattle.xa_xid.specs.declared.statement.Statement.TheVariants.{Start, End, Prepare, Commit, Rollback, Recover, Unsupported, Get, Put, Del, Disconnect}
@@ -15,7 +14,7 @@ use Rattle.xa_server.specs.declared.branch.Phase.{Phase}
 use Rattle.xa_server.specs.declared.branch.Phase.TheVariants.{Active as PhaseActive, Idle as PhaseIdle, Prepared as PhasePrepared}
 use Rattle.xa_server.specs.declared.seat.Seat.{Seat}
 use Rattle.xa_server.specs.declared.seat.Seat.TheVariants.{Free, Active, Idle}
-use Rattle.xa_server.specs.State.{Write, Branch, State, no_state, is_known, is_prepared, is_prepared_phase, owner_at, owns, own_xid, phase_at, seat_in, seat_of, write_at, IsOpen}
+use Rattle.xa_server.specs.State.{Write, Branch, State, no_state, is_prepared, is_prepared_phase, owns, phase_at, seat_in, seat_of, IsOpen}
 use Rattle.xa_server.specs.Locks.{LockLaw, holds, is_another, is_held_against}
 use Rattle.xa_server.specs.Replies.{table}
 use Rattle.xa_server.specs.Step.{started_by, with_lock, with_own_write, effect, is_refused, after, after_all}

@@ -7,9 +7,9 @@ use mathlib.Core.Bool.{true≢false}
 use Rattle.xa_xid.specs.declared.xid.Xid.{Xid}
 use Rattle.xa_server.specs.declared.branch.BranchRecord.{BranchRecord}
 use Rattle.xa_server.specs.declared.row.RowRecord.{RowRecord}
-use Rattle.xa_server.specs.State.{Write, is_known, is_prepared, is_prepared_phase, owner_at, write_at}
+use Rattle.xa_server.specs.State.{is_known, is_prepared, is_prepared_phase, owner_at}
 use Rattle.xa_server.specs.Locks.{LockLaw, holds}
-use Rattle.xa_server.specs.Tables.{BranchMap, owner_of}
+use Rattle.xa_server.specs.Tables.{BranchMap}
 use Rattle.xa_server.specs.Rows.{RowMap, holder_of, lock_by, write_by}
 use Rattle.xa_server.specs.View.{state_of, IsWhole}
 use Rattle.xa_server.proofs.Index.{same_value}

@@ -2,33 +2,30 @@
 use Rattle.std.proofs.Common.{◌≡◌, ◌≢◌, ℕ, List, [], ◌∷◌, refl, ap, sym, ◌∙◌, Bool, true, false, ◌⊎◌, inl, inr}
 use Rattle.std.specs.Prelude.{Option, Some, None, cond, ◌==◌, is_some, find, not}
 use Rattle.std.specs.Option.{option_map, option_map_or, option_and_then}
-use Rattle.std.specs.List.{list_any}
 use Rattle.std.specs.FinMap as map
 use Rattle.std.specs.FinMap.{contains_key-keys}
 use mathlib.Core.Bool.{true≢false}
-use borrow.Author.Tests.{eqb-true}
 use Rattle.xa_xid.specs.declared.xid.Xid.{Xid}
-use Rattle.xa_xid.specs.Xid.{Text, same_xid}
+use Rattle.xa_xid.specs.Xid.{same_xid}
 use Rattle.xa_xid.proofs.Orders.{xids_total, exact_xids}
 use Rattle.xa_xid.specs.declared.statement.Statement.{Statement}
 use Rattle.xa_xid.specs.declared.statement.Statement.TheVariants.{Start, End, Prepare, Commit, Rollback, Recover, Unsupported, Get, Put, Del, Disconnect}
 use Rattle.xa_server.specs.declared.branch.Phase.{Phase}
 use Rattle.xa_server.specs.declared.branch.Phase.TheVariants.{Active as PhaseActive, Idle as PhaseIdle, Prepared as PhasePrepared}
-use Rattle.xa_server.specs.declared.xa_error.XaError.{XaError}
 use Rattle.xa_server.specs.declared.xa_error.XaError.TheVariants.{Nota, Rmfail}
 use Rattle.xa_server.specs.declared.xa_error.BranchState.TheVariants.{Prepared as StatePrepared}
 use Rattle.xa_server.specs.declared.reply.Reply.TheVariants.{Refused}
 use Rattle.xa_server.specs.declared.seat.Seat.{Seat}
 use Rattle.xa_server.specs.declared.seat.Seat.TheVariants.{Free, Active, Idle}
-use Rattle.xa_server.specs.State.{Write, Branch, State, is_known, is_prepared, owner_at, owns, own_xid, phase_at, seat_in, seat_of, IsOpen}
+use Rattle.xa_server.specs.State.{Branch, State, is_prepared, owner_at, owns, own_xid, phase_at, seat_in, seat_of}
 use Rattle.xa_server.specs.Locks.{LockLaw}
-use Rattle.xa_server.specs.Replies.{ok_if, refused_if, table, reply_to}
-use Rattle.xa_server.specs.Step.{started_by, with_lock, with_own_write, effect, is_refused, after}
+use Rattle.xa_server.specs.Replies.{refused_if, table}
+use Rattle.xa_server.specs.Step.{started_by, with_lock, with_own_write, is_refused, after}
 use Rattle.xa_server.specs.Laws.{LeavesSession}
-use Rattle.xa_server.proofs.Maps.{same_is, same_or_apart, same_itself}
+use Rattle.xa_server.proofs.Maps.{same_or_apart, same_itself}
 use Rattle.xa_server.proofs.Index.{same_value, not_none}
 use Rattle.xa_server.proofs.Seen.{find_one, find_none, owned_is}
-use Rattle.xa_server.proofs.Accepted.{open_seat, accepted_start, own_is, passes}
+use Rattle.xa_server.proofs.Accepted.{accepted_start, own_is, passes}
 use Rattle.xa_server.proofs.Changes.{idle, detached, branch_after, effect-branch, outcome}
 
 -- the session owns the branch

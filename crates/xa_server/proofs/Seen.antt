@@ -1,6 +1,6 @@
 -- What the state that records stand for has, by what the records have.
 use Rattle.std.proofs.Common.{◌≡◌, ◌≢◌, ℕ, List, [], ◌∷◌, refl, ap, sym, ◌∙◌, Bool, true, false, inl, inr}
-use Rattle.std.specs.Prelude.{Option, Some, None, cond, ◌&&◌, ◌||◌, ◌==◌, is_some, is_none, find, filter, not}
+use Rattle.std.specs.Prelude.{Option, Some, None, cond, ◌&&◌, ◌||◌, ◌==◌, is_some, find, filter, not}
 use Rattle.std.specs.Option.{option_map, option_map_or, option_and_then, unwrap_or}
 use Rattle.std.specs.List.{list_any}
 use Rattle.std.specs.Ordering.{eq_by_cmp}
@@ -10,21 +10,20 @@ use mathlib.Core.Bool.{true≢false}
 use Rattle.std.proofs.Common.{eq-eqb}
 use borrow.Author.Tests.{eqb-true}
 use Rattle.xa_xid.specs.declared.xid.Xid.{Xid}
-use Rattle.xa_xid.specs.Xid.{Text, bytes_cmp, xid_cmp, same_xid}
+use Rattle.xa_xid.specs.Xid.{bytes_cmp, same_xid}
 use Rattle.xa_xid.proofs.Orders.{xids_total, exact_xids, bytes_total, exact_texts}
 use Rattle.xa_server.specs.declared.branch.Phase.{Phase}
-use Rattle.xa_server.specs.declared.branch.Phase.TheVariants.{Active as PhaseActive, Idle as PhaseIdle, Prepared as PhasePrepared}
 use Rattle.xa_server.specs.declared.branch.BranchRecord.{BranchRecord}
 use Rattle.xa_server.specs.declared.row.Lock.{Lock}
 use Rattle.xa_server.specs.declared.row.RowRecord.{RowRecord}
 use Rattle.xa_server.specs.declared.seat.Seat.{Seat}
-use Rattle.xa_server.specs.declared.seat.Seat.TheVariants.{Free, Active, Idle}
+use Rattle.xa_server.specs.declared.seat.Seat.TheVariants.{Free, Active}
 use Rattle.xa_server.specs.State.{Write, Branch, State, is_known, phase_at, is_prepared_phase, is_prepared, owner_at, owns, own_xid, seat_in, seat_of, committed_value, write_at, value_within, prepared_xids}
 use Rattle.xa_server.specs.Locks.{holds, is_another, is_held_against}
 use Rattle.xa_server.specs.Tables.{BranchMap, owner_of, prepared_among}
 use Rattle.xa_server.specs.Rows.{RowMap, committed_of, holder_of, write_of, write_by, lock_by, held_against, value_seen}
-use Rattle.xa_server.specs.View.{gather, mapped, branch_seen, state_of, is_listed, IsWhole}
-use Rattle.xa_server.proofs.Maps.{same_or_apart, same_itself, same_is}
+use Rattle.xa_server.specs.View.{gather, branch_seen, state_of, IsWhole}
+use Rattle.xa_server.proofs.Maps.{same_or_apart, same_itself}
 use Rattle.xa_server.proofs.Gathered.{get-gather, keys-mapped, get-mapped}
 use Rattle.xa_server.proofs.Index.{same_value, not_none}
 

@@ -1,24 +1,22 @@
 -- The PREPARED branches in a tree's entries are those of the map that the entries make, in the order of its keys.
-use Rattle.std.proofs.Common.{◌≡◌, ℕ, List, [], ◌∷◌, ◌++◌, refl, ap, sym, ◌∙◌, subst, Bool, true, false, map, append_assoc}
-use Rattle.std.specs.Prelude.{Option, Some, None, cond, ◌&&◌, filter}
+use Rattle.std.proofs.Common.{◌≡◌, List, [], ◌∷◌, ◌++◌, refl, ap, sym, ◌∙◌, subst, Bool, true, false, map, append_assoc}
+use Rattle.std.specs.Prelude.{Some, cond, ◌&&◌, filter}
 use Rattle.std.specs.List.{AllByRecursion}
 use Rattle.std.specs.Option.{option_map, option_map_or}
 use Rattle.std.specs.declared.cmp.Ordering.{Ordering}
-use Rattle.std.specs.declared.cmp.Ordering.TheVariants.{Less, Equal, Greater}
+use Rattle.std.specs.declared.cmp.Ordering.TheVariants.{Less}
 use Rattle.std.specs.Ordering.{eq_by_cmp, is_lt, is_eq}
-use Rattle.std.specs.Cmp.{IsTotalOrder, eq_by_cmp_equiv}
+use Rattle.std.specs.Cmp.{eq_by_cmp_equiv}
 use Rattle.std.specs.List.Sorted.{IsStrictlySortedBy}
-use Rattle.std.specs.FinMap as fin
-use Rattle.std.specs.FinMap.{FinMap, find, is_sorted, from_sorted, from_entries, entries, keys, same_map, get-from_entries, get-from_sorted, entries-from_sorted, get-entries}
+use Rattle.std.specs.FinMap.{find, is_sorted, from_sorted, from_entries, entries, same_map, get-from_entries, get-from_sorted, entries-from_sorted}
 use Rattle.std.specs.FinMap.Entries.{below_all}
-use Rattle.std.proofs.lemmas.Map.Lookups.{CmpEqualImpliesEq}
 use lib.Dec.{T}
 use Rattle.xa_xid.specs.declared.xid.Xid.{Xid}
-use Rattle.xa_xid.specs.Xid.{xid_cmp, same_xid}
+use Rattle.xa_xid.specs.Xid.{xid_cmp}
 use Rattle.xa_xid.proofs.Orders.{xids_total, exact_xids}
 use Rattle.xa_server.specs.declared.branch.BranchRecord.{BranchRecord}
 use Rattle.xa_server.specs.State.{is_prepared_phase}
-use Rattle.xa_server.specs.Tables.{BranchMap, prepared_keys, is_prepared_at, prepared_among}
+use Rattle.xa_server.specs.Tables.{prepared_keys, is_prepared_at, prepared_among}
 use Rattle.xa_server.proofs.Maps.{same_itself}
 
 -- ---- a list in order

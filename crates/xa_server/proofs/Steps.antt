@@ -1,31 +1,27 @@
 -- What a change of the records is in the state that they stand for.
-use Rattle.std.proofs.Common.{◌≡◌, ◌≢◌, ℕ, List, [], ◌∷◌, refl, ap, sym, ◌∙◌, Bool, true, false, inl, inr}
-use Rattle.std.specs.Prelude.{Option, Some, None, cond, ◌||◌, is_some, not}
-use Rattle.std.specs.Option.{option_map, option_map_or, option_and_then, unwrap_or}
-use Rattle.std.specs.List.{list_any}
-use Rattle.std.specs.Ordering.{eq_by_cmp}
+use Rattle.std.proofs.Common.{◌≡◌, ◌≢◌, ℕ, List, [], refl, ap, sym, ◌∙◌, Bool, true, false, inl, inr}
+use Rattle.std.specs.Prelude.{Option, Some, None, cond, is_some}
+use Rattle.std.specs.Option.{option_map, option_map_or, option_and_then}
 use Rattle.std.specs.FinMap as map
-use Rattle.std.specs.FinMap.{get-empty, get-entries, find, same_map}
+use Rattle.std.specs.FinMap.{get-empty, same_map}
 use mathlib.Core.Bool.{true≢false}
 use Rattle.xa_xid.specs.declared.xid.Xid.{Xid}
 use Rattle.xa_xid.specs.Xid.{Text, bytes_cmp, xid_cmp, same_xid}
 use Rattle.xa_xid.proofs.Orders.{xids_total, exact_xids, bytes_total, exact_texts}
-use Rattle.xa_server.specs.declared.branch.Phase.{Phase}
-use Rattle.xa_server.specs.declared.branch.Phase.TheVariants.{Active as PhaseActive, Idle as PhaseIdle, Prepared as PhasePrepared}
+use Rattle.xa_server.specs.declared.branch.Phase.TheVariants.{Active as PhaseActive}
 use Rattle.xa_server.specs.declared.branch.BranchRecord.{BranchRecord}
 use Rattle.xa_server.specs.declared.row.Change.{Change}
 use Rattle.xa_server.specs.declared.row.Change.TheVariants.{Nothing, Put, Delete}
 use Rattle.xa_server.specs.declared.row.Lock.{Lock}
 use Rattle.xa_server.specs.declared.row.RowRecord.{RowRecord}
 use Rattle.xa_server.specs.State.{Write, Branch, State, no_state}
-use Rattle.xa_server.specs.Step.{started_by, with_branch, with_changed, without_branch, with_write, with_writes, committed}
-use Rattle.xa_server.specs.Tables.{BranchMap, owner_of, with_record}
-use Rattle.xa_server.specs.Rows.{RowMap, committed_of, holder_of, write_of, write_by, lock_by, held_row, with_change, changed_value, freed_row, is_needed, kept, freed, Frees}
-use Rattle.xa_server.specs.View.{gather, mapped, branch_seen, state_of}
+use Rattle.xa_server.specs.Step.{started_by, with_branch, with_changed, with_write}
+use Rattle.xa_server.specs.Tables.{BranchMap, with_record}
+use Rattle.xa_server.specs.Rows.{RowMap, holder_of, write_of, write_by, lock_by, held_row, with_change}
+use Rattle.xa_server.specs.View.{gather, branch_seen, state_of}
 use Rattle.xa_server.proofs.Maps.{same_or_apart, same_itself, same_is, get_inserted, get_inserted_apart, get_removed, get_removed_apart}
-use Rattle.xa_server.proofs.Gathered.{get-gather, keys-mapped, get-mapped}
-use Rattle.xa_server.proofs.Index.{same_value, not_none}
-use Rattle.xa_server.proofs.Seen.{get-branches, committed-seen, writes-seen, locks-seen, unlocked, unwritten, lock_of_holder}
+use Rattle.xa_server.proofs.Gathered.{get-gather}
+use Rattle.xa_server.proofs.Seen.{get-branches, unlocked, unwritten, lock_of_holder}
 
 -- states with the same branches and rows are one
 pub same_state : (s t : State) → s.branches ≡ t.branches → s.rows ≡ t.rows → s ≡ t

@@ -1,12 +1,11 @@
 -- What the records keep, under each change of them.
-use Rattle.std.proofs.Common.{◌≡◌, ◌≢◌, ℕ, List, [], ◌∷◌, ◌++◌, refl, ap, sym, ◌∙◌, Bool, true, false, ◌⊎◌, inl, inr}
-use Rattle.std.specs.Prelude.{Option, Some, None, cond, ◌||◌, is_some, is_none}
+use Rattle.std.proofs.Common.{◌≡◌, ◌≢◌, ℕ, List, refl, ap, sym, ◌∙◌, Bool, true, false, ◌⊎◌, inl, inr}
+use Rattle.std.specs.Prelude.{Option, Some, None, cond, is_none}
 use Rattle.std.specs.Option.{option_map, option_map_or, option_and_then}
 use Rattle.std.specs.List.{list_any}
 use Rattle.std.specs.Ordering.{eq_by_cmp}
 use Rattle.std.specs.FinMap as map
 use Rattle.std.specs.FinMap.{get-empty}
-use Rattle.std.proofs.lemmas.List.Folds.{list_any-append}
 use mathlib.Core.Bool.{true≢false}
 use Rattle.xa_xid.specs.declared.xid.Xid.{Xid}
 use Rattle.xa_xid.specs.Xid.{Text, bytes_cmp, xid_cmp, same_xid}
@@ -17,11 +16,10 @@ use Rattle.xa_server.specs.declared.row.Lock.{Lock}
 use Rattle.xa_server.specs.declared.row.RowRecord.{RowRecord}
 use Rattle.xa_server.specs.State.{is_prepared_phase}
 use Rattle.xa_server.specs.Tables.{BranchMap, owner_of, with_record}
-use Rattle.xa_server.specs.Rows.{RowMap, holder_of, held_row, freed_row, is_needed, kept, freed, Frees}
+use Rattle.xa_server.specs.Rows.{RowMap, holder_of, held_row, freed_row, is_needed, freed, Frees}
 use Rattle.xa_server.specs.View.{is_listed, IsWhole}
-use Rattle.xa_server.proofs.Maps.{same_or_apart, same_itself, get_inserted, get_inserted_apart, get_removed, get_removed_apart}
+use Rattle.xa_server.proofs.Maps.{same_or_apart, get_inserted, get_inserted_apart, get_removed, get_removed_apart}
 use Rattle.xa_server.proofs.Index.{same_value, not_none}
-use Rattle.xa_server.proofs.Seen.{lock_of_holder}
 use Rattle.xa_server.proofs.Ending.{IsListedIn}
 
 lists : List ℕ → Option BranchRecord → Bool

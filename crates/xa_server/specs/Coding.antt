@@ -1,7 +1,7 @@
 -- How a state is stored where a proof has to tell states apart: each record as the pairs of its fields.
 use Rattle.std.specs.Prelude.{◌≡◌, ℕ, Option, Some, None, List, zero, suc, refl}
 use Rattle.std.specs.FinMap as map
-use Rattle.std.specs.Coded.{Coded, code_by, coded×, coded⊎, coded_option, coded_ℕ}
+use Rattle.std.specs.Coded.{Coded, code_by, coded×, coded_option, coded_ℕ}
 use base.Stored.{coded_unit}
 use Rattle.xa_xid.specs.declared.xid.Xid.{Xid}
 use Rattle.xa_xid.specs.Xid.{Text, bytes_cmp, xid_cmp, coded_text, coded_xid}

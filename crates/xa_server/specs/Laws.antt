@@ -1,7 +1,7 @@
 -- What holds of every state and every history.
 --     IsPreparedBetween    an accepted XA PREPARE of the branch stands between two places of a history
 --     LeavesSession        what a session has open is as it was
-use Rattle.std.specs.Prelude.{◌≡◌, ℕ, ◌<◌, true, List, Option}
+use Rattle.std.specs.Prelude.{◌≡◌, ℕ, ◌<◌, true, List}
 use Rattle.std.specs.FinMap as map
 use Rattle.xa_xid.specs.declared.xid.Xid.{Xid}
 use Rattle.xa_xid.specs.declared.statement.Statement.{Statement}

@@ -2,7 +2,7 @@
 --     holds                whether the branch holds the row
 --     is_held_against      whether a branch that isn't the session's own holds the row
 --     LockLaw              what every state of a server keeps
-use Rattle.std.specs.Prelude.{◌≡◌, ℕ, Bool, true, false, not, ◌&&◌, Option, Some, None, List, is_some}
+use Rattle.std.specs.Prelude.{◌≡◌, ℕ, Bool, true, false, not, ◌&&◌, None, List, is_some}
 use Rattle.std.specs.List.{list_any}
 use Rattle.std.specs.Option.{option_map_or}
 use Rattle.std.specs.FinMap as map

@@ -1,7 +1,7 @@
 -- What each statement is answered, in each state of a session.
 --     table      the table of replies, one line for each statement and each state of the session
 --     reply_to   the reply to a session's statement
-use Rattle.std.specs.Prelude.{ℕ, Bool, true, false, cond, not}
+use Rattle.std.specs.Prelude.{ℕ, Bool, true, false, not}
 use Rattle.xa_xid.specs.Xid.{same_xid}
 use Rattle.xa_xid.specs.declared.statement.Statement.{Statement}
 use Rattle.xa_xid.specs.declared.statement.Statement.TheVariants.{Start, End, Prepare, Commit, Rollback, Recover, Unsupported, Get, Put, Del, Disconnect}

@@ -8,7 +8,7 @@
 --     with_change            the branch once it holds the row, and does this to it
 --     freed_row, freed       the record once the branch has ended
 --     Frees                  all records once the branch has ended
-use Rattle.std.specs.Prelude.{◌≡◌, ℕ, Bool, true, false, cond, ◌||◌, is_some, Option, Some, None, List}
+use Rattle.std.specs.Prelude.{◌≡◌, ℕ, Bool, false, cond, ◌||◌, is_some, Option, Some, None, List}
 use Rattle.std.specs.List.{list_any}
 use Rattle.std.specs.Ordering.{eq_by_cmp}
 use Rattle.std.specs.Option.{option_and_then, option_map, option_map_or, unwrap_or}

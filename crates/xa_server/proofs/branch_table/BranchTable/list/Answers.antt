@@ -1,16 +1,9 @@
-use Rattle.std.proofs.Common.{List, ◌≡◌, ◌≢◌, ℕ, [], ◌∷◌, ◌++◌, refl, ap, sym, ◌∙◌, arith, Some, None}
-use Rattle.std.specs.Option.{option_map, option_and_then}
-use Rattle.std.specs.FinMap as map
-use Rattle.xa_xid.specs.Xid.{xid_cmp}
-use Rattle.xa_xid.specs.declared.xid.Xid.{Xid}
-use Rattle.xa_xid.proofs.Orders.{xids_total, exact_xids}
+use Rattle.std.proofs.Common.{List, ℕ, [], ◌∷◌, ◌++◌, refl, ap, ◌∙◌}
 use Rattle.xa_server.specs.declared.branch.BranchRecord.{BranchRecord}
-use Rattle.xa_server.specs.declared.branch.Phase.TheVariants.{Active, Idle, Prepared}
-use Rattle.xa_server.specs.Tables.{BranchMap, IsIndexed, owner_of, owned_at, with_record, without_last}
-use Rattle.xa_server.proofs.Maps.{get_view, one_set, one_gone, empty_view}
+use Rattle.xa_server.specs.Tables.{with_record}
 use Rattle.xa_server.proofs.Outcomes.{either_way, on_ok, on_err}
-use Rattle.xa_server.proofs.Records.{branches_in, get_branch, changed_in, with_record-same}
-use Rattle.xa_server.proofs.Index.{owners_with, indexed_empty, indexed_moved, indexed_started, indexed_freed, owner_of-changed, owner_of-inserted, owner_of-removed, owners_with-none}
+use Rattle.xa_server.proofs.Records.{changed_in, with_record-same}
+use Rattle.xa_server.proofs.Index.{indexed_moved, owner_of-changed}
 use Rattle.xa_server.proofs.branch_table.BranchTable.list.Goals as goal
 
 -- the branch with one key more

@@ -1,4 +1,4 @@
-use Rattle.std.proofs.Common.{◌≡◌, refl, ap, sym, ◌∙◌}
+use Rattle.std.proofs.Common.{ap, sym, ◌∙◌}
 use Rattle.xa_server.specs.Tables.{prepared_among}
 use Rattle.xa_server.proofs.Outcomes.{if_ok}
 use Rattle.xa_server.proofs.Sorted.{prepared-among}

@@ -1,6 +1,6 @@
-use Rattle.std.proofs.Common.{◌≡◌, ℕ, List, refl, ap, sym, ◌∙◌}
+use Rattle.std.proofs.Common.{ap, ◌∙◌}
 use Rattle.std.specs.FinMap as map
-use Rattle.xa_server.proofs.RowRecords.{rows_in, get_row, row_set, row_gone}
+use Rattle.xa_server.proofs.RowRecords.{row_gone}
 use Rattle.xa_server.proofs.row_table.RowTable.delete.Goals as goal
 
 pub returns : goal.returns

@@ -1,9 +1,7 @@
-use Rattle.std.proofs.Common.{subst, ◌≡◌, ℕ, List, [], ◌∷◌, refl, ap, sym, ◌∙◌, Some, None}
-use Rattle.std.specs.FinMap as map
-use Rattle.xa_server.specs.declared.row.RowRecord.{RowRecord}
-use Rattle.xa_server.specs.Rows.{RowMap, held_row, Frees}
-use Rattle.xa_server.proofs.RowRecords.{rows_in, get_row, row_set, row_gone}
-use Rattle.xa_server.proofs.Freeing.{IsFreed, frees_kept, frees_dropped, freed_one_more, holds_known, holds_new}
+use Rattle.std.proofs.Common.{subst, [], ◌∷◌}
+use Rattle.xa_server.specs.Rows.{RowMap, Frees}
+use Rattle.xa_server.proofs.RowRecords.{rows_in}
+use Rattle.xa_server.proofs.Freeing.{frees_kept, frees_dropped}
 use Rattle.xa_server.proofs.row_table.RowTable.free.Goals as goal
 
 pub returns-then-not-free_in : goal.returns-then-not-free_in

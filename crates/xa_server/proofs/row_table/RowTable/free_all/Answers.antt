@@ -1,10 +1,6 @@
-use Rattle.std.proofs.Common.{◌≡◌, ℕ, List, [], ◌∷◌, refl, ap, sym, ◌∙◌, Some, None}
-use Rattle.std.specs.FinMap as map
-use Rattle.xa_server.specs.declared.row.RowRecord.{RowRecord}
-use Rattle.xa_server.specs.Rows.{RowMap, held_row, Frees}
-use Rattle.xa_server.proofs.RowRecords.{rows_in, get_row, row_set, row_gone}
-use Rattle.xa_server.proofs.Freeing.{IsFreed, frees_kept, frees_dropped, freed_one_more, holds_known, holds_new}
-use Rattle.std.proofs.Common.{subst, length, arith, length-append, ◌++◌}
+use Rattle.std.proofs.Common.{refl}
+use Rattle.xa_server.proofs.Freeing.{freed_one_more}
+use Rattle.std.proofs.Common.{arith, length-append}
 use Rattle.xa_server.proofs.row_table.RowTable.free_all.Goals as goal
 
 pub loop-key-init : goal.loop-key-init

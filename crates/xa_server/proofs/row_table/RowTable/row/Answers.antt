@@ -1,6 +1,5 @@
-use Rattle.std.proofs.Common.{◌≡◌, ℕ, List, refl, ap, sym, ◌∙◌}
-use Rattle.std.specs.FinMap as map
-use Rattle.xa_server.proofs.RowRecords.{rows_in, get_row, row_set, row_gone}
+use Rattle.std.proofs.Common.{◌∙◌}
+use Rattle.xa_server.proofs.RowRecords.{get_row}
 use Rattle.xa_server.proofs.row_table.RowTable.row.Goals as goal
 
 pub returns : goal.returns

@@ -1,9 +1,3 @@
-use Rattle.std.proofs.Common.{◌≡◌, refl, ap, sym, ◌∙◌, subst, Bool, true, false, Some, None}
-use Rattle.xa_server.specs.declared.seat.Seat.TheVariants.{Free, Active, Idle}
-use Rattle.xa_server.specs.State.{State, is_known, seat_of, IsOpen}
-use Rattle.xa_server.specs.Locks.{holds, is_held_against}
-use Rattle.xa_server.specs.Step.{effect, may_enter, is_refused, may_take_memory}
-use Rattle.xa_server.proofs.Outcomes.{on_ok, on_err, err_value}
 use Rattle.xa_server.proofs.Accepted
 use Rattle.xa_server.proofs.server.Server.delete.Goals as goal
 
