@@ -7,7 +7,10 @@
 ghost use Rattle.std.specs.Prelude.{◌≡◌, IfSome};
 
 use crate::{AddFault, DecisionLog};
-use std::thread::{Threads, join};
+use std::snapshot::Snapshot;
+use std::sync::Wait;
+use std::thread;
+use std::thread::{Promise, Threads};
 use xa_words::Entry;
 use xa_xid::{Bytes, Key, SessionNo, Statement, Xid};
 
@@ -181,10 +184,19 @@ fn has_each<L: DecisionLog>(log: &L, pass: &mut L::Pass, session: SessionNo) -> 
     step == EACH
 }
 
-/// Two threads add `EACH` entries each to a log with room for them; then the passes meet, and the second has seen each one's in its order.
+/// What a thread that adds promises of the pass it gives back: that it is of the same log.
+#[derive(Drop)]
+struct StaysHome<L: DecisionLog>(Snapshot<L::Pass>);
+
+impl<L: DecisionLog> Promise<(L::Pass, bool)> for StaysHome<L> {
+    ghost kept_by = { λ promise ended. L.home ended.0 ≡ L.home promise.0.value };
+}
+
+/// Two threads, each its own, add `EACH` entries each to a log with room for them; then the passes meet, and the second has seen each
+/// one's in its order. Not so, too, where a thread can't be started.
 ///
-/// Takes no memory of its own. Waits for its threads.
-pub fn two_threads_add<L: DecisionLog + Sync, R: Threads + Sync>(
+/// Takes what starting threads takes. Waits for its threads.
+pub fn two_threads_add<L: DecisionLog + Sync, R: Threads + Wait + Sync>(
     rt: &R,
     log: &L,
     first: L::Pass,
@@ -195,17 +207,38 @@ where
     requires first { L.home first ≡ L.place log.now }
     requires second { L.home second ≡ L.place log.now }
 {
-    let ((mut first, first_added), (mut second, second_added)) = join(
+    thread::scope(
+        thread::scope_env(),
         rt,
-        move || add_each(log, first),
-        move || add_each(log, second),
-    );
-    log.meet(&mut first, &mut second);
-    let one = log.number(&first);
-    let two = log.number(&second);
-    first_added
-        && second_added
-        && log.length(&second) == 2 * EACH
-        && has_each(log, &mut second, one)
-        && has_each(log, &mut second, two)
+        |scope|
+            requires first { L.home first ≡ L.place log.now }
+            requires second { L.home second ≡ L.place log.now }
+        {
+            let first = scope.spawn_with(
+                StaysHome::<L>(Snapshot::of(&first)),
+                move || add_each(log, first),
+            );
+            let second = scope.spawn_with(
+                StaysHome::<L>(Snapshot::of(&second)),
+                move || add_each(log, second),
+            );
+            let (Ok(first), Ok(second)) = (first, second) else {
+                return false;
+            };
+            let (mut first, first_added) = first.join(rt);
+            let (mut second, second_added) = second.join(rt);
+            first_added && second_added && saw_each(log, &mut first, &mut second)
+        },
+    )
+}
+
+/// Whether after a meeting the second pass has seen what both added, each one's in its order, and nothing else.
+fn saw_each<L: DecisionLog>(log: &L, first: &mut L::Pass, second: &mut L::Pass) -> bool
+    requires first { L.home first.old ≡ L.place log.now }
+    requires second { L.home second.old ≡ L.place log.now }
+{
+    log.meet(first, second);
+    let one = log.number(first);
+    let two = log.number(second);
+    log.length(second) == 2 * EACH && has_each(log, second, one) && has_each(log, second, two)
 }

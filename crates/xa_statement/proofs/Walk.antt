@@ -127,18 +127,18 @@ key_next (byte ∷ items) some verb = refl
 
 pub row_read : (tokens : List Token) (statement : Statement) → Row tokens statement → RowRead tokens statement
 unfolding walk step finish
-row_read _ _ (start {word} {x} {xid} is form) = plain_row Starts _ x xid (start_read word x is) form
-row_read _ _ (start_clause {word} {clause} {x} {xid} is form join) =
+row_read _ _ (start {word} {parts = x} {xid} is form) = plain_row Starts _ x xid (start_read word x is) form
+row_read _ _ (start_clause {word} {clause} {parts = x} {xid} is form join) =
     whole_row _ Unsupported (start_read word (x ++ Word clause ∷ []) is ∙ clause_step Starts x [] xid clause (Whole Unsupported) form (join_next clause xid join))
-row_read _ _ (end {x} {xid} form) = plain_row Ends _ x xid refl form
-row_read _ _ (end_suspend {x} {xid} form) = suspend_row _ (clause_step Ends x [] xid SUSPEND AfterSuspend form refl)
-row_read _ _ (end_suspend_for {x} {xid} form) =
+row_read _ _ (end {parts = x} {xid} form) = plain_row Ends _ x xid refl form
+row_read _ _ (end_suspend {parts = x} {xid} form) = suspend_row _ (clause_step Ends x [] xid SUSPEND AfterSuspend form refl)
+row_read _ _ (end_suspend_for {parts = x} {xid} form) =
     whole_row _ Unsupported (clause_step Ends x (Word FOR ∷ Word MIGRATE ∷ []) xid SUSPEND AfterSuspend form refl)
-row_read _ _ (prepare {x} {xid} form) = plain_row Prepares _ x xid refl form
-row_read _ _ (commit {x} {xid} form) = plain_row Commits _ x xid refl form
-row_read _ _ (commit_one {x} {xid} form) =
+row_read _ _ (prepare {parts = x} {xid} form) = plain_row Prepares _ x xid refl form
+row_read _ _ (commit {parts = x} {xid} form) = plain_row Commits _ x xid refl form
+row_read _ _ (commit_one {parts = x} {xid} form) =
     whole_row _ (Commit xid true) (clause_step Commits x (Word PHASE ∷ []) xid ONE (AfterOne xid) form refl)
-row_read _ _ (rollback {x} {xid} form) = plain_row RollsBack _ x xid refl form
+row_read _ _ (rollback {parts = x} {xid} form) = plain_row RollsBack _ x xid refl form
 row_read _ _ recover = record { state = AfterRecover; reached = refl; open_end = refl; closed_end = refl }
 row_read _ _ recover_convert = whole_row _ (Recover true) refl
 row_read _ _ (get key m some) = whole_row _ (Get key.items) (rw (key_next key.items some Gets, walk) refl)

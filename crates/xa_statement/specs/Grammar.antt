@@ -26,10 +26,11 @@ Number literal number = Value literal (Some number)
 
 -- gtrid [, bqual [, formatID]] (manual, 'XA Transaction SQL Statements')
 pub data XidTokens : List Token → Xid → Type 0 where
-  gtrid : (g : Text) (m : Option ℕ) → XidTokens (Literal g m ∷ []) (xid_of g no_text 1)
-  gtrid_bqual : (g b : Text) (m n : Option ℕ) → XidTokens (Literal g m ∷ Comma ∷ Literal b n ∷ []) (xid_of g b 1)
-  gtrid_bqual_format : (g b : Text) (m n : Option ℕ) (l : Option Text) (f : ℕ)
-      → XidTokens (Literal g m ∷ Comma ∷ Literal b n ∷ Comma ∷ Number l f ∷ []) (xid_of g b f)
+  gtrid : (name : Text) (number : Option ℕ) → XidTokens (Literal name number ∷ []) (xid_of name no_text 1)
+  gtrid_bqual : (name branch : Text) (number other : Option ℕ)
+      → XidTokens (Literal name number ∷ Comma ∷ Literal branch other ∷ []) (xid_of name branch 1)
+  gtrid_bqual_format : (name branch : Text) (number other : Option ℕ) (literal : Option Text) (format_id : ℕ)
+      → XidTokens (Literal name number ∷ Comma ∷ Literal branch other ∷ Comma ∷ Number literal format_id ∷ []) (xid_of name branch format_id)
 
 -- START and BEGIN are the same
 pub data StartWord : Keyword → Type 0 where
@@ -43,24 +44,24 @@ pub data JoinWord : Keyword → Type 0 where
 
 -- the rows of the table (manual, 'XA Transaction SQL Statements'; the last four are our own)
 pub data Row : List Token → Statement → Type 0 where
-  start : {word : Keyword} {x : List Token} {xid : Xid} → StartWord word → XidTokens x xid → Row (Word XA ∷ Word word ∷ x) (Start xid)
-  start_clause : {word clause : Keyword} {x : List Token} {xid : Xid} → StartWord word → XidTokens x xid → JoinWord clause
-      → Row (Word XA ∷ Word word ∷ x ++ Word clause ∷ []) Unsupported
-  end : {x : List Token} {xid : Xid} → XidTokens x xid → Row (Word XA ∷ Word END ∷ x) (End xid)
-  end_suspend : {x : List Token} {xid : Xid} → XidTokens x xid → Row (Word XA ∷ Word END ∷ x ++ Word SUSPEND ∷ []) Unsupported
-  end_suspend_for : {x : List Token} {xid : Xid} → XidTokens x xid
-      → Row (Word XA ∷ Word END ∷ x ++ Word SUSPEND ∷ Word FOR ∷ Word MIGRATE ∷ []) Unsupported
-  prepare : {x : List Token} {xid : Xid} → XidTokens x xid → Row (Word XA ∷ Word PREPARE ∷ x) (Prepare xid)
-  commit : {x : List Token} {xid : Xid} → XidTokens x xid → Row (Word XA ∷ Word COMMIT ∷ x) (Commit xid false)
-  commit_one : {x : List Token} {xid : Xid} → XidTokens x xid
-      → Row (Word XA ∷ Word COMMIT ∷ x ++ Word ONE ∷ Word PHASE ∷ []) (Commit xid true)
-  rollback : {x : List Token} {xid : Xid} → XidTokens x xid → Row (Word XA ∷ Word ROLLBACK ∷ x) (Rollback xid)
+  start : {word : Keyword} {parts : List Token} {xid : Xid} → StartWord word → XidTokens parts xid → Row (Word XA ∷ Word word ∷ parts) (Start xid)
+  start_clause : {word clause : Keyword} {parts : List Token} {xid : Xid} → StartWord word → XidTokens parts xid → JoinWord clause
+      → Row (Word XA ∷ Word word ∷ parts ++ Word clause ∷ []) Unsupported
+  end : {parts : List Token} {xid : Xid} → XidTokens parts xid → Row (Word XA ∷ Word END ∷ parts) (End xid)
+  end_suspend : {parts : List Token} {xid : Xid} → XidTokens parts xid → Row (Word XA ∷ Word END ∷ parts ++ Word SUSPEND ∷ []) Unsupported
+  end_suspend_for : {parts : List Token} {xid : Xid} → XidTokens parts xid
+      → Row (Word XA ∷ Word END ∷ parts ++ Word SUSPEND ∷ Word FOR ∷ Word MIGRATE ∷ []) Unsupported
+  prepare : {parts : List Token} {xid : Xid} → XidTokens parts xid → Row (Word XA ∷ Word PREPARE ∷ parts) (Prepare xid)
+  commit : {parts : List Token} {xid : Xid} → XidTokens parts xid → Row (Word XA ∷ Word COMMIT ∷ parts) (Commit xid false)
+  commit_one : {parts : List Token} {xid : Xid} → XidTokens parts xid
+      → Row (Word XA ∷ Word COMMIT ∷ parts ++ Word ONE ∷ Word PHASE ∷ []) (Commit xid true)
+  rollback : {parts : List Token} {xid : Xid} → XidTokens parts xid → Row (Word XA ∷ Word ROLLBACK ∷ parts) (Rollback xid)
   recover : Row (Word XA ∷ Word RECOVER ∷ []) (Recover false)
   recover_convert : Row (Word XA ∷ Word RECOVER ∷ Word CONVERT ∷ Word XID ∷ []) (Recover true)
-  get : (key : Text) (m : Option ℕ) → 0 < length key.items → Row (Word GET ∷ Literal key m ∷ []) (Get key.items)
-  put : (key value : Text) (m n : Option ℕ) → 0 < length key.items
-      → Row (Word PUT ∷ Literal key m ∷ Comma ∷ Literal value n ∷ []) (Put key.items value)
-  del : (key : Text) (m : Option ℕ) → 0 < length key.items → Row (Word DEL ∷ Literal key m ∷ []) (Del key.items)
+  get : (key : Text) (number : Option ℕ) → 0 < length key.items → Row (Word GET ∷ Literal key number ∷ []) (Get key.items)
+  put : (key value : Text) (number other : Option ℕ) → 0 < length key.items
+      → Row (Word PUT ∷ Literal key number ∷ Comma ∷ Literal value other ∷ []) (Put key.items value)
+  del : (key : Text) (number : Option ℕ) → 0 < length key.items → Row (Word DEL ∷ Literal key number ∷ []) (Del key.items)
   disconnect : Row (Word DISCONNECT ∷ []) Disconnect
 
 -- a row, behind which one ; may stand

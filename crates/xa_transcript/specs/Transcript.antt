@@ -17,7 +17,7 @@ use Rattle.xa_transcript.specs.Script.{Line, Blank, Bad, Given, line_of, lines_o
 use Rattle.xa_transcript.specs.Printed.{reply_text, syntax_text, converts, answer_text}
 use Rattle.xa_statement.specs.Reading.{read_of}
 
--- what is written for a session's statement, read or not
+-- what is written for a session's statement, read or not; that `read_of` reads by the grammar is `xa_statement::laws::reading_is_the_grammar`
 abbrev pub answer_to : State → ℕ → Result Statement ℕ → List ℕ
 answer_to state session (Ok statement) = answer_text (decimal session) (reply_text (converts statement) (reply_to state session statement))
 answer_to state session (Err place) = answer_text (decimal session) (syntax_text place)

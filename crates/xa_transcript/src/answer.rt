@@ -57,6 +57,11 @@ fn answer_given(
 }
 
 /// Gives the line's statement to the server, where it has one, and answers the line.
+///
+/// The line is one of a script, without its line feed. The answer ends in a line feed; it is empty for a line of blanks.
+/// Errors: `NoMemory` where a growth was refused; then nothing is said of the server.
+/// Takes memory for the answer. Doesn't wait.
+/// Own rule: docs/BEHAVIOR.md, 'Scripts'.
 #[tactic(auto, unfolding(crate::specs::Transcript::answer_of, crate::specs::Transcript::state_after))]
 pub fn answer_line(alloc: Global, server: &mut Server, line: &[u8]) -> Result<Vec<u8>, NoMemory>
     ensures answer { IfOk result (λ answer. answer.items ≡ answer_of server.old (line_of line.now)) }

@@ -11,6 +11,7 @@ mod script_fault;
 #[cfg(test)]
 mod tests;
 
+pub use answer::answer_line;
 pub use cut_reader::CutReader;
 pub use cut_writer::CutWriter;
 pub use run::run_script;

@@ -87,7 +87,11 @@ fn statement_is_read_in_any_spacing_and_case(rt: HostRuntime) -> Result<(), Fail
 }
 
 /// Scripts with what is written for them.
-const WORKED: [(&[u8], &[u8]); 13] = [
+const WORKED: [(&[u8], &[u8]); 14] = [
+    (
+        b"1 XA START 'a'\n1 GET 'k'\n2 XA START 'b'\n2 GET 'k'\n",
+        b"1 OK\n1 NONE\n2 OK\n2 ERROR 3572 (HY000): row locked by another branch\n",
+    ),
     (
         b"1 XA START 'abc','def',7\n1 XA END 'abc','def',7\n1 XA PREPARE 'abc','def',7\n1 XA RECOVER\n",
         b"1 OK\n1 OK\n1 OK\n1 ROWS 1\n7 3 3 abcdef\n",

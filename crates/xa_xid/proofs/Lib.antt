@@ -3,6 +3,7 @@ pub mod Numbers
 pub mod Orders
 pub mod Reading
 pub mod Shorter
+pub mod Spelled
 pub mod Spelling
 pub mod Texts
 pub mod Written

@@ -39,7 +39,7 @@ opens_hex _ = false
 abbrev pub evened : List ℕ → List ℕ
 evened digits = if length digits % 2 == 1 then 48 ∷ digits else digits
 
--- which literal a text begins with, and which bytes that stands for
+-- which literal a text begins with, and which bytes it stands for (manual, 'String Literals' and 'Hexadecimal Literals')
 pub data LiteralAt : List ℕ → List ℕ → List ℕ → Type 0 where
   text_literal : (quote : ℕ) {text bytes rest : List ℕ} → IsTrue (is_quote quote) → QuotedAt quote text bytes rest
       → LiteralAt (quote ∷ text) bytes rest
@@ -49,7 +49,7 @@ pub data LiteralAt : List ℕ → List ℕ → List ℕ → Type 0 where
       → IsTrue (only (belongs Hexadecimal) (digit ∷ digits)) → StartsNo (belongs Word) rest
       → LiteralAt (48 ∷ 120 ∷ digit ∷ digits ++ rest) bytes rest
 
--- at most 64 bytes (X/Open C193's MAXGTRIDSIZE and MAXBQUALSIZE)
+-- at most 64 bytes (X/Open C193's lengths of gtrid and bqual)
 unfoldable pub kept : List ℕ → Option Text
 kept bytes = if nat_le (length bytes) 64 then Some (record { items = bytes }) else None
 
@@ -63,7 +63,7 @@ abbrev pub text_literal_of : Option (List ℕ × List ℕ) → Reading Text
 text_literal_of None = Err Unclosed
 text_literal_of (Some (bytes, rest)) = sized (kept bytes) rest
 
--- the bytes of an even number of hexadecimal digits
+-- the bytes of an even number of hexadecimal digits, which always decode
 abbrev pub decoded : List ℕ → List ℕ → Reading Text
 decoded digits rest = elim (decode_of digits) [ Ok bytes ↦ Ok (record { items = bytes }, rest) | Err _ ↦ Err NotALiteral ]
 

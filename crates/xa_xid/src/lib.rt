@@ -1,7 +1,7 @@
 //! The words of the protocol: transaction branch identifiers, session numbers, row keys and statements, and how
 //! literals and identifiers are spelled.
 //!
-//! Nothing here waits, and only `write_xid` takes memory.
+//! Nothing here waits, and only `write_xid`, `with_xid` and `with_part` take memory.
 #![tactic(auto)]
 
 ghost use Rattle.std.specs.Prelude.{◌≡◌};

@@ -1,4 +1,5 @@
-use Rattle.xa_xid.proofs.Spelling.{read_spelled, spelled_read}
+use Rattle.xa_xid.proofs.Spelled.{read_spelled}
+use Rattle.xa_xid.proofs.Spelling.{spelled_read}
 use Rattle.xa_xid.proofs.laws.literals_are_read_as_spelled.Goals as goal
 
 pub returns : goal.returns
