@@ -1,0 +1,200 @@
+-- What a look, a reply and an add make of an answer or a fault, and what tries one after another come to.
+use Rattle.std.proofs.Common.{◌≡◌, ◌<◌, ◌≤◌, ◌+◌, ℕ, zero, suc, Bool, true, false, IsTrue, List, [], ◌∷◌, ◌++◌, length, take, refl, ap, sym, ◌∙◌, subst, Some, arith, length-append}
+use Rattle.std.specs.Prelude.{slice_get}
+use Rattle.xa_words.specs.Entry.{Entry}
+use Rattle.xa_xid.specs.declared.statement.Statement.{Statement}
+use Rattle.xa_server.specs.State.{State}
+use Rattle.xa_server.specs.Replies.{reply_to}
+use Rattle.xa_server.specs.Step.{enters}
+use Rattle.decision_log.specs.History.{Begins}
+use Rattle.decision_log.specs.Calls.{Looked, IsAdded, IsOvertaken, IsBusy}
+use Rattle.decision_log.specs.declared.known.Known.{Known}
+use Rattle.decision_log.proofs.Histories.{begins_itself, begins_append, begins_through, length_begins}
+use Rattle.xa_session.specs.Replay.{state_after, state_at}
+use Rattle.xa_session.specs.Answer.{entry_of, AnswersAt, Advances, IsEntered, IsOutside, IsAnswered, IsUnanswered, IsFull, Fails, IsFinal}
+use Rattle.xa_session.specs.declared.answer.Answer.{Answer}
+use Rattle.xa_session.specs.declared.fault.Fault.{Fault}
+use Rattle.xa_session.specs.declared.fault.Fault.TheVariants.{Overtaken, Full, NoMemory, Busy}
+use Rattle.xa_server.specs.declared.reply.Reply.TheVariants.{Ok as Accepted}
+use Rattle.xa_xid.specs.declared.statement.Statement.TheVariants.{Disconnect}
+use Rattle.xa_session.proofs.Entering.{disconnect_accepted}
+use Rattle.xa_session.proofs.Replaying.{state_at-begins, state_at-whole}
+
+slice_get-last : (xs : List Entry) (entry : Entry) → slice_get (xs ++ entry ∷ []) (length xs) ≡ Some entry
+slice_get-last [] entry = refl
+slice_get-last (x ∷ xs) entry = slice_get-last xs entry
+
+-- the server's answer at the end of what is seen
+pub record IsReply (base : State) (statement : Statement) (answer : Answer) (enters_there : Bool) (known : Known) : Type 0 where
+  pub place : answer.place ≡ length known.seen
+  pub reply_is : answer.reply ≡ reply_to (state_at base known.seen (length known.seen)) known.number statement
+  pub enters_is : enters_there ≡ enters (state_at base known.seen (length known.seen)) known.number statement
+
+-- a replica that stands for all that is seen answers so
+pub replied : (base : State) (statement : Statement) (answer : Answer) (entering : Bool) (known : Known) (server : State) (session replayed : ℕ)
+    → answer.place ≡ length known.seen → server ≡ state_at base known.seen replayed → replayed ≡ length known.seen → session ≡ known.number
+    → answer.reply ≡ reply_to server session statement → entering ≡ enters server session statement → IsReply base statement answer entering known
+replied base statement answer entering known server session replayed place state whole number reply entered =
+    let there : server ≡ state_at base known.seen (length known.seen) = state ∙ ap (state_at base known.seen) whole in
+    record {
+      place = place;
+      reply_is = reply ∙ ap (λ s. reply_to s session statement) there ∙ ap (λ n. reply_to (state_at base known.seen (length known.seen)) n statement) number;
+      enters_is = entered ∙ ap (λ s. enters s session statement) there ∙ ap (λ n. enters (state_at base known.seen (length known.seen)) n statement) number;
+    }
+
+pub advances_looked : (old new : Known) → Looked old new → Advances old new
+advances_looked old new looked = record { number = looked.number; seen = looked.seen; looks = omega arith; tries = omega arith }
+
+pub advances_through : (old mid new : Known) → Advances old mid → Advances mid new → Advances old new
+advances_through old mid new first second = record {
+  number = second.number ∙ first.number;
+  seen = begins_through old.seen mid.seen new.seen first.seen second.seen;
+  looks = omega arith;
+  tries = omega arith;
+}
+
+-- a statement that doesn't enter
+pub answered_outside : (base : State) (statement : Statement) (answer : Answer) (old new : Known) → Looked old new → IsReply base statement answer false new → IsAnswered base statement answer old new
+answered_outside base statement answer old new looked is =
+    let state : ℕ → State = state_at base new.seen in
+    let number : new.number ≡ old.number = looked.number in
+    let not_entering : enters (state answer.place) old.number statement ≡ false =
+    ap (λ place. enters (state place) old.number statement) is.place ∙ ap (λ n. enters (state (length new.seen)) n statement) (sym number) ∙ sym is.enters_is in
+    record {
+      advances = advances_looked old new looked;
+      looked = omega arith;
+      not_before = omega (arith, length_begins old.seen new.seen looked.seen, is.place);
+      at = record {
+        within = omega (arith, is.place);
+        reply_is = is.reply_is ∙ ap (λ n. reply_to (state (length new.seen)) n statement) number ∙ ap (λ place. reply_to (state place) old.number statement) (sym is.place);
+        next = λ entering. absurd (cc (not_entering, entering));
+      };
+      entered = λ entering. absurd (cc (not_entering, entering));
+      outside = λ _. record { whole = sym is.place; mine = looked.mine };
+    }
+
+-- a statement that enters, and was added
+pub answered_entered : (base : State) (statement : Statement) (answer : Answer) (old mid new : Known) → Looked old mid → IsReply base statement answer true mid → IsAdded (entry_of mid.number statement) mid new → IsAnswered base statement answer old new
+answered_entered base statement answer old mid new looked is added =
+    let number : mid.number ≡ old.number = looked.number in
+    let entry : Entry = entry_of old.number statement in
+    let seen : new.seen ≡ mid.seen ++ entry ∷ [] = added.seen ∙ ap (λ n. mid.seen ++ entry_of n statement ∷ []) number in
+    let mine : new.mine ≡ old.mine ++ entry ∷ [] = added.mine ∙ ap (λ n. mid.mine ++ entry_of n statement ∷ []) number ∙ ap (λ list. list ++ entry ∷ []) looked.mine in
+    let begins : Begins mid.seen new.seen = subst (λ list. Begins mid.seen list) (sym seen) (begins_append mid.seen (entry ∷ [])) in
+    let state : state_at base new.seen answer.place ≡ state_at base mid.seen (length mid.seen) =
+    ap (state_at base new.seen) is.place ∙ state_at-begins base mid.seen new.seen (length mid.seen) begins (omega arith) in
+    let entering : enters (state_at base new.seen answer.place) old.number statement ≡ true =
+    ap (λ s. enters s old.number statement) state ∙ ap (λ n. enters (state_at base mid.seen (length mid.seen)) n statement) (sym number) ∙ sym is.enters_is in
+    let longer : length new.seen ≡ length mid.seen + 1 = ap length seen ∙ length-append mid.seen (entry ∷ []) in
+    record {
+      advances = record {
+        number = added.number ∙ number;
+        seen = begins_through old.seen mid.seen new.seen looked.seen begins;
+        looks = omega arith;
+        tries = omega arith;
+      };
+      looked = omega arith;
+      not_before = omega (arith, length_begins old.seen mid.seen looked.seen, is.place);
+      at = record {
+        within = omega (arith, is.place, longer);
+        reply_is = is.reply_is ∙ ap (λ n. reply_to (state_at base mid.seen (length mid.seen)) n statement) number ∙ ap (λ s. reply_to s old.number statement) (sym state);
+        next = λ _. ap (λ place. slice_get new.seen place) is.place ∙ ap (λ list. slice_get list (length mid.seen)) seen ∙ slice_get-last mid.seen entry;
+      };
+      entered = λ _. record {
+        seen = seen ∙ ap (λ list. list ++ entry ∷ []) (sym (ap (λ place. take place new.seen) is.place ∙ begins));
+        mine = mine;
+      };
+      outside = λ other. absurd (cc (entering, other));
+    }
+
+pub unanswered_looked : (old new : Known) → Looked old new → IsUnanswered old new
+unanswered_looked old new looked = record { advances = advances_looked old new looked; mine = looked.mine }
+
+pub unanswered_through : (old mid new : Known) → IsUnanswered old mid → IsUnanswered mid new → IsUnanswered old new
+unanswered_through old mid new first second =
+    record { advances = advances_through old mid new first.advances second.advances; mine = second.mine ∙ first.mine }
+
+pub fails_overtaken : (front : ℕ) (old mid new : Known) → Looked old mid → IsOvertaken front mid new → IsOvertaken front old new
+fails_overtaken front old mid new looked lost = record {
+  number = lost.number ∙ looked.number;
+  seen = begins_through old.seen mid.seen new.seen looked.seen lost.seen;
+  longer = omega (arith, length_begins old.seen mid.seen looked.seen, lost.longer);
+  front = lost.front;
+  mine = lost.mine ∙ looked.mine;
+  looks = omega arith;
+  tries = omega arith;
+}
+
+pub fails_full : (base : State) (capacity : ℕ) (statement : Statement) (answer : Answer) (old new : Known) → Looked old new → IsReply base statement answer true new → length new.seen ≡ capacity → IsFull base capacity statement old new
+fails_full base capacity statement answer old new looked is full = record {
+  unanswered = unanswered_looked old new looked;
+  enters = ap (λ s. enters s old.number statement) (sym (state_at-whole base new.seen)) ∙ ap (λ n. enters (state_at base new.seen (length new.seen)) n statement) (sym looked.number) ∙ sym is.enters_is;
+  full = full;
+}
+
+pub fails_busy : (old mid new : Known) → Looked old mid → IsBusy mid new → IsUnanswered old new
+fails_busy old mid new looked busy = record {
+  advances = record {
+    number = busy.number ∙ looked.number;
+    seen = subst (λ list. Begins old.seen list) (sym busy.seen) looked.seen;
+    looks = omega arith;
+    tries = omega arith;
+  };
+  mine = busy.mine ∙ looked.mine;
+}
+
+-- tries one after another
+
+pub fails_unanswered : (turns : Bool) (capacity : ℕ) (base : State) (statement : Statement) (fault : Fault) (old new : Known) → Fails turns capacity base statement fault old new → IsUnanswered old new
+fails_unanswered turns capacity base statement (Overtaken front) old new fails = record {
+  advances = record { number = fails.number; seen = fails.seen; looks = fails.looks; tries = omega arith };
+  mine = fails.mine;
+}
+fails_unanswered turns capacity base statement Full old new fails = fails.unanswered
+fails_unanswered turns capacity base statement NoMemory old new fails = fails
+fails_unanswered turns capacity base statement Busy old new fails = fails.1
+
+pub unanswered_itself : (known : Known) → IsUnanswered known known
+unanswered_itself known = record { advances = record { number = refl; seen = begins_itself known.seen; looks = omega arith; tries = omega arith }; mine = refl }
+
+pub then_answered : (base : State) (statement : Statement) (answer : Answer) (old mid new : Known) → IsUnanswered old mid → IsAnswered base statement answer mid new → IsAnswered base statement answer old new
+then_answered base statement answer old mid new first is =
+    let number : mid.number ≡ old.number = first.advances.number in
+    let Enters : ℕ → Bool → Type 0 = λ n b. enters (state_at base new.seen answer.place) n statement ≡ b in
+    record {
+      advances = advances_through old mid new first.advances is.advances;
+      looked = omega (arith, first.advances.looks, is.looked);
+      not_before = omega (arith, length_begins old.seen mid.seen first.advances.seen, is.not_before);
+      at = subst (λ n. AnswersAt base new.seen n statement answer.place answer.reply) number is.at;
+      entered = λ entering.
+          let added = is.entered (subst (λ n. Enters n true) (sym number) entering) in
+          record {
+            seen = added.seen ∙ ap (λ n. take answer.place new.seen ++ entry_of n statement ∷ []) number;
+            mine = added.mine ∙ ap (λ n. mid.mine ++ entry_of n statement ∷ []) number ∙ ap (λ list. list ++ entry_of old.number statement ∷ []) first.mine;
+          };
+      outside = λ other.
+          let stays = is.outside (subst (λ n. Enters n false) (sym number) other) in
+          record { whole = stays.whole; mine = stays.mine ∙ first.mine };
+    }
+
+pub then_full : (base : State) (capacity : ℕ) (statement : Statement) (old mid new : Known) → IsUnanswered old mid → IsFull base capacity statement mid new → IsFull base capacity statement old new
+then_full base capacity statement old mid new first is = record {
+  unanswered = unanswered_through old mid new first is.unanswered;
+  enters = subst (λ n. enters (state_after base new.seen) n statement ≡ true) first.advances.number is.enters;
+  full = is.full;
+}
+
+-- DISCONNECT is answered Ok
+pub disconnected : (base : State) (answer : Answer) (old new : Known) → IsAnswered base Disconnect answer old new → IsAnswered base Disconnect (record { place = answer.place; reply = Accepted }) old new
+disconnected base answer old new is = record {
+  advances = is.advances;
+  looked = is.looked;
+  not_before = is.not_before;
+  at = record {
+    within = is.at.within;
+    reply_is = sym (disconnect_accepted (state_at base new.seen answer.place) old.number);
+    next = is.at.next;
+  };
+  entered = is.entered;
+  outside = is.outside;
+}

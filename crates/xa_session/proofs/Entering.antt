@@ -1,0 +1,50 @@
+-- A statement that enters makes an entry, and DISCONNECT is accepted.
+use Rattle.std.proofs.Common.{◌≡◌, ℕ, Bool, true, false, if◌then◌else◌, ◌&&◌, not, refl, subst, sym, Option, Some, None, rules}
+use Rattle.std.specs.Option.{IsSome}
+use Rattle.xa_words.specs.Entry.{Entry}
+use Rattle.xa_xid.specs.declared.statement.Statement.{Statement}
+use Rattle.xa_xid.specs.declared.statement.Statement.TheVariants.{Start, End, Prepare, Commit, Rollback, Recover, Unsupported, Get, Put, Del, Disconnect}
+use Rattle.xa_words.specs.Entry.{may_enter as makes_entry}
+use Rattle.xa_server.specs.State.{State, seat_of}
+use Rattle.xa_server.specs.Replies.{table, reply_to}
+use Rattle.xa_server.specs.declared.seat.Seat.{Seat}
+use Rattle.xa_server.specs.declared.seat.Seat.TheVariants.{Free, Active, Idle}
+use Rattle.xa_server.specs.declared.reply.Reply.TheVariants.{Ok as Accepted}
+use Rattle.xa_server.specs.Step.{enters, may_enter, is_refused}
+
+never_both : (b : Bool) → b && false ≡ true → ⊥
+never_both true is = cc
+never_both false is = cc
+
+pub entering_makes_entry : (state : State) (session : ℕ) (statement : Statement) → enters state session statement ≡ true → makes_entry statement ≡ true
+unfolding enters may_enter
+entering_makes_entry state session (Start xid) is = refl
+entering_makes_entry state session (End xid) is = refl
+entering_makes_entry state session (Prepare xid) is = refl
+entering_makes_entry state session (Commit xid one_phase) is = refl
+entering_makes_entry state session (Rollback xid) is = refl
+entering_makes_entry state session (Recover convert) is = absurd (never_both (not (is_refused (reply_to state session (Recover convert)))) is)
+entering_makes_entry state session Unsupported is = absurd (never_both (not (is_refused (reply_to state session Unsupported))) is)
+entering_makes_entry state session (Get key) is = refl
+entering_makes_entry state session (Put key value) is = refl
+entering_makes_entry state session (Del key) is = refl
+entering_makes_entry state session Disconnect is = refl
+
+disconnect_in : (state : State) (seat : Seat) → table state seat Disconnect ≡ Accepted
+unfolding table
+disconnect_in state Free = refl
+disconnect_in state (Active own) = refl
+disconnect_in state (Idle own) = refl
+
+pub disconnect_accepted : (state : State) (session : ℕ) → reply_to state session Disconnect ≡ Accepted
+unfolding reply_to
+disconnect_accepted state session = disconnect_in state (seat_of state session)
+
+-- an entry is made where it may be
+pub is_made : (makes : Bool) (found : Option Entry) (entry : Entry) → found ≡ (if makes then Some entry else None) → makes ≡ true → IsSome found
+is_made true found entry is makes = let P : Option Entry → Type 0 = λ o. IsSome o in subst P (sym is) (search rules)
+is_made false found entry is makes = absurd (cc)
+
+pub made_entry : (makes : Bool) (found : Option Entry) (entry made : Entry) → found ≡ (if makes then Some entry else None) → found ≡ Some made → made ≡ entry
+made_entry true found entry made is was = cc
+made_entry false found entry made is was = absurd (cc)

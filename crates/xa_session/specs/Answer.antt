@@ -1,0 +1,86 @@
+-- What a session's answer and its faults mean. They speak of what the session knows before a call and after it.
+--     entry_of         a session's statement as an entry
+--     AnswersAt        a reply at a place of a history
+--     Advances         what no call takes back
+--     IsEntered        the statement was added behind its answer's place
+--     IsOutside        the statement was not added, and was answered from all that is seen
+--     IsAnswered       a statement was answered
+--     IsUnanswered     nothing of the statement was added
+--     IsFull           there is no room for a statement that enters
+--     Fails            why a statement was not answered
+--     IsFinal          trying again is of no use
+use Rattle.std.specs.Prelude.{◌≡◌, ◌<◌, ◌≤◌, ◌+◌, ℕ, Bool, true, false, IsTrue, List, [], ◌∷◌, ◌++◌, length, take, slice_get, Some}
+use Rattle.xa_words.specs.Entry.{Entry}
+use Rattle.xa_xid.specs.declared.statement.Statement.{Statement}
+use Rattle.xa_server.specs.State.{State}
+use Rattle.xa_server.specs.Replies.{reply_to}
+use Rattle.xa_server.specs.Step.{enters}
+use Rattle.xa_server.specs.declared.reply.Reply.{Reply}
+use Rattle.decision_log.specs.History.{Begins}
+use Rattle.decision_log.specs.Calls.{IsOvertaken}
+use Rattle.decision_log.specs.declared.known.Known.{Known}
+use Rattle.xa_session.specs.Replay.{state_after, state_at}
+use Rattle.xa_session.specs.declared.answer.Answer.{Answer}
+use Rattle.xa_session.specs.declared.fault.Fault.{Fault}
+use Rattle.xa_session.specs.declared.fault.Fault.TheVariants.{Overtaken, Full, NoMemory, Busy}
+
+-- a session's statement as an entry
+abbrev pub entry_of : ℕ → Statement → Entry
+entry_of session statement = record { session = session; statement = statement }
+
+-- the reply is the server's after a prefix of the history, and a statement that enters there stands next in the history
+pub record AnswersAt (base : State) (history : List Entry) (session : ℕ) (statement : Statement) (place : ℕ) (reply : Reply) : Type 0 where
+  pub within : place ≤ length history
+  pub reply_is : reply ≡ reply_to (state_at base history place) session statement
+  pub next : enters (state_at base history place) session statement ≡ true → slice_get history place ≡ Some (entry_of session statement)
+
+-- what is seen begins with what was seen, and counts never fall
+pub record Advances (old new : Known) : Type 0 where
+  pub number : new.number ≡ old.number
+  pub seen : Begins old.seen new.seen
+  pub looks : old.looks ≤ new.looks
+  pub tries : old.tries ≤ new.tries
+
+-- the entry stands right behind the answer's place, as the last that is seen, and is the session's newest
+pub record IsEntered (entry : Entry) (place : ℕ) (old new : Known) : Type 0 where
+  pub seen : new.seen ≡ take place new.seen ++ entry ∷ []
+  pub mine : new.mine ≡ old.mine ++ entry ∷ []
+
+-- the answer's place is the end of all that is seen, and the session has added nothing
+pub record IsOutside (place : ℕ) (old new : Known) : Type 0 where
+  pub whole : length new.seen ≡ place
+  pub mine : new.mine ≡ old.mine
+
+-- the reply is the server's at the answer's place, which isn't before what had been seen, and the session has looked
+pub record IsAnswered (base : State) (statement : Statement) (answer : Answer) (old new : Known) : Type 0 where
+  pub advances : Advances old new
+  pub looked : old.looks < new.looks
+  pub not_before : length old.seen ≤ answer.place
+  pub at : AnswersAt base new.seen old.number statement answer.place answer.reply
+  pub entered : enters (state_at base new.seen answer.place) old.number statement ≡ true → IsEntered (entry_of old.number statement) answer.place old new
+  pub outside : enters (state_at base new.seen answer.place) old.number statement ≡ false → IsOutside answer.place old new
+
+-- nothing of the statement was added
+pub record IsUnanswered (old new : Known) : Type 0 where
+  pub advances : Advances old new
+  pub mine : new.mine ≡ old.mine
+
+-- the statement enters, and as much is seen as the log can have
+pub record IsFull (base : State) (capacity : ℕ) (statement : Statement) (old new : Known) : Type 0 where
+  pub unanswered : IsUnanswered old new
+  pub enters : enters (state_after base new.seen) old.number statement ≡ true
+  pub full : length new.seen ≡ capacity
+
+-- why a statement was not answered, in a log of a capacity, with a turn or without
+abbrev pub Fails : Bool → ℕ → State → Statement → Fault → Known → Known → Type 0
+Fails turns capacity base statement (Overtaken front) old new = IsOvertaken front old new
+Fails turns capacity base statement Full old new = IsFull base capacity statement old new
+Fails turns capacity base statement NoMemory old new = IsUnanswered old new
+Fails turns capacity base statement Busy old new = IsTrue turns × IsUnanswered old new
+
+-- only Full and NoMemory outlast a second try
+abbrev pub IsFinal : Fault → Type 0
+IsFinal (Overtaken front) = ⊥
+IsFinal Full = Unit {0}
+IsFinal NoMemory = Unit {0}
+IsFinal Busy = ⊥

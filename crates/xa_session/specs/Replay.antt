@@ -1,0 +1,28 @@
+-- What a history of entries leaves of the state that it begins in.
+--     call_of          an entry as the server's definitions take it
+--     state_after      the state after a history
+--     state_at         the state after a prefix of a history
+--     Stands           a replica stands for the state after a prefix
+use Rattle.std.specs.Prelude.{◌≡◌, ◌≤◌, ℕ, List, length, map, take}
+use Rattle.xa_words.specs.Entry.{Entry}
+use Rattle.xa_xid.specs.declared.statement.Statement.{Statement}
+use Rattle.xa_server.specs.State.{State}
+use Rattle.xa_server.specs.Step.{after_all}
+use Rattle.xa_session.specs.declared.replica.Replica.{Replica}
+
+-- a session's number and its statement
+abbrev pub call_of : Entry → ℕ × Statement
+call_of entry = (entry.session, entry.statement)
+
+-- the state after a history
+unfoldable pub state_after : State → List Entry → State
+state_after base history = after_all base (map call_of history)
+
+-- the state after the first so many entries of a history
+abbrev pub state_at : State → List Entry → ℕ → State
+state_at base history place = state_after base (take place history)
+
+-- the replica has replayed so many of the entries that were seen, and is the server that they leave
+pub record Stands (base : State) (seen : List Entry) (replica : Replica) : Type 0 where
+  pub within : replica.replayed ≤ length seen
+  pub state : replica.server ≡ state_at base seen replica.replayed

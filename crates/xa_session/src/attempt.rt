@@ -1,0 +1,76 @@
+//! One try to have a statement answered.
+ghost use Rattle.std.specs.Prelude.{◌≡◌, ◌<◌, ◌≤◌, ◌+◌, ◌^◌, ℕ, length, IfOk, IfErr, OnOk, OnErr};
+ghost use Rattle.decision_log.specs.Calls.{Looked};
+ghost use Rattle.xa_session.specs.Answer.{IsAnswered, Fails};
+
+use crate::replica::Replica;
+use crate::{Answer, Fault, Session};
+use decision_log::{AddFault, DecisionLog};
+use xa_words::Entry;
+use xa_xid::{NoMemory, Statement};
+
+impl<'a, L: DecisionLog> Session<'a, L> {
+    /// Replays the entry behind those that the replica has replayed.
+    fn replay_next(&mut self) -> Result<(), NoMemory>
+        requires seen { self.old.replica.replayed < length (L.known self.old.pass).seen }
+        requires fits { length (L.known self.old.pass).seen < 2 ^ 64 }
+        ensures home { L.home self.new.pass ≡ L.home self.old.pass }
+        ensures base { self.new.base.now ≡ self.old.base.now }
+        ensures known { L.known self.new.pass ≡ L.known self.old.pass }
+        ensures next { OnOk result (self.new.replica.replayed ≡ self.old.replica.replayed + 1) }
+    {
+        let entry = self.log.entry(&mut self.pass, self.replica.replayed);
+        self.replica.replay(&entry)
+    }
+
+    /// Has the replica stand for all that is seen.
+    fn catch_up(&mut self) -> Result<(), NoMemory>
+        ensures home { L.home self.new.pass ≡ L.home self.old.pass }
+        ensures base { self.new.base.now ≡ self.old.base.now }
+        ensures known { L.known self.new.pass ≡ L.known self.old.pass }
+        ensures whole { OnOk result (self.new.replica.replayed ≡ length (L.known self.new.pass).seen) }
+    {
+        self.replica = Replica::of(self.base)?;
+        for _ in 0..self.log.length(&self.pass) {
+            self.replay_next()?;
+        }
+        Ok(())
+    }
+
+    /// Answers a statement from the whole history, as it is at one step of the call, and adds it there if it enters.
+    ///
+    /// The answer's place is how long the history was. Errors, in this order: `NoMemory`, where the replica couldn't be had or
+    /// the reply of `XA RECOVER` couldn't; `Full`, where the statement enters and the history is as long as the log's
+    /// capacity; `Overtaken`, where another session added first; `Busy`, only in a log with turns, where another has the
+    /// turn. After an error nothing of the statement stands in the history, and the session may have seen more.
+    ///
+    /// May answer `NoMemory`, and never after an add. Doesn't wait.
+    /// Own rule: docs/BEHAVIOR.md, 'Sessions'.
+    pub fn attempt(&mut self, statement: &Statement) -> Result<Answer, Fault>
+        ensures home { L.home self.new.pass ≡ L.home self.old.pass }
+        ensures base { self.new.base.now ≡ self.old.base.now }
+        ensures answered { IfOk result (λ answer. IsAnswered self.old.base.now statement.now answer (L.known self.old.pass) (L.known self.new.pass)) }
+        ensures fails { IfErr result (λ fault. Fails L.TURNS (L.home self.old.pass).capacity self.old.base.now statement.now fault (L.known self.old.pass) (L.known self.new.pass)) }
+        ensures tries { (L.known self.new.pass).tries ≤ (L.known self.old.pass).tries + 1 }
+    {
+        let place = self.look();
+        let Ok(()) = self.catch_up() else {
+            return Err(Fault::NoMemory);
+        };
+        let session = self.number();
+        let Ok((reply, enters)) = self.replica.server.reply(session, statement) else {
+            return Err(Fault::NoMemory);
+        };
+        let answer = Answer { place, reply };
+        if !enters {
+            return Ok(answer);
+        }
+        let entry = Entry::of(session, statement).unwrap();
+        match self.log.try_add(&mut self.pass, &entry) {
+            Ok(()) => Ok(answer),
+            Err(AddFault::Overtaken { front }) => Err(Fault::Overtaken { front }),
+            Err(AddFault::Full) => Err(Fault::Full),
+            Err(AddFault::Busy) => Err(Fault::Busy),
+        }
+    }
+}

@@ -1,0 +1,35 @@
+//! Why a statement wasn't answered.
+ghost use Rattle.std.specs.Prelude.{◌≡◌};
+ghost use Rattle.xa_session.specs.Faults.{number_of_fault};
+
+/// Why a statement wasn't answered. Nothing of it stands in the history.
+#[derive(Clone, Copy, Debug, PartialEq, Eq)]
+pub enum Fault {
+    /// Another session's entry was added first. The session has now seen `front` entries.
+    Overtaken {
+        /// How many entries the session has seen now.
+        front: u64,
+    },
+    /// The statement enters the history, which has as many entries as its log can have.
+    Full,
+    /// There was no memory. The session may have seen and replayed more.
+    NoMemory,
+    /// Another session has the turn, in a log with turns.
+    Busy,
+}
+
+impl Fault {
+    /// The fault's number, in `[1, 4]`.
+    ///
+    /// Takes no memory. Doesn't wait.
+    pub fn number(&self) -> u64
+        ensures { result ≡ number_of_fault self.now }
+    {
+        match self {
+            Fault::Overtaken { .. } => 1,
+            Fault::Full => 2,
+            Fault::NoMemory => 3,
+            Fault::Busy => 4,
+        }
+    }
+}

@@ -1,0 +1,13 @@
+//! Sessions over a shared history: each statement is answered by a replica, and what changes the server is added to the history.
+#![tactic(auto)]
+
+mod answer;
+mod attempt;
+mod execute;
+mod fault;
+mod replica;
+mod session;
+
+pub use answer::Answer;
+pub use fault::Fault;
+pub use session::Session;

@@ -1,0 +1,45 @@
+//! A session's own server.
+ghost use Rattle.std.specs.Prelude.{◌≡◌, ◌<◌, ◌+◌, ◌^◌, ℕ, List, take, slice_get, Some, IfOk, OnOk, OnErr};
+ghost use Rattle.xa_words.specs.Entry.{Entry as EntryValue};
+ghost use Rattle.xa_server.specs.State.{State};
+ghost use Rattle.xa_session.specs.Replay.{Stands};
+
+use xa_server::Server;
+use xa_words::Entry;
+use xa_xid::NoMemory;
+
+/// The server that a session has for itself: what a prefix of the history leaves of the state that the history begins in.
+#[derive(Drop)]
+pub struct Replica {
+    pub(crate) server: Server,
+    pub(crate) replayed: u64,
+}
+
+impl Replica {
+    /// The replica that has replayed nothing.
+    ///
+    /// May answer `NoMemory`.
+    pub(crate) fn of(base: &Server) -> Result<Replica, NoMemory>
+        ensures stands { IfOk result (λ replica. (seen : List EntryValue) → Stands base.now seen replica) }
+        ensures first { IfOk result (λ replica. replica.replayed ≡ 0) }
+    {
+        Ok(Replica {
+            server: base.copy()?,
+            replayed: 0,
+        })
+    }
+
+    /// Replays the next entry.
+    ///
+    /// May answer `NoMemory`, after which the replica is as before.
+    pub(crate) fn replay(&mut self, entry: &Entry) -> Result<(), NoMemory>
+        requires { self.old.replayed + 1 < 2 ^ 64 }
+        ensures ok { OnOk result ((base : State) (seen : List EntryValue) → Stands base seen self.old → slice_get seen self.old.replayed ≡ Some entry.now → Stands base seen self.new) }
+        ensures next { OnOk result (self.new.replayed ≡ self.old.replayed + 1) }
+        ensures err { OnErr result (self.new ≡ self.old) }
+    {
+        self.server.apply(entry.session(), entry.statement())?;
+        self.replayed += 1;
+        Ok(())
+    }
+}
