@@ -163,6 +163,17 @@ where
     Some((first, second.leave()))
 }
 
+/// Whether a statement was carried out, wherever.
+fn is_ok(answer: &Result<Answer, Fault>) -> bool {
+    match answer {
+        Ok(Answer {
+            place: _,
+            reply: Reply::Ok,
+        }) => true,
+        _ => false,
+    }
+}
+
 /// Starts, ends and prepares a branch, whatever others do meanwhile.
 fn prepare<'a, L: DecisionLog, R: Wait>(
     rt: &R,
@@ -171,19 +182,10 @@ fn prepare<'a, L: DecisionLog, R: Wait>(
 ) -> (Session<'a, L>, bool)
     ensures { L.home result.0.pass ≡ L.home session.entry.pass }
 {
-    for statement in [
-        Statement::Start(xid(letter)),
-        Statement::End(xid(letter)),
-        Statement::Prepare(xid(letter)),
-    ] {
-        match session.execute(rt, &statement) {
-            Ok(Answer {
-                reply: Reply::Ok, ..
-            }) => {}
-            _ => return (session, false),
-        }
-    }
-    (session, true)
+    let prepared = is_ok(&session.execute(rt, &Statement::Start(xid(letter))))
+        && is_ok(&session.execute(rt, &Statement::End(xid(letter))))
+        && is_ok(&session.execute(rt, &Statement::Prepare(xid(letter))));
+    (session, prepared)
 }
 
 /// What a thread that works with a session promises of it: that it is of the same log.
@@ -205,7 +207,7 @@ pub fn two_threads_prepare<'a, L: DecisionLog + Sync, R: Threads + Wait + Sync>(
 ) -> bool
 where
     L::Pass: Send + Drop,
-    requires { L.home first.entry.pass ≡ L.home second.entry.pass }
+    requires { L.home first.pass ≡ L.home second.pass }
 {
     thread::scope(
         thread::scope_env(),

@@ -3,10 +3,13 @@
 
 mod answer;
 mod attempt;
+pub mod battery;
 mod execute;
 mod fault;
 mod replica;
 mod session;
+#[cfg(test)]
+mod tests;
 
 pub use answer::Answer;
 pub use fault::Fault;

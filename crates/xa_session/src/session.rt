@@ -113,6 +113,7 @@ impl<'a, L: DecisionLog> Session<'a, L> {
     pub fn leave(self) -> L::Pass
         ensures { result ≡ self.entry.pass }
     {
-        self.pass
+        let Session { pass, .. } = self;
+        pass
     }
 }
