@@ -52,6 +52,15 @@ fn delete(session: SessionNo, letter: u8) -> Option<Entry>
     Entry::of(session, &Statement::Del(Key::of(name(letter))?))
 }
 
+fn put(session: SessionNo, letter: u8, value: u8) -> Option<Entry>
+    ensures { IfSome result (λ entry. entry.session ≡ session) }
+{
+    Entry::of(
+        session,
+        &Statement::Put(Key::of(name(letter))?, name(value)),
+    )
+}
+
 /// Two passes of a log of capacity 2 on one thread: an add, one that is overtaken and then stands, and one that finds the log full.
 ///
 /// Takes no memory. Doesn't wait.
@@ -127,6 +136,35 @@ pub fn looks_and_meets<L: DecisionLog>(log: &L, first: &mut L::Pass, second: &mu
     }
     log.meet(first, second);
     log.length(first) == 2 && log.length(second) == 3 && log.look(first) == 3
+}
+
+/// Two passes of a log with room for three entries: what the second adds after a look that another add has outdated is
+/// refused once, and then stands behind that add.
+///
+/// Takes no memory. Doesn't wait.
+pub fn outdated_look_is_overtaken_once<L: DecisionLog>(
+    log: &L,
+    first: &mut L::Pass,
+    second: &mut L::Pass,
+) -> bool
+    requires first { L.home first.old ≡ L.place log.now }
+    requires second { L.home second.old ≡ L.place log.now }
+    ensures first { L.home first.new ≡ L.home first.old }
+    ensures second { L.home second.new ≡ L.home second.old }
+{
+    let one = log.number(first);
+    let two = log.number(second);
+    let (Some(put_v), Some(put_w), Some(delete_k)) =
+        (put(one, b'k', b'v'), put(one, b'k', b'w'), delete(two, b'k'))
+    else {
+        return false;
+    };
+    log.try_add(first, &put_v) == Ok(())
+        && log.look(second) == 1
+        && log.try_add(first, &put_w) == Ok(())
+        && log.try_add(second, &delete_k) == Err(AddFault::Overtaken { front: 2 })
+        && log.try_add(second, &delete_k) == Ok(())
+        && log.look(second) == 3
 }
 
 /// Adds an entry, trying again where others were faster or have the turn.
