@@ -1,11 +1,11 @@
 -- What is read as an identifier is spelled as one, and the other way round.
-use Rattle.std.proofs.Common.{◌≡◌, ℕ, ◌≤◌, Bool, true, false, ◌==◌, if◌then◌else◌, List, [], ◌∷◌, length, Option, Some, None, Ok, Err, refl, sym, ◌∙◌, ap}
+use Rattle.std.proofs.Common.{◌≡◌, ℕ, true, false, ◌==◌, if◌then◌else◌, List, [], ◌∷◌, Option, Some, None, Ok, Err, refl, ◌∙◌, ap}
 use Rattle.std.proofs.lemmas.Bool.{eqb-true}
-use Rattle.xa_xid.specs.Bytes.{unblank, StartsNo}
-use Rattle.xa_xid.specs.Literal.{Reading, TextAt, literal_at, kept, sized}
+use Rattle.xa_xid.specs.Bytes.{unblank}
+use Rattle.xa_xid.specs.Literal.{Reading, TextAt, literal_at, sized}
 use Rattle.xa_xid.specs.Number.{NumberAt, number_at}
 use Rattle.xa_xid.specs.Xid.{Text}
-use Rattle.xa_xid.specs.XidText.{XidAt, gtrid_alone, gtrid_bqual, gtrid_bqual_format, CommaAt, NoCommaAt, Parse, xid_at, xid_of, no_text, comma_next, after_gtrid, after_bqual, gtrid_next, bqual_next, format_id_next}
+use Rattle.xa_xid.specs.XidText.{XidAt, gtrid_alone, gtrid_bqual, gtrid_bqual_format, CommaAt, NoCommaAt, Parse, xid_at, xid_of, comma_next, after_gtrid, after_bqual}
 use Rattle.xa_xid.specs.declared.xid.Xid.{Xid}
 use Rattle.xa_xid.proofs.Numerals.{read_number_spelled, spelled_number_read}
 use Rattle.xa_xid.proofs.Spelled.{read_spelled}
@@ -114,3 +114,13 @@ spelled_xid_read _ _ _ (gtrid_bqual gtrid bqual {text} {second} {third} {rest} f
     ∙ ap (after_bqual gtrid bqual rest) (no_comma_read (unblank rest) none)
 spelled_xid_read _ _ _ (gtrid_bqual_format gtrid bqual value {text} {second} {third} {fourth} {fifth} {rest} first comma part last number) =
     gtrid_read text second gtrid first ∙ bqual_read gtrid bqual second third fourth comma part ∙ format_read gtrid bqual value fourth fifth rest last number
+
+ok_once : (parse : Parse) (found other : Xid × List ℕ) → parse ≡ Ok found → parse ≡ Ok other → found ≡ other
+ok_once parse found other e f = cc
+
+-- and nothing else is spelled there
+pub one_xid : (text : List ℕ) (xid other : Xid) (rest behind : List ℕ) → XidAt text xid rest → XidAt text other behind
+    → (xid ≡ other) × (rest ≡ behind)
+one_xid text xid other rest behind form again =
+    let same = ok_once (xid_at text) (xid, rest) (other, behind) (spelled_xid_read text xid rest form) (spelled_xid_read text other behind again) in
+    (ap (λ found. found.0) same, ap (λ found. found.1) same)

@@ -1,5 +1,5 @@
 -- What is read as a number is spelled as one, and the other way round.
-use Rattle.std.proofs.Common.{◌≡◌, ℕ, ◌^◌, ◌<◌, Bool, true, false, ◌==◌, ◌&&◌, not, nat_lt, if◌then◌else◌, IsTrue, List, [], ◌∷◌, ◌++◌, length, Some, None, Ok, Err, refl, sym, ◌∙◌, ap, arith}
+use Rattle.std.proofs.Common.{◌≡◌, ℕ, ◌^◌, ◌<◌, true, false, ◌==◌, ◌&&◌, not, nat_lt, if◌then◌else◌, IsTrue, List, [], ◌∷◌, ◌++◌, length, Some, None, Ok, Err, refl, sym, ◌∙◌, ap, arith}
 use Rattle.std.proofs.lemmas.Bool.{cond_both, eqb-true, ne_eqb, and_parts, ltb-true}
 use Rattle.std.proofs.lemmas.Bool.Decides.{nat_tests}
 use Rattle.std.specs.Str.Parse.{digits_value}
@@ -9,7 +9,7 @@ use Rattle.xa_xid.specs.Number.{NumberAt, decimal_digits, hexadecimal_digits, fi
 use Rattle.xa_xid.specs.declared.byte_class.ByteClass.TheVariants.{Word, Decimal, Hexadecimal}
 use Rattle.xa_xid.specs.declared.literal_fault.LiteralFault.TheVariants.{NumberTooLarge}
 use Rattle.xa_xid.proofs.Numbers.{fitting_small}
-use Rattle.xa_xid.proofs.Spelling.{front_passes, front-behind, only_passes, passes_only, behind_starts, words_hex}
+use Rattle.xa_xid.proofs.Spelling.{front-behind, only_passes, behind_starts, words_hex}
 use Rattle.xa_xid.proofs.Written.{Passes, front-append, behind-append, number_found, number_at-found}
 
 -- the reading is of a number that the text begins with
@@ -115,3 +115,13 @@ hexadecimal_read digit digits rest value all e small s =
 pub spelled_number_read : (text : List ℕ) (value : ℕ) (rest : List ℕ) → NumberAt text value rest → number_at text ≡ Ok (value, rest)
 spelled_number_read _ _ _ (decimal_digits digit digits {value} {rest} all e small s) = decimal_read digit digits rest value all e small s
 spelled_number_read _ _ _ (hexadecimal_digits digit digits {value} {rest} all e small s) = hexadecimal_read digit digits rest value all e small s
+
+ok_once : (reading : Reading ℕ) (found other : ℕ × List ℕ) → reading ≡ Ok found → reading ≡ Ok other → found ≡ other
+ok_once reading found other e f = cc
+
+-- and nothing else is spelled there
+pub one_number : (text : List ℕ) (value other : ℕ) (rest behind : List ℕ) → NumberAt text value rest → NumberAt text other behind
+    → (value ≡ other) × (rest ≡ behind)
+one_number text value other rest behind form again =
+    let same = ok_once (number_at text) (value, rest) (other, behind) (spelled_number_read text value rest form) (spelled_number_read text other behind again) in
+    (ap (λ found. found.0) same, ap (λ found. found.1) same)

@@ -1,15 +1,17 @@
 -- What a token leaves of a text is an end of it, so a place says it too.
-use Rattle.std.proofs.Common.{◌≡◌, ℕ, ◌-◌, ◌+◌, ◌≤◌, List, [], ◌∷◌, ◌++◌, length, take, drop, Ok, Err, IfOk, refl, sym, ◌∙◌, ap, arith, append_assoc, length-append}
+use Rattle.std.proofs.Common.{◌≡◌, ℕ, ◌-◌, ◌+◌, ◌≤◌, List, [], ◌∷◌, ◌++◌, length, take, drop, Ok, Err, refl, sym, ◌∙◌, ap, arith, append_assoc, length-append}
 use Rattle.std.proofs.Math.Seq.{drop-append_seam}
 use Rattle.std.proofs.lemmas.List.{take-append-drop, length-drop}
 use Rattle.xa_xid.specs.Bytes.{belongs, front, unblank}
-use Rattle.xa_xid.specs.Literal.{Reading, LiteralAt, text_literal, hex_in_quotes, hex_run, TextAt, Between, placed}
-use Rattle.xa_xid.specs.Number.{NumberAt, decimal_digits, hexadecimal_digits}
+use Rattle.xa_xid.specs.Literal.{Reading, LiteralAt, text_literal, hex_in_quotes, hex_run, TextAt, Between, literal_at, placed}
+use Rattle.xa_xid.specs.Number.{NumberAt, decimal_digits, hexadecimal_digits, number_at}
 use Rattle.xa_xid.specs.Xid.{Text}
-use Rattle.xa_xid.specs.XidText.{XidAt, gtrid_alone, gtrid_bqual, gtrid_bqual_format, CommaAt, Parse, places}
+use Rattle.xa_xid.specs.XidText.{XidAt, gtrid_alone, gtrid_bqual, gtrid_bqual_format, CommaAt, Parse, xid_at, gtrid_next, places}
 use Rattle.xa_xid.specs.declared.byte_class.ByteClass.TheVariants.{Blank}
 use Rattle.xa_xid.specs.declared.literal_fault.LiteralFault.{LiteralFault}
 use Rattle.xa_xid.specs.declared.xid.Xid.{Xid}
+use Rattle.xa_xid.proofs.Identifiers.{read_text_spelled, spelled_text_read, read_xid_spelled, spelled_xid_read}
+use Rattle.xa_xid.proofs.Numerals.{read_number_spelled, spelled_number_read}
 use Rattle.xa_xid.proofs.Spelling.{front-behind}
 
 -- an end of a text
@@ -85,26 +87,60 @@ between Spelled text at value rest form end = record {
 next_place : (text : List ℕ) (next : ℕ) → next ≤ length text → length text - length (drop next text) ≡ next
 next_place text next within = rw (length-drop next text) (omega arith)
 
--- a literal or a number that was read at a place
-pub placed_spelled : {Value : Type 0} (Spelled : List ℕ → Value → List ℕ → Type 0) (text : List ℕ) (at : ℕ) (found : Reading Value)
-    → ((value : Value) (rest : List ℕ) → found ≡ Ok (value, rest) → Spelled (drop at text) value rest)
-    → ((value : Value) (rest : List ℕ) → Spelled (drop at text) value rest → EndOf (drop at text) rest)
-    → IfOk (placed text found) (λ x. Between Spelled text at x.0 x.1)
-placed_spelled Spelled text at (Ok (value, rest)) sound end =
-    let form : Spelled (drop at text) value rest = sound value rest refl in between Spelled text at value rest form (end value rest form)
-placed_spelled Spelled text at (Err fault) sound end = tt
+-- a literal or a number at a place, from its reading and back
+placed_spelled : {Value : Type 0} (Spelled : List ℕ → Value → List ℕ → Type 0) (text : List ℕ) (at : ℕ) (found : Reading Value) (value : Value) (next : ℕ)
+    → ((rest : List ℕ) → Spelled (drop at text) value rest → found ≡ Ok (value, rest))
+    → Between Spelled text at value next → placed text found ≡ Ok (value, next)
+placed_spelled Spelled text at found value next read form =
+    ap (placed text) (read (drop next text) form.spelled) ∙ ap (λ n. Ok (value, n)) (next_place text next form.within)
 
-pub spelled_placed : {Value : Type 0} (text : List ℕ) (value : Value) (next : ℕ) (found : Reading Value) → next ≤ length text
-    → found ≡ Ok (value, drop next text) → placed text found ≡ Ok (value, next)
-spelled_placed text value next found within e = ap (placed text) e ∙ ap (λ n. Ok (value, n)) (next_place text next within)
+err_is_ok : {Value : Type 0} (reading : Reading Value) (fault : LiteralFault) (found : Value × List ℕ) → reading ≡ Err fault → reading ≡ Ok found → ⊥
+err_is_ok reading fault found err ok = cc
 
--- an identifier that was read at a place
-pub places_spelled : (text : List ℕ) (at : ℕ) (found : Parse) → ((xid : Xid) (rest : List ℕ) → found ≡ Ok (xid, rest) → XidAt (drop at text) xid rest)
-    → IfOk (places text found) (λ x. Between XidAt text at x.0 x.1)
-places_spelled text at (Ok (xid, rest)) sound =
-    let form = sound xid rest refl in between XidAt text at xid rest form (end_xid (drop at text) xid rest form)
-places_spelled text at (Err fault) sound = tt
+pub text_between : (text : List ℕ) (at : ℕ) (found : Text) (rest : List ℕ) → literal_at (drop at text) ≡ Ok (found, rest)
+    → Between TextAt text at found (length text - length rest)
+text_between text at found rest e =
+    let form = read_text_spelled (drop at text) found rest e in between TextAt text at found rest form (end_text (drop at text) found rest form)
 
-pub spelled_places : (text : List ℕ) (xid : Xid) (next : ℕ) (found : Parse) → next ≤ length text
-    → found ≡ Ok (xid, drop next text) → places text found ≡ Ok (xid, next)
-spelled_places text xid next found within e = ap (places text) e ∙ ap (λ n. Ok (xid, n)) (next_place text next within)
+pub between_text : (text : List ℕ) (at : ℕ) (found : Reading Text) → literal_at (drop at text) ≡ found → (bytes : Text) (next : ℕ)
+    → Between TextAt text at bytes next → placed text found ≡ Ok (bytes, next)
+between_text text at found e bytes next =
+    placed_spelled TextAt text at found bytes next (λ rest form. sym e ∙ spelled_text_read (drop at text) bytes rest form)
+
+pub no_text_between : (text : List ℕ) (at : ℕ) (fault : LiteralFault) → literal_at (drop at text) ≡ Err fault → (bytes : Text) (next : ℕ)
+    → Between TextAt text at bytes next → ⊥
+no_text_between text at fault e bytes next form =
+    err_is_ok (literal_at (drop at text)) fault (bytes, drop next text) e (spelled_text_read (drop at text) bytes (drop next text) form.spelled)
+
+pub number_between : (text : List ℕ) (at value : ℕ) (rest : List ℕ) → number_at (drop at text) ≡ Ok (value, rest)
+    → Between NumberAt text at value (length text - length rest)
+number_between text at value rest e =
+    let form = read_number_spelled (drop at text) value rest e in between NumberAt text at value rest form (end_number (drop at text) value rest form)
+
+pub between_number : (text : List ℕ) (at : ℕ) (found : Reading ℕ) → number_at (drop at text) ≡ found → (value next : ℕ)
+    → Between NumberAt text at value next → placed text found ≡ Ok (value, next)
+between_number text at found e value next =
+    placed_spelled NumberAt text at found value next (λ rest form. sym e ∙ spelled_number_read (drop at text) value rest form)
+
+pub no_number_between : (text : List ℕ) (at : ℕ) (fault : LiteralFault) → number_at (drop at text) ≡ Err fault → (value next : ℕ)
+    → Between NumberAt text at value next → ⊥
+no_number_between text at fault e value next form =
+    err_is_ok (number_at (drop at text)) fault (value, drop next text) e (spelled_number_read (drop at text) value (drop next text) form.spelled)
+
+-- an identifier, read behind the blanks before it
+xid_at-unblank : (text tail : List ℕ) → tail ≡ unblank text → xid_at text ≡ gtrid_next tail
+unfolding xid_at
+xid_at-unblank text tail e = ap gtrid_next (sym e)
+
+pub xid_between : (text tail : List ℕ) (at : ℕ) (xid : Xid) (rest : List ℕ) → tail ≡ unblank (drop at text) → gtrid_next tail ≡ Ok (xid, rest)
+    → Between XidAt text at xid (length text - length rest)
+xid_between text tail at xid rest blank e =
+    let form = read_xid_spelled (drop at text) xid rest (xid_at-unblank (drop at text) tail blank ∙ e) in
+    between XidAt text at xid rest form (end_xid (drop at text) xid rest form)
+
+pub between_xid : (text tail : List ℕ) (at : ℕ) (found : Parse) → tail ≡ unblank (drop at text) → gtrid_next tail ≡ found → (xid : Xid) (next : ℕ)
+    → Between XidAt text at xid next → places text found ≡ Ok (xid, next)
+between_xid text tail at found blank e xid next form =
+    let read : found ≡ Ok (xid, drop next text) =
+    sym (xid_at-unblank (drop at text) tail blank ∙ e) ∙ spelled_xid_read (drop at text) xid (drop next text) form.spelled in
+    ap (places text) read ∙ ap (λ n. Ok (xid, n)) (next_place text next form.within)
