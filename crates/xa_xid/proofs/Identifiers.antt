@@ -21,6 +21,15 @@ pub spelled_text_read : (text : List ℕ) (found : Text) (rest : List ℕ) → T
 spelled_text_read text found rest form =
     spelled_read text found.items rest form.literal ∙ ap (λ k. sized k rest) (kept-fits found.items form.fits)
 
+text_once : (reading : Reading Text) (found other : Text × List ℕ) → reading ≡ Ok found → reading ≡ Ok other → found ≡ other
+text_once reading found other e f = cc
+
+pub one_text : (text : List ℕ) (found other : Text) (rest behind : List ℕ) → TextAt text found rest → TextAt text other behind
+    → (found ≡ other) × (rest ≡ behind)
+one_text text found other rest behind form again =
+    let same = text_once (literal_at text) (found, rest) (other, behind) (spelled_text_read text found rest form) (spelled_text_read text other behind again) in
+    (ap (λ pair. pair.0) same, ap (λ pair. pair.1) same)
+
 -- a comma next, or none
 abbrev CommaFound : List ℕ → Option (List ℕ) → Type 0
 CommaFound text None = NoCommaAt text
@@ -115,12 +124,12 @@ spelled_xid_read _ _ _ (gtrid_bqual gtrid bqual {text} {second} {third} {rest} f
 spelled_xid_read _ _ _ (gtrid_bqual_format gtrid bqual value {text} {second} {third} {fourth} {fifth} {rest} first comma part last number) =
     gtrid_read text second gtrid first ∙ bqual_read gtrid bqual second third fourth comma part ∙ format_read gtrid bqual value fourth fifth rest last number
 
-ok_once : (parse : Parse) (found other : Xid × List ℕ) → parse ≡ Ok found → parse ≡ Ok other → found ≡ other
-ok_once parse found other e f = cc
+xid_once : (parse : Parse) (found other : Xid × List ℕ) → parse ≡ Ok found → parse ≡ Ok other → found ≡ other
+xid_once parse found other e f = cc
 
 -- and nothing else is spelled there
 pub one_xid : (text : List ℕ) (xid other : Xid) (rest behind : List ℕ) → XidAt text xid rest → XidAt text other behind
     → (xid ≡ other) × (rest ≡ behind)
 one_xid text xid other rest behind form again =
-    let same = ok_once (xid_at text) (xid, rest) (other, behind) (spelled_xid_read text xid rest form) (spelled_xid_read text other behind again) in
-    (ap (λ found. found.0) same, ap (λ found. found.1) same)
+    let same = xid_once (xid_at text) (xid, rest) (other, behind) (spelled_xid_read text xid rest form) (spelled_xid_read text other behind again) in
+    (ap (λ pair. pair.0) same, ap (λ pair. pair.1) same)

@@ -116,12 +116,12 @@ pub spelled_number_read : (text : List ℕ) (value : ℕ) (rest : List ℕ) → 
 spelled_number_read _ _ _ (decimal_digits digit digits {value} {rest} all e small s) = decimal_read digit digits rest value all e small s
 spelled_number_read _ _ _ (hexadecimal_digits digit digits {value} {rest} all e small s) = hexadecimal_read digit digits rest value all e small s
 
-ok_once : (reading : Reading ℕ) (found other : ℕ × List ℕ) → reading ≡ Ok found → reading ≡ Ok other → found ≡ other
-ok_once reading found other e f = cc
+number_once : (reading : Reading ℕ) (found other : ℕ × List ℕ) → reading ≡ Ok found → reading ≡ Ok other → found ≡ other
+number_once reading found other e f = cc
 
 -- and nothing else is spelled there
 pub one_number : (text : List ℕ) (value other : ℕ) (rest behind : List ℕ) → NumberAt text value rest → NumberAt text other behind
     → (value ≡ other) × (rest ≡ behind)
 one_number text value other rest behind form again =
-    let same = ok_once (number_at text) (value, rest) (other, behind) (spelled_number_read text value rest form) (spelled_number_read text other behind again) in
-    (ap (λ found. found.0) same, ap (λ found. found.1) same)
+    let same = number_once (number_at text) (value, rest) (other, behind) (spelled_number_read text value rest form) (spelled_number_read text other behind again) in
+    (ap (λ pair. pair.0) same, ap (λ pair. pair.1) same)

@@ -28,7 +28,8 @@ CommaAt text rest = text ≡ 44 ∷ rest
 abbrev pub NoCommaAt : List ℕ → Type 0
 NoCommaAt text = StartsNo (λ byte. byte == 44) text
 
--- which identifier a text begins with (manual, 'XA Transaction SQL Statements'): a part is left out only where no comma stands next
+-- which identifier a text begins with, blanks before each token skipped (manual, 'XA Transaction SQL Statements'):
+-- bqual or formatID is left out only where what stands behind the part before it, blanks skipped, isn't a comma
 pub data XidAt : List ℕ → Xid → List ℕ → Type 0 where
   gtrid_alone : (gtrid : Text) {text rest : List ℕ} → TextAt (unblank text) gtrid rest → NoCommaAt (unblank rest)
       → XidAt text (xid_of gtrid no_text 1) rest

@@ -4,7 +4,7 @@ ghost use Rattle.hex.specs.Hex.{IsBytes};
 ghost use Rattle.std.specs.declared.cmp.Ordering.TheVariants.{Equal};
 ghost use Rattle.xa_xid.specs.Xid.{Text, bytes_cmp, xid_cmp};
 ghost use Rattle.xa_xid.specs.Bytes.{belongs, StartsNo};
-ghost use Rattle.xa_xid.specs.Literal.{LiteralAt, kept, literal_at, sized};
+ghost use Rattle.xa_xid.specs.Literal.{LiteralAt, TextAt, kept, literal_at, sized};
 ghost use Rattle.xa_xid.specs.Number.{NumberAt, number_at};
 ghost use Rattle.xa_xid.specs.declared.xid.Xid.{Xid};
 ghost use Rattle.xa_xid.specs.XidText.{XidAt, xid_at, xid_text, IsWritable};
@@ -42,13 +42,15 @@ pub fn order_of_keys(left_key: &Key, right_key: &Key) -> Ordering
 }
 
 /// A text is read as a literal only where it begins with that literal, of at most 64 bytes; and one that begins with a
-/// literal is read as its bytes, or is too long.
+/// literal is read as its bytes, or is too long. It begins with at most one of at most 64 bytes.
 ///
 /// Takes no memory. Doesn't wait.
 pub fn literals_are_read_as_spelled()
     ensures sound { (text : List ℕ) (found : Text) (rest : List ℕ) → literal_at text ≡ Ok (found, rest)
         → LiteralAt text found.items rest × (length found.items ≤ 64) }
     ensures complete { (text bytes rest : List ℕ) → LiteralAt text bytes rest → literal_at text ≡ sized (kept bytes) rest }
+    ensures only_one { (text : List ℕ) (found other : Text) (rest behind : List ℕ) → TextAt text found rest → TextAt text other behind
+        → (found ≡ other) × (rest ≡ behind) }
 {}
 
 /// A text is read as a number exactly where it begins with that number, and it begins with at most one.
