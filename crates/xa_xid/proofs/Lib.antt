@@ -1,6 +1,9 @@
 pub mod Cuts
+pub mod Identifiers
 pub mod Numbers
+pub mod Numerals
 pub mod Orders
+pub mod Places
 pub mod Reading
 pub mod Shorter
 pub mod Spelled

@@ -115,7 +115,7 @@ pub passes_only : (p : ℕ → Bool) (text : List ℕ) → Passes p text → IsT
 passes_only p [] all = rw (behind-nil p) refl
 passes_only p (byte ∷ text) all = rw (behind-passes p byte text all.0) (passes_only p text all.1)
 
-only_passes : (p : ℕ → Bool) (text : List ℕ) → IsTrue (only p text) → Passes p text
+pub only_passes : (p : ℕ → Bool) (text : List ℕ) → IsTrue (only p text) → Passes p text
 only_passes p [] e = tt
 only_passes p (byte ∷ text) e =
     elim (p byte) as (λ b. p byte ≡ b → Passes p (byte ∷ text)) [
@@ -198,7 +198,7 @@ word_hex : (byte : ℕ) → belongs Hexadecimal byte ≡ true → belongs Word b
 unfolding belongs
 word_hex byte is = grind (arith, nat_tests)
 
-words_hex : (digits : List ℕ) → Passes (belongs Hexadecimal) digits → Passes (belongs Word) digits
+pub words_hex : (digits : List ℕ) → Passes (belongs Hexadecimal) digits → Passes (belongs Word) digits
 words_hex [] all = tt
 words_hex (digit ∷ digits) all = (word_hex digit all.0, words_hex digits all.1)
 

@@ -147,11 +147,11 @@ number_in_back n small (digit ∷ digits) is e =
     let some : (length (digit ∷ digits) == 0) ≡ false = ne_eqb _ _ (λ e. omega (arith, is.0, e)) in
     rw (some, decimal) (sym (fitting_small n (digits_value 10 (digit ∷ digits)) small (sym e)))
 
-abbrev number_found : List ℕ → Result ℕ LiteralFault → Reading ℕ
+abbrev pub number_found : List ℕ → Result ℕ LiteralFault → Reading ℕ
 number_found rest (Ok value) = Ok (value, rest)
 number_found rest (Err fault) = Err fault
 
-number_at-found : (text : List ℕ) → number_at text ≡ number_found (after_run text) (number_in (run text))
+pub number_at-found : (text : List ℕ) → number_at text ≡ number_found (after_run text) (number_in (run text))
 unfolding number_at
 number_at-found text = refl
 
@@ -189,15 +189,15 @@ unfolding belongs
 comma_no_word rest = refl
 
 -- what follows the parts that were found
-abbrev format_found : Text → Text → List ℕ → Reading ℕ → Parse
+abbrev pub format_found : Text → Text → List ℕ → Reading ℕ → Parse
 format_found gtrid bqual text (Ok found) = Ok (xid_of gtrid bqual found.0, found.1)
 format_found gtrid bqual text (Err fault) = Err (fault, text)
 
-abbrev bqual_found : Text → List ℕ → Reading Text → Parse
+abbrev pub bqual_found : Text → List ℕ → Reading Text → Parse
 bqual_found gtrid text (Ok found) = after_bqual gtrid found.0 found.1 (comma_next (unblank found.1))
 bqual_found gtrid text (Err fault) = Err (fault, text)
 
-abbrev gtrid_found : List ℕ → Reading Text → Parse
+abbrev pub gtrid_found : List ℕ → Reading Text → Parse
 gtrid_found text (Ok found) = after_gtrid found.0 found.1 (comma_next (unblank found.1))
 gtrid_found text (Err fault) = Err (fault, text)
 

@@ -1,9 +1,11 @@
 -- Literals: a text literal, hexadecimal digits in quotes, and a run of hexadecimal digits.
 --     LiteralAt text bytes rest      the text begins with a literal of the bytes, and `rest` stands behind it
+--     TextAt text found rest         the same of a literal of at most 64 bytes
+--     Between Spelled text at value next     what stands in the text from `at` up to `next` is spelled so
 --     literal_at text                the literal that a text begins with, and what stands behind it, or its fault
 --     literal_from text at           the same at a place, and the place behind the literal
 --     evened digits                  an odd number of digits with a 0 in front
-use Rattle.std.specs.Prelude.{◌≡◌, ℕ, ◌-◌, ◌%◌, Bool, false, ◌==◌, ◌||◌, ◌&&◌, not, nat_le, nat_lt, if◌then◌else◌, IsTrue, List, [], ◌∷◌, ◌++◌, length, drop, slice_index, Option, Some, None, Result, Ok, Err}
+use Rattle.std.specs.Prelude.{◌≡◌, ℕ, ◌-◌, ◌≤◌, ◌%◌, Bool, false, ◌==◌, ◌||◌, ◌&&◌, not, nat_le, nat_lt, if◌then◌else◌, IsTrue, List, [], ◌∷◌, ◌++◌, length, drop, slice_index, Option, Some, None, Result, Ok, Err}
 use Rattle.hex.specs.Hex.{decode_of}
 use Rattle.xa_xid.specs.Bytes.{belongs, front, behind, only, run, after_run, StartsNo}
 use Rattle.xa_xid.specs.Quoted.{QuotedAt, quoted}
@@ -48,6 +50,16 @@ pub data LiteralAt : List ℕ → List ℕ → List ℕ → Type 0 where
   hex_run : (digit : ℕ) (digits : List ℕ) {bytes rest : List ℕ} → decode_of (evened (digit ∷ digits)) ≡ Ok bytes
       → IsTrue (only (belongs Hexadecimal) (digit ∷ digits)) → StartsNo (belongs Word) rest
       → LiteralAt (48 ∷ 120 ∷ digit ∷ digits ++ rest) bytes rest
+
+-- a literal of at most 64 bytes
+pub record TextAt (text : List ℕ) (found : Text) (rest : List ℕ) : Type 0 where
+  pub literal : LiteralAt text found.items rest
+  pub fits : length found.items ≤ 64
+
+-- a spelling said of two places in one text
+pub record Between {Value : Type 0} (Spelled : List ℕ → Value → List ℕ → Type 0) (text : List ℕ) (at : ℕ) (value : Value) (next : ℕ) : Type 0 where
+  pub within : next ≤ length text
+  pub spelled : Spelled (drop at text) value (drop next text)
 
 -- at most 64 bytes (X/Open C193's lengths of gtrid and bqual)
 unfoldable pub kept : List ℕ → Option Text

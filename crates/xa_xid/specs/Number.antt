@@ -1,14 +1,24 @@
 -- Numbers: decimal digits, or `0x` and hexadecimal digits.
+--     NumberAt text value rest     the text begins with a number of the value, and `rest` stands behind it
 --     number_in run        the value of a run that is a number
 --     number_at text       the number that a text begins with, and what stands behind it, or its fault
 --     number_from text at  the same at a place, and the place behind it
-use Rattle.std.specs.Prelude.{ℕ, ◌^◌, ◌==◌, ◌&&◌, nat_lt, not, if◌then◌else◌, List, length, drop, Option, Some, None, Result, Ok, Err}
+use Rattle.std.specs.Prelude.{◌≡◌, ℕ, ◌^◌, ◌<◌, ◌==◌, ◌&&◌, nat_lt, not, if◌then◌else◌, IsTrue, List, ◌∷◌, ◌++◌, length, drop, Option, Some, None, Result, Ok, Err}
 use Rattle.std.specs.Str.Parse.{digits_value}
-use Rattle.xa_xid.specs.Bytes.{belongs, only, run, after_run}
+use Rattle.xa_xid.specs.Bytes.{belongs, only, run, after_run, StartsNo}
 use Rattle.xa_xid.specs.Literal.{Reading, placed, hex_digits_of}
-use Rattle.xa_xid.specs.declared.byte_class.ByteClass.TheVariants.{Decimal}
+use Rattle.xa_xid.specs.declared.byte_class.ByteClass.TheVariants.{Word, Decimal, Hexadecimal}
 use Rattle.xa_xid.specs.declared.literal_fault.LiteralFault.{LiteralFault}
 use Rattle.xa_xid.specs.declared.literal_fault.LiteralFault.TheVariants.{NotALiteral, NumberTooLarge}
+
+-- which number a text begins with: digits of a value below 2^64, no word byte behind them (own rule)
+pub data NumberAt : List ℕ → ℕ → List ℕ → Type 0 where
+  decimal_digits : (digit : ℕ) (digits : List ℕ) {value : ℕ} {rest : List ℕ} → IsTrue (only (belongs Decimal) (digit ∷ digits))
+      → digits_value 10 (digit ∷ digits) ≡ value → value < 2 ^ 64 → StartsNo (belongs Word) rest
+      → NumberAt (digit ∷ digits ++ rest) value rest
+  hexadecimal_digits : (digit : ℕ) (digits : List ℕ) {value : ℕ} {rest : List ℕ} → IsTrue (only (belongs Hexadecimal) (digit ∷ digits))
+      → digits_value 16 (digit ∷ digits) ≡ value → value < 2 ^ 64 → StartsNo (belongs Word) rest
+      → NumberAt (48 ∷ 120 ∷ digit ∷ digits ++ rest) value rest
 
 -- at most 2^64-1, leading zeros in any count (own rule)
 unfoldable pub fitting : ℕ → Result ℕ LiteralFault

@@ -1,19 +1,16 @@
 -- The spelling of an identifier: gtrid [, bqual [, formatID]], blanks before each token.
+--     XidAt text xid rest    the text begins with the identifier, and `rest` stands behind its last token
 --     xid_at text            the identifier that a text begins with and what stands behind it, or its fault and where it stands
 --     xid_from text at       the same at a place, with places
 --     part_text, xid_text    the canonical text of a gtrid or bqual, and of an identifier
-use Rattle.std.specs.Prelude.{ℕ, ◌-◌, ◌≤◌, ◌<◌, ◌^◌, ◌==◌, if◌then◌else◌, List, [], ◌∷◌, ◌++◌, length, drop, codes, decimal, Option, Some, None, Result, Ok, Err}
+use Rattle.std.specs.Prelude.{◌≡◌, ℕ, ◌-◌, ◌≤◌, ◌<◌, ◌^◌, ◌==◌, if◌then◌else◌, List, [], ◌∷◌, ◌++◌, length, drop, codes, decimal, Option, Some, None, Result, Ok, Err}
 use Rattle.hex.specs.Hex.{encode_lower, IsBytes}
-use Rattle.xa_xid.specs.Bytes.{unblank}
-use Rattle.xa_xid.specs.Literal.{literal_at}
-use Rattle.xa_xid.specs.Number.{number_at}
+use Rattle.xa_xid.specs.Bytes.{unblank, StartsNo}
+use Rattle.xa_xid.specs.Literal.{TextAt, literal_at}
+use Rattle.xa_xid.specs.Number.{NumberAt, number_at}
 use Rattle.xa_xid.specs.Xid.{Text}
 use Rattle.xa_xid.specs.declared.xid.Xid.{Xid}
 use Rattle.xa_xid.specs.declared.literal_fault.LiteralFault.{LiteralFault}
-
--- what was read and what stands behind it, or the fault and the text from the faulty token on
-abbrev pub Parse : Type 0
-Parse = Result (Xid × List ℕ) (LiteralFault × List ℕ)
 
 -- the empty text
 abbrev pub no_text : Text
@@ -22,6 +19,31 @@ no_text = record { items = [] }
 -- the identifier of three parts
 abbrev pub xid_of : Text → Text → ℕ → Xid
 xid_of gtrid bqual format_id = record { format_id = format_id; gtrid = gtrid; bqual = bqual }
+
+-- a comma stands first
+abbrev pub CommaAt : List ℕ → List ℕ → Type 0
+CommaAt text rest = text ≡ 44 ∷ rest
+
+-- no comma stands first
+abbrev pub NoCommaAt : List ℕ → Type 0
+NoCommaAt text = StartsNo (λ byte. byte == 44) text
+
+-- which identifier a text begins with, blanks before each token skipped (manual, 'XA Transaction SQL Statements'):
+-- bqual or formatID is left out only where what stands behind the part before it, blanks skipped, isn't a comma
+pub data XidAt : List ℕ → Xid → List ℕ → Type 0 where
+  gtrid_alone : (gtrid : Text) {text rest : List ℕ} → TextAt (unblank text) gtrid rest → NoCommaAt (unblank rest)
+      → XidAt text (xid_of gtrid no_text 1) rest
+  gtrid_bqual : (gtrid bqual : Text) {text second third rest : List ℕ} → TextAt (unblank text) gtrid second → CommaAt (unblank second) third
+      → TextAt (unblank third) bqual rest → NoCommaAt (unblank rest)
+      → XidAt text (xid_of gtrid bqual 1) rest
+  gtrid_bqual_format : (gtrid bqual : Text) (format_id : ℕ) {text second third fourth fifth rest : List ℕ} → TextAt (unblank text) gtrid second
+      → CommaAt (unblank second) third → TextAt (unblank third) bqual fourth → CommaAt (unblank fourth) fifth
+      → NumberAt (unblank fifth) format_id rest
+      → XidAt text (xid_of gtrid bqual format_id) rest
+
+-- what was read and what stands behind it, or the fault and the text from the faulty token on
+abbrev pub Parse : Type 0
+Parse = Result (Xid × List ℕ) (LiteralFault × List ℕ)
 
 -- what stands behind a comma that the text begins with
 abbrev pub comma_next : List ℕ → Option (List ℕ)

@@ -4,8 +4,10 @@ ghost use Rattle.hex.specs.Hex.{IsBytes};
 ghost use Rattle.std.specs.declared.cmp.Ordering.TheVariants.{Equal};
 ghost use Rattle.xa_xid.specs.Xid.{Text, bytes_cmp, xid_cmp};
 ghost use Rattle.xa_xid.specs.Bytes.{belongs, StartsNo};
-ghost use Rattle.xa_xid.specs.Literal.{LiteralAt, kept, literal_at, sized};
-ghost use Rattle.xa_xid.specs.XidText.{xid_at, xid_text, IsWritable};
+ghost use Rattle.xa_xid.specs.Literal.{LiteralAt, TextAt, kept, literal_at, sized};
+ghost use Rattle.xa_xid.specs.Number.{NumberAt, number_at};
+ghost use Rattle.xa_xid.specs.declared.xid.Xid.{Xid};
+ghost use Rattle.xa_xid.specs.XidText.{XidAt, xid_at, xid_text, IsWritable};
 
 use crate::{ByteClass, Key, Xid};
 use std::cmp::Ordering;
@@ -40,13 +42,35 @@ pub fn order_of_keys(left_key: &Key, right_key: &Key) -> Ordering
 }
 
 /// A text is read as a literal only where it begins with that literal, of at most 64 bytes; and one that begins with a
-/// literal is read as its bytes, or is too long.
+/// literal is read as its bytes, or is too long. It begins with at most one of at most 64 bytes.
 ///
 /// Takes no memory. Doesn't wait.
 pub fn literals_are_read_as_spelled()
     ensures sound { (text : List ℕ) (found : Text) (rest : List ℕ) → literal_at text ≡ Ok (found, rest)
         → LiteralAt text found.items rest × (length found.items ≤ 64) }
     ensures complete { (text bytes rest : List ℕ) → LiteralAt text bytes rest → literal_at text ≡ sized (kept bytes) rest }
+    ensures only_one { (text : List ℕ) (found other : Text) (rest behind : List ℕ) → TextAt text found rest → TextAt text other behind
+        → (found ≡ other) × (rest ≡ behind) }
+{}
+
+/// A text is read as a number exactly where it begins with that number, and it begins with at most one.
+///
+/// Takes no memory. Doesn't wait.
+pub fn numbers_are_read_as_spelled()
+    ensures sound { (text : List ℕ) (value : ℕ) (rest : List ℕ) → number_at text ≡ Ok (value, rest) → NumberAt text value rest }
+    ensures complete { (text : List ℕ) (value : ℕ) (rest : List ℕ) → NumberAt text value rest → number_at text ≡ Ok (value, rest) }
+    ensures only_one { (text : List ℕ) (value other : ℕ) (rest behind : List ℕ) → NumberAt text value rest → NumberAt text other behind
+        → (value ≡ other) × (rest ≡ behind) }
+{}
+
+/// A text is read as an identifier exactly where it begins with that identifier, and it begins with at most one.
+///
+/// Takes no memory. Doesn't wait.
+pub fn xids_are_read_as_spelled()
+    ensures sound { (text : List ℕ) (xid : Xid) (rest : List ℕ) → xid_at text ≡ Ok (xid, rest) → XidAt text xid rest }
+    ensures complete { (text : List ℕ) (xid : Xid) (rest : List ℕ) → XidAt text xid rest → xid_at text ≡ Ok (xid, rest) }
+    ensures only_one { (text : List ℕ) (xid other : Xid) (rest behind : List ℕ) → XidAt text xid rest → XidAt text other behind
+        → (xid ≡ other) × (rest ≡ behind) }
 {}
 
 /// The canonical text of an identifier is read as that identifier, whatever stands behind it but a word byte.

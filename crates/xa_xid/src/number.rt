@@ -1,8 +1,9 @@
 //! Numbers, as a formatID is written.
-ghost use Rattle.std.specs.Prelude.{◌≡◌, ◌≤◌, ◌<◌, ◌^◌, length, MatchResult, MatchOption, IfOk};
+ghost use Rattle.std.specs.Prelude.{◌≡◌, ℕ, ◌≤◌, ◌<◌, ◌^◌, length, MatchResult, MatchOption, IfOk};
 ghost use Rattle.std.specs.Char.{digit_value};
 ghost use Rattle.std.specs.Str.Parse.{digits_value};
-ghost use Rattle.xa_xid.specs.Number.{number_at, number_from, number_in, fitting};
+ghost use Rattle.xa_xid.specs.Literal.{Between};
+ghost use Rattle.xa_xid.specs.Number.{NumberAt, number_at, number_from, number_in, fitting};
 
 use crate::byte_class::text_from;
 use crate::literal::hex_digits;
@@ -15,7 +16,9 @@ use crate::{ByteClass, LiteralFault};
 /// Own rule: docs/STATEMENTS.md, 'Literals'.
 pub fn read_number(text: &[u8], at: usize) -> Result<(u64, usize), LiteralFault>
     requires { at ≤ length text.now }
-    ensures { result ≡ number_from text.now at }
+    ensures value { result ≡ number_from text.now at }
+    ensures spelled { IfOk result (λ found. Between NumberAt text.now at found.0 found.1) }
+    ensures complete { (number next : ℕ) → Between NumberAt text.now at number next → result ≡ Ok (number, next) }
 {
     let (number, rest) = number_of(text_from(text, at))?;
     Ok((number, text.len() - rest.len()))

@@ -1,8 +1,10 @@
 //! Identifiers, read at a place in a text and written in their canonical form.
-ghost use Rattle.std.specs.Prelude.{◌≡◌, ◌≤◌, ◌++◌, length, MatchResult, IfOk, IfSome, option_copied};
+ghost use Rattle.std.specs.Prelude.{◌≡◌, ℕ, ◌≤◌, ◌++◌, length, MatchResult, IfOk, IfSome, option_copied};
 ghost use Rattle.hex.specs.Hex.{encode_lower};
 ghost use Rattle.xa_xid.specs.Bytes.{unblank};
-ghost use Rattle.xa_xid.specs.XidText.{xid_at, xid_from, gtrid_next, bqual_next, format_id_next, comma_next, part_text, xid_text};
+ghost use Rattle.xa_xid.specs.Literal.{Between};
+ghost use Rattle.xa_xid.specs.declared.xid.Xid.{Xid};
+ghost use Rattle.xa_xid.specs.XidText.{XidAt, xid_at, xid_from, gtrid_next, bqual_next, format_id_next, comma_next, part_text, xid_text};
 
 use crate::byte_class::text_from;
 use crate::literal::literal_of;
@@ -25,7 +27,9 @@ type Parse<'a> = Result<(Xid, &'a [u8]), (LiteralFault, &'a [u8])>;
 #[tactic(auto, unfolding(crate::specs::XidText::xid_at))]
 pub fn read_xid(text: &[u8], at: usize) -> Result<(Xid, usize), (LiteralFault, usize)>
     requires { at ≤ length text.now }
-    ensures { result ≡ xid_from text.now at }
+    ensures value { result ≡ xid_from text.now at }
+    ensures spelled { IfOk result (λ found. Between XidAt text.now at found.0 found.1) }
+    ensures complete { (xid : Xid) (next : ℕ) → Between XidAt text.now at xid next → result ≡ Ok (xid, next) }
 {
     match read_gtrid(skip_blanks(text_from(text, at))) {
         Ok((xid, rest)) => Ok((xid, text.len() - rest.len())),

@@ -1,0 +1,127 @@
+-- What is read as a number is spelled as one, and the other way round.
+use Rattle.std.proofs.Common.{◌≡◌, ℕ, ◌^◌, ◌<◌, true, false, ◌==◌, ◌&&◌, not, nat_lt, if◌then◌else◌, IsTrue, List, [], ◌∷◌, ◌++◌, length, Some, None, Ok, Err, refl, sym, ◌∙◌, ap, arith}
+use Rattle.std.proofs.lemmas.Bool.{cond_both, eqb-true, ne_eqb, and_parts, ltb-true}
+use Rattle.std.proofs.lemmas.Bool.Decides.{nat_tests}
+use Rattle.std.specs.Str.Parse.{digits_value}
+use Rattle.xa_xid.specs.Bytes.{belongs, behind, only, run, after_run, StartsNo}
+use Rattle.xa_xid.specs.Literal.{Reading, hex_digits_of}
+use Rattle.xa_xid.specs.Number.{NumberAt, decimal_digits, hexadecimal_digits, fitting, hex_number_of, number_at, number_in}
+use Rattle.xa_xid.specs.declared.byte_class.ByteClass.TheVariants.{Word, Decimal, Hexadecimal}
+use Rattle.xa_xid.specs.declared.literal_fault.LiteralFault.TheVariants.{NumberTooLarge}
+use Rattle.xa_xid.proofs.Numbers.{fitting_small}
+use Rattle.xa_xid.proofs.Spelling.{front-behind, only_passes, behind_starts, words_hex}
+use Rattle.xa_xid.proofs.Written.{Passes, front-append, behind-append, number_found, number_at-found}
+
+-- the reading is of a number that the text begins with
+abbrev pub NumberSpelled : List ℕ → Reading ℕ → Type 0
+NumberSpelled text (Ok found) = NumberAt text found.0 found.1
+NumberSpelled text (Err fault) = Unit {0}
+
+value_spelled : (text rest : List ℕ) (value : ℕ) → (value < 2 ^ 64 → NumberAt text value rest) → NumberSpelled text (number_found rest (fitting value))
+unfolding fitting
+value_spelled text rest value form =
+    cond_both (nat_lt value (2 ^ 64)) (Ok value) (Err NumberTooLarge) (λ found. NumberSpelled text (number_found rest found))
+    (λ small. form (ltb-true value (2 ^ 64) small)) (λ _. tt)
+
+hex_spelled : (written rest : List ℕ) → StartsNo (belongs Word) rest → NumberSpelled (written ++ rest) (number_found rest (hex_number_of (hex_digits_of written)))
+hex_spelled [] rest s = tt
+hex_spelled (a ∷ []) rest s = tt
+hex_spelled (a ∷ b ∷ []) rest s = tt
+hex_spelled (a ∷ b ∷ digit ∷ digits) rest s =
+    let all = digit ∷ digits in
+    let text = a ∷ b ∷ digit ∷ digits ++ rest in
+    let test = a == 48 && b == 120 && only (belongs Hexadecimal) all in
+    elim test as (λ t. test ≡ t → NumberSpelled text (number_found rest (hex_number_of (if t then Some all else None)))) [
+      | true ↦ λ e.
+          let outer = and_parts (a == 48 && b == 120) (only (belongs Hexadecimal) all) e in
+          let inner = and_parts (a == 48) (b == 120) outer.0 in
+          value_spelled text rest (digits_value 16 all)
+          (λ small. let form : NumberAt (48 ∷ 120 ∷ digit ∷ digits ++ rest) (digits_value 16 all) rest = hexadecimal_digits digit digits outer.1 refl small s in
+          rw (eqb-true a 48 inner.0, eqb-true b 120 inner.1) form)
+      | false ↦ λ e. tt
+    ] refl
+
+digits_spelled : (digit : ℕ) (digits rest : List ℕ) → StartsNo (belongs Word) rest
+    → NumberSpelled (digit ∷ digits ++ rest) (number_found rest (number_in (digit ∷ digits)))
+digits_spelled digit digits rest s =
+    let all = digit ∷ digits in
+    let test = not (length all == 0) && only (belongs Decimal) all in
+    elim test as (λ t. test ≡ t → NumberSpelled (all ++ rest) (number_found rest (if t then fitting (digits_value 10 all) else hex_number_of (hex_digits_of all)))) [
+      | true ↦ λ e.
+          let decimal = (and_parts (not (length all == 0)) (only (belongs Decimal) all) e).1 in
+          value_spelled (all ++ rest) rest (digits_value 10 all) (λ small. decimal_digits digit digits decimal refl small s)
+      | false ↦ λ _. hex_spelled all rest s
+    ] refl
+
+run_spelled : (written rest : List ℕ) → StartsNo (belongs Word) rest → NumberSpelled (written ++ rest) (number_found rest (number_in written))
+run_spelled [] rest s = tt
+run_spelled (digit ∷ digits) rest s = digits_spelled digit digits rest s
+
+number_spelled : (text : List ℕ) → NumberSpelled text (number_at text)
+number_spelled text =
+    let form = run_spelled (run text) (after_run text) (behind_starts (belongs Word) text) in
+    rw (number_at-found text) (rw (front-behind (belongs Word) text) at form)
+
+-- what is read is spelled
+pub read_number_spelled : (text : List ℕ) (value : ℕ) (rest : List ℕ) → number_at text ≡ Ok (value, rest) → NumberAt text value rest
+read_number_spelled text value rest e = rw e at (number_spelled text)
+
+-- a run of a known value is read so
+written_read : (written rest : List ℕ) (value : ℕ) → Passes (belongs Word) written → StartsNo (belongs Word) rest → number_in written ≡ Ok value
+    → number_at (written ++ rest) ≡ Ok (value, rest)
+written_read written rest value word s e =
+    let cut : run (written ++ rest) ≡ written = front-append (belongs Word) written rest word s in
+    let left : after_run (written ++ rest) ≡ rest = behind-append (belongs Word) written rest word s in
+    number_at-found (written ++ rest)
+    ∙ ap (λ r. number_found (after_run (written ++ rest)) (number_in r)) cut
+    ∙ ap (number_found (after_run (written ++ rest))) e
+    ∙ ap (λ r. Ok (value, r)) left
+
+word_decimal : (byte : ℕ) → belongs Decimal byte ≡ true → belongs Word byte ≡ true
+unfolding belongs
+word_decimal byte is = grind (arith, nat_tests)
+
+words_decimal : (digits : List ℕ) → Passes (belongs Decimal) digits → Passes (belongs Word) digits
+words_decimal [] all = tt
+words_decimal (digit ∷ digits) all = (word_decimal digit all.0, words_decimal digits all.1)
+
+decimal_read : (digit : ℕ) (digits rest : List ℕ) (value : ℕ) → IsTrue (only (belongs Decimal) (digit ∷ digits))
+    → digits_value 10 (digit ∷ digits) ≡ value → value < 2 ^ 64 → StartsNo (belongs Word) rest → number_at (digit ∷ digits ++ rest) ≡ Ok (value, rest)
+decimal_read digit digits rest value all e small s =
+    let some : (length (digit ∷ digits) == 0) ≡ false = ne_eqb _ _ (λ e. omega arith) in
+    let found : number_in (digit ∷ digits) ≡ Ok value = rw (some, all) (sym (fitting_small value (digits_value 10 (digit ∷ digits)) small (sym e))) in
+    written_read (digit ∷ digits) rest value (words_decimal (digit ∷ digits) (only_passes (belongs Decimal) (digit ∷ digits) all)) s found
+
+-- an x isn't a decimal digit
+prefixed_not_decimal : (digits : List ℕ) → only (belongs Decimal) (48 ∷ 120 ∷ digits) ≡ false
+unfolding behind belongs
+prefixed_not_decimal digits = ne_eqb _ _ (λ e. omega arith)
+
+hexadecimal_read : (digit : ℕ) (digits rest : List ℕ) (value : ℕ) → IsTrue (only (belongs Hexadecimal) (digit ∷ digits))
+    → digits_value 16 (digit ∷ digits) ≡ value → value < 2 ^ 64 → StartsNo (belongs Word) rest
+    → number_at (48 ∷ 120 ∷ digit ∷ digits ++ rest) ≡ Ok (value, rest)
+unfolding belongs
+hexadecimal_read digit digits rest value all e small s =
+    let written = 48 ∷ 120 ∷ digit ∷ digits in
+    let word : Passes (belongs Word) written = (refl, (refl, words_hex (digit ∷ digits) (only_passes (belongs Hexadecimal) (digit ∷ digits) all))) in
+    let hex : hex_digits_of written ≡ Some (digit ∷ digits) = rw all refl in
+    let value_is : Ok value ≡ fitting (digits_value 16 (digit ∷ digits)) = fitting_small value (digits_value 16 (digit ∷ digits)) small (sym e) in
+    let other : number_in written ≡ hex_number_of (hex_digits_of written) =
+    ap (λ t. if not (length written == 0) && t then fitting (digits_value 10 written) else hex_number_of (hex_digits_of written)) (prefixed_not_decimal (digit ∷ digits))
+    ∙ rw (ne_eqb (length written) 0 (λ e. omega arith)) refl in
+    written_read written rest value word s (other ∙ ap hex_number_of hex ∙ sym value_is)
+
+-- what is spelled is read
+pub spelled_number_read : (text : List ℕ) (value : ℕ) (rest : List ℕ) → NumberAt text value rest → number_at text ≡ Ok (value, rest)
+spelled_number_read _ _ _ (decimal_digits digit digits {value} {rest} all e small s) = decimal_read digit digits rest value all e small s
+spelled_number_read _ _ _ (hexadecimal_digits digit digits {value} {rest} all e small s) = hexadecimal_read digit digits rest value all e small s
+
+number_once : (reading : Reading ℕ) (found other : ℕ × List ℕ) → reading ≡ Ok found → reading ≡ Ok other → found ≡ other
+number_once reading found other e f = cc
+
+-- and nothing else is spelled there
+pub one_number : (text : List ℕ) (value other : ℕ) (rest behind : List ℕ) → NumberAt text value rest → NumberAt text other behind
+    → (value ≡ other) × (rest ≡ behind)
+one_number text value other rest behind form again =
+    let same = number_once (number_at text) (value, rest) (other, behind) (spelled_number_read text value rest form) (spelled_number_read text other behind again) in
+    (ap (λ pair. pair.0) same, ap (λ pair. pair.1) same)

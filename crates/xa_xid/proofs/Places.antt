@@ -1,0 +1,146 @@
+-- What a token leaves of a text is an end of it, so a place says it too.
+use Rattle.std.proofs.Common.{◌≡◌, ℕ, ◌-◌, ◌+◌, ◌≤◌, List, [], ◌∷◌, ◌++◌, length, take, drop, Ok, Err, refl, sym, ◌∙◌, ap, arith, append_assoc, length-append}
+use Rattle.std.proofs.Math.Seq.{drop-append_seam}
+use Rattle.std.proofs.lemmas.List.{take-append-drop, length-drop}
+use Rattle.xa_xid.specs.Bytes.{belongs, front, unblank}
+use Rattle.xa_xid.specs.Literal.{Reading, LiteralAt, text_literal, hex_in_quotes, hex_run, TextAt, Between, literal_at, placed}
+use Rattle.xa_xid.specs.Number.{NumberAt, decimal_digits, hexadecimal_digits, number_at}
+use Rattle.xa_xid.specs.Xid.{Text}
+use Rattle.xa_xid.specs.XidText.{XidAt, gtrid_alone, gtrid_bqual, gtrid_bqual_format, CommaAt, Parse, xid_at, gtrid_next, places}
+use Rattle.xa_xid.specs.declared.byte_class.ByteClass.TheVariants.{Blank}
+use Rattle.xa_xid.specs.declared.literal_fault.LiteralFault.{LiteralFault}
+use Rattle.xa_xid.specs.declared.xid.Xid.{Xid}
+use Rattle.xa_xid.proofs.Identifiers.{read_text_spelled, spelled_text_read, read_xid_spelled, spelled_xid_read}
+use Rattle.xa_xid.proofs.Numerals.{read_number_spelled, spelled_number_read}
+use Rattle.xa_xid.proofs.Spelling.{front-behind}
+
+-- an end of a text
+pub record EndOf (text rest : List ℕ) : Type 0 where
+  pub before : List ℕ
+  pub cut : text ≡ before ++ rest
+
+end_of_end : (text middle rest : List ℕ) → EndOf text middle → EndOf middle rest → EndOf text rest
+end_of_end text middle rest outer inner = record {
+  before = outer.before ++ inner.before;
+  cut = outer.cut ∙ ap (λ t. outer.before ++ t) inner.cut ∙ sym (append_assoc outer.before inner.before rest);
+}
+
+end_from : (text : List ℕ) (at : ℕ) → EndOf text (drop at text)
+end_from text at = record { before = take at text; cut = sym (take-append-drop at text) }
+
+end_unblank : (text : List ℕ) → EndOf text (unblank text)
+end_unblank text = record { before = front (belongs Blank) text; cut = sym (front-behind (belongs Blank) text) }
+
+-- behind a comma
+end_comma : (text rest : List ℕ) → CommaAt (unblank text) rest → EndOf text rest
+end_comma text rest e = end_of_end text (unblank text) rest (end_unblank text) (record { before = 44 ∷ []; cut = e })
+
+-- behind a literal
+end_literal : (text bytes rest : List ℕ) → LiteralAt text bytes rest → EndOf text rest
+end_literal _ _ _ (text_literal quote {text} {bytes} {rest} is q) = record { before = quote ∷ q.written; cut = ap (λ t. quote ∷ t) q.cut }
+end_literal _ _ _ (hex_in_quotes letter digits {bytes} {rest} is e all) = record {
+  before = letter ∷ 39 ∷ (digits ++ (39 ∷ []));
+  cut = ap (λ t. letter ∷ 39 ∷ t) (sym (append_assoc digits (39 ∷ []) rest));
+}
+end_literal _ _ _ (hex_run digit digits {bytes} {rest} e all s) = record { before = 48 ∷ 120 ∷ digit ∷ digits; cut = refl }
+
+pub end_text : (text : List ℕ) (found : Text) (rest : List ℕ) → TextAt text found rest → EndOf text rest
+end_text text found rest form = end_literal text found.items rest form.literal
+
+end_part : (text : List ℕ) (found : Text) (rest : List ℕ) → TextAt (unblank text) found rest → EndOf text rest
+end_part text found rest form = end_of_end text (unblank text) rest (end_unblank text) (end_text (unblank text) found rest form)
+
+-- behind a number
+pub end_number : (text : List ℕ) (value : ℕ) (rest : List ℕ) → NumberAt text value rest → EndOf text rest
+end_number _ _ _ (decimal_digits digit digits {value} {rest} all e small s) = record { before = digit ∷ digits; cut = refl }
+end_number _ _ _ (hexadecimal_digits digit digits {value} {rest} all e small s) = record { before = 48 ∷ 120 ∷ digit ∷ digits; cut = refl }
+
+-- behind an identifier
+end_second : (text second third rest : List ℕ) (gtrid bqual : Text) → TextAt (unblank text) gtrid second → CommaAt (unblank second) third
+    → TextAt (unblank third) bqual rest → EndOf text rest
+end_second text second third rest gtrid bqual first comma part =
+    end_of_end text second rest (end_part text gtrid second first)
+    (end_of_end second third rest (end_comma second third comma) (end_part third bqual rest part))
+
+pub end_xid : (text : List ℕ) (xid : Xid) (rest : List ℕ) → XidAt text xid rest → EndOf text rest
+end_xid _ _ _ (gtrid_alone gtrid {text} {rest} first none) = end_part text gtrid rest first
+end_xid _ _ _ (gtrid_bqual gtrid bqual {text} {second} {third} {rest} first comma part none) = end_second text second third rest gtrid bqual first comma part
+end_xid _ _ _ (gtrid_bqual_format gtrid bqual value {text} {second} {third} {fourth} {fifth} {rest} first comma part last number) =
+    end_of_end text fourth rest (end_second text second third fourth gtrid bqual first comma part)
+    (end_of_end fourth fifth rest (end_comma fourth fifth last)
+    (end_of_end fifth (unblank fifth) rest (end_unblank fifth) (end_number (unblank fifth) value rest number)))
+
+-- an end of a text is what stands from a place on
+end_place : (text rest : List ℕ) → EndOf text rest → drop (length text - length rest) text ≡ rest
+end_place text rest end =
+    let sizes : length text ≡ length end.before + length rest = ap length end.cut ∙ length-append end.before rest in
+    let place : length text - length rest ≡ length end.before = omega (arith, sizes) in
+    rw place (ap (drop (length end.before)) end.cut ∙ drop-append_seam end.before rest)
+
+between : {Value : Type 0} (Spelled : List ℕ → Value → List ℕ → Type 0) (text : List ℕ) (at : ℕ) (value : Value) (rest : List ℕ)
+    → Spelled (drop at text) value rest → EndOf (drop at text) rest → Between Spelled text at value (length text - length rest)
+between Spelled text at value rest form end = record {
+  within = omega arith;
+  spelled = rw (end_place text rest (end_of_end text (drop at text) rest (end_from text at) end)) form;
+}
+
+next_place : (text : List ℕ) (next : ℕ) → next ≤ length text → length text - length (drop next text) ≡ next
+next_place text next within = rw (length-drop next text) (omega arith)
+
+-- a literal or a number at a place, from its reading and back
+placed_spelled : {Value : Type 0} (Spelled : List ℕ → Value → List ℕ → Type 0) (text : List ℕ) (at : ℕ) (found : Reading Value) (value : Value) (next : ℕ)
+    → ((rest : List ℕ) → Spelled (drop at text) value rest → found ≡ Ok (value, rest))
+    → Between Spelled text at value next → placed text found ≡ Ok (value, next)
+placed_spelled Spelled text at found value next read form =
+    ap (placed text) (read (drop next text) form.spelled) ∙ ap (λ n. Ok (value, n)) (next_place text next form.within)
+
+err_is_ok : {Value : Type 0} (reading : Reading Value) (fault : LiteralFault) (found : Value × List ℕ) → reading ≡ Err fault → reading ≡ Ok found → ⊥
+err_is_ok reading fault found err ok = cc
+
+pub text_between : (text : List ℕ) (at : ℕ) (found : Text) (rest : List ℕ) → literal_at (drop at text) ≡ Ok (found, rest)
+    → Between TextAt text at found (length text - length rest)
+text_between text at found rest e =
+    let form = read_text_spelled (drop at text) found rest e in between TextAt text at found rest form (end_text (drop at text) found rest form)
+
+pub between_text : (text : List ℕ) (at : ℕ) (found : Reading Text) → literal_at (drop at text) ≡ found → (bytes : Text) (next : ℕ)
+    → Between TextAt text at bytes next → placed text found ≡ Ok (bytes, next)
+between_text text at found e bytes next =
+    placed_spelled TextAt text at found bytes next (λ rest form. sym e ∙ spelled_text_read (drop at text) bytes rest form)
+
+pub no_text_between : (text : List ℕ) (at : ℕ) (fault : LiteralFault) → literal_at (drop at text) ≡ Err fault → (bytes : Text) (next : ℕ)
+    → Between TextAt text at bytes next → ⊥
+no_text_between text at fault e bytes next form =
+    err_is_ok (literal_at (drop at text)) fault (bytes, drop next text) e (spelled_text_read (drop at text) bytes (drop next text) form.spelled)
+
+pub number_between : (text : List ℕ) (at value : ℕ) (rest : List ℕ) → number_at (drop at text) ≡ Ok (value, rest)
+    → Between NumberAt text at value (length text - length rest)
+number_between text at value rest e =
+    let form = read_number_spelled (drop at text) value rest e in between NumberAt text at value rest form (end_number (drop at text) value rest form)
+
+pub between_number : (text : List ℕ) (at : ℕ) (found : Reading ℕ) → number_at (drop at text) ≡ found → (value next : ℕ)
+    → Between NumberAt text at value next → placed text found ≡ Ok (value, next)
+between_number text at found e value next =
+    placed_spelled NumberAt text at found value next (λ rest form. sym e ∙ spelled_number_read (drop at text) value rest form)
+
+pub no_number_between : (text : List ℕ) (at : ℕ) (fault : LiteralFault) → number_at (drop at text) ≡ Err fault → (value next : ℕ)
+    → Between NumberAt text at value next → ⊥
+no_number_between text at fault e value next form =
+    err_is_ok (number_at (drop at text)) fault (value, drop next text) e (spelled_number_read (drop at text) value (drop next text) form.spelled)
+
+-- an identifier, read behind the blanks before it
+xid_at-unblank : (text tail : List ℕ) → tail ≡ unblank text → xid_at text ≡ gtrid_next tail
+unfolding xid_at
+xid_at-unblank text tail e = ap gtrid_next (sym e)
+
+pub xid_between : (text tail : List ℕ) (at : ℕ) (xid : Xid) (rest : List ℕ) → tail ≡ unblank (drop at text) → gtrid_next tail ≡ Ok (xid, rest)
+    → Between XidAt text at xid (length text - length rest)
+xid_between text tail at xid rest blank e =
+    let form = read_xid_spelled (drop at text) xid rest (xid_at-unblank (drop at text) tail blank ∙ e) in
+    between XidAt text at xid rest form (end_xid (drop at text) xid rest form)
+
+pub between_xid : (text tail : List ℕ) (at : ℕ) (found : Parse) → tail ≡ unblank (drop at text) → gtrid_next tail ≡ found → (xid : Xid) (next : ℕ)
+    → Between XidAt text at xid next → places text found ≡ Ok (xid, next)
+between_xid text tail at found blank e xid next form =
+    let read : found ≡ Ok (xid, drop next text) =
+    sym (xid_at-unblank (drop at text) tail blank ∙ e) ∙ spelled_xid_read (drop at text) xid (drop next text) form.spelled in
+    ap (places text) read ∙ ap (λ n. Ok (xid, n)) (next_place text next form.within)

@@ -1,0 +1,18 @@
+use Rattle.std.proofs.Common.{◌∙◌, sym, ap, Ok}
+use Rattle.xa_xid.specs.Literal.{literal_at}
+use Rattle.xa_xid.proofs.Places.{text_between, between_text, no_text_between}
+use Rattle.xa_xid.proofs.literal.read_literal.Goals as goal
+
+pub returns-clause-spelled : goal.returns-clause-spelled
+returns-clause-spelled c =
+    text_between c.args.text.now c.args.at c.in_ok-bytes.bytes c.in_ok-bytes.rest.now
+    (ap literal_at (sym c.text_from.ensures) ∙ c.in_ok-bytes.ensures.value)
+
+pub returns-clause-complete : goal.returns-clause-complete
+returns-clause-complete c =
+    between_text c.args.text.now c.args.at (Ok (c.in_ok-bytes.bytes, c.in_ok-bytes.rest.now))
+    (ap literal_at (sym c.text_from.ensures) ∙ c.in_ok-bytes.ensures.value)
+
+pub returns-in_err-bytes-clause-complete : goal.returns-in_err-bytes-clause-complete
+returns-in_err-bytes-clause-complete c = λ bytes next form.
+    absurd (no_text_between c.args.text.now c.args.at c.in_err-bytes.field-0.0 (ap literal_at (sym c.text_from.ensures) ∙ c.in_err-bytes.ensures.value) bytes next form)

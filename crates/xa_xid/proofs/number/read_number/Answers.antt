@@ -1,0 +1,18 @@
+use Rattle.std.proofs.Common.{◌∙◌, sym, ap, Ok}
+use Rattle.xa_xid.specs.Number.{number_at}
+use Rattle.xa_xid.proofs.Places.{number_between, between_number, no_number_between}
+use Rattle.xa_xid.proofs.number.read_number.Goals as goal
+
+pub returns-clause-spelled : goal.returns-clause-spelled
+returns-clause-spelled c =
+    number_between c.args.text.now c.args.at c.in_ok-number.number c.in_ok-number.rest.now
+    (ap number_at (sym c.text_from.ensures) ∙ c.in_ok-number.ensures.value)
+
+pub returns-clause-complete : goal.returns-clause-complete
+returns-clause-complete c =
+    between_number c.args.text.now c.args.at (Ok (c.in_ok-number.number, c.in_ok-number.rest.now))
+    (ap number_at (sym c.text_from.ensures) ∙ c.in_ok-number.ensures.value)
+
+pub returns-in_err-number-clause-complete : goal.returns-in_err-number-clause-complete
+returns-in_err-number-clause-complete c = λ number next form.
+    absurd (no_number_between c.args.text.now c.args.at c.in_err-number.field-0.0 (ap number_at (sym c.text_from.ensures) ∙ c.in_err-number.ensures.value) number next form)
