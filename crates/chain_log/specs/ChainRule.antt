@@ -25,6 +25,7 @@ pub record Knows (sizes : Sizes) (words : List ℕ) (log : List Entry) (hand : H
   pub mine : entries_of hand.known.number log ≡ hand.known.mine
   pub part : entries_of hand.known.number hand.known.seen ≡ hand.known.mine
   pub short : length hand.draft ≤ 22
+  pub column : 0 < length hand.draft → hand.known.number ≤ hand.sessions
   pub draft : Holds words (own_cell hand) hand.draft
 
 -- each entry's cell stands in its row, in its session's column, and links to the cell of the row below; and what all seats know is so
