@@ -1,3 +1,5 @@
 pub mod Names
 pub mod Chains
 pub mod ChainSteps
+pub mod ChainStores
+pub mod ChainSeats
