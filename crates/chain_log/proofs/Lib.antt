@@ -1,4 +1,5 @@
 pub mod Names
+pub mod Ours
 pub mod Chains
 pub mod ChainSteps
 pub mod ChainStores

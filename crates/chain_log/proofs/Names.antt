@@ -167,3 +167,24 @@ length_by_newest sessions newest log all same some = by_length (length log) refl
 
 pub length_by_zero : (sessions newest : ℕ) (log : List Entry) → AllOf sessions log → newest ≡ newest_of sessions log → newest ≡ 0 → 0 ≡ length log
 length_by_zero sessions newest log all same none = one_length sessions log 0 (length log) (ranged_all sessions log all) (omega arith) (omega arith) (name_zero sessions log ∙ sym none ∙ same)
+
+-- where the cell of an entry that was seen lies
+pub record IsName (sessions capacity name : ℕ) : Type 0 where
+  pub low : 1 ≤ name
+  pub high : name ≤ 16384
+  pub words : (index : ℕ) → index < 22 → cell_at name + index < word_count sessions capacity
+
+pub cell_fits : (sessions capacity row session name : ℕ) → sessions ≤ 16 → capacity ≤ 1024 → row < capacity → 1 ≤ session → session ≤ sessions → name ≡ name_at sessions row session → IsName sessions capacity name
+cell_fits sessions capacity row session name few short below low high is =
+    subst (IsName sessions capacity) (sym is)
+    (record {
+      low = name_low sessions row session low;
+      high = name_high sessions row session few (omega arith) high;
+      words = λ index less. within_words sessions capacity row session index below low high less;
+    })
+
+pub seen_fits : (sessions capacity row name : ℕ) (seen : List Entry) → sessions ≤ 16 → capacity ≤ 1024 → AllOf sessions seen → length seen ≤ capacity → row < length seen → name ≡ name_before sessions seen (row + 1) → IsName sessions capacity name
+seen_fits sessions capacity row name seen few short all within below is =
+    let e = there seen row below in
+    let a = ranged_all sessions seen all row e.0 e.1 in
+    cell_fits sessions capacity row e.0.session name few short (omega arith) a.0 a.1 (is ∙ name_next_one sessions seen row e.0 e.1)
