@@ -188,7 +188,7 @@ module _ (sizes : Sizes) (words : List ℕ) (views : List View) (r : ChainRule s
       }
 
   -- an equal name means an equal history
-  all_seen : (h : Hand) → Knows sizes words r.log h → newest_of h.sessions h.known.seen ≡ get_or words 0 0 → h.known.seen ≡ r.log
+  pub all_seen : (h : Hand) → Knows sizes words r.log h → newest_of h.sessions h.known.seen ≡ get_or words 0 0 → h.known.seen ≡ r.log
   all_seen h k same =
       let low = length_begins h.known.seen r.log k.seen in
       let mine : newest_of h.sessions h.known.seen ≡ name_before sizes.sessions r.log (length h.known.seen) =

@@ -4,3 +4,4 @@ pub mod ChainRule
 pub mod ChainPlays
 pub mod ChainSeat
 pub mod ChainPass
+pub mod Tries

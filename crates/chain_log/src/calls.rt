@@ -1,5 +1,10 @@
 //! A chain keeps the promises of a log.
 
+ghost use Rattle.std.specs.Prelude.{◌≡◌, false};
+ghost use Rattle.decision_log.specs.Calls.{Adds};
+ghost use Rattle.chain_log.specs.ChainPass.{place_of, home_of, known_of};
+ghost use Rattle.chain_log.specs.Tries.{TriesOnce};
+
 use crate::layout::{cell_name, row_count};
 use crate::{ChainLog, ChainPass};
 use decision_log::{AddFault, DecisionLog};
@@ -40,7 +45,13 @@ impl DecisionLog for ChainLog {
         self.read_entry(&mut pass.seat, pass.newest, at)
     }
 
-    fn try_add(&self, pass: &mut ChainPass, entry: &Entry) -> Result<(), AddFault> {
+    fn try_add(&self, pass: &mut ChainPass, entry: &Entry) -> Result<(), AddFault>
+        requires home { home_of pass.old ≡ place_of self.now }
+        requires own { entry.now.session ≡ (known_of pass.old).number }
+        ensures home { home_of pass.new ≡ home_of pass.old }
+        ensures added { Adds false (place_of self.now).capacity entry.now result (known_of pass.old) (known_of pass.new) }
+        ensures once { TriesOnce result (known_of pass.old) (known_of pass.new) }
+    {
         let row = row_count(self.sessions, pass.newest);
         if row == self.capacity {
             return Err(AddFault::Full);

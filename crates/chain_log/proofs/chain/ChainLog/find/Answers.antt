@@ -14,6 +14,10 @@ below h name steps is few =
     let next : length h.known.seen - steps ≡ row + 1 = omega arith in
     (row, omega arith, is ∙ ap (name_before h.sessions h.known.seen) next, omega arith)
 
+-- the link is the name of the row below, at a pass that knows the same
+linked : (at h : Hand) (link row left : ℕ) → link ≡ name_before at.sessions at.known.seen row → at ≡ h → row ≡ left → link ≡ name_before h.sessions h.known.seen left
+linked at h link row left is same here = is ∙ ap (λ h. name_before h.sessions h.known.seen row) same ∙ ap (name_before h.sessions h.known.seen) here
+
 pub load_word-name-requires-clause-named : goal.load_word-name-requires-clause-named
 load_word-name-requires-clause-named c =
     let inv = c.loop-step.invariant in
@@ -34,5 +38,5 @@ loop-step-preserved c =
       seat = c.load_word-name.ensures.seat;
       same = c.load_word-name.ensures.same ∙ inv.same;
       count = inv.count;
-      name = told.1 ∙ ap (λ h. name_before h.sessions h.known.seen t.0) inv.same ∙ ap (name_before h.sessions h.known.seen) t.3;
+      name = linked at h c.load_word-name.result t.0 (length h.known.seen - (c.loop-step._step + 1)) told.1 inv.same t.3;
     }
