@@ -1,5 +1,5 @@
 -- Passes meet, and passes are given out: the rule of a chain is kept.
-use Rattle.std.proofs.Common.{◌≡◌, ℕ, zero, suc, ◌+◌, ◌≤◌, List, [], ◌∷◌, ◌++◌, length, set, refl, ap, sym, ◌∙◌, subst, Some, None, arith}
+use Rattle.std.proofs.Common.{◌≡◌, ℕ, zero, suc, ◌+◌, ◌≤◌, List, [], ◌∷◌, ◌++◌, length, set, refl, sym, ◌∙◌, subst, Some, None, arith}
 use Rattle.std.specs.Prelude.{slice_index}
 use mathlib.Core.Option.{some, some-injective, some-ne-none}
 use mathlib.Core.Logic.{dite}
@@ -16,7 +16,7 @@ use Rattle.decision_log.specs.Seats.{Fits, Seats, newcomer_hand, following, seat
 use Rattle.decision_log.specs.TurnPlays.{met}
 use Rattle.decision_log.proofs.Histories.{begins_itself, begins_between, begins_nothing, own_between, own_none, length_begins}
 use Rattle.decision_log.proofs.SeatLemmas.{step_two, join_seats, split_two, split_one, deal_seat, moved}
-use Rattle.chain_log.specs.Cells.{word_count, newest_of}
+use Rattle.chain_log.specs.Cells.{word_count}
 use Rattle.chain_log.specs.ChainRule.{Knows, ChainRule}
 use Rattle.chain_log.specs.ChainPlays.{Meets}
 use Rattle.chain_log.proofs.ChainSteps.{Rules, with_seats, loaded, among, history, knows_seen, newest_by}

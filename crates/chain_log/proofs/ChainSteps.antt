@@ -1,5 +1,5 @@
 -- The loads of a chain keep the rule, and tell what their plays say.
-use Rattle.std.proofs.Common.{◌≡◌, ℕ, suc, ◌+◌, ◌<◌, ◌≤◌, List, [], ◌∷◌, length, set, get_or, refl, ap, sym, ◌∙◌, subst, Some, arith}
+use Rattle.std.proofs.Common.{◌≡◌, ℕ, ◌+◌, ◌<◌, ◌≤◌, List, [], ◌∷◌, length, set, get_or, refl, ap, sym, ◌∙◌, subst, Some, arith}
 use Rattle.std.specs.Prelude.{slice_get}
 use mathlib.Core.Option.{some}
 use lib.ListN.{get_elem?}
@@ -16,9 +16,8 @@ use Rattle.decision_log.specs.declared.sizes.Sizes.{Sizes}
 use Rattle.decision_log.specs.History.{Begins, entries_of}
 use Rattle.decision_log.specs.Known.{AllOf}
 use Rattle.decision_log.specs.Seats.{Placed, Seats, seated}
-use Rattle.decision_log.specs.TurnRule.{Holds}
 use Rattle.decision_log.specs.TurnPlays.{HistoryIs}
-use Rattle.decision_log.proofs.Histories.{begins_itself, get_begins, all_from_places, length_begins}
+use Rattle.decision_log.proofs.Histories.{begins_itself, get_begins, all_from_places}
 use Rattle.decision_log.proofs.SeatLemmas.{step_seat}
 use Rattle.decision_log.proofs.TurnStores.{holds_nothing}
 use Rattle.chain_log.specs.Cells.{name_at, cell_at, name_before, newest_of}

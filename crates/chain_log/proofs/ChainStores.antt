@@ -1,5 +1,5 @@
 -- The steps of a chain that change a word keep the rule.
-use Rattle.std.proofs.Common.{◌≡◌, ◌≢◌, ℕ, suc, ◌+◌, ◌-◌, ◌<◌, ◌≤◌, List, [], ◌∷◌, ◌++◌, length, take, set, get_or, refl, ap, sym, ◌∙◌, subst, ⊎_elim, Some, arith, eqb, length-append}
+use Rattle.std.proofs.Common.{◌≡◌, ◌≢◌, ℕ, ◌+◌, ◌-◌, ◌<◌, ◌≤◌, List, [], ◌∷◌, ◌++◌, length, take, set, get_or, refl, ap, sym, ◌∙◌, subst, ⊎_elim, Some, arith, eqb, length-append}
 use Rattle.std.specs.Prelude.{slice_get}
 use mathlib.Core.Option.{some, some-injective}
 use mathlib.Core.Logic.{dite}
@@ -17,18 +17,18 @@ use Rattle.decision_log.specs.declared.view.Hand.{Hand}
 use Rattle.decision_log.specs.declared.view.View.{View}
 use Rattle.decision_log.specs.declared.view.View.TheVariants.{One}
 use Rattle.decision_log.specs.declared.sizes.Sizes.{Sizes}
-use Rattle.decision_log.specs.History.{Begins, entries_of}
-use Rattle.decision_log.specs.Seats.{Seats, seated}
+use Rattle.decision_log.specs.History.{Begins}
+use Rattle.decision_log.specs.Seats.{seated}
 use Rattle.decision_log.specs.TurnRule.{Holds}
 use Rattle.decision_log.specs.TurnPlays.{drafted}
 use Rattle.decision_log.proofs.Histories.{begins_itself, begins_append, begins_more, begins_same, get_last, length_begins, own_last, own_other}
 use Rattle.decision_log.proofs.SeatLemmas.{step_seat}
 use Rattle.decision_log.proofs.TurnStores.{holds_nothing, holds_beside, holds_one_more}
-use Rattle.chain_log.specs.Cells.{name_at, cell_at, name_before, newest_of, word_count}
+use Rattle.chain_log.specs.Cells.{name_at, cell_at, name_before, newest_of}
 use Rattle.chain_log.specs.ChainRule.{own_cell, Knows, ChainRule}
 use Rattle.chain_log.specs.ChainPlays.{won, lost, Drafts, Exchanges}
 use Rattle.chain_log.proofs.Chains.{later_other}
-use Rattle.chain_log.proofs.ChainSteps.{Rules, known, ranged, history, newest_by, with_seats, seen_keeps, loaded}
+use Rattle.chain_log.proofs.ChainSteps.{Rules, known, ranged, history, newest_by, seen_keeps, loaded}
 use Rattle.chain_log.proofs.Names.{name_begins, name_low, newest_added, one_cell, one_length, within_words, words_apart}
 
 module _ (sizes : Sizes) (words : List ℕ) (views : List View) (r : ChainRule sizes words views) where

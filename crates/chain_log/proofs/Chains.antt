@@ -1,10 +1,10 @@
 -- The chain is the history: the walk along the links meets its entries, newest first.
-use Rattle.std.proofs.Common.{◌≡◌, ◌≢◌, ℕ, zero, suc, ◌+◌, ◌<◌, ◌≤◌, List, [], ◌∷◌, ◌++◌, length, take, drop, get_or, refl, ap, sym, ◌∙◌, subst, Some, None, arith, eq-eqb, ne_eqb}
+use Rattle.std.proofs.Common.{◌≡◌, ◌≢◌, ℕ, zero, suc, ◌+◌, ◌≤◌, List, [], ◌∷◌, ◌++◌, length, take, drop, get_or, refl, ap, sym, ◌∙◌, subst, Some, None, arith, eq-eqb, ne_eqb}
 use Rattle.std.specs.Prelude.{slice_get, slice_index, reverse}
 use mathlib.Core.Logic.{dite}
 use native.Mathlib.Decide.{ℕ_discrete}
-use Rattle.std.proofs.lemmas.List.{reverse-append, reverse-reverse, take_all, ext_get_or, length-append}
-use Rattle.xa_words.specs.Entry.{Entry, IsEntry}
+use Rattle.std.proofs.lemmas.List.{reverse-append, reverse-reverse, take_all, ext_get_or}
+use Rattle.xa_words.specs.Entry.{Entry}
 use Rattle.xa_words.specs.Words.{words_of}
 use Rattle.xa_words.proofs.Spelling.{one_entry, length-words_of}
 use Rattle.decision_log.specs.declared.sizes.Sizes.{Sizes}
@@ -47,8 +47,7 @@ module _ (sizes : Sizes) (words : List ℕ) (views : List View) (r : ChainRule s
       let at = cell_at (name_at sizes.sessions row e.session) in
       let before = walk_below row (omega arith) in
       subst (λ name. Walk words name (reverse (take (suc row) r.log))) (sym (name_next sizes.sessions r.log row e t.1))
-      (subst (λ list. Walk words (name_at sizes.sessions row e.session) list) (sym turned)
-      (
+      (subst (λ list. Walk words (name_at sizes.sessions row e.session) list) (sym turned) (
         (λ none. omega (arith, none, low)),
         is,
         holds_rest words at (name_before sizes.sessions r.log row) (words_of e) cell,

@@ -3,12 +3,12 @@ use Rattle.std.proofs.Common.{◌≡◌, ◌≢◌, ℕ, zero, suc, ◌+◌, ◌
 use Rattle.std.specs.Prelude.{slice_get}
 use mathlib.Core.Logic.{dite}
 use native.Mathlib.Decide.{dec_le, ℕ_discrete}
-use native.Mathlib.Nat.{add-mul-div_right, div-eq_of_lt, zero-add, add_comm}
+use native.Mathlib.Nat.{add-mul-div_right, div-eq_of_lt, zero-add}
 use Rattle.std.proofs.lemmas.Option.{get_or_from_slice_get, slice_get_within}
 use Rattle.xa_words.specs.Entry.{Entry}
 use Rattle.decision_log.specs.History.{Begins}
 use Rattle.decision_log.specs.Known.{AllOf}
-use Rattle.decision_log.proofs.Histories.{begins_append, get_begins, some_injective}
+use Rattle.decision_log.proofs.Histories.{get_begins, some_injective}
 use Rattle.chain_log.specs.Cells.{word_count, name_at, cell_at, session_at, name_before, newest_of}
 
 -- rows and columns

@@ -1,5 +1,5 @@
 -- Names that a pass of the log computes are those of the log's cells.
-use Rattle.std.proofs.Common.{◌≡◌, ℕ, ◌+◌, ◌<◌, length, subst, sym, arith}
+use Rattle.std.proofs.Common.{◌≡◌, ℕ, ◌+◌, ◌<◌, length, subst, arith}
 use Rattle.decision_log.specs.declared.view.Hand.{Hand}
 use Rattle.chain_log.specs.declared.chain.ChainLog.{ChainLog}
 use Rattle.chain_log.specs.Cells.{name_at, name_before}

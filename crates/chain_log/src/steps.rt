@@ -56,7 +56,13 @@ impl ChainLog {
     }
 
     /// Makes the own cell the newest, if the one that was seen last still is. The answer is the newest before.
-    pub(crate) fn exchange(&self, seat: &mut Seat<Entry, View>, old: u64, own: u64, entry: &Entry) -> u64
+    pub(crate) fn exchange(
+        &self,
+        seat: &mut Seat<Entry, View>,
+        old: u64,
+        own: u64,
+        entry: &Entry,
+    ) -> u64
         requires seat { IsSeat self.now seat.old }
         requires room { length (hand seat.old).known.seen < (hand seat.old).capacity }
         requires old { old ≡ newest_of (hand seat.old).sessions (hand seat.old).known.seen }
@@ -65,6 +71,7 @@ impl ChainLog {
         requires whole { (hand seat.old).draft ≡ old ∷ words_of entry.now }
         ensures seat { IsSeat self.now seat.new }
         ensures won { result ≡ old → hand seat.new ≡ won (hand seat.old) entry.now }
+        ensures named { result ≡ old → own ≡ newest_of (hand seat.new).sessions (hand seat.new).known.seen }
         ensures lost { result ≢ old → (seen : List Entry) × (hand seat.new ≡ lost (hand seat.old) seen) × (result ≡ newest_of (hand seat.old).sessions seen) × HistoryIs (hand seat.old) seen × (length (hand seat.old).known.seen < length seen) }
     {
         let _session = entry.session();

@@ -63,7 +63,13 @@ impl ChainLog {
     }
 
     /// Writes a link and an entry's words into the own cell, over what was stored there before.
-    pub(crate) fn write_cell(&self, seat: &mut Seat<Entry, View>, name: u64, link: u64, entry: &Entry)
+    pub(crate) fn write_cell(
+        &self,
+        seat: &mut Seat<Entry, View>,
+        name: u64,
+        link: u64,
+        entry: &Entry,
+    )
         requires seat { IsSeat self.now seat.old }
         requires ours { IsOurs self.now (hand seat.old) }
         requires room { length (hand seat.old).known.seen < (hand seat.old).capacity }

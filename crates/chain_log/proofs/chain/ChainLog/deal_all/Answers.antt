@@ -1,5 +1,4 @@
-use Rattle.std.proofs.Common.{◌≡◌, [], sym, ap, ◌∙◌}
-use Rattle.decision_log.specs.Seats.{hand_of, newcomer_hand}
+use Rattle.std.proofs.Common.{[], sym, ap, ◌∙◌}
 use Rattle.chain_log.specs.Cells.{newest_of}
 use Rattle.chain_log.proofs.Names.{name_zero}
 use Rattle.chain_log.proofs.chain.ChainLog.deal_all.Goals as goal

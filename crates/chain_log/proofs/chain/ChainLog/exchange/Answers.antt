@@ -1,4 +1,4 @@
-use Rattle.std.proofs.Common.{◌≡◌, ap, ◌∙◌, arith, eqb, refl, subst, sym}
+use Rattle.std.proofs.Common.{◌≡◌, length, ap, ◌∙◌, arith, eqb, refl, subst, sym}
 use mathlib.Core.Option.{some}
 use mathlib.Core.Logic.{dite}
 use native.Mathlib.Decide.{ℕ_discrete}
@@ -8,9 +8,11 @@ use Rattle.xa_words.specs.Entry.{Entry}
 use Rattle.decision_log.specs.declared.view.Hand.{Hand}
 use Rattle.decision_log.specs.declared.view.View.{View}
 use Rattle.decision_log.specs.Seats.{hand_of, seated}
+use Rattle.chain_log.specs.Cells.{name_at, newest_of}
 use Rattle.chain_log.specs.ChainPlays.{won, lost, Exchanges}
 use Rattle.chain_log.proofs.ChainSteps.{Rules}
 use Rattle.chain_log.proofs.ChainStores.{exchange_step}
+use Rattle.chain_log.proofs.Names.{newest_added}
 use Rattle.chain_log.proofs.chain.ChainLog.exchange.Goals as goal
 
 pub compare_exchange_with-requires : goal.compare_exchange_with-requires
@@ -37,3 +39,13 @@ returns-clause-seat c =
           (λ e. again me (won (hand_of c.args.seat.now.me.0) c.args.entry.now) (told.0 c.args.entry.now refl e))
           (λ ne. let t = told.1 ne in again me (lost (hand_of c.args.seat.now.me.0) t.0) t.1);
     }
+
+pub returns-clause-named : goal.returns-clause-named
+returns-clause-named c same =
+    let h = hand_of c.args.seat.now.me.0 in
+    let entry = c.args.entry.now in
+    let told = c.compare_exchange_with.ensures.2.0 entry refl same in
+    c.requires.own
+    ∙ ap (name_at h.sessions (length h.known.seen)) (sym c.requires.entry)
+    ∙ sym (newest_added h.sessions h.known.seen entry)
+    ∙ sym (ap (λ me. newest_of (hand_of me.0).sessions (hand_of me.0).known.seen) told)

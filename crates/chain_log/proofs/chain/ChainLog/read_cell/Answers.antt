@@ -1,4 +1,4 @@
-use Rattle.std.proofs.Common.{◌≡◌, ℕ, ◌+◌, ◌<◌, List, ◌∷◌, Some, length, get_or, set, arith, one-add, sym, ap, ◌∙◌, refl, subst}
+use Rattle.std.proofs.Common.{◌≡◌, ℕ, ◌+◌, ◌<◌, List, ◌∷◌, Some, length, get_or, set, arith, one-add, sym, ap, ◌∙◌, subst}
 use Rattle.std.specs.Prelude.{slice_get, slice_index}
 use mathlib.Core.Logic.{dite}
 use native.Mathlib.Decide.{ℕ_discrete}
@@ -7,7 +7,6 @@ use Rattle.xa_words.specs.Words.{words_of}
 use Rattle.xa_words.proofs.Spelling.{length-words_of}
 use Rattle.decision_log.specs.TurnSeat.{hand}
 use Rattle.chain_log.specs.Cells.{name_before}
-use Rattle.chain_log.specs.ChainSeat.{IsOurs}
 use Rattle.chain_log.proofs.chain.ChainLog.read_cell.Goals as goal
 
 -- one more word is read

@@ -1,7 +1,6 @@
 use Rattle.std.proofs.Common.{◌≡◌, ℕ, ◌+◌, Some, ap, sym, ◌∙◌, rules}
 use Rattle.std.specs.Prelude.{slice_get}
-use Rattle.xa_words.specs.Entry.{Entry, IsEntry}
-use Rattle.xa_words.specs.Words.{words_of}
+use Rattle.xa_words.specs.Entry.{Entry}
 use Rattle.decision_log.specs.declared.view.Hand.{Hand}
 use Rattle.decision_log.specs.TurnSeat.{hand}
 use Rattle.chain_log.specs.Cells.{name_before}

@@ -1,4 +1,4 @@
-use Rattle.std.proofs.Common.{◌≡◌, ◌+◌, ap, ◌∙◌, arith, subst, sym}
+use Rattle.std.proofs.Common.{◌+◌, ap, ◌∙◌, arith, subst, sym}
 use Rattle.atomic_table.specs.Table.{Allows}
 use Rattle.decision_log.specs.Seats.{hand_of}
 use Rattle.chain_log.specs.Cells.{cell_at}
