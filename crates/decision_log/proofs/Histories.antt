@@ -48,7 +48,7 @@ get_append (x ∷ xs) ys (suc place) entry is = get_append xs ys place entry is
 pub get_begins : (xs ys : List Entry) (place : ℕ) (entry : Entry) → Begins xs ys → slice_get xs place ≡ Some entry → slice_get ys place ≡ Some entry
 get_begins xs ys place entry begins is = subst (λ list. slice_get list place ≡ Some entry) (behind xs ys begins) (get_append xs (drop (length xs) ys) place entry is)
 
-some_injective : (a b : Entry) → Some a ≡ Some b → a ≡ b
+pub some_injective : (a b : Entry) → Some a ≡ Some b → a ≡ b
 some_injective a b is = cc
 
 -- the entries of a longer list: an old one, or the last
@@ -82,7 +82,7 @@ own_other number xs entry other =
     nothing : (entry : Entry) → entry.session ≢ number → entries_of number (entry ∷ []) ≡ []
     nothing entry other = rw (ne_eqb entry.session number other) refl
 
-nothing_left : (xs ys : List Entry) → length (xs ++ ys) ≡ length xs → ys ≡ []
+pub nothing_left : (xs ys : List Entry) → length (xs ++ ys) ≡ length xs → ys ≡ []
 nothing_left xs [] is = refl
 nothing_left xs (y ∷ ys) is = absurd (omega (arith, length-append xs (y ∷ ys)))
 

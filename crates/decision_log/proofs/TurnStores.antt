@@ -27,15 +27,15 @@ use Rattle.decision_log.proofs.Histories.{begins_itself, begins_more, get_last, 
 use Rattle.decision_log.proofs.SeatLemmas.{step_seat}
 use Rattle.decision_log.proofs.TurnSteps.{Rules, known, with_seats, loaded}
 
-holds_nothing : (words : List ℕ) (at : ℕ) (draft : List ℕ) → draft ≡ [] → Holds words at draft
+pub holds_nothing : (words : List ℕ) (at : ℕ) (draft : List ℕ) → draft ≡ [] → Holds words at draft
 holds_nothing words at draft blank = subst (λ d. Holds words at d) (sym blank) (λ i below. absurd (omega arith))
 
 -- a word that isn't among them changes
-holds_beside : (words : List ℕ) (word new at : ℕ) (draft : List ℕ) → ((i : ℕ) → i < length draft → at + i ≢ word) → Holds words at draft → Holds (set words word new) at draft
+pub holds_beside : (words : List ℕ) (word new at : ℕ) (draft : List ℕ) → ((i : ℕ) → i < length draft → at + i ≢ word) → Holds words at draft → Holds (set words word new) at draft
 holds_beside words word new at draft out holds i below = get_or-set_other words word (at + i) new 0 (out i below) ∙ holds i below
 
 -- the next word is stored, or one again
-holds_one_more : (words : List ℕ) (at index new : ℕ) (draft : List ℕ) → index ≤ length draft → at + index < length words → Holds words at draft → Holds (set words (at + index) new) at (take index draft ++ new ∷ [])
+pub holds_one_more : (words : List ℕ) (at index new : ℕ) (draft : List ℕ) → index ≤ length draft → at + index < length words → Holds words at draft → Holds (set words (at + index) new) at (take index draft ++ new ∷ [])
 holds_one_more words at index new draft along within holds i below =
     let len : length (take index draft) ≡ index = length-take-le index draft along in
     dite (ℕ_discrete i index)

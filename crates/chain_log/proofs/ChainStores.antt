@@ -1,0 +1,259 @@
+-- The steps of a chain that change a word keep the rule.
+use Rattle.std.proofs.Common.{◌≡◌, ◌≢◌, ℕ, ◌+◌, ◌-◌, ◌<◌, ◌≤◌, List, [], ◌∷◌, ◌++◌, length, take, set, get_or, refl, ap, sym, ◌∙◌, subst, ⊎_elim, Some, arith, eqb, length-append}
+use Rattle.std.specs.Prelude.{slice_get}
+use mathlib.Core.Option.{some, some-injective}
+use mathlib.Core.Logic.{dite}
+use native.Mathlib.Decide.{ℕ_discrete, dec_le}
+use lib.ListN.{get_elem?}
+use prog.Atomic.{either}
+use Rattle.std.proofs.lemmas.Option.{slice_get_within}
+use Rattle.std.proofs.lemmas.List.{length-set, get_or-set_same, get_or-set_other, length-take-le}
+use Rattle.atomic_table.specs.Table.{keeps, Allows}
+use Rattle.atomic_table.proofs.Lists.{exchanged}
+use Rattle.xa_words.specs.Entry.{Entry, IsEntry}
+use Rattle.xa_words.specs.Words.{words_of}
+use Rattle.xa_words.proofs.Spelling.{length-words_of}
+use Rattle.decision_log.specs.declared.view.Hand.{Hand}
+use Rattle.decision_log.specs.declared.view.View.{View}
+use Rattle.decision_log.specs.declared.view.View.TheVariants.{One}
+use Rattle.decision_log.specs.declared.sizes.Sizes.{Sizes}
+use Rattle.decision_log.specs.History.{Begins}
+use Rattle.decision_log.specs.Seats.{seated}
+use Rattle.decision_log.specs.TurnRule.{Holds}
+use Rattle.decision_log.specs.TurnPlays.{drafted}
+use Rattle.decision_log.proofs.Histories.{begins_itself, begins_append, begins_more, begins_same, get_last, length_begins, own_last, own_other}
+use Rattle.decision_log.proofs.SeatLemmas.{step_seat}
+use Rattle.decision_log.proofs.TurnStores.{holds_nothing, holds_beside, holds_one_more}
+use Rattle.chain_log.specs.Cells.{name_at, cell_at, name_before, newest_of}
+use Rattle.chain_log.specs.ChainRule.{own_cell, Knows, ChainRule}
+use Rattle.chain_log.specs.ChainPlays.{won, lost, Drafts, Exchanges}
+use Rattle.chain_log.proofs.Chains.{later_other}
+use Rattle.chain_log.proofs.ChainSteps.{Rules, known, ranged, history, newest_by, seen_keeps, loaded}
+use Rattle.chain_log.proofs.Names.{name_begins, name_low, newest_added, one_cell, one_length, within_words, words_apart}
+
+module _ (sizes : Sizes) (words : List ℕ) (views : List View) (r : ChainRule sizes words views) where
+  -- the number of a pass is one of the log's sessions
+  numbered : (id : ℕ) (h : Hand) → get_elem? views id ≡ some (One h) → (1 ≤ h.known.number) × (h.known.number ≤ sizes.sessions)
+  numbered id h here =
+      let p = known sizes words views r id h here in
+      (omega (arith, p.low), omega (arith, p.high, r.within))
+
+  -- a pass's own cell, by the log's count of the sessions
+  own_by : (h : Hand) → h.sessions ≡ sizes.sessions → own_cell h ≡ cell_at (name_at sizes.sessions (length h.known.seen) h.known.number)
+  own_by h sessions = ap (λ s. cell_at (name_at s (length h.known.seen) h.known.number)) sessions
+
+  -- a word of a pass's own cell isn't one of the history's cells
+  not_of_history : (id : ℕ) (h : Hand) (index row i : ℕ) (entry : Entry) → get_elem? views id ≡ some (One h) → index < 22 → i < 22 → slice_get r.log row ≡ Some entry
+      → cell_at (name_at sizes.sessions row entry.session) + i ≢ own_cell h + index
+  not_of_history id h index row i entry here below below' is same =
+      let k = (known sizes words views r id h here).fact_is in
+      let n = numbered id h here in
+      let e = ranged sizes words views r row entry is in
+      words_apart (name_at sizes.sessions row entry.session) (name_at sizes.sessions (length h.known.seen) h.known.number) i index
+      (name_low sizes.sessions row entry.session e.0) (name_low sizes.sessions (length h.known.seen) h.known.number n.0)
+      (λ one.
+      let c = one_cell sizes.sessions row (length h.known.seen) entry.session h.known.number e.0 e.1 n.0 n.1 one in
+      later_other h.known.number h.known.seen r.log h.known.mine row entry k.seen k.mine k.part (omega (arith, c.0)) is c.1)
+      below' below (same ∙ ap (λ a. a + index) (own_by h k.sessions))
+
+  -- nor is it a word of the draft of a pass of another number
+  not_of_other : (id : ℕ) (h g : Hand) (index i : ℕ) → get_elem? views id ≡ some (One h) → index < 22 → g.known.number ≢ h.known.number → 0 < g.known.number → Knows sizes words r.log g → i < length g.draft
+      → own_cell g + i ≢ own_cell h + index
+  not_of_other id h g index i here below apart low k less same =
+      let p = (known sizes words views r id h here).fact_is in
+      let n = numbered id h here in
+      let high : g.known.number ≤ sizes.sessions = omega (arith, k.column (omega (arith, less)), k.sessions) in
+      words_apart (name_at sizes.sessions (length g.known.seen) g.known.number) (name_at sizes.sessions (length h.known.seen) h.known.number) i index
+      (name_low sizes.sessions (length g.known.seen) g.known.number (omega (arith, low))) (name_low sizes.sessions (length h.known.seen) h.known.number n.0)
+      (λ one. apart (one_cell sizes.sessions (length g.known.seen) (length h.known.seen) g.known.number h.known.number (omega (arith, low)) high n.0 n.1 one).1)
+      (omega (arith, less, k.short)) below (sym (ap (λ a. a + i) (own_by g k.sessions)) ∙ same ∙ ap (λ a. a + index) (own_by h p.sessions))
+
+  -- the own cell is within the log
+  own_within : (id : ℕ) (h : Hand) (index : ℕ) → get_elem? views id ≡ some (One h) → index < 22 → length h.known.seen < h.capacity → own_cell h + index < length words
+  own_within id h index here below room =
+      let k = (known sizes words views r id h here).fact_is in
+      let n = numbered id h here in
+      let w = within_words sizes.sessions sizes.capacity (length h.known.seen) h.known.number index (omega (arith, room, k.capacity)) n.0 n.1 below in
+      subst (λ a. a + index < length words) (sym (own_by h k.sessions)) (subst (λ n. cell_at (name_at sizes.sessions (length h.known.seen) h.known.number) + index < n) (sym r.wide) w)
+
+  -- a word of the own cell is stored
+  draft_keeps : (id : ℕ) (h : Hand) (index new : ℕ) → get_elem? views id ≡ some (One h) → index ≤ length h.draft → index < 22 → length h.known.seen < h.capacity
+      → ChainRule sizes (set words (own_cell h + index) new) (set views id (One (drafted h index new)))
+  draft_keeps id h index new here along below room =
+      let p = known sizes words views r id h here in
+      let k = p.fact_is in
+      let n = numbered id h here in
+      let word = own_cell h + index in
+      let words' = set words word new in
+      record {
+        log = r.log;
+        home = r.home;
+        next = r.next;
+        wide = length-set words word new ∙ r.wide;
+        room = r.room;
+        newest = get_or-set_other words word 0 new 0 (λ e. omega arith) ∙ r.newest;
+        cells =
+            λ row entry is.
+            let len = length-words_of entry in
+            holds_beside words word new (cell_at (name_at sizes.sessions row entry.session)) (name_before sizes.sessions r.log row ∷ words_of entry)
+            (λ i less. not_of_history id h index row i entry here below (omega (arith, less, len)) is) (r.cells row entry is);
+        entries = r.entries;
+        begun = r.begun;
+        within = r.within;
+        seats =
+            step_seat (Knows sizes words r.log) (Knows sizes words' r.log) r.home r.next views id h (drafted h index new) r.seats here refl
+            (record {
+              sessions = k.sessions;
+              capacity = k.capacity;
+              seen = k.seen;
+              mine = k.mine;
+              part = k.part;
+              short = omega (arith, length-append (take index h.draft) (new ∷ []), length-take-le index h.draft along);
+              column = λ some. omega (arith, n.1, k.sessions);
+              draft = holds_one_more words (own_cell h) index new h.draft along (own_within id h index here below room) k.draft;
+            })
+            (λ g apart low k. record {
+              sessions = k.sessions;
+              capacity = k.capacity;
+              seen = k.seen;
+              mine = k.mine;
+              part = k.part;
+              short = k.short;
+              column = k.column;
+              draft = holds_beside words word new (own_cell g) g.draft (λ i less. not_of_other id h g index i here below apart low k less) k.draft;
+            });
+      }
+
+  -- who has seen all that there is wins, and the own cell is the newest
+  win_keeps : (id : ℕ) (h : Hand) (entry : Entry) → get_elem? views id ≡ some (One h) → h.known.seen ≡ r.log → IsEntry entry → entry.session ≡ h.known.number
+      → h.draft ≡ newest_of sizes.sessions r.log ∷ words_of entry → length r.log < sizes.capacity
+      → ChainRule sizes (set words 0 (name_at sizes.sessions (length r.log) h.known.number)) (set views id (One (won h entry)))
+  win_keeps id h entry here all is own whole room =
+      let p = known sizes words views r id h here in
+      let k = p.fact_is in
+      let new = name_at sizes.sessions (length r.log) h.known.number in
+      let words' = set words 0 new in
+      let log' = r.log ++ entry ∷ [] in
+      let longer : length log' ≡ length r.log + 1 = length-append r.log (entry ∷ []) in
+      let seen' : h.known.seen ++ entry ∷ [] ≡ log' = ap (λ list. list ++ entry ∷ []) all in
+      let own_is : own_cell h ≡ cell_at (name_at sizes.sessions (length r.log) entry.session) =
+      own_by h k.sessions ∙ ap (λ list. cell_at (name_at sizes.sessions (length list) h.known.number)) all ∙ ap (λ n. cell_at (name_at sizes.sessions (length r.log) n)) (sym own) in
+      let cell : Holds words (cell_at (name_at sizes.sessions (length r.log) entry.session)) (newest_of sizes.sessions r.log ∷ words_of entry) =
+      subst (λ at. Holds words at (newest_of sizes.sessions r.log ∷ words_of entry)) own_is (subst (λ draft. Holds words (own_cell h) draft) whole k.draft) in
+      let link : (row : ℕ) → row ≤ length r.log → name_before sizes.sessions r.log row ≡ name_before sizes.sessions log' row =
+      λ row low. name_begins sizes.sessions r.log log' row (begins_append r.log (entry ∷ [])) low in
+      record {
+        log = log';
+        home = r.home;
+        next = r.next;
+        wide = length-set words 0 new ∙ r.wide;
+        room = omega (arith, longer);
+        newest = get_or-set_same words 0 new 0 (omega (arith, r.wide)) ∙ ap (name_at sizes.sessions (length r.log)) (sym own) ∙ sym (newest_added sizes.sessions r.log entry);
+        cells =
+            λ row other at.
+            holds_beside words 0 new (cell_at (name_at sizes.sessions row other.session)) (name_before sizes.sessions log' row ∷ words_of other) (λ i less e. omega arith)
+            (⊎_elim
+            (λ t. subst (λ name. Holds words (cell_at (name_at sizes.sessions row other.session)) (name ∷ words_of other)) (link row (omega (arith, slice_get_within r.log row other t))) (r.cells row other t))
+            (λ t. subst (λ x. Holds words (cell_at (name_at sizes.sessions row x.session)) (name_before sizes.sessions log' row ∷ words_of x)) t.1
+            (subst (λ n. Holds words (cell_at (name_at sizes.sessions n entry.session)) (name_before sizes.sessions log' n ∷ words_of entry)) (sym t.0)
+            (subst (λ name. Holds words (cell_at (name_at sizes.sessions (length r.log) entry.session)) (name ∷ words_of entry)) (link (length r.log) (omega arith)) cell)))
+            (get_last r.log entry row other at));
+        entries =
+            λ row other at.
+            ⊎_elim (λ t. r.entries row other t) (λ t. subst (λ x. IsEntry x × (x.session < r.next)) t.1 (is, omega (arith, own, p.high))) (get_last r.log entry row other at);
+        begun = r.begun;
+        within = r.within;
+        seats =
+            step_seat (Knows sizes words r.log) (Knows sizes words' log') r.home r.next views id h (won h entry) r.seats here refl
+            (record {
+              sessions = k.sessions;
+              capacity = k.capacity;
+              seen = subst (λ list. Begins list log') (sym seen') (begins_itself log');
+              mine = own_last h.known.number r.log entry own ∙ ap (λ list. list ++ entry ∷ []) k.mine;
+              part = own_last h.known.number h.known.seen entry own ∙ ap (λ list. list ++ entry ∷ []) k.part;
+              short = omega arith;
+              column = λ some. absurd (omega arith);
+              draft = holds_nothing words' (own_cell (won h entry)) [] refl;
+            })
+            (λ g apart low k. record {
+              sessions = k.sessions;
+              capacity = k.capacity;
+              seen = begins_more g.known.seen r.log (entry ∷ []) k.seen;
+              mine = own_other g.known.number r.log entry (λ e. apart (sym e ∙ own)) ∙ k.mine;
+              part = k.part;
+              short = k.short;
+              column = k.column;
+              draft = holds_beside words 0 new (own_cell g) g.draft (λ i less e. omega arith) k.draft;
+            });
+      }
+
+  -- an equal name means an equal history
+  pub all_seen : (h : Hand) → Knows sizes words r.log h → newest_of h.sessions h.known.seen ≡ get_or words 0 0 → h.known.seen ≡ r.log
+  all_seen h k same =
+      let low = length_begins h.known.seen r.log k.seen in
+      let mine : newest_of h.sessions h.known.seen ≡ name_before sizes.sessions r.log (length h.known.seen) =
+      ap (λ s. newest_of s h.known.seen) k.sessions ∙ name_begins sizes.sessions h.known.seen r.log (length h.known.seen) k.seen (omega arith) in
+      let lengths = one_length sizes.sessions r.log (length h.known.seen) (length r.log) (ranged sizes words views r) low (omega arith) (sym mine ∙ same ∙ r.newest) in
+      begins_same h.known.seen r.log k.seen (omega (arith, lengths))
+
+  -- another name means a longer history
+  more_there : (h : Hand) → Knows sizes words r.log h → newest_of h.sessions h.known.seen ≢ get_or words 0 0 → length h.known.seen < length r.log
+  more_there h k other =
+      let low = length_begins h.known.seen r.log k.seen in
+      dite (dec_le (length r.log) (length h.known.seen))
+      (λ short. absurd (other (ap (newest_of h.sessions) (begins_same h.known.seen r.log k.seen short) ∙ sym (newest_by sizes words views r h k.sessions))))
+      (λ longer. omega arith)
+
+pub draft_step : (sizes : Sizes) (slots id word index new : ℕ) (h : Hand) → word ≡ own_cell h + index → index ≤ length h.draft → index < 22 → length h.known.seen < h.capacity
+    → Allows (Rules sizes) slots id (seated h) word (λ n. new) (λ n. Drafts word new (seated h))
+draft_step sizes slots id word index new h at along below room state r homes here small =
+    let back : word - own_cell h ≡ index = omega arith in (
+      One (drafted h (word - own_cell h) new),
+      keeps,
+      tt,
+      subst (λ i. ChainRule sizes (set state.words word new) (set state.views id (One (drafted h i new)))) (sym back)
+          (subst (λ w. ChainRule sizes (set state.words w new) (set state.views id (One (drafted h index new)))) (sym at)
+          (draft_keeps sizes state.words state.views r id h index new here along below room)),
+      refl,
+    )
+
+pub exchange_step : (sizes : Sizes) (slots id old own : ℕ) (h : Hand) (entry : Entry) → old ≡ newest_of h.sessions h.known.seen → own ≡ name_at h.sessions (length h.known.seen) h.known.number
+    → IsEntry entry → entry.session ≡ h.known.number → h.draft ≡ old ∷ words_of entry → length h.known.seen < h.capacity
+    → Allows (Rules sizes) slots id (seated h) 0 (λ n. either (eqb n old) own n) (Exchanges old (some entry) (seated h))
+exchange_step sizes slots id old own h entry last name is mine whole room state r homes here small =
+    let n = get_or state.words 0 0 in
+    let k = (known sizes state.words state.views r id h here).fact_is in
+    let capacity = k.capacity in
+    dite (ℕ_discrete n old)
+    (λ e.
+    let all = all_seen sizes state.words state.views r h k (sym last ∙ sym e) in
+    let lengths : length h.known.seen ≡ length r.log = ap length all in
+    let own_is : name_at sizes.sessions (length r.log) h.known.number ≡ own =
+    sym (name ∙ ap (λ s. name_at s (length h.known.seen) h.known.number) k.sessions ∙ ap (λ n. name_at sizes.sessions n h.known.number) lengths) in
+    let link : old ≡ newest_of sizes.sessions r.log = sym e ∙ r.newest in (
+      One (won h entry),
+      keeps,
+      tt,
+      exchanged n old own (λ w. ChainRule sizes (set state.words 0 w) (set state.views id (One (won h entry))))
+          (λ f. subst (λ w. ChainRule sizes (set state.words 0 w) (set state.views id (One (won h entry)))) own_is
+          (win_keeps sizes state.words state.views r id h entry here all is mine (whole ∙ ap (λ name. name ∷ words_of entry) link) (omega arith)))
+          (λ ne. absurd (ne e)),
+      ((λ other said f. ap (λ x. seated (won h x)) (some-injective entry other said)), (λ ne. absurd (ne e))),
+    ))
+    (λ ne. (
+      One (lost h r.log),
+      keeps,
+      tt,
+      exchanged n old own (λ w. ChainRule sizes (set state.words 0 w) (set state.views id (One (lost h r.log)))) (λ f. absurd (ne f))
+          (λ f. loaded sizes state.words 0 (set state.views id (One (lost h r.log))) (seen_keeps sizes state.words state.views r id h (lost h r.log) here refl refl refl refl refl refl)),
+      (
+        (λ other said f. absurd (ne f)),
+        (λ f. (
+          r.log,
+          refl,
+          newest_by sizes state.words state.views r h k.sessions,
+          history sizes state.words state.views r h k,
+          more_there sizes state.words state.views r h k (λ same. ne (sym same ∙ sym last)),
+        )),
+      ),
+    ))

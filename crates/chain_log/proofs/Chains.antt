@@ -1,0 +1,113 @@
+-- The chain is the history: the walk along the links meets its entries, newest first.
+use Rattle.std.proofs.Common.{◌≡◌, ◌≢◌, ℕ, zero, suc, ◌+◌, ◌≤◌, List, [], ◌∷◌, ◌++◌, length, take, drop, get_or, refl, ap, sym, ◌∙◌, subst, Some, None, arith, eq-eqb, ne_eqb}
+use Rattle.std.specs.Prelude.{slice_get, slice_index, reverse}
+use mathlib.Core.Logic.{dite}
+use native.Mathlib.Decide.{ℕ_discrete}
+use Rattle.std.proofs.lemmas.List.{reverse-append, reverse-reverse, take_all, ext_get_or}
+use Rattle.xa_words.specs.Entry.{Entry}
+use Rattle.xa_words.specs.Words.{words_of}
+use Rattle.xa_words.proofs.Spelling.{one_entry, length-words_of}
+use Rattle.decision_log.specs.declared.sizes.Sizes.{Sizes}
+use Rattle.decision_log.specs.declared.view.View.{View}
+use Rattle.decision_log.specs.History.{Begins, entries_of}
+use Rattle.decision_log.specs.TurnRule.{Holds}
+use Rattle.decision_log.proofs.Histories.{behind, own_append, nothing_left, some_injective}
+use Rattle.chain_log.specs.Cells.{name_at, cell_at, name_before, newest_of}
+use Rattle.chain_log.specs.Chain.{Walk, Chain}
+use Rattle.chain_log.specs.ChainRule.{ChainRule}
+use Rattle.chain_log.proofs.Names.{there, name_zero, name_next, name_low}
+
+-- the first of some words, and the others
+holds_first : (words : List ℕ) (at word : ℕ) (rest : List ℕ) → Holds words at (word ∷ rest) → slice_index words at ≡ word
+holds_first words at word rest holds =
+    let here : at ≡ at + 0 = omega arith in
+    ap (λ n. get_or words n 0) here ∙ holds 0 (omega arith)
+
+holds_rest : (words : List ℕ) (at word : ℕ) (rest : List ℕ) → Holds words at (word ∷ rest) → Holds words (at + 1) rest
+holds_rest words at word rest holds i below =
+    let here : at + 1 + i ≡ at + suc i = omega arith in
+    ap (λ n. get_or words n 0) here ∙ holds (suc i) (omega arith)
+
+take_next : (xs : List Entry) (row : ℕ) (entry : Entry) → slice_get xs row ≡ Some entry → take (suc row) xs ≡ take row xs ++ entry ∷ []
+take_next [] row entry is = cc
+take_next (x ∷ xs) zero entry is = ap (λ e. e ∷ []) (some_injective x entry is)
+take_next (x ∷ xs) (suc row) entry is = ap (λ rest. x ∷ rest) (take_next xs row entry is)
+
+module _ (sizes : Sizes) (words : List ℕ) (views : List View) (r : ChainRule sizes words views) where
+  -- from the cell of each row the walk meets the entries up to that row
+  walk_below : (row : ℕ) → row ≤ length r.log → Walk words (name_before sizes.sessions r.log row) (reverse (take row r.log))
+  walk_below zero within = name_zero sizes.sessions r.log
+  walk_below (suc row) within =
+      let t = there r.log row (omega arith) in
+      let e = t.0 in
+      let cell = r.cells row e t.1 in
+      let is = (r.entries row e t.1).0 in
+      let low = name_low sizes.sessions row e.session is.first_session in
+      let turned : reverse (take (suc row) r.log) ≡ e ∷ reverse (take row r.log) = ap reverse (take_next r.log row e t.1) ∙ reverse-append (take row r.log) (e ∷ []) in
+      let at = cell_at (name_at sizes.sessions row e.session) in
+      let before = walk_below row (omega arith) in
+      subst (λ name. Walk words name (reverse (take (suc row) r.log))) (sym (name_next sizes.sessions r.log row e t.1))
+      (subst (λ list. Walk words (name_at sizes.sessions row e.session) list) (sym turned) (
+        (λ none. omega (arith, none, low)),
+        is,
+        holds_rest words at (name_before sizes.sessions r.log row) (words_of e) cell,
+        subst (λ name. Walk words name (reverse (take row r.log))) (sym (holds_first words at (name_before sizes.sessions r.log row) (words_of e) cell)) before,
+      ))
+
+  pub chain_of : Chain words r.log
+  chain_of =
+      subst (λ name. Walk words name (reverse r.log)) (sym r.newest)
+      (subst (λ list. Walk words (newest_of sizes.sessions r.log) (reverse list)) (take_all (length r.log) r.log (omega arith)) (walk_below (length r.log) (omega arith)))
+
+-- a walk meets one list of entries
+one_walk : (words : List ℕ) (name : ℕ) (one other : List Entry) → Walk words name one → Walk words name other → one ≡ other
+one_walk words name [] [] w v = refl
+one_walk words name [] (y ∷ ys) w v = absurd (v.0 w)
+one_walk words name (x ∷ xs) [] w v = absurd (w.0 v)
+one_walk words name (x ∷ xs) (y ∷ ys) w v =
+    let spelled : words_of x ≡ words_of y =
+    ext_get_or 0 (words_of x) (words_of y) (length-words_of x ∙ sym (length-words_of y))
+    (λ k below. sym (w.2 k below) ∙ v.2 k (omega (arith, below, length-words_of x, length-words_of y))) in
+    let first = one_entry x y w.1 v.1 spelled in
+    let rest = one_walk words (slice_index words (cell_at name)) xs ys w.3 v.3 in
+    λ i. first i ∷ rest i
+
+pub one_chain : (words : List ℕ) (one other : List Entry) → Chain words one → Chain words other → one ≡ other
+one_chain words one other c d = sym (reverse-reverse one) ∙ ap reverse (one_walk words (slice_index words 0) (reverse one) (reverse other) c d) ∙ reverse-reverse other
+
+-- entries of a session behind a prefix that has all of them
+
+first_own : (number : ℕ) (x : Entry) (xs : List Entry) → x.session ≡ number → entries_of number (x ∷ xs) ≡ [] → ⊥
+first_own number x xs mine none =
+    let head : entries_of number (x ∷ xs) ≡ x ∷ entries_of number xs = rw (eq-eqb x.session number mine) refl in
+    omega (arith, ap length head, ap length none)
+
+first_other : (number : ℕ) (x : Entry) (xs : List Entry) → x.session ≢ number → entries_of number (x ∷ xs) ≡ [] → entries_of number xs ≡ []
+first_other number x xs other none =
+    let same : entries_of number (x ∷ xs) ≡ entries_of number xs = rw (ne_eqb x.session number other) refl in
+    sym same ∙ none
+
+no_own : (number : ℕ) (xs : List Entry) (row : ℕ) (entry : Entry) → entries_of number xs ≡ [] → slice_get xs row ≡ Some entry → entry.session ≢ number
+no_own number [] row entry none is own = absurd (never entry is)
+  where
+    never : (entry : Entry) → None ≡ Some entry → ⊥
+    never entry is = cc
+no_own number (x ∷ xs) zero entry none is own = first_own number x xs (ap (λ e. e.session) (some_injective x entry is) ∙ own) none
+no_own number (x ∷ xs) (suc row) entry none is own =
+    dite (ℕ_discrete x.session number) (λ mine. first_own number x xs mine none) (λ other. no_own number xs row entry (first_other number x xs other none) is own)
+
+get_behind : (xs ys : List Entry) (row : ℕ) (entry : Entry) → length xs ≤ row → slice_get (xs ++ ys) row ≡ Some entry → (k : ℕ) × (slice_get ys k ≡ Some entry)
+get_behind [] ys row entry long is = (row, is)
+get_behind (x ∷ xs) ys zero entry long is = absurd (omega arith)
+get_behind (x ∷ xs) ys (suc row) entry long is = get_behind xs ys row entry (omega arith) is
+
+-- of a session whose entries were all seen, none stands behind what was seen
+pub later_other : (number : ℕ) (seen log mine : List Entry) (row : ℕ) (entry : Entry) → Begins seen log → entries_of number log ≡ mine → entries_of number seen ≡ mine
+    → length seen ≤ row → slice_get log row ≡ Some entry → entry.session ≢ number
+later_other number seen log mine row entry begins own part long is =
+    let rest = drop (length seen) log in
+    let whole = behind seen log begins in
+    let parts : entries_of number log ≡ entries_of number seen ++ entries_of number rest = ap (entries_of number) (sym whole) ∙ own_append number seen rest in
+    let none : entries_of number rest ≡ [] = nothing_left (entries_of number seen) (entries_of number rest) (omega (arith, ap length parts, ap length own, ap length part)) in
+    let t = get_behind seen rest row entry long (subst (λ list. slice_get list row ≡ Some entry) (sym whole) is) in
+    no_own number rest t.0 entry none t.1

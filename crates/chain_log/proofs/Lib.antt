@@ -1,0 +1,6 @@
+pub mod Names
+pub mod Ours
+pub mod Chains
+pub mod ChainSteps
+pub mod ChainStores
+pub mod ChainSeats

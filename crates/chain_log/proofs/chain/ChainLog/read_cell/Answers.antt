@@ -1,0 +1,54 @@
+use Rattle.std.proofs.Common.{◌≡◌, ℕ, ◌+◌, ◌<◌, List, ◌∷◌, Some, length, get_or, set, arith, one-add, sym, ap, ◌∙◌, subst}
+use Rattle.std.specs.Prelude.{slice_get, slice_index}
+use mathlib.Core.Logic.{dite}
+use native.Mathlib.Decide.{ℕ_discrete}
+use Rattle.std.proofs.lemmas.List.{length-set, get_or-set_same, get_or-set_other, ext_get_or}
+use Rattle.xa_words.specs.Words.{words_of}
+use Rattle.xa_words.proofs.Spelling.{length-words_of}
+use Rattle.decision_log.specs.TurnSeat.{hand}
+use Rattle.chain_log.specs.Cells.{name_before}
+use Rattle.chain_log.proofs.chain.ChainLog.read_cell.Goals as goal
+
+-- one more word is read
+one_more : (words spelled : List ℕ) (index word : ℕ) → index < length words → word ≡ get_or spelled index 0 → ((k : ℕ) → k < index → get_or words k 0 ≡ get_or spelled k 0) → (k : ℕ) → k < index + 1 → get_or (set words index word) k 0 ≡ get_or spelled k 0
+one_more words spelled index word within is before k below =
+    dite (ℕ_discrete k index)
+    (λ e. ap (λ n. get_or (set words index word) n 0) e ∙ get_or-set_same words index word 0 within ∙ is ∙ ap (λ n. get_or spelled n 0) (sym e))
+    (λ n. get_or-set_other words index k word 0 n ∙ before k (omega arith))
+
+-- the words of a cell behind its link
+behind_link : (link : ℕ) (words : List ℕ) (index : ℕ) → slice_index (link ∷ words) (1 + index) ≡ get_or words index 0
+behind_link link words index = ap (λ n. get_or (link ∷ words) n 0) (one-add index)
+
+pub load_word-requires-clause-named : goal.load_word-requires-clause-named
+load_word-requires-clause-named c =
+    subst (λ h. (row : ℕ) × (row < length h.known.seen) × (c.args.name ≡ name_before h.sessions h.known.seen (row + 1))) (sym c.loop-index.invariant.same) c.requires.named
+
+pub loop-index-preserved : goal.loop-index-preserved
+loop-index-preserved c =
+    let inv = c.loop-index.invariant in
+    record {
+      seat = c.load_word.ensures.seat;
+      sized = length-set c.loop-index.words c.loop-index.index c.load_word.result ∙ inv.sized;
+      same = c.load_word.ensures.same ∙ inv.same;
+      read =
+          λ row entry named is.
+          let h = hand c.loop-index.seat in
+          let there : slice_get h.known.seen row ≡ Some entry = ap (λ h. slice_get h.known.seen row) inv.same ∙ is in
+          let name : c.args.name ≡ name_before h.sessions h.known.seen (row + 1) = named ∙ ap (λ h. name_before h.sessions h.known.seen (row + 1)) (sym inv.same) in
+          let told = c.load_word.ensures.read row entry name there in
+          let before = inv.read row entry named is in (
+            (λ p. told.0),
+            one_more c.loop-index.words (words_of entry) c.loop-index.index c.load_word.result (omega (arith, inv.sized, c.loop-index-test.true))
+                (told.1 ∙ behind_link (name_before h.sessions h.known.seen row) (words_of entry) c.loop-index.index) before.1,
+          );
+    }
+
+pub returns-clause-read : goal.returns-clause-read
+returns-clause-read c row entry named is =
+    let inv = c.loop-index.invariant in
+    let done = c.loop-index-test.false in
+    let told = inv.read row entry named is in (
+      told.0 (omega arith),
+      ext_get_or 0 c.loop-index.words (words_of entry) (inv.sized ∙ sym (length-words_of entry)) (λ k below. told.1 k (omega (arith, inv.sized))),
+    )

@@ -1,0 +1,7 @@
+pub mod Cells
+pub mod Chain
+pub mod ChainRule
+pub mod ChainPlays
+pub mod ChainSeat
+pub mod ChainPass
+pub mod Tries

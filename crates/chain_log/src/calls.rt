@@ -1,0 +1,90 @@
+//! A chain keeps the promises of a log.
+
+ghost use Rattle.std.specs.Prelude.{◌≡◌, false};
+ghost use Rattle.decision_log.specs.Calls.{Adds};
+ghost use Rattle.chain_log.specs.ChainPass.{place_of, home_of, known_of};
+ghost use Rattle.chain_log.specs.Tries.{TriesOnce};
+
+use crate::layout::{cell_name, row_count};
+use crate::{ChainLog, ChainPass};
+use decision_log::{AddFault, DecisionLog};
+use xa_words::Entry;
+use xa_xid::SessionNo;
+
+impl DecisionLog for ChainLog {
+    ghost use Rattle.std.specs.Prelude.{false};
+    ghost use Rattle.chain_log.specs.ChainPass.{place_of, home_of, known_of};
+
+    type Pass = ChainPass;
+
+    const TURNS: bool = false;
+
+    ghost TURNS = { false };
+
+    ghost place = { place_of };
+
+    ghost home = { home_of };
+
+    ghost known = { known_of };
+
+    fn number(&self, pass: &ChainPass) -> SessionNo {
+        pass.number
+    }
+
+    fn length(&self, pass: &ChainPass) -> u64 {
+        row_count(self.sessions, pass.newest)
+    }
+
+    fn look(&self, pass: &mut ChainPass) -> u64 {
+        let newest = self.load_newest(&mut pass.seat);
+        pass.newest = newest;
+        row_count(self.sessions, newest)
+    }
+
+    fn entry(&self, pass: &mut ChainPass, at: u64) -> Entry {
+        self.read_entry(&mut pass.seat, pass.newest, at)
+    }
+
+    fn try_add(&self, pass: &mut ChainPass, entry: &Entry) -> Result<(), AddFault>
+        requires home { home_of pass.old ≡ place_of self.now }
+        requires own { entry.now.session ≡ (known_of pass.old).number }
+        ensures home { home_of pass.new ≡ home_of pass.old }
+        ensures added { Adds false (place_of self.now).capacity entry.now result (known_of pass.old) (known_of pass.new) }
+        ensures once { TriesOnce result (known_of pass.old) (known_of pass.new) }
+    {
+        let row = row_count(self.sessions, pass.newest);
+        if row == self.capacity {
+            return Err(AddFault::Full);
+        }
+        let own = cell_name(self.sessions, row, pass.number.get());
+        self.write_cell(&mut pass.seat, own, pass.newest, entry);
+        let found = self.exchange(&mut pass.seat, pass.newest, own, entry);
+        if found != pass.newest {
+            pass.newest = found;
+            let front = row_count(self.sessions, found);
+            return Err(AddFault::Overtaken { front });
+        }
+        pass.newest = own;
+        Ok(())
+    }
+
+    fn meet(&self, first: &mut ChainPass, second: &mut ChainPass) {
+        let spare = self.spare(&mut first.seat);
+        let other = std::mem::replace(&mut second.seat, spare);
+        self.join(&mut first.seat, other);
+        let newest = self.load_both(&mut first.seat);
+        second.seat = self.split(&mut first.seat);
+        let first_count = row_count(self.sessions, first.newest);
+        if row_count(self.sessions, second.newest) < first_count {
+            second.newest = newest;
+        }
+    }
+
+    ghost own_part = { λ pass. pass.state.part };
+
+    ghost among = { λ pass. pass.state.among };
+
+    ghost numbered = { λ pass. (pass.state.first, pass.state.last) };
+
+    ghost within = { λ pass. pass.state.within };
+}

@@ -1,0 +1,52 @@
+//! Where the words of a chain lie.
+ghost use Rattle.std.specs.Prelude.{◌≡◌, ◌<◌, ◌≤◌, List, length};
+ghost use Rattle.xa_words.specs.Entry.{Entry};
+ghost use Rattle.decision_log.specs.Known.{AllOf};
+ghost use Rattle.chain_log.specs.Cells.{word_count, name_at, cell_at, newest_of};
+
+use xa_words::WORDS;
+
+/// The word that names the newest cell, or is 0.
+pub(crate) const NEWEST: usize = 0;
+
+/// How many words a cell has: its link, and an entry's.
+pub(crate) const CELL: usize = 1 + WORDS;
+
+/// How many words a log has.
+pub(crate) fn count_words(sessions: u64, capacity: u64) -> usize
+    requires sessions { sessions ≤ 16 }
+    requires capacity { capacity ≤ 1024 }
+    ensures { result ≡ word_count sessions capacity }
+{
+    1 + capacity as usize * sessions as usize * CELL
+}
+
+/// The name of the cell of a row and a session.
+pub(crate) fn cell_name(sessions: u64, row: u64, session: u64) -> u64
+    requires sessions { sessions ≤ 16 }
+    requires row { row < 1024 }
+    requires session { session ≤ 16 }
+    ensures { result ≡ name_at sessions row session }
+{
+    row * sessions + session
+}
+
+/// The first word of the cell of a name.
+pub(crate) fn cell_start(name: u64) -> usize
+    requires low { 1 ≤ name }
+    requires high { name ≤ 16384 }
+    ensures { result ≡ cell_at name }
+{
+    1 + (name as usize - 1) * CELL
+}
+
+/// How many entries a history has whose newest cell has this name: its row, and one.
+pub(crate) fn row_count(sessions: u64, newest: u64) -> u64
+    requires { 1 ≤ sessions }
+    ensures { (seen : List Entry) → AllOf sessions seen → newest ≡ newest_of sessions seen → result ≡ length seen }
+{
+    if newest == 0 {
+        return 0;
+    }
+    (newest - 1) / sessions + 1
+}

@@ -1,0 +1,20 @@
+//! A chain of cells in place of the turn: a log that no session can hold up.
+#![tactic(auto)]
+
+mod calls;
+mod chain;
+pub mod laws;
+mod layout;
+mod open;
+mod pass;
+mod plays;
+mod rule;
+mod seats;
+mod steps;
+#[cfg(test)]
+mod tests;
+mod walk;
+
+pub use chain::ChainLog;
+pub use pass::ChainPass;
+pub use rule::Links;

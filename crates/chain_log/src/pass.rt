@@ -1,0 +1,20 @@
+//! A pass of a chain.
+ghost use Rattle.std.specs.Prelude.{◌≡◌, length};
+ghost use Rattle.decision_log.specs.Seats.{hand_of, seated, IsPass};
+ghost use Rattle.chain_log.specs.Cells.{newest_of};
+
+use atomic_table::Seat;
+use decision_log::View;
+use xa_words::Entry;
+use xa_xid::SessionNo;
+
+/// What one session knows of a chain. At run time it keeps its number and the name of the last cell it has seen, 0 for none.
+#[derive(Drop)]
+pub struct ChainPass {
+    pub(crate) seat: Seat<Entry, View>,
+    pub(crate) number: SessionNo,
+    pub(crate) newest: u64,
+    ghost held: { seat.me ≡ seated (hand_of seat.me.0) },
+    ghost state: { IsPass number (length (hand_of seat.me.0).known.seen) (hand_of seat.me.0) },
+    ghost named: { newest ≡ newest_of (hand_of seat.me.0).sessions (hand_of seat.me.0).known.seen },
+}

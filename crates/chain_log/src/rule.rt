@@ -1,0 +1,18 @@
+//! The rule of the log.
+
+use atomic_table::TableRule;
+use decision_log::{Sizes, View};
+use xa_words::Entry;
+
+/// The rule of a chain. It holds between any two steps.
+pub struct Links;
+
+impl TableRule<Entry, View, Sizes> for Links {
+    ghost use Rattle.decision_log.specs.Seats.{newcomer_hand};
+    ghost use Rattle.decision_log.specs.declared.view.View.TheVariants.{Rest};
+    ghost use Rattle.chain_log.specs.ChainRule.{ChainRule};
+
+    ghost holds = { λ sizes state. ChainRule sizes state.words state.views };
+
+    ghost first = { λ sizes. Rest (newcomer_hand sizes.sessions sizes.capacity 1) };
+}

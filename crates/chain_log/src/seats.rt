@@ -1,0 +1,70 @@
+//! Seats that are joined and split, and what two passes learn at one seat.
+ghost use Rattle.std.specs.Prelude.{◌≡◌, ◌<◌, ◌≤◌, List, length};
+ghost use Rattle.xa_words.specs.Entry.{Entry};
+ghost use Rattle.decision_log.specs.Seats.{following};
+ghost use Rattle.decision_log.specs.TurnPlays.{met, MetAt};
+ghost use Rattle.decision_log.specs.TurnSeat.{hand, second};
+ghost use Rattle.chain_log.specs.Cells.{newest_of};
+ghost use Rattle.chain_log.specs.ChainSeat.{IsSeat, IsTwo, IsRest};
+
+use crate::ChainLog;
+use crate::layout::NEWEST;
+use crate::plays::MeetAll;
+use atomic_table::Seat;
+use decision_log::{Seating, View};
+use xa_words::Entry;
+
+impl ChainLog {
+    /// Splits a seat into itself and one that knows nothing.
+    pub(crate) fn spare(&self, seat: &mut Seat<Entry, View>) -> Seat<Entry, View>
+        requires { IsSeat self.now seat.old }
+        ensures seat { IsSeat self.now seat.new }
+        ensures same { hand seat.new ≡ hand seat.old }
+    {
+        self.table.shared.split_seat::<Seating>(seat)
+    }
+
+    /// Takes in the pass of another seat.
+    pub(crate) fn join(&self, seat: &mut Seat<Entry, View>, other: Seat<Entry, View>)
+        requires seat { IsSeat self.now seat.old }
+        requires other { IsSeat self.now other }
+        ensures seat { IsTwo self.now seat.new }
+        ensures first { hand seat.new ≡ hand seat.old }
+        ensures second { second seat.new ≡ hand other }
+    {
+        self.table.shared.join_seat::<Seating>(seat, other);
+    }
+
+    /// Loads the newest cell's name: the second pass has then seen all that the first has.
+    pub(crate) fn load_both(&self, seat: &mut Seat<Entry, View>) -> u64
+        requires { IsTwo self.now seat.old }
+        ensures seat { IsTwo self.now seat.new }
+        ensures first { hand seat.new ≡ hand seat.old }
+        ensures met { (seen : List Entry) × (second seat.new ≡ met (second seat.old) seen) × (length (second seat.old).known.seen < length (hand seat.old).known.seen → result ≡ newest_of (second seat.old).sessions seen) × MetAt (hand seat.old) (second seat.old) seen }
+    {
+        self.table.shared.load::<MeetAll>(seat, NEWEST)
+    }
+
+    /// Splits a seat with two passes; the new seat has the second.
+    pub(crate) fn split(&self, seat: &mut Seat<Entry, View>) -> Seat<Entry, View>
+        requires { IsTwo self.now seat.old }
+        ensures seat { IsSeat self.now seat.new }
+        ensures first { hand seat.new ≡ hand seat.old }
+        ensures other { IsSeat self.now result }
+        ensures second { hand result ≡ second seat.old }
+    {
+        self.table.shared.split_seat::<Seating>(seat)
+    }
+
+    /// Gives out the next pass.
+    pub(crate) fn deal(&self, seat: &mut Seat<Entry, View>) -> Seat<Entry, View>
+        requires seat { IsRest self.now seat.old }
+        requires left { (hand seat.old).known.number ≤ (hand seat.old).sessions }
+        ensures seat { IsRest self.now seat.new }
+        ensures rest { hand seat.new ≡ following (hand seat.old) }
+        ensures pass { IsSeat self.now result }
+        ensures given { hand result ≡ hand seat.old }
+    {
+        self.table.shared.split_seat::<Seating>(seat)
+    }
+}

@@ -1,0 +1,97 @@
+//! The scenes that every log shows, over a chain; where its words lie; how it is opened; and a pass that stops before its exchange.
+
+use crate::layout::{cell_name, cell_start, count_words};
+use crate::{ChainLog, laws};
+use decision_log::{AddFault, DecisionLog, OpenFault, battery};
+use xa_words::Entry;
+use xa_xid::Statement;
+
+#[test]
+fn an_add_is_overtaken_then_stands_until_the_log_is_full(rt: HostRuntime) {
+    let Ok((log, mut passes)) = ChainLog::open(rt.alloc(), 2, 2) else {
+        panic!(rt; "not opened")
+    };
+    let (Some(mut second), Some(mut first)) = (passes.pop(), passes.pop()) else {
+        panic!(rt; "two passes")
+    };
+    assert!(rt; battery::adds_in_turn(&log, &mut first, &mut second));
+}
+
+#[test]
+fn passes_see_what_others_added(rt: HostRuntime) {
+    let Ok((log, mut passes)) = ChainLog::open(rt.alloc(), 3, 2) else {
+        panic!(rt; "not opened")
+    };
+    let (Some(mut second), Some(mut first)) = (passes.pop(), passes.pop()) else {
+        panic!(rt; "two passes")
+    };
+    assert!(rt; battery::looks_and_meets(&log, &mut first, &mut second));
+}
+
+#[test]
+fn two_threads_add_each_one_in_its_order(rt: HostRuntime) {
+    let Ok((log, mut passes)) = ChainLog::open(rt.alloc(), 16, 2) else {
+        panic!(rt; "not opened")
+    };
+    let (Some(second), Some(first)) = (passes.pop(), passes.pop()) else {
+        panic!(rt; "two passes")
+    };
+    assert!(rt; battery::two_threads_add(&rt, &log, first, second));
+}
+
+#[test]
+fn cells_lie_row_by_row(rt: HostRuntime) {
+    laws::chain_is_the_history();
+    laws::one_history_of_its_words();
+    laws::one_history_of_its_newest_cell();
+    laws::later_entries_are_of_others();
+    assert_eq!(rt; count_words(2, 4), 177);
+    assert_eq!(rt; cell_name(2, 2, 1), 5);
+    assert_eq!(rt; cell_start(5), 89);
+    assert_eq!(rt; cell_start(cell_name(2, 3, 2)) + 22, 177);
+}
+
+#[test]
+fn a_log_is_opened_for_its_sizes_alone(rt: HostRuntime) {
+    for (capacity, sessions, fault) in [
+        (0, 17, OpenFault::CapacityOutOfRange),
+        (1025, 1, OpenFault::CapacityOutOfRange),
+        (4, 17, OpenFault::SessionsOutOfRange),
+        (4, 0, OpenFault::SessionsOutOfRange),
+    ] {
+        match ChainLog::open(rt.alloc(), capacity, sessions) {
+            Ok(_) => panic!(rt; "opened for {capacity} and {sessions}"),
+            Err(found) => assert_eq!(rt; found, fault),
+        }
+    }
+    for (capacity, sessions) in [(1, 1), (1024, 16)] {
+        match ChainLog::open(rt.alloc(), capacity, sessions) {
+            Ok((_, passes)) => assert!(rt; passes.len() as u64 == sessions),
+            Err(found) => panic!(rt; "fault {}", found.number()),
+        }
+    }
+}
+
+#[test]
+fn a_pass_that_stops_before_its_exchange_holds_up_nobody(rt: HostRuntime) {
+    let Ok((log, mut passes)) = ChainLog::open(rt.alloc(), 4, 2) else {
+        panic!(rt; "not opened")
+    };
+    let (Some(mut second), Some(mut first)) = (passes.pop(), passes.pop()) else {
+        panic!(rt; "two passes")
+    };
+    let (Some(left), Some(added)) = (
+        Entry::of(log.number(&first), &Statement::Disconnect),
+        Entry::of(log.number(&second), &Statement::Disconnect),
+    ) else {
+        panic!(rt; "two entries")
+    };
+    let own = cell_name(2, 0, first.number.get());
+    log.write_cell(&mut first.seat, own, 0, &left);
+    assert!(rt; log.try_add(&mut second, &added) == Ok(()));
+    assert!(rt; log.try_add(&mut second, &added) == Ok(()));
+    assert!(rt; log.try_add(&mut second, &added) == Ok(()));
+    assert!(rt; log.try_add(&mut first, &left) == Err(AddFault::Overtaken { front: 3 }));
+    assert!(rt; log.try_add(&mut first, &left) == Ok(()));
+    assert!(rt; log.entry(&mut first, 0) == added);
+}
