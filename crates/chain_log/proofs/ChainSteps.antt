@@ -16,7 +16,7 @@ use Rattle.decision_log.specs.declared.sizes.Sizes.{Sizes}
 use Rattle.decision_log.specs.History.{Begins, entries_of}
 use Rattle.decision_log.specs.Known.{AllOf}
 use Rattle.decision_log.specs.Seats.{Placed, Seats, seated}
-use Rattle.decision_log.specs.TurnPlays.{HistoryIs}
+use Rattle.decision_log.specs.Observed.{HistoryIs}
 use Rattle.decision_log.proofs.Histories.{begins_itself, get_begins, all_from_places}
 use Rattle.decision_log.proofs.SeatLemmas.{step_seat}
 use Rattle.decision_log.proofs.TurnStores.{holds_nothing}

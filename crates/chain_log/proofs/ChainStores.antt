@@ -19,8 +19,8 @@ use Rattle.decision_log.specs.declared.view.View.TheVariants.{One}
 use Rattle.decision_log.specs.declared.sizes.Sizes.{Sizes}
 use Rattle.decision_log.specs.History.{Begins}
 use Rattle.decision_log.specs.Seats.{seated}
-use Rattle.decision_log.specs.TurnRule.{Holds}
-use Rattle.decision_log.specs.TurnPlays.{drafted}
+use Rattle.decision_log.specs.Draft.{Holds}
+use Rattle.decision_log.specs.Draft.{drafted}
 use Rattle.decision_log.proofs.Histories.{begins_itself, begins_append, begins_more, begins_same, get_last, length_begins, own_last, own_other}
 use Rattle.decision_log.proofs.SeatLemmas.{step_seat}
 use Rattle.decision_log.proofs.TurnStores.{holds_nothing, holds_beside, holds_one_more}

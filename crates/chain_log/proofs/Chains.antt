@@ -10,7 +10,7 @@ use Rattle.xa_words.proofs.Spelling.{one_entry, length-words_of}
 use Rattle.decision_log.specs.declared.sizes.Sizes.{Sizes}
 use Rattle.decision_log.specs.declared.view.View.{View}
 use Rattle.decision_log.specs.History.{Begins, entries_of}
-use Rattle.decision_log.specs.TurnRule.{Holds}
+use Rattle.decision_log.specs.Draft.{Holds}
 use Rattle.decision_log.proofs.Histories.{behind, own_append, nothing_left, some_injective}
 use Rattle.chain_log.specs.Cells.{name_at, cell_at, name_before, newest_of}
 use Rattle.chain_log.specs.Chain.{Walk, Chain}

@@ -4,7 +4,7 @@
 use Rattle.std.specs.Prelude.{◌≡◌, ◌≢◌, ◌+◌, ℕ, List, [], ◌∷◌, reverse, slice_index}
 use Rattle.xa_words.specs.Entry.{Entry, IsEntry}
 use Rattle.xa_words.specs.Words.{words_of}
-use Rattle.decision_log.specs.TurnRule.{Holds}
+use Rattle.decision_log.specs.Draft.{Holds}
 use Rattle.chain_log.specs.Cells.{cell_at}
 
 -- from a name on: nothing at 0, else the entry whose words the cell has, and then what its link leads to

@@ -9,7 +9,8 @@ use Rattle.xa_words.specs.Words.{words_of}
 use Rattle.decision_log.specs.declared.view.Hand.{Hand}
 use Rattle.decision_log.specs.declared.view.View.{View}
 use Rattle.decision_log.specs.Seats.{hand_of, second_of, seated, seated_two}
-use Rattle.decision_log.specs.TurnPlays.{drafted, met, HistoryIs, MetAt}
+use Rattle.decision_log.specs.Draft.{drafted}
+use Rattle.decision_log.specs.Observed.{met, HistoryIs, MetAt}
 use Rattle.chain_log.specs.Cells.{name_at, cell_at, name_before, newest_of}
 use Rattle.chain_log.specs.ChainRule.{own_cell}
 

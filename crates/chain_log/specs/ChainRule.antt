@@ -10,7 +10,7 @@ use Rattle.decision_log.specs.declared.view.View.{View}
 use Rattle.decision_log.specs.declared.sizes.Sizes.{Sizes}
 use Rattle.decision_log.specs.History.{Begins, entries_of}
 use Rattle.decision_log.specs.Seats.{Seats}
-use Rattle.decision_log.specs.TurnRule.{Holds}
+use Rattle.decision_log.specs.Draft.{Holds}
 use Rattle.chain_log.specs.Cells.{word_count, name_at, cell_at, name_before, newest_of}
 
 -- in the pass's own column, in the row behind all that it has seen

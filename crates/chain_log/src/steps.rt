@@ -2,8 +2,9 @@
 ghost use Rattle.std.specs.Prelude.{◌≡◌, ◌≢◌, ◌<◌, ◌≤◌, ◌+◌, ℕ, List, ◌∷◌, length, slice_get, slice_index, Some};
 ghost use Rattle.xa_words.specs.Entry.{Entry, IsEntry};
 ghost use Rattle.xa_words.specs.Words.{words_of};
-ghost use Rattle.decision_log.specs.TurnPlays.{drafted, HistoryIs};
-ghost use Rattle.decision_log.specs.TurnSeat.{hand};
+ghost use Rattle.decision_log.specs.Draft.{drafted};
+ghost use Rattle.decision_log.specs.Observed.{HistoryIs};
+ghost use Rattle.decision_log.specs.Seats.{hand};
 ghost use Rattle.chain_log.specs.Cells.{name_at, name_before, newest_of};
 ghost use Rattle.chain_log.specs.ChainRule.{own_cell};
 ghost use Rattle.chain_log.specs.ChainPlays.{looked, won, lost};

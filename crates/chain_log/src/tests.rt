@@ -29,6 +29,17 @@ fn passes_see_what_others_added(rt: HostRuntime) {
 }
 
 #[test]
+fn an_outdated_look_is_overtaken_once(rt: HostRuntime) {
+    let Ok((log, mut passes)) = ChainLog::open(rt.alloc(), 8, 2) else {
+        panic!(rt; "not opened")
+    };
+    let (Some(mut second), Some(mut first)) = (passes.pop(), passes.pop()) else {
+        panic!(rt; "two passes")
+    };
+    assert!(rt; battery::outdated_look_is_overtaken_once(&log, &mut first, &mut second));
+}
+
+#[test]
 fn two_threads_add_each_one_in_its_order(rt: HostRuntime) {
     let Ok((log, mut passes)) = ChainLog::open(rt.alloc(), 16, 2) else {
         panic!(rt; "not opened")

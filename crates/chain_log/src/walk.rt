@@ -2,7 +2,8 @@
 ghost use Rattle.std.specs.Prelude.{◌≡◌, ◌<◌, ◌≤◌, ◌+◌, ℕ, ◌∷◌, length, slice_get, Some};
 ghost use Rattle.xa_words.specs.Entry.{Entry, IsEntry};
 ghost use Rattle.xa_words.specs.Words.{words_of};
-ghost use Rattle.decision_log.specs.TurnSeat.{hand, with_draft};
+ghost use Rattle.decision_log.specs.Draft.{with_draft};
+ghost use Rattle.decision_log.specs.Seats.{hand};
 ghost use Rattle.chain_log.specs.Cells.{name_at, name_before, newest_of};
 ghost use Rattle.chain_log.specs.ChainSeat.{IsSeat, IsOurs};
 

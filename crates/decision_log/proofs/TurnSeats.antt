@@ -14,7 +14,8 @@ use Rattle.decision_log.specs.declared.sizes.Sizes.{Sizes}
 use Rattle.decision_log.specs.History.{Begins, entries_of}
 use Rattle.decision_log.specs.Seats.{Fits, Seats, newcomer_hand, following, seated_two}
 use Rattle.decision_log.specs.TurnRule.{row_at, Knows, TurnRule}
-use Rattle.decision_log.specs.TurnPlays.{met, Meets}
+use Rattle.decision_log.specs.Observed.{met}
+use Rattle.decision_log.specs.TurnPlays.{Meets}
 use Rattle.decision_log.proofs.Histories.{begins_itself, begins_between, begins_nothing, own_between, own_none, length_begins}
 use Rattle.decision_log.proofs.SeatLemmas.{step_two, join_seats, split_two, split_one, deal_seat, moved}
 use Rattle.decision_log.proofs.TurnSteps.{Rules, with_seats, loaded, among, history}

@@ -16,7 +16,8 @@ use Rattle.decision_log.specs.History.{Begins}
 use Rattle.decision_log.specs.Known.{AllOf}
 use Rattle.decision_log.specs.Seats.{Placed, Seats, seated}
 use Rattle.decision_log.specs.TurnRule.{HasTurn, Knows, TurnRule}
-use Rattle.decision_log.specs.TurnPlays.{looked_turn, looked, HistoryIs, Sees, Reads}
+use Rattle.decision_log.specs.Observed.{HistoryIs}
+use Rattle.decision_log.specs.TurnPlays.{looked_turn, looked, Sees, Reads}
 use Rattle.decision_log.proofs.Histories.{begins_itself, get_begins, all_from_places}
 use Rattle.decision_log.proofs.SeatLemmas.{step_seat}
 

@@ -21,8 +21,10 @@ use Rattle.decision_log.specs.declared.view.Turn.TheVariants.{Without, Won, Fres
 use Rattle.decision_log.specs.declared.sizes.Sizes.{Sizes}
 use Rattle.decision_log.specs.History.{Begins, entries_of}
 use Rattle.decision_log.specs.Seats.{Seats, seated}
-use Rattle.decision_log.specs.TurnRule.{row_at, Holds, HasTurn, Knows, TurnRule}
-use Rattle.decision_log.specs.TurnPlays.{tried, drafted, published, released, Takes, Drafts, Publishes, Releases}
+use Rattle.decision_log.specs.Draft.{Holds}
+use Rattle.decision_log.specs.TurnRule.{row_at, HasTurn, Knows, TurnRule}
+use Rattle.decision_log.specs.Draft.{drafted}
+use Rattle.decision_log.specs.TurnPlays.{tried, published, released, Takes, Drafts, Publishes, Releases}
 use Rattle.decision_log.proofs.Histories.{begins_itself, begins_more, get_last, own_last, own_other}
 use Rattle.decision_log.proofs.SeatLemmas.{step_seat}
 use Rattle.decision_log.proofs.TurnSteps.{Rules, known, with_seats, loaded}

@@ -4,6 +4,8 @@ pub mod Faults
 pub mod Known
 pub mod Calls
 pub mod Seats
+pub mod Draft
+pub mod Observed
 pub mod TurnRule
 pub mod TurnPlays
 pub mod TurnSeat

@@ -1,6 +1,7 @@
 -- The seats at the table of a log, whatever its words are.
 --     hand_of         the pass that a seat knows, the first where there are two
 --     second_of       the second of two
+--     hand, second    the same of a seat's value
 --     seated, seated_two, seated_rest     a seat that knows one pass, two, or the rest
 --     newcomer_hand, following      a pass that wasn't given out, and the one after it
 --     left_of, right_of    how a seat is split: two passes into one and one, one pass into it and nothing, the rest into the next pass and those after it
@@ -13,6 +14,7 @@ use Rattle.std.specs.Prelude.{◌≡◌, ◌≢◌, ◌<◌, ◌≤◌, ◌+◌,
 use mathlib.Core.Option.{some}
 use lib.ListN.{get_elem?}
 use Rattle.atomic_table.specs.Table.{Me}
+use Rattle.atomic_table.specs.declared.shared.Seat.{Seat}
 use Rattle.xa_words.specs.Entry.{Entry}
 use Rattle.decision_log.specs.History.{entries_of}
 use Rattle.decision_log.specs.Known.{newcomer, AllOf}
@@ -43,6 +45,14 @@ second_of Spent = newcomer_hand 0 0 0
 second_of (One hand) = hand
 second_of (Two first second) = second
 second_of (Rest hand) = hand
+
+-- the pass that a seat knows
+abbrev pub hand : Seat Entry View → Hand
+hand seat = hand_of seat.me.0
+
+-- the second pass that a seat knows
+abbrev pub second : Seat Entry View → Hand
+second seat = second_of seat.me.0
 
 -- a seat that knows one pass, and holds no slot
 abbrev pub seated : Hand → Me Entry View

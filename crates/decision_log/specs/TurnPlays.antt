@@ -1,6 +1,5 @@
 -- What each step of a log with a turn does to the pass that takes it, and what it tells.
---     looked, tried, won, drafted, published, released, met      the pass after a step
---     HistoryIs       what a load of the count tells
+--     looked, tried, published, released      the pass after a step
 --     Sees, Reads, Takes, Drafts, Publishes, Releases, Meets     the steps
 use Rattle.std.specs.Prelude.{◌≡◌, ◌≢◌, ◌<◌, ◌≤◌, ◌+◌, ◌-◌, ℕ, List, [], ◌∷◌, ◌++◌, length, take, slice_get, slice_index, Some}
 use Rattle.atomic_table.specs.Table.{Me}
@@ -13,6 +12,8 @@ use Rattle.decision_log.specs.declared.view.Turn.TheVariants.{Without, Won, Fres
 use Rattle.decision_log.specs.History.{Begins, entries_of}
 use Rattle.decision_log.specs.Known.{AllOf}
 use Rattle.decision_log.specs.Seats.{hand_of, second_of, seated, seated_two}
+use Rattle.decision_log.specs.Draft.{drafted}
+use Rattle.decision_log.specs.Observed.{met, HistoryIs, MetAt}
 use Rattle.decision_log.specs.TurnRule.{row_at}
 
 -- who has the turn and has looked is fresh
@@ -41,16 +42,6 @@ tried h turn = record {
   turn = turn;
 }
 
--- after a store of a word of the draft, which forgets what was stored behind it
-abbrev pub drafted : Hand → ℕ → ℕ → Hand
-drafted h index word = record {
-  known = h.known;
-  sessions = h.sessions;
-  capacity = h.capacity;
-  draft = take index h.draft ++ word ∷ [];
-  turn = h.turn;
-}
-
 -- after the entry was added
 abbrev pub published : Hand → Entry → Hand
 published h entry = record {
@@ -64,23 +55,6 @@ published h entry = record {
 -- after the turn was given back
 abbrev pub released : Hand → Hand
 released h = record { known = h.known; sessions = h.sessions; capacity = h.capacity; draft = []; turn = Without }
-
--- after a meeting
-abbrev pub met : Hand → List Entry → Hand
-met h seen = record {
-  known = record { number = h.known.number; seen = seen; mine = h.known.mine; looks = h.known.looks; tries = h.known.tries };
-  sessions = h.sessions;
-  capacity = h.capacity;
-  draft = [];
-  turn = Without;
-}
-
--- the history was this: it begins with all that was seen, and the entries of one's number in it are one's own
-pub record HistoryIs (h : Hand) (seen : List Entry) : Type 0 where
-  pub begins : Begins h.known.seen seen
-  pub room : length seen ≤ h.capacity
-  pub all : AllOf h.sessions seen
-  pub part : entries_of h.known.number seen ≡ h.known.mine
 
 -- a load of the count
 abbrev pub Sees : Me Entry View → ℕ → Me Entry View → Type 0
@@ -111,16 +85,6 @@ Publishes me me' =
 -- a store of 0 to the turn
 abbrev pub Releases : Me Entry View → Me Entry View → Type 0
 Releases me me' = me' ≡ seated (released (hand_of me.0))
-
--- two passes meet: the second has seen all that the first has
-pub record MetAt (g h : Hand) (seen : List Entry) : Type 0 where
-  pub begins : Begins h.known.seen seen
-  pub whole : Begins g.known.seen seen
-  pub of_first : entries_of g.known.number seen ≡ g.known.mine
-  pub stays : length g.known.seen ≤ length h.known.seen → seen ≡ h.known.seen
-  pub room : length seen ≤ h.capacity
-  pub all : AllOf h.sessions seen
-  pub part : entries_of h.known.number seen ≡ h.known.mine
 
 -- a load of the count at a seat with two passes
 abbrev pub Meets : Me Entry View → ℕ → Me Entry View → Type 0

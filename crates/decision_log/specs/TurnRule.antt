@@ -1,6 +1,5 @@
 -- The rule of a log with a turn, which holds between any two steps.
 --     row_at          where the row of a place begins
---     Holds           the words from a place on begin with a draft
 --     HasTurn         what a pass knows of the turn is so
 --     Knows           what a pass knows of the log is so
 --     TurnRule        the rule
@@ -13,15 +12,12 @@ use Rattle.decision_log.specs.declared.view.Turn.{Turn}
 use Rattle.decision_log.specs.declared.view.Turn.TheVariants.{Without, Won, Fresh}
 use Rattle.decision_log.specs.declared.sizes.Sizes.{Sizes}
 use Rattle.decision_log.specs.History.{Begins, entries_of}
+use Rattle.decision_log.specs.Draft.{Holds}
 use Rattle.decision_log.specs.Seats.{Seats}
 
 -- the first word of the row of a place
 abbrev pub row_at : ℕ → ℕ
 row_at place = 2 + place * 21
-
--- the words from a place on begin with these
-abbrev pub Holds : List ℕ → ℕ → List ℕ → Type 0
-Holds words at draft = (i : ℕ) → i < length draft → slice_index words (at + i) ≡ slice_index draft i
 
 -- without the turn there is no draft; with it the turn word is the pass's number; fresh, the pass has seen all
 abbrev pub HasTurn : List ℕ → List Entry → Hand → Turn → Type 0

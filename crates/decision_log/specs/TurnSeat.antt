@@ -1,8 +1,6 @@
 -- A seat at a log with a turn.
 --     IsSeat          it is a seat of this log, and knows one pass
 --     IsTwo, IsRest   the same with two passes, and with those that were not given out
---     hand, second    the pass that it knows, and the second
---     with_draft      a pass with these words stored
 use Rattle.std.specs.Prelude.{◌≡◌, ℕ, List}
 use Rattle.atomic_table.specs.declared.shared.Seat.{Seat}
 use Rattle.xa_words.specs.Entry.{Entry}
@@ -11,22 +9,10 @@ use Rattle.decision_log.specs.declared.view.View.{View}
 use Rattle.decision_log.specs.declared.turn_log.TurnLog.{TurnLog}
 use Rattle.decision_log.specs.Seats.{hand_of, second_of, seated, seated_two, seated_rest}
 
--- the pass that a seat knows
-abbrev pub hand : Seat Entry View → Hand
-hand seat = hand_of seat.me.0
-
 -- it is a seat of this log, and knows one pass
 pub record IsSeat (log : TurnLog) (seat : Seat Entry View) : Type 0 where
   pub table : seat.table_id ≡ log.table.shared.table_id
   pub held : seat.me ≡ seated (hand_of seat.me.0)
-
--- a pass with these words stored
-abbrev pub with_draft : Hand → List ℕ → Hand
-with_draft h words = record { known = h.known; sessions = h.sessions; capacity = h.capacity; draft = words; turn = h.turn }
-
--- the second pass that a seat knows
-abbrev pub second : Seat Entry View → Hand
-second seat = second_of seat.me.0
 
 -- it is a seat of this log, and knows two passes
 pub record IsTwo (log : TurnLog) (seat : Seat Entry View) : Type 0 where

@@ -1,15 +1,25 @@
-//! Measures what a commit costs in stores of different sizes, and how fast a script runs.
+//! Measures what a commit costs in stores of different sizes, how fast a script runs, and how threads do side by side.
 //!
 //! The figures go to the standard error, so that what is printed is the same in every run.
 #![tactic(auto)]
 
+mod adds;
 mod commits;
+mod loads;
+mod locked;
+mod logged;
 mod scripts;
+mod sides;
+mod together;
 
 use anyhow::Result;
+use loads::Load;
+use sides::Side;
 use std::alloc::Global;
 use std::env;
 use std::env::Env;
+use std::sync::Wait;
+use std::thread::Threads;
 use std::time::Clock;
 
 /// How much is measured.
@@ -22,6 +32,14 @@ struct Extent {
     rounds: u32,
     /// How long the script is, in bytes.
     script_bytes: usize,
+    /// How many entries the threads add in all.
+    adds: u64,
+    /// How many branches they prepare and commit in all.
+    branches: u64,
+    /// How many rounds of row statements they do in all.
+    row_rounds: u64,
+    /// How often each of these is tried; the least time counts.
+    tries: u32,
 }
 
 /// Enough for figures that mean something.
@@ -30,6 +48,10 @@ const WHOLE: Extent = Extent {
     many_rows: 100_000,
     rounds: 1_000,
     script_bytes: 1_048_576,
+    adds: 1_000,
+    branches: 100,
+    row_rounds: 40,
+    tries: 5,
 };
 
 /// Enough to see that it runs.
@@ -38,6 +60,10 @@ const SAMPLE: Extent = Extent {
     many_rows: 100,
     rounds: 3,
     script_bytes: 1_000,
+    adds: 16,
+    branches: 4,
+    row_rounds: 4,
+    tries: 1,
 };
 
 fn main(rt: HostRuntime) -> Result<()> {
@@ -54,20 +80,71 @@ fn asks_for_figures<R: Env + Alloc<A = Global>>(rt: &R) -> Result<bool> {
     Ok(words.get(1).is_some_and(|word| word.as_str() == "figures"))
 }
 
-/// Measures commits and scripts, and says on the standard output that it did.
-fn measure<R: Clock + Print + Eprint + Alloc<A = Global>>(rt: &R, extent: &Extent) -> Result<()> {
+/// Measures everything, and says on the standard output that it did.
+fn measure<R: Clock + Print + Eprint + Threads + Wait + Sync + Alloc<A = Global>>(
+    rt: &R,
+    extent: &Extent,
+) -> Result<()> {
+    commits_and_scripts(rt, extent)?;
+    for threads in [1, 2, 4] {
+        side_by_side(rt, extent, threads)?;
+    }
+    println!(rt; "measured: commits, scripts, threads")?;
+    Ok(())
+}
+
+/// The first as a share of the second, in hundredths.
+fn percent(first: u64, second: u64) -> u64 {
+    first.saturating_mul(100).checked_div(second).unwrap_or(0)
+}
+
+/// Measures commits in two stores, and a script.
+fn commits_and_scripts<R: Clock + Eprint + Alloc<A = Global>>(
+    rt: &R,
+    extent: &Extent,
+) -> Result<()> {
     let few = extent.few_rows;
     let many = extent.many_rows;
     let small = commits::nanoseconds_a_commit(rt, few, extent.rounds)?;
     let large = commits::nanoseconds_a_commit(rt, many, extent.rounds)?;
-    let percent = large.saturating_mul(100).checked_div(small).unwrap_or(0);
+    let ratio = percent(large, small);
     eprintln!(rt;
         "commit of a branch that wrote 10 rows: {small} ns among {few} rows, {large} ns among {many} rows"
     )?;
-    eprintln!(rt; "ratio: {percent} percent")?;
+    eprintln!(rt; "ratio: {ratio} percent")?;
     let speed = scripts::statements_a_second(rt, extent.script_bytes)?;
     let bytes = extent.script_bytes;
     eprintln!(rt; "script of {bytes} bytes: {speed} statements a second")?;
-    println!(rt; "measured: commits, scripts")?;
+    Ok(())
+}
+
+/// Measures so many threads at the same work, done in two ways.
+fn side_by_side<R: Clock + Eprint + Threads + Wait + Sync + Alloc<A = Global>>(
+    rt: &R,
+    extent: &Extent,
+    threads: u64,
+) -> Result<()> {
+    let adds = extent.adds.checked_div(threads).unwrap_or(0);
+    let chain = Side::ChainAdds(adds).least(rt, threads, extent.tries)?;
+    let turn = Side::TurnAdds(adds).least(rt, threads, extent.tries)?;
+    let ratio = percent(chain, turn);
+    eprintln!(rt; "{threads} threads, {adds} adds each: chain {chain} ns, turn {turn} ns, {ratio} percent")?;
+    let branches = extent.branches.checked_div(threads).unwrap_or(0);
+    against_lock(rt, extent, threads, Load::Branches(branches))?;
+    let rounds = extent.row_rounds.checked_div(threads).unwrap_or(0);
+    against_lock(rt, extent, threads, Load::Rows(rounds))
+}
+
+/// Measures sessions over a chain against one server behind a lock.
+fn against_lock<R: Clock + Eprint + Threads + Wait + Sync + Alloc<A = Global>>(
+    rt: &R,
+    extent: &Extent,
+    threads: u64,
+    load: Load,
+) -> Result<()> {
+    let chained = Side::Chained(load).least(rt, threads, extent.tries)?;
+    let locked = Side::Locked(load).least(rt, threads, extent.tries)?;
+    let ratio = percent(chained, locked);
+    eprintln!(rt; "{threads} threads, {load} each: chain {chained} ns, lock {locked} ns, {ratio} percent")?;
     Ok(())
 }

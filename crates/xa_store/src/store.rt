@@ -3,17 +3,18 @@ ghost use Rattle.std.specs.Prelude.{◌≡◌, IfOk, IfErr};
 ghost use Rattle.decision_log.specs.Opens.{Opens, Refuses};
 ghost use Rattle.xa_server.specs.State.{no_state};
 
-use decision_log::{DecisionLog, OpenFault, TurnLog, TurnPass};
+use chain_log::{ChainLog, ChainPass};
+use decision_log::{DecisionLog, OpenFault};
 use std::alloc::Global;
 use xa_server::Server;
 use xa_session::Session;
 use xa_xid::NoMemory;
 
-/// The log of a store.
-pub type Log = TurnLog;
+/// The log of a store: no session of it can hold up another.
+pub type Log = ChainLog;
 
 /// What a session of a store knows of its history.
-pub type Pass = TurnPass;
+pub type Pass = ChainPass;
 
 /// A store. Its sessions are on the threads of their callers, and share its history.
 #[derive(Drop)]

@@ -2,7 +2,9 @@
 ghost use Rattle.std.specs.Prelude.{◌≡◌, ◌<◌, ◌≤◌, [], length, slice_get, Some};
 ghost use Rattle.xa_words.specs.Entry.{Entry, IsEntry};
 ghost use Rattle.xa_words.specs.Words.{words_of};
-ghost use Rattle.decision_log.specs.TurnSeat.{IsSeat, hand, with_draft};
+ghost use Rattle.decision_log.specs.Draft.{with_draft};
+ghost use Rattle.decision_log.specs.Seats.{hand};
+ghost use Rattle.decision_log.specs.TurnSeat.{IsSeat};
 ghost use Rattle.decision_log.specs.declared.view.Turn.TheVariants.{Fresh};
 
 use super::TurnLog;

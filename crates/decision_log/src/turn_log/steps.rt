@@ -4,8 +4,11 @@ ghost use Rattle.xa_words.specs.Entry.{Entry, IsEntry};
 ghost use Rattle.xa_words.specs.Words.{words_of};
 ghost use Rattle.decision_log.specs.Seats.{hand_of};
 ghost use Rattle.decision_log.specs.TurnRule.{row_at};
-ghost use Rattle.decision_log.specs.TurnPlays.{looked, tried, drafted, published, released, HistoryIs};
-ghost use Rattle.decision_log.specs.TurnSeat.{IsSeat, hand};
+ghost use Rattle.decision_log.specs.Draft.{drafted};
+ghost use Rattle.decision_log.specs.Observed.{HistoryIs};
+ghost use Rattle.decision_log.specs.TurnPlays.{looked, tried, published, released};
+ghost use Rattle.decision_log.specs.Seats.{hand};
+ghost use Rattle.decision_log.specs.TurnSeat.{IsSeat};
 ghost use Rattle.decision_log.specs.declared.view.Turn.TheVariants.{Without, Won, Fresh};
 
 use super::TurnLog;

@@ -5,7 +5,7 @@ use Rattle.chain_log.specs.declared.pass.ChainPass.{ChainPass}
 use Rattle.decision_log.specs.Known.{newcomer}
 use Rattle.decision_log.specs.Seats.{newcomer_hand}
 use Rattle.chain_log.specs.ChainPass.{place_of, home_of, known_of}
-use Rattle.decision_log.specs.TurnSeat.{hand}
+use Rattle.decision_log.specs.Seats.{hand}
 use Rattle.chain_log.specs.ChainSeat.{IsRest}
 use Rattle.chain_log.proofs.chain.ChainLog.deal_all.Given as goal
 

@@ -1,7 +1,7 @@
 use Rattle.std.proofs.Common.{◌≡◌, ℕ, ◌+◌, ◌-◌, ◌<◌, Some, length, ap, ◌∙◌, arith, sym, subst}
 use Rattle.std.specs.Prelude.{slice_get}
 use Rattle.decision_log.specs.declared.view.Hand.{Hand}
-use Rattle.decision_log.specs.TurnSeat.{hand}
+use Rattle.decision_log.specs.Seats.{hand}
 use Rattle.chain_log.specs.Cells.{name_before}
 use Rattle.chain_log.proofs.Names.{there}
 use Rattle.chain_log.proofs.chain.ChainLog.find.Goals as goal

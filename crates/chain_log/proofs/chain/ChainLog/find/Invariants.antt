@@ -1,5 +1,5 @@
 use Rattle.std.proofs.Common.{◌≡◌, ◌+◌, ◌-◌, length}
-use Rattle.decision_log.specs.TurnSeat.{hand}
+use Rattle.decision_log.specs.Seats.{hand}
 use Rattle.chain_log.specs.Cells.{name_before}
 use Rattle.chain_log.specs.ChainSeat.{IsSeat}
 use Rattle.chain_log.proofs.chain.ChainLog.find.Given as goal

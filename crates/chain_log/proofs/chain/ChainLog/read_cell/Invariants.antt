@@ -2,7 +2,7 @@ use Rattle.std.proofs.Common.{◌≡◌, ◌+◌, ◌<◌, ℕ, Some, get_or, le
 use Rattle.std.specs.Prelude.{slice_get}
 use Rattle.xa_words.specs.Entry.{Entry, IsEntry}
 use Rattle.xa_words.specs.Words.{words_of}
-use Rattle.decision_log.specs.TurnSeat.{hand}
+use Rattle.decision_log.specs.Seats.{hand}
 use Rattle.chain_log.specs.Cells.{name_before}
 use Rattle.chain_log.specs.ChainSeat.{IsSeat}
 use Rattle.chain_log.proofs.chain.ChainLog.read_cell.Given as goal

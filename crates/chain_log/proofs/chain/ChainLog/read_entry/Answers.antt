@@ -2,7 +2,7 @@ use Rattle.std.proofs.Common.{◌≡◌, ℕ, ◌+◌, Some, ap, sym, ◌∙◌,
 use Rattle.std.specs.Prelude.{slice_get}
 use Rattle.xa_words.specs.Entry.{Entry}
 use Rattle.decision_log.specs.declared.view.Hand.{Hand}
-use Rattle.decision_log.specs.TurnSeat.{hand}
+use Rattle.decision_log.specs.Seats.{hand}
 use Rattle.chain_log.specs.Cells.{name_before}
 use Rattle.chain_log.proofs.Names.{there}
 use Rattle.chain_log.proofs.chain.ChainLog.read_entry.Goals as goal

@@ -1,5 +1,6 @@
 use Rattle.std.proofs.Common.{◌≡◌, ◌∷◌, take}
-use Rattle.decision_log.specs.TurnSeat.{hand, with_draft}
+use Rattle.decision_log.specs.Draft.{with_draft}
+use Rattle.decision_log.specs.Seats.{hand}
 use Rattle.chain_log.specs.ChainSeat.{IsSeat}
 use Rattle.chain_log.proofs.chain.ChainLog.write_cell.Given as goal
 

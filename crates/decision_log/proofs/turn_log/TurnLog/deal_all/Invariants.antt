@@ -5,7 +5,8 @@ use Rattle.decision_log.specs.declared.turn_log.pass.TurnPass.{TurnPass}
 use Rattle.decision_log.specs.Known.{newcomer}
 use Rattle.decision_log.specs.Seats.{newcomer_hand}
 use Rattle.decision_log.specs.TurnPass.{place_of, home_of, known_of}
-use Rattle.decision_log.specs.TurnSeat.{IsRest, hand}
+use Rattle.decision_log.specs.Seats.{hand}
+use Rattle.decision_log.specs.TurnSeat.{IsRest}
 use Rattle.decision_log.proofs.turn_log.TurnLog.deal_all.Given as goal
 
 abbrev pub invariant-loop-index : goal.invariant-loop-index

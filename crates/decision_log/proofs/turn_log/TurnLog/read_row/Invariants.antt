@@ -2,7 +2,8 @@ use Rattle.std.proofs.Common.{◌≡◌, ◌<◌, ℕ, Some, get_or, length}
 use Rattle.std.specs.Prelude.{slice_get}
 use Rattle.xa_words.specs.Entry.{Entry, IsEntry}
 use Rattle.xa_words.specs.Words.{words_of}
-use Rattle.decision_log.specs.TurnSeat.{IsSeat, hand}
+use Rattle.decision_log.specs.Seats.{hand}
+use Rattle.decision_log.specs.TurnSeat.{IsSeat}
 use Rattle.decision_log.proofs.turn_log.TurnLog.read_row.Given as goal
 
 abbrev pub invariant-loop-index : goal.invariant-loop-index

@@ -1,0 +1,24 @@
+-- The words that a pass stores before they are an entry.
+--     Holds           the words from a place on begin with a draft
+--     with_draft      a pass with these words stored
+--     drafted         a pass after one more store
+use Rattle.std.specs.Prelude.{◌≡◌, ◌<◌, ◌+◌, ℕ, List, [], ◌∷◌, ◌++◌, length, take, slice_index}
+use Rattle.decision_log.specs.declared.view.Hand.{Hand}
+
+-- the words from a place on begin with these
+abbrev pub Holds : List ℕ → ℕ → List ℕ → Type 0
+Holds words at draft = (i : ℕ) → i < length draft → slice_index words (at + i) ≡ slice_index draft i
+
+-- a pass with these words stored
+abbrev pub with_draft : Hand → List ℕ → Hand
+with_draft h words = record { known = h.known; sessions = h.sessions; capacity = h.capacity; draft = words; turn = h.turn }
+
+-- after a store of a word of the draft, which forgets what was stored behind it
+abbrev pub drafted : Hand → ℕ → ℕ → Hand
+drafted h index word = record {
+  known = h.known;
+  sessions = h.sessions;
+  capacity = h.capacity;
+  draft = take index h.draft ++ word ∷ [];
+  turn = h.turn;
+}
