@@ -75,6 +75,7 @@ impl<'a, L: DecisionLog> Session<'a, L> {
     pub fn look(&mut self) -> u64
         ensures home { L.home self.new.pass ≡ L.home self.old.pass }
         ensures base { self.new.base.now ≡ self.old.base.now }
+        ensures replica { self.new.replica ≡ self.old.replica }
         ensures looked { Looked (L.known self.old.pass) (L.known self.new.pass) }
         ensures length { result ≡ length (L.known self.new.pass).seen }
     {
@@ -88,6 +89,7 @@ impl<'a, L: DecisionLog> Session<'a, L> {
         requires { at < length (L.known self.old.pass).seen }
         ensures home { L.home self.new.pass ≡ L.home self.old.pass }
         ensures base { self.new.base.now ≡ self.old.base.now }
+        ensures replica { self.new.replica ≡ self.old.replica }
         ensures same { L.known self.new.pass ≡ L.known self.old.pass }
         ensures entry { slice_get (L.known self.old.pass).seen at ≡ Some result }
     {

@@ -1,76 +1,125 @@
-//! The battery over a log with a turn.
+//! The battery over a log with a turn and over a chain.
+ghost use Rattle.std.specs.Prelude.{◌≡◌, All, IfSome};
 
 use crate::{Fault, Session, battery};
-use decision_log::TurnLog;
+use chain_log::ChainLog;
+use decision_log::{DecisionLog, TurnLog};
 use xa_server::Server;
 
+/// The sessions of a log's first two passes, where it was opened for two.
+fn connected<'a, L: DecisionLog>(
+    log: &'a L,
+    base: &'a Server,
+    mut passes: Vec<L::Pass>,
+) -> Option<(Session<'a, L>, Session<'a, L>)>
+where
+    L::Pass: Drop,
+    requires { All (λ pass. L.home pass ≡ L.place log.now) passes.items }
+    ensures { IfSome result (λ sessions. L.home sessions.0.pass ≡ L.home sessions.1.pass) }
+{
+    let (Some(second), Some(first)) = (passes.pop(), passes.pop()) else {
+        return None;
+    };
+    let (Ok(first), Ok(second)) = (
+        Session::connect(log, first, base),
+        Session::connect(log, second, base),
+    ) else {
+        return None;
+    };
+    Some((first, second))
+}
+
 #[test]
-fn full_log_still_answers(rt: HostRuntime) {
-    let Ok((log, mut passes)) = TurnLog::open(rt.alloc(), 4, 2) else {
+fn full_log_still_answers_over_a_turn(rt: HostRuntime) {
+    let Ok((log, passes)) = TurnLog::open(rt.alloc(), 4, 2) else {
         panic!(rt; "not opened")
     };
-    let (Some(second), Some(first)) = (passes.pop(), passes.pop()) else {
-        panic!(rt; "two passes")
-    };
     let base = Server::new(rt.alloc());
-    let (Ok(mut first), Ok(mut second)) = (
-        Session::connect(&log, first, &base),
-        Session::connect(&log, second, &base),
-    ) else {
+    let Some((mut first, mut second)) = connected(&log, &base, passes) else {
         panic!(rt; "not connected")
     };
     assert!(rt; battery::full_log_still_answers(&mut first, &mut second));
 }
 
 #[test]
-fn write_is_seen_by_others(rt: HostRuntime) {
-    let Ok((log, mut passes)) = TurnLog::open(rt.alloc(), 8, 2) else {
+fn write_is_seen_by_others_over_a_turn(rt: HostRuntime) {
+    let Ok((log, passes)) = TurnLog::open(rt.alloc(), 8, 2) else {
         panic!(rt; "not opened")
     };
-    let (Some(second), Some(first)) = (passes.pop(), passes.pop()) else {
-        panic!(rt; "two passes")
-    };
     let base = Server::new(rt.alloc());
-    let (Ok(mut first), Ok(mut second)) = (
-        Session::connect(&log, first, &base),
-        Session::connect(&log, second, &base),
-    ) else {
+    let Some((mut first, mut second)) = connected(&log, &base, passes) else {
         panic!(rt; "not connected")
     };
     assert!(rt; battery::write_is_seen_by_others(&mut first, &mut second));
 }
 
 #[test]
-fn disconnect_rolls_back(rt: HostRuntime) {
-    let Ok((log, mut passes)) = TurnLog::open(rt.alloc(), 8, 2) else {
+fn disconnect_rolls_back_over_a_turn(rt: HostRuntime) {
+    let Ok((log, passes)) = TurnLog::open(rt.alloc(), 8, 2) else {
         panic!(rt; "not opened")
     };
-    let (Some(second), Some(first)) = (passes.pop(), passes.pop()) else {
-        panic!(rt; "two passes")
-    };
     let base = Server::new(rt.alloc());
-    let (Ok(first), Ok(second)) = (
-        Session::connect(&log, first, &base),
-        Session::connect(&log, second, &base),
-    ) else {
+    let Some((first, second)) = connected(&log, &base, passes) else {
         panic!(rt; "not connected")
     };
     assert!(rt; battery::disconnect_rolls_back(&rt, first, second).is_some());
 }
 
 #[test]
-fn two_threads_prepare(rt: HostRuntime) {
-    let Ok((log, mut passes)) = TurnLog::open(rt.alloc(), 8, 2) else {
+fn two_threads_prepare_over_a_turn(rt: HostRuntime) {
+    let Ok((log, passes)) = TurnLog::open(rt.alloc(), 8, 2) else {
         panic!(rt; "not opened")
     };
-    let (Some(second), Some(first)) = (passes.pop(), passes.pop()) else {
-        panic!(rt; "two passes")
+    let base = Server::new(rt.alloc());
+    let Some((first, second)) = connected(&log, &base, passes) else {
+        panic!(rt; "not connected")
+    };
+    assert!(rt; battery::two_threads_prepare(&rt, first, second));
+}
+
+#[test]
+fn full_log_still_answers_over_a_chain(rt: HostRuntime) {
+    let Ok((log, passes)) = ChainLog::open(rt.alloc(), 4, 2) else {
+        panic!(rt; "not opened")
     };
     let base = Server::new(rt.alloc());
-    let (Ok(first), Ok(second)) = (
-        Session::connect(&log, first, &base),
-        Session::connect(&log, second, &base),
-    ) else {
+    let Some((mut first, mut second)) = connected(&log, &base, passes) else {
+        panic!(rt; "not connected")
+    };
+    assert!(rt; battery::full_log_still_answers(&mut first, &mut second));
+}
+
+#[test]
+fn write_is_seen_by_others_over_a_chain(rt: HostRuntime) {
+    let Ok((log, passes)) = ChainLog::open(rt.alloc(), 8, 2) else {
+        panic!(rt; "not opened")
+    };
+    let base = Server::new(rt.alloc());
+    let Some((mut first, mut second)) = connected(&log, &base, passes) else {
+        panic!(rt; "not connected")
+    };
+    assert!(rt; battery::write_is_seen_by_others(&mut first, &mut second));
+}
+
+#[test]
+fn disconnect_rolls_back_over_a_chain(rt: HostRuntime) {
+    let Ok((log, passes)) = ChainLog::open(rt.alloc(), 8, 2) else {
+        panic!(rt; "not opened")
+    };
+    let base = Server::new(rt.alloc());
+    let Some((first, second)) = connected(&log, &base, passes) else {
+        panic!(rt; "not connected")
+    };
+    assert!(rt; battery::disconnect_rolls_back(&rt, first, second).is_some());
+}
+
+#[test]
+fn two_threads_prepare_over_a_chain(rt: HostRuntime) {
+    let Ok((log, passes)) = ChainLog::open(rt.alloc(), 8, 2) else {
+        panic!(rt; "not opened")
+    };
+    let base = Server::new(rt.alloc());
+    let Some((first, second)) = connected(&log, &base, passes) else {
         panic!(rt; "not connected")
     };
     assert!(rt; battery::two_threads_prepare(&rt, first, second));
