@@ -41,7 +41,10 @@ impl<'a, L: DecisionLog> Adder<'a, L> {
     }
 }
 
-impl<'a, L: DecisionLog> Share for Adder<'a, L> {
+impl<'a, L: DecisionLog> Share for Adder<'a, L>
+where
+    L::Pass: Drop,
+{
     fn work<R: Wait>(mut self, rt: &R) -> bool {
         let mut left = self.count;
         for _ in rt.forever() {

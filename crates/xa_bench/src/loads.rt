@@ -23,7 +23,7 @@ pub enum Load {
 }
 
 impl fmt::Display for Load {
-    fn fmt(&self, f: &mut fmt::Formatter<'_>) -> fmt::Result {
+    fn fmt<W: fmt::Write>(&self, f: &mut fmt::Formatter<W>) -> fmt::Result {
         match self {
             Load::Branches(count) => write!(f, "{count} branches"),
             Load::Rows(count) => write!(f, "{count} rounds of a PUT and 19 GET"),
@@ -94,7 +94,7 @@ impl<A: Answers> Loaded<A> {
     }
 }
 
-impl<A: Answers> Share for Loaded<A> {
+impl<A: Answers + Drop> Share for Loaded<A> {
     fn work<R: Wait>(mut self, rt: &R) -> bool {
         match self.load {
             Load::Branches(count) => {

@@ -8,7 +8,7 @@ use anyhow::{Context, Result, bail};
 use chain_log::ChainLog;
 use decision_log::{DecisionLog, MOST_ENTRIES, TurnLog};
 use std::alloc::Global;
-use std::sync::{Mutex, Wait};
+use std::sync::{Arc, Mutex, Wait};
 use std::thread::Threads;
 use std::time::Clock;
 use xa_server::Server;
@@ -74,23 +74,30 @@ fn chained<R: Threads + Wait + Clock + Sync + Alloc<A = Global>>(
     together::nanoseconds(rt, loaded(rt.alloc(), &log, &base, passes, load)?)
 }
 
+/// So many sessions of one server behind a lock, and what each is to do.
+fn lock_users(
+    alloc: Global,
+    threads: u64,
+    load: Load,
+) -> Result<Vec<Loaded<Locked>>> {
+    let shared = Arc::new(alloc, Mutex::new(Server::new(alloc)))?;
+    let mut shares = Vec::new(alloc);
+    for number in 0..threads {
+        let session = SessionNo::of(number.saturating_add(1)).context("a session")?;
+        let server = Arc::try_clone(&shared)?;
+        let session = Locked { server, session };
+        shares.push(Loaded { session, load })?;
+    }
+    Ok(shares)
+}
+
 /// The same by sessions of one server behind a lock.
 fn locked<R: Threads + Wait + Clock + Sync + Alloc<A = Global>>(
     rt: &R,
     threads: u64,
     load: Load,
 ) -> Result<u64> {
-    let server = Mutex::new(Server::new(rt.alloc()));
-    let mut shares = Vec::new(rt.alloc());
-    for number in 0..threads {
-        let session = SessionNo::of(number + 1).context("a session")?;
-        let session = Locked {
-            server: &server,
-            session,
-        };
-        shares.push(Loaded { session, load })?;
-    }
-    together::nanoseconds(rt, shares)
+    together::nanoseconds(rt, lock_users(rt.alloc(), threads, load)?)
 }
 
 /// What threads do side by side, each as much as is told.
