@@ -2,7 +2,7 @@
 --     HistoryIs       the history was this
 --     MetAt           the same of two passes that meet
 --     met             a pass after a meeting
-use Rattle.std.specs.Prelude.{◌≡◌, ◌≤◌, ℕ, List, [], length}
+use Rattle.std.specs.Prelude.{◌≡◌, ◌≤◌, List, [], length}
 use Rattle.xa_words.specs.Entry.{Entry}
 use Rattle.decision_log.specs.declared.view.Hand.{Hand}
 use Rattle.decision_log.specs.declared.view.Turn.TheVariants.{Without}

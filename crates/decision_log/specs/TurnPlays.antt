@@ -1,7 +1,7 @@
 -- What each step of a log with a turn does to the pass that takes it, and what it tells.
 --     looked, tried, published, released      the pass after a step
 --     Sees, Reads, Takes, Drafts, Publishes, Releases, Meets     the steps
-use Rattle.std.specs.Prelude.{◌≡◌, ◌≢◌, ◌<◌, ◌≤◌, ◌+◌, ◌-◌, ℕ, List, [], ◌∷◌, ◌++◌, length, take, slice_get, slice_index, Some}
+use Rattle.std.specs.Prelude.{◌≡◌, ◌≢◌, ◌<◌, ◌+◌, ◌-◌, ℕ, List, [], ◌∷◌, ◌++◌, length, slice_get, slice_index, Some}
 use Rattle.atomic_table.specs.Table.{Me}
 use Rattle.xa_words.specs.Entry.{Entry, IsEntry}
 use Rattle.xa_words.specs.Words.{words_of}
@@ -9,8 +9,6 @@ use Rattle.decision_log.specs.declared.view.Hand.{Hand}
 use Rattle.decision_log.specs.declared.view.View.{View}
 use Rattle.decision_log.specs.declared.view.Turn.{Turn}
 use Rattle.decision_log.specs.declared.view.Turn.TheVariants.{Without, Won, Fresh}
-use Rattle.decision_log.specs.History.{Begins, entries_of}
-use Rattle.decision_log.specs.Known.{AllOf}
 use Rattle.decision_log.specs.Seats.{hand_of, second_of, seated, seated_two}
 use Rattle.decision_log.specs.Draft.{drafted}
 use Rattle.decision_log.specs.Observed.{met, HistoryIs, MetAt}

@@ -1,10 +1,9 @@
 -- A seat at a log with a turn.
 --     IsSeat          it is a seat of this log, and knows one pass
 --     IsTwo, IsRest   the same with two passes, and with those that were not given out
-use Rattle.std.specs.Prelude.{◌≡◌, ℕ, List}
+use Rattle.std.specs.Prelude.{◌≡◌}
 use Rattle.atomic_table.specs.declared.shared.Seat.{Seat}
 use Rattle.xa_words.specs.Entry.{Entry}
-use Rattle.decision_log.specs.declared.view.Hand.{Hand}
 use Rattle.decision_log.specs.declared.view.View.{View}
 use Rattle.decision_log.specs.declared.turn_log.TurnLog.{TurnLog}
 use Rattle.decision_log.specs.Seats.{hand_of, second_of, seated, seated_two, seated_rest}

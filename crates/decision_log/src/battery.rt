@@ -154,9 +154,11 @@ pub fn outdated_look_is_overtaken_once<L: DecisionLog>(
 {
     let one = log.number(first);
     let two = log.number(second);
-    let (Some(put_v), Some(put_w), Some(delete_k)) =
-        (put(one, b'k', b'v'), put(one, b'k', b'w'), delete(two, b'k'))
-    else {
+    let (Some(put_v), Some(put_w), Some(delete_k)) = (
+        put(one, b'k', b'v'),
+        put(one, b'k', b'w'),
+        delete(two, b'k'),
+    ) else {
         return false;
     };
     log.try_add(first, &put_v) == Ok(())

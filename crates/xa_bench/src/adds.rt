@@ -80,10 +80,7 @@ where
 }
 
 /// The nanoseconds in which the passes, each on a thread of its own, add so many entries each to an empty log.
-pub fn nanoseconds<
-    L: DecisionLog + Sync,
-    R: Threads + Wait + Clock + Sync + Alloc<A = Global>,
->(
+pub fn nanoseconds<L: DecisionLog + Sync, R: Threads + Wait + Clock + Sync + Alloc<A = Global>>(
     rt: &R,
     log: &L,
     passes: Vec<L::Pass>,

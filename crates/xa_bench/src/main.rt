@@ -128,7 +128,9 @@ fn side_by_side<R: Clock + Eprint + Threads + Wait + Sync + Alloc<A = Global>>(
     let chain = Side::ChainAdds(adds).least(rt, threads, extent.tries)?;
     let turn = Side::TurnAdds(adds).least(rt, threads, extent.tries)?;
     let ratio = percent(chain, turn);
-    eprintln!(rt; "{threads} threads, {adds} adds each: chain {chain} ns, turn {turn} ns, {ratio} percent")?;
+    eprintln!(rt;
+        "{threads} threads, {adds} adds each: chain {chain} ns, turn {turn} ns, {ratio} percent"
+    )?;
     let branches = extent.branches.checked_div(threads).unwrap_or(0);
     against_lock(rt, extent, threads, Load::Branches(branches))?;
     let rounds = extent.row_rounds.checked_div(threads).unwrap_or(0);
@@ -145,6 +147,8 @@ fn against_lock<R: Clock + Eprint + Threads + Wait + Sync + Alloc<A = Global>>(
     let chained = Side::Chained(load).least(rt, threads, extent.tries)?;
     let locked = Side::Locked(load).least(rt, threads, extent.tries)?;
     let ratio = percent(chained, locked);
-    eprintln!(rt; "{threads} threads, {load} each: chain {chained} ns, lock {locked} ns, {ratio} percent")?;
+    eprintln!(rt;
+        "{threads} threads, {load} each: chain {chained} ns, lock {locked} ns, {ratio} percent"
+    )?;
     Ok(())
 }

@@ -75,11 +75,7 @@ fn chained<R: Threads + Wait + Clock + Sync + Alloc<A = Global>>(
 }
 
 /// So many sessions of one server behind a lock, and what each is to do.
-fn lock_users(
-    alloc: Global,
-    threads: u64,
-    load: Load,
-) -> Result<Vec<Loaded<Locked>>> {
+fn lock_users(alloc: Global, threads: u64, load: Load) -> Result<Vec<Loaded<Locked>>> {
     let shared = Arc::new(alloc, Mutex::new(Server::new(alloc)))?;
     let mut shares = Vec::new(alloc);
     for number in 0..threads {

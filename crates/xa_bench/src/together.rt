@@ -31,10 +31,7 @@ fn all_done<'s, S: Share + Send + Drop, R: Threads + Wait + Sync + Alloc<A = Glo
 }
 
 /// The nanoseconds from before the first thread is started to after the last has ended.
-pub fn nanoseconds<
-    S: Share + Send + Drop,
-    R: Threads + Wait + Clock + Sync + Alloc<A = Global>,
->(
+pub fn nanoseconds<S: Share + Send + Drop, R: Threads + Wait + Clock + Sync + Alloc<A = Global>>(
     rt: &R,
     shares: Vec<S>,
 ) -> Result<u64> {

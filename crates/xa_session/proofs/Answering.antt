@@ -1,5 +1,5 @@
 -- What a look, a reply and an add make of an answer or a fault, and what tries one after another come to.
-use Rattle.std.proofs.Common.{◌≡◌, ◌<◌, ◌≤◌, ◌+◌, ℕ, zero, suc, Bool, true, false, IsTrue, List, [], ◌∷◌, ◌++◌, length, take, refl, ap, sym, ◌∙◌, subst, Some, arith, length-append}
+use Rattle.std.proofs.Common.{◌≡◌, ◌+◌, ℕ, Bool, true, false, List, [], ◌∷◌, ◌++◌, length, take, refl, ap, sym, ◌∙◌, subst, Some, arith, length-append}
 use Rattle.std.specs.Prelude.{slice_get}
 use Rattle.xa_words.specs.Entry.{Entry}
 use Rattle.xa_xid.specs.declared.statement.Statement.{Statement}
@@ -11,7 +11,7 @@ use Rattle.decision_log.specs.Calls.{Looked, IsAdded, IsOvertaken, IsBusy}
 use Rattle.decision_log.specs.declared.known.Known.{Known}
 use Rattle.decision_log.proofs.Histories.{begins_itself, begins_append, begins_through, length_begins}
 use Rattle.xa_session.specs.Replay.{state_after, state_at}
-use Rattle.xa_session.specs.Answer.{entry_of, AnswersAt, Advances, IsEntered, IsOutside, IsAnswered, IsUnanswered, IsFull, Fails, IsFinal}
+use Rattle.xa_session.specs.Answer.{entry_of, AnswersAt, Advances, IsAnswered, IsUnanswered, IsFull, Fails}
 use Rattle.xa_session.specs.declared.answer.Answer.{Answer}
 use Rattle.xa_session.specs.declared.fault.Fault.{Fault}
 use Rattle.xa_session.specs.declared.fault.Fault.TheVariants.{Overtaken, Full, NoMemory, Busy}

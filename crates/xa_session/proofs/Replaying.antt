@@ -1,13 +1,13 @@
 -- Replaying a history: entry by entry, and in longer histories.
-use Rattle.std.proofs.Common.{◌≡◌, ℕ, zero, suc, ◌<◌, ◌≤◌, ◌+◌, List, [], ◌∷◌, ◌++◌, length, take, refl, ap, sym, ◌∙◌, subst, Some, None, arith, add-one}
-use Rattle.std.specs.Prelude.{slice_get, map}
+use Rattle.std.proofs.Common.{◌≡◌, ℕ, zero, suc, ◌<◌, ◌≤◌, ◌+◌, List, [], ◌∷◌, ◌++◌, length, take, refl, ap, sym, ◌∙◌, Some, arith, add-one}
+use Rattle.std.specs.Prelude.{slice_get}
 use Rattle.std.proofs.lemmas.List.{take_all, take-append-le}
 use Rattle.xa_words.specs.Entry.{Entry}
 use Rattle.xa_server.specs.State.{State}
-use Rattle.xa_server.specs.Step.{after, after_all}
+use Rattle.xa_server.specs.Step.{after}
 use Rattle.decision_log.specs.History.{Begins}
-use Rattle.decision_log.proofs.Histories.{length_begins, behind, begins_append}
-use Rattle.xa_session.specs.Replay.{call_of, state_after, state_at, Stands}
+use Rattle.decision_log.proofs.Histories.{length_begins, behind}
+use Rattle.xa_session.specs.Replay.{state_after, state_at, Stands}
 use Rattle.xa_session.specs.declared.replica.Replica.{Replica}
 
 -- the prefix with one entry more

@@ -50,10 +50,12 @@ fn commit(letter: u8) -> Statement {
 /// Whether a statement was carried out at this place.
 fn is_ok_at(answer: &Result<Answer, Fault>, place: u64) -> bool {
     match answer {
-        Ok(Answer {
-            place: found,
-            reply: Reply::Ok,
-        }) => *found == place,
+        Ok(
+            Answer {
+                place: found,
+                reply: Reply::Ok,
+            },
+        ) => *found == place,
         _ => false,
     }
 }
@@ -61,14 +63,18 @@ fn is_ok_at(answer: &Result<Answer, Fault>, place: u64) -> bool {
 /// Whether a row was read at this place, with the value of one byte, or with none.
 fn is_value_at(answer: &Result<Answer, Fault>, place: u64, value: Option<u8>) -> bool {
     match answer {
-        Ok(Answer {
-            place: found,
-            reply: Reply::Value(None),
-        }) => *found == place && value.is_none(),
-        Ok(Answer {
-            place: found,
-            reply: Reply::Value(Some(bytes)),
-        }) => *found == place && bytes.len() == 1 && bytes.first().copied() == value,
+        Ok(
+            Answer {
+                place: found,
+                reply: Reply::Value(None),
+            },
+        ) => *found == place && value.is_none(),
+        Ok(
+            Answer {
+                place: found,
+                reply: Reply::Value(Some(bytes)),
+            },
+        ) => *found == place && bytes.len() == 1 && bytes.first().copied() == value,
         _ => false,
     }
 }
@@ -76,10 +82,12 @@ fn is_value_at(answer: &Result<Answer, Fault>, place: u64, value: Option<u8>) ->
 /// Whether exactly the identifiers of these letters were listed at this place.
 fn is_list_at(answer: &Result<Answer, Fault>, place: u64, letters: &[u8]) -> bool {
     match answer {
-        Ok(Answer {
-            place: found,
-            reply: Reply::Recovered(xids),
-        }) => {
+        Ok(
+            Answer {
+                place: found,
+                reply: Reply::Recovered(xids),
+            },
+        ) => {
             let xids = xids.as_slice();
             *found == place
                 && xids.len() == letters.len()
@@ -166,10 +174,12 @@ where
 /// Whether a statement was carried out, wherever.
 fn is_ok(answer: &Result<Answer, Fault>) -> bool {
     match answer {
-        Ok(Answer {
-            place: _,
-            reply: Reply::Ok,
-        }) => true,
+        Ok(
+            Answer {
+                place: _,
+                reply: Reply::Ok,
+            },
+        ) => true,
         _ => false,
     }
 }
