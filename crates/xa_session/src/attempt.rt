@@ -37,6 +37,19 @@ impl<'a, L: DecisionLog> Session<'a, L> {
         Ok(())
     }
 
+    /// Looks, and has the replica stand for all that is seen then. The answer is how many entries that is.
+    fn observe(&mut self) -> Result<u64, NoMemory>
+        ensures home { L.home self.new.pass ≡ L.home self.old.pass }
+        ensures base { self.new.base.now ≡ self.old.base.now }
+        ensures looked { Looked (L.known self.old.pass) (L.known self.new.pass) }
+        ensures length { IfOk result (λ count. count ≡ length (L.known self.new.pass).seen) }
+        ensures whole { OnOk result (self.new.replica.replayed ≡ length (L.known self.new.pass).seen) }
+    {
+        let count = self.look();
+        self.catch_up()?;
+        Ok(count)
+    }
+
     /// Answers a statement from the whole history, as it is at one step of the call, and adds it there if it enters.
     ///
     /// The answer's place is how long the history was. Errors, in this order: `NoMemory`, where the replica couldn't be had or
@@ -53,8 +66,7 @@ impl<'a, L: DecisionLog> Session<'a, L> {
         ensures fails { IfErr result (λ fault. Fails L.TURNS (L.home self.old.pass).capacity self.old.base.now statement.now fault (L.known self.old.pass) (L.known self.new.pass)) }
         ensures tries { (L.known self.new.pass).tries ≤ (L.known self.old.pass).tries + 1 }
     {
-        let place = self.look();
-        let Ok(()) = self.catch_up() else {
+        let Ok(place) = self.observe() else {
             return Err(Fault::NoMemory);
         };
         let session = self.number();
