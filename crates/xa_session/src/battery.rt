@@ -146,6 +146,36 @@ fn is_entry_of_first<L: DecisionLog>(session: &mut Session<'_, L>) -> bool {
     entry.session().get() == 1
 }
 
+/// In a log with room for two entries that has both, a session that owns a branch can't disconnect, since that would enter, and
+/// keeps what it had; a free session can. What doesn't enter is still answered. Answers the passes where all of that was so.
+///
+/// May take memory. Waits where other sessions are faster.
+pub fn full_log_keeps_an_open_branch<L: DecisionLog, R: Wait>(
+    rt: &R,
+    mut first: Session<'_, L>,
+    mut second: Session<'_, L>,
+) -> Option<(L::Pass, L::Pass)>
+where
+    L::Pass: Drop,
+{
+    let put_k = put(b'k', b'v')?;
+    if !is_ok_at(&first.execute(rt, &Statement::Start(xid(b'a'))), 0)
+        || !is_ok_at(&first.execute(rt, &put_k), 1)
+        || second.execute(rt, &Statement::Start(xid(b'b'))).err() != Some(Fault::Full)
+        || !is_value_at(&first.execute(rt, &get(b'k')?), 2, Some(b'v'))
+        || first.execute(rt, &get(b'm')?).err() != Some(Fault::Full)
+    {
+        return None;
+    }
+    let Err((first, Fault::Full)) = first.disconnect(rt) else {
+        return None;
+    };
+    let Ok(second) = second.disconnect(rt) else {
+        return None;
+    };
+    Some((first.leave(), second))
+}
+
 /// A session that owns a branch disconnects, its branch is rolled back, and another session, which leaves afterwards, starts
 /// one of the same identifier. Answers the passes where all of that was so.
 ///

@@ -54,6 +54,18 @@ fn write_is_seen_by_others_over_a_turn(rt: HostRuntime) {
 }
 
 #[test]
+fn full_log_keeps_an_open_branch_over_a_turn(rt: HostRuntime) {
+    let Ok((log, passes)) = TurnLog::open(rt.alloc(), 2, 2) else {
+        panic!(rt; "not opened")
+    };
+    let base = Server::new(rt.alloc());
+    let Some((first, second)) = connected(&log, &base, passes) else {
+        panic!(rt; "not connected")
+    };
+    assert!(rt; battery::full_log_keeps_an_open_branch(&rt, first, second).is_some());
+}
+
+#[test]
 fn disconnect_rolls_back_over_a_turn(rt: HostRuntime) {
     let Ok((log, passes)) = TurnLog::open(rt.alloc(), 8, 2) else {
         panic!(rt; "not opened")
@@ -99,6 +111,18 @@ fn write_is_seen_by_others_over_a_chain(rt: HostRuntime) {
         panic!(rt; "not connected")
     };
     assert!(rt; battery::write_is_seen_by_others(&mut first, &mut second));
+}
+
+#[test]
+fn full_log_keeps_an_open_branch_over_a_chain(rt: HostRuntime) {
+    let Ok((log, passes)) = ChainLog::open(rt.alloc(), 2, 2) else {
+        panic!(rt; "not opened")
+    };
+    let base = Server::new(rt.alloc());
+    let Some((first, second)) = connected(&log, &base, passes) else {
+        panic!(rt; "not connected")
+    };
+    assert!(rt; battery::full_log_keeps_an_open_branch(&rt, first, second).is_some());
 }
 
 #[test]
