@@ -51,7 +51,7 @@ const WHOLE: Extent = Extent {
     adds: 1_000,
     branches: 100,
     row_rounds: 40,
-    tries: 5,
+    tries: 20,
 };
 
 /// Enough to see that it runs.
