@@ -10,7 +10,7 @@ use xa_words::Entry;
 
 /// A log without a turn. Who adds writes a cell of its own, which links to the newest cell it has seen, and then makes it the newest by one exchange.
 ///
-/// No pass can keep another from adding: a lost exchange means that the history grew.
+/// A pass that stops keeps no other from adding: a lost exchange means that the history grew.
 #[derive(Drop)]
 pub struct ChainLog {
     pub(crate) table: Table<Entry, View, Sizes, Links, Global>,

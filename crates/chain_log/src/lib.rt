@@ -1,4 +1,4 @@
-//! A chain of cells in place of the turn: a log that no session can hold up.
+//! A chain of cells in place of the turn: a log that no session holds up by stopping.
 #![tactic(auto)]
 
 mod calls;

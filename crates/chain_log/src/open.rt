@@ -1,8 +1,7 @@
 //! Opening a chain.
 ghost use Rattle.std.specs.Prelude.{◌≡◌, ◌≤◌, IfOk, IfErr};
 ghost use Rattle.decision_log.specs.Opens.{Opens, Refuses};
-ghost use Rattle.decision_log.specs.Seats.{newcomer_hand};
-ghost use Rattle.decision_log.specs.Seats.{hand};
+ghost use Rattle.decision_log.specs.Seats.{newcomer_hand, hand};
 ghost use Rattle.chain_log.specs.ChainPass.{place_of, home_of, known_of};
 ghost use Rattle.chain_log.specs.ChainSeat.{IsRest};
 

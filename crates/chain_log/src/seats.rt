@@ -1,9 +1,8 @@
 //! Seats that are joined and split, and what two passes learn at one seat.
 ghost use Rattle.std.specs.Prelude.{◌≡◌, ◌<◌, ◌≤◌, List, length};
 ghost use Rattle.xa_words.specs.Entry.{Entry};
-ghost use Rattle.decision_log.specs.Seats.{following};
+ghost use Rattle.decision_log.specs.Seats.{following, hand, second};
 ghost use Rattle.decision_log.specs.Observed.{met, MetAt};
-ghost use Rattle.decision_log.specs.Seats.{hand, second};
 ghost use Rattle.chain_log.specs.Cells.{newest_of};
 ghost use Rattle.chain_log.specs.ChainSeat.{IsSeat, IsTwo, IsRest};
 

@@ -6,7 +6,6 @@ ghost use Rattle.decision_log.specs.Draft.{drafted};
 ghost use Rattle.decision_log.specs.Observed.{HistoryIs};
 ghost use Rattle.decision_log.specs.Seats.{hand};
 ghost use Rattle.chain_log.specs.Cells.{name_at, name_before, newest_of};
-ghost use Rattle.chain_log.specs.ChainRule.{own_cell};
 ghost use Rattle.chain_log.specs.ChainPlays.{looked, won, lost};
 ghost use Rattle.chain_log.specs.ChainSeat.{IsSeat, IsOurs};
 

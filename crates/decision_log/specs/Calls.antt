@@ -10,7 +10,7 @@ use Rattle.decision_log.specs.declared.fault.AddFault.{AddFault}
 use Rattle.decision_log.specs.declared.fault.AddFault.TheVariants.{Overtaken, Full, Busy}
 use Rattle.decision_log.specs.History.{Begins, entries_of}
 
--- one step at which the history was all of what is seen now
+-- what was seen begins what is seen now, and one look more is counted
 pub record Looked (old new : Known) : Type 0 where
   pub number : new.number ≡ old.number
   pub seen : Begins old.seen new.seen

@@ -1,5 +1,5 @@
 -- What a step that sees the history tells a pass.
---     HistoryIs       the history was this
+--     HistoryIs       what a pass learns of a history that it sees
 --     MetAt           the same of two passes that meet
 --     met             a pass after a meeting
 use Rattle.std.specs.Prelude.{◌≡◌, ◌≤◌, List, [], length}
@@ -9,7 +9,8 @@ use Rattle.decision_log.specs.declared.view.Turn.TheVariants.{Without}
 use Rattle.decision_log.specs.History.{Begins, entries_of}
 use Rattle.decision_log.specs.Known.{AllOf}
 
--- the history was this: it begins with all that was seen, and the entries of one's number in it are one's own
+-- what a pass learns of a history that it sees: it begins with all that was seen, is no longer than the log can have, and the entries
+-- of one's number in it are one's own
 pub record HistoryIs (h : Hand) (seen : List Entry) : Type 0 where
   pub begins : Begins h.known.seen seen
   pub room : length seen ≤ h.capacity

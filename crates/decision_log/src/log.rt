@@ -1,5 +1,5 @@
 //! What a log promises to a session, whatever way it is kept.
-ghost use Rattle.std.specs.Prelude.{◌≡◌, ◌<◌, ◌≤◌, ℕ, Bool, length, slice_get, Some};
+ghost use Rattle.std.specs.Prelude.{◌≡◌, ◌<◌, ◌≤◌, Bool, length, slice_get, Some};
 ghost use Rattle.decision_log.specs.History.{entries_of};
 ghost use Rattle.decision_log.specs.Known.{Place, AllOf};
 ghost use Rattle.decision_log.specs.Calls.{Looked, Adds, MeetsFirst, MeetsSecond};
@@ -71,9 +71,9 @@ pub trait DecisionLog {
 
     /// Adds an entry of the pass's own at the end of the history, if the pass has seen all of it.
     ///
-    /// Errors: `Full` where what the pass has seen is as long as the log's capacity. `Overtaken` where the history had
-    /// more than the pass had seen; the pass has then seen more. `Busy`, only where `TURNS`, where another pass has the
-    /// turn. After an error nothing of the entry stands in the history.
+    /// Errors, in this order: `Full` where what the pass has seen is as long as the log's capacity. `Busy`, only where
+    /// `TURNS`, where another pass has the turn. `Overtaken` where the history had more than the pass had seen; the pass has
+    /// then seen more. After an error nothing of the entry stands in the history.
     ///
     /// Takes no memory. Doesn't wait.
     fn try_add(&self, pass: &mut Self::Pass, entry: &Entry) -> Result<(), AddFault>

@@ -9,7 +9,8 @@
 --     IsFull           there is no room for a statement that enters
 --     Fails            why a statement was not answered
 --     IsFinal          trying again is of no use
-use Rattle.std.specs.Prelude.{◌≡◌, ◌<◌, ◌≤◌, ℕ, Bool, true, false, IsTrue, List, [], ◌∷◌, ◌++◌, length, take, slice_get, Some}
+--     RepliesAfter     an answer, or Full, comes only once the replica stands for what it was found on
+use Rattle.std.specs.Prelude.{◌≡◌, ◌<◌, ◌≤◌, ℕ, Bool, true, false, IsTrue, List, [], ◌∷◌, ◌++◌, length, take, slice_get, Some, Result, Ok, Err}
 use Rattle.xa_words.specs.Entry.{Entry}
 use Rattle.xa_xid.specs.declared.statement.Statement.{Statement}
 use Rattle.xa_server.specs.State.{State}
@@ -21,6 +22,7 @@ use Rattle.decision_log.specs.Calls.{IsOvertaken}
 use Rattle.decision_log.specs.declared.known.Known.{Known}
 use Rattle.xa_session.specs.Replay.{state_after, state_at}
 use Rattle.xa_session.specs.declared.answer.Answer.{Answer}
+use Rattle.xa_session.specs.declared.replica.Replica.{Replica}
 use Rattle.xa_session.specs.declared.fault.Fault.{Fault}
 use Rattle.xa_session.specs.declared.fault.Fault.TheVariants.{Overtaken, Full, NoMemory, Busy}
 
@@ -84,3 +86,11 @@ IsFinal (Overtaken front) = ⊥
 IsFinal Full = Unit {0}
 IsFinal NoMemory = Unit {0}
 IsFinal Busy = ⊥
+
+-- want of memory for the replica comes before every answer and before Full: the replica has replayed what these were found on
+abbrev pub RepliesAfter : Result Answer Fault → Replica → Known → Type 0
+RepliesAfter (Ok answer) replica known = answer.place ≤ replica.replayed
+RepliesAfter (Err (Overtaken front)) replica known = Unit {0}
+RepliesAfter (Err Full) replica known = replica.replayed ≡ length known.seen
+RepliesAfter (Err NoMemory) replica known = Unit {0}
+RepliesAfter (Err Busy) replica known = Unit {0}

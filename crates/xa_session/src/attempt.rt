@@ -1,7 +1,7 @@
 //! One try to have a statement answered.
-ghost use Rattle.std.specs.Prelude.{◌≡◌, ◌<◌, ◌≤◌, ◌+◌, ◌^◌, ℕ, length, IfOk, IfErr, OnOk, OnErr};
+ghost use Rattle.std.specs.Prelude.{◌≡◌, ◌<◌, ◌≤◌, ◌+◌, ◌^◌, length, IfOk, IfErr, OnOk};
 ghost use Rattle.decision_log.specs.Calls.{Looked};
-ghost use Rattle.xa_session.specs.Answer.{IsAnswered, Fails};
+ghost use Rattle.xa_session.specs.Answer.{IsAnswered, Fails, RepliesAfter};
 
 use crate::replica::Replica;
 use crate::{Answer, Fault, Session};
@@ -54,8 +54,8 @@ impl<'a, L: DecisionLog> Session<'a, L> {
     ///
     /// The answer's place is how long the history was. Errors, in this order: `NoMemory`, where the replica couldn't be had or
     /// the reply of `XA RECOVER` couldn't; `Full`, where the statement enters and the history is as long as the log's
-    /// capacity; `Overtaken`, where another session added first; `Busy`, only in a log with turns, where another has the
-    /// turn. After an error nothing of the statement stands in the history, and the session may have seen more.
+    /// capacity; `Busy`, only in a log with turns, where another has the turn; `Overtaken`, where another session added
+    /// first. After an error nothing of the statement stands in the history, and the session may have seen more.
     ///
     /// May answer `NoMemory`, and never after an add. Doesn't wait.
     /// Own rule: docs/BEHAVIOR.md, 'Sessions'.
@@ -65,6 +65,7 @@ impl<'a, L: DecisionLog> Session<'a, L> {
         ensures answered { IfOk result (λ answer. IsAnswered self.old.base.now statement.now answer (L.known self.old.pass) (L.known self.new.pass)) }
         ensures fails { IfErr result (λ fault. Fails L.TURNS (L.home self.old.pass).capacity self.old.base.now statement.now fault (L.known self.old.pass) (L.known self.new.pass)) }
         ensures tries { (L.known self.new.pass).tries ≤ (L.known self.old.pass).tries + 1 }
+        ensures replayed { RepliesAfter result self.new.replica (L.known self.new.pass) }
     {
         let Ok(place) = self.observe() else {
             return Err(Fault::NoMemory);

@@ -1,8 +1,8 @@
 //! Trying until a statement is answered.
-ghost use Rattle.std.specs.Prelude.{◌≡◌, ◌≤◌, ℕ, IfOk, IfErr};
+ghost use Rattle.std.specs.Prelude.{◌≡◌, ℕ, IfOk, IfErr};
 ghost use Rattle.xa_server.specs.declared.reply.Reply.TheVariants.{Ok as Accepted};
 ghost use Rattle.xa_xid.specs.declared.statement.Statement.TheVariants.{Disconnect};
-ghost use Rattle.xa_session.specs.Answer.{IsAnswered, Fails, IsFinal};
+ghost use Rattle.xa_session.specs.Answer.{IsAnswered, Fails, IsFinal, RepliesAfter};
 
 use crate::{Answer, Fault, Session};
 use decision_log::DecisionLog;
@@ -23,6 +23,7 @@ impl<'a, L: DecisionLog> Session<'a, L> {
         ensures answered { IfOk result (λ answer. IsAnswered self.old.base.now statement.now answer (L.known self.old.pass) (L.known self.new.pass)) }
         ensures fails { IfErr result (λ fault. Fails L.TURNS (L.home self.old.pass).capacity self.old.base.now statement.now fault (L.known self.old.pass) (L.known self.new.pass)) }
         ensures lasts { IfErr result IsFinal }
+        ensures replayed { RepliesAfter result self.new.replica (L.known self.new.pass) }
     {
         for _ in rt.forever() {
             match self.attempt(statement) {

@@ -1,5 +1,5 @@
 //! A session's own server.
-ghost use Rattle.std.specs.Prelude.{◌≡◌, ◌<◌, ◌+◌, ◌^◌, ℕ, List, take, slice_get, Some, IfOk, OnOk, OnErr};
+ghost use Rattle.std.specs.Prelude.{◌≡◌, ◌<◌, ◌+◌, ◌^◌, List, slice_get, Some, IfOk, OnOk, OnErr};
 ghost use Rattle.xa_words.specs.Entry.{Entry as EntryValue};
 ghost use Rattle.xa_server.specs.State.{State};
 ghost use Rattle.xa_session.specs.Replay.{Stands};

@@ -1,5 +1,5 @@
 //! A session over a log.
-ghost use Rattle.std.specs.Prelude.{◌≡◌, ◌<◌, ℕ, length, slice_get, Some, IfOk, IfErr};
+ghost use Rattle.std.specs.Prelude.{◌≡◌, ◌<◌, length, slice_get, Some, IfOk, IfErr};
 ghost use Rattle.decision_log.specs.Calls.{Looked, MeetsFirst, MeetsSecond};
 ghost use Rattle.xa_session.specs.Replay.{Stands};
 
@@ -54,6 +54,7 @@ impl<'a, L: DecisionLog> Session<'a, L> {
     /// The session's number.
     ///
     /// Takes no memory. Doesn't wait.
+    /// Own rule: docs/BEHAVIOR.md, 'Sessions'.
     pub fn number(&self) -> SessionNo
         ensures { result ≡ (L.known self.now.pass).number }
     {
@@ -63,6 +64,7 @@ impl<'a, L: DecisionLog> Session<'a, L> {
     /// How many entries of the history the session has seen.
     ///
     /// Takes no memory. Doesn't wait.
+    /// Own rule: docs/BEHAVIOR.md, 'Sessions'.
     pub fn seen(&self) -> u64
         ensures { result ≡ length (L.known self.now.pass).seen }
     {
@@ -72,6 +74,7 @@ impl<'a, L: DecisionLog> Session<'a, L> {
     /// Sees the whole history, as it is at one step of the call. The answer is its length.
     ///
     /// Takes no memory. Doesn't wait.
+    /// Own rule: docs/BEHAVIOR.md, 'Sessions'.
     pub fn look(&mut self) -> u64
         ensures home { L.home self.new.pass ≡ L.home self.old.pass }
         ensures base { self.new.base.now ≡ self.old.base.now }
@@ -85,6 +88,7 @@ impl<'a, L: DecisionLog> Session<'a, L> {
     /// The entry at `at`, in `[0, seen)`.
     ///
     /// Takes no memory. Doesn't wait.
+    /// Own rule: docs/BEHAVIOR.md, 'Sessions'.
     pub fn entry(&mut self, at: u64) -> Entry
         requires { at < length (L.known self.old.pass).seen }
         ensures home { L.home self.new.pass ≡ L.home self.old.pass }
@@ -99,6 +103,7 @@ impl<'a, L: DecisionLog> Session<'a, L> {
     /// Two sessions of one log meet: what this one has seen begins what the other has seen afterwards.
     ///
     /// Takes no memory. Doesn't wait.
+    /// Own rule: docs/BEHAVIOR.md, 'Sessions'.
     pub fn meet(&mut self, other: &mut Session<'_, L>)
         requires { L.home self.old.pass ≡ L.home other.old.pass }
         ensures homes { (L.home self.new.pass ≡ L.home self.old.pass) × (L.home other.new.pass ≡ L.home other.old.pass) }
@@ -112,6 +117,7 @@ impl<'a, L: DecisionLog> Session<'a, L> {
     /// Gives the pass back. The store isn't told: an open branch stays open, with its locks.
     ///
     /// Takes no memory. Doesn't wait.
+    /// Own rule: docs/BEHAVIOR.md, 'Sessions'.
     pub fn leave(self) -> L::Pass
         ensures { result ≡ self.entry.pass }
     {

@@ -10,7 +10,7 @@ use xa_server::Server;
 use xa_session::Session;
 use xa_xid::NoMemory;
 
-/// The log of a store: no session of it can hold up another.
+/// The log of a store: a session that stops holds up no other.
 pub type Log = ChainLog;
 
 /// What a session of a store knows of its history.

@@ -55,7 +55,7 @@ fn value_of_run(run: &[u8]) -> Result<u64, LiteralFault>
     }
 }
 
-/// The value of digits in a base of 2 to 36.
+/// The value of digits in a base of 1 to 36.
 #[tactic(auto, using(crate::proofs::Numbers::fitting_small, crate::proofs::Numbers::fitting_large))]
 fn fitting_value(digits: &[u8], base: u64) -> Result<u64, LiteralFault>
     requires positive { 1 ≤ base }
@@ -68,7 +68,7 @@ fn fitting_value(digits: &[u8], base: u64) -> Result<u64, LiteralFault>
     }
 }
 
-/// The value of digits in a base of 2 to 36, where it is below 2^64.
+/// The value of digits in a base of 1 to 36, where it is below 2^64.
 fn value_in(digits: &[u8], base: u64) -> Option<u64>
     requires positive { 1 ≤ base }
     requires small { base ≤ 36 }

@@ -1,9 +1,8 @@
 //! Opening a log with a turn.
 ghost use Rattle.std.specs.Prelude.{◌≡◌, ◌≤◌, IfOk, IfErr};
 ghost use Rattle.decision_log.specs.Opens.{Opens, Refuses};
-ghost use Rattle.decision_log.specs.Seats.{newcomer_hand};
+ghost use Rattle.decision_log.specs.Seats.{newcomer_hand, hand};
 ghost use Rattle.decision_log.specs.TurnPass.{place_of, home_of, known_of};
-ghost use Rattle.decision_log.specs.Seats.{hand};
 ghost use Rattle.decision_log.specs.TurnSeat.{IsRest};
 
 use super::layout::ROWS;

@@ -2,7 +2,6 @@
 ghost use Rattle.std.specs.Prelude.{◌≡◌, ◌≢◌, ◌<◌, ◌≤◌, ◌+◌, ℕ, List, length, slice_get, slice_index, Some};
 ghost use Rattle.xa_words.specs.Entry.{Entry, IsEntry};
 ghost use Rattle.xa_words.specs.Words.{words_of};
-ghost use Rattle.decision_log.specs.Seats.{hand_of};
 ghost use Rattle.decision_log.specs.TurnRule.{row_at};
 ghost use Rattle.decision_log.specs.Draft.{drafted};
 ghost use Rattle.decision_log.specs.Observed.{HistoryIs};
