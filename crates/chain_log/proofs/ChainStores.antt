@@ -27,7 +27,7 @@ use Rattle.decision_log.proofs.TurnStores.{holds_nothing, holds_beside, holds_on
 use Rattle.chain_log.specs.Cells.{name_at, cell_at, name_before, newest_of}
 use Rattle.chain_log.specs.ChainRule.{own_cell, Knows, ChainRule}
 use Rattle.chain_log.specs.ChainPlays.{won, lost, Drafts, Exchanges}
-use Rattle.chain_log.proofs.Chains.{later_other}
+use Rattle.chain_log.proofs.Chains.{chain_of, one_chain, later_other}
 use Rattle.chain_log.proofs.ChainSteps.{Rules, known, ranged, history, newest_by, seen_keeps, loaded}
 use Rattle.chain_log.proofs.Names.{name_begins, name_low, newest_added, one_cell, one_length, within_words, words_apart}
 
@@ -195,6 +195,30 @@ module _ (sizes : Sizes) (words : List ℕ) (views : List View) (r : ChainRule s
       ap (λ s. newest_of s h.known.seen) k.sessions ∙ name_begins sizes.sessions h.known.seen r.log (length h.known.seen) k.seen (omega arith) in
       let lengths = one_length sizes.sessions r.log (length h.known.seen) (length r.log) (ranged sizes words views r) low (omega arith) (sym mine ∙ same ∙ r.newest) in
       begins_same h.known.seen r.log k.seen (omega (arith, lengths))
+
+  -- words that a step leaves spell what the rule has after it
+  one_log : (words' : List ℕ) (one other : List View) (p : ChainRule sizes words' one) (q : ChainRule sizes words' other) → p.log ≡ q.log
+  one_log words' one other p q = one_chain words' p.log q.log (chain_of sizes words' one p) (chain_of sizes words' other q)
+
+  pub stored_log : (views' : List View) (id : ℕ) (h : Hand) (index new : ℕ) → get_elem? views id ≡ some (One h) → index ≤ length h.draft → index < 22 → length h.known.seen < h.capacity
+      → (after : ChainRule sizes (set words (own_cell h + index) new) views') → after.log ≡ r.log
+  unfolding draft_keeps
+  stored_log views' id h index new here along below room after =
+      one_log (set words (own_cell h + index) new) views' (set views id (One (drafted h index new))) after (draft_keeps id h index new here along below room)
+
+  pub won_log : (views' : List View) (id : ℕ) (h : Hand) (entry : Entry) → get_elem? views id ≡ some (One h) → get_or words 0 0 ≡ newest_of h.sessions h.known.seen → IsEntry entry → entry.session ≡ h.known.number
+      → h.draft ≡ newest_of h.sessions h.known.seen ∷ words_of entry → length h.known.seen < h.capacity
+      → (after : ChainRule sizes (set words 0 (name_at h.sessions (length h.known.seen) h.known.number)) views') → after.log ≡ r.log ++ entry ∷ []
+  unfolding win_keeps
+  won_log views' id h entry here newest is own whole room after =
+      let k = (known sizes words views r id h here).fact_is in
+      let all = all_seen h k (sym newest) in
+      let last : newest_of h.sessions h.known.seen ≡ newest_of sizes.sessions r.log = ap (λ s. newest_of s h.known.seen) k.sessions ∙ ap (newest_of sizes.sessions) all in
+      let name : name_at h.sessions (length h.known.seen) h.known.number ≡ name_at sizes.sessions (length r.log) h.known.number =
+      ap (λ s. name_at s (length h.known.seen) h.known.number) k.sessions ∙ ap (λ list. name_at sizes.sessions (length list) h.known.number) all in
+      let kept = win_keeps id h entry here all is own (whole ∙ ap (λ n. n ∷ words_of entry) last) (omega (arith, ap length all, room, k.capacity)) in
+      subst (λ n. (after : ChainRule sizes (set words 0 n) views') → after.log ≡ r.log ++ entry ∷ []) (sym name)
+      (λ after. one_log (set words 0 (name_at sizes.sessions (length r.log) h.known.number)) views' (set views id (One (won h entry))) after kept) after
 
   -- another name means a longer history
   more_there : (h : Hand) → Knows sizes words r.log h → newest_of h.sessions h.known.seen ≢ get_or words 0 0 → length h.known.seen < length r.log

@@ -1,12 +1,18 @@
 //! What holds of the words of a chain at any moment, as contracts over its rule alone.
-ghost use Rattle.std.specs.Prelude.{◌≡◌, ◌≢◌, ◌≤◌, ℕ, List, length, slice_get, slice_index, Some};
-ghost use Rattle.xa_words.specs.Entry.{Entry};
+ghost use Rattle.std.specs.Prelude.{◌≡◌, ◌≢◌, ◌<◌, ◌≤◌, ◌+◌, ℕ, List, [], ◌∷◌, ◌++◌, length, set, slice_get, slice_index, Some};
+ghost use mathlib.Core.Option.{some};
+ghost use lib.ListN.{get_elem?};
+ghost use Rattle.xa_words.specs.Entry.{Entry, IsEntry};
+ghost use Rattle.xa_words.specs.Words.{words_of};
 ghost use Rattle.decision_log.specs.declared.sizes.Sizes.{Sizes};
 ghost use Rattle.decision_log.specs.declared.view.Hand.{Hand};
 ghost use Rattle.decision_log.specs.declared.view.View.{View};
-ghost use Rattle.chain_log.specs.Cells.{newest_of};
+ghost use Rattle.decision_log.specs.declared.view.View.TheVariants.{One};
+ghost use Rattle.decision_log.specs.Machine.{Machine};
+ghost use Rattle.decision_log.specs.Passes.{HasPasses};
+ghost use Rattle.chain_log.specs.Cells.{name_at, newest_of};
 ghost use Rattle.chain_log.specs.Chain.{Chain};
-ghost use Rattle.chain_log.specs.ChainRule.{Knows, ChainRule};
+ghost use Rattle.chain_log.specs.ChainRule.{own_cell, Knows, ChainRule};
 
 /// Whatever words and seats keep the rule, the walk from the newest cell along the links spells the rule's history.
 ///
@@ -34,4 +40,26 @@ pub fn one_history_of_its_newest_cell()
 /// Takes no memory. Doesn't wait. Own rule: docs/LOG.md, 'A chain'.
 pub fn later_entries_are_of_others()
     ensures { (sizes : Sizes) (words : List ℕ) (views : List View) (rule : ChainRule sizes words views) (pass : Hand) → Knows sizes words rule.log pass → (row : ℕ) (entry : Entry) → length pass.known.seen ≤ row → slice_get rule.log row ≡ Some entry → entry.session ≢ pass.known.number }
+{}
+
+/// Whatever words and seats keep the rule, its history and its passes are a state of the log machine.
+///
+/// Takes no memory. Doesn't wait. Own rule: docs/LOG.md, 'A chain'.
+pub fn passes_are_sessions_of_the_machine()
+    ensures { (sizes : Sizes) (words : List ℕ) (views : List View) (rule : ChainRule sizes words views) → (machine : Machine) × HasPasses sizes.capacity rule.log views machine }
+{}
+
+/// A word that a pass stores into its own cell leaves the history as it was.
+///
+/// Takes no memory. Doesn't wait. Own rule: docs/LOG.md, 'A chain'.
+pub fn store_keeps_the_history()
+    ensures { (sizes : Sizes) (words : List ℕ) (views views' : List View) (rule : ChainRule sizes words views) (id : ℕ) (pass : Hand) (index word : ℕ) → get_elem? views id ≡ some (One pass) → index ≤ length pass.draft → index < 22 → length pass.known.seen < pass.capacity → (after : ChainRule sizes (set words (own_cell pass + index) word) views') → after.log ≡ rule.log }
+{}
+
+/// An exchange that finds the newest cell's name to be the last that the pass has seen puts the entry of the pass's own cell
+/// at the end of the history.
+///
+/// Takes no memory. Doesn't wait. Own rule: docs/LOG.md, 'A chain'.
+pub fn won_exchange_adds_its_entry()
+    ensures { (sizes : Sizes) (words : List ℕ) (views views' : List View) (rule : ChainRule sizes words views) (id : ℕ) (pass : Hand) (entry : Entry) → get_elem? views id ≡ some (One pass) → slice_index words 0 ≡ newest_of pass.sessions pass.known.seen → IsEntry entry → entry.session ≡ pass.known.number → pass.draft ≡ newest_of pass.sessions pass.known.seen ∷ words_of entry → length pass.known.seen < pass.capacity → (after : ChainRule sizes (set words 0 (name_at pass.sessions (length pass.known.seen) pass.known.number)) views') → after.log ≡ rule.log ++ entry ∷ [] }
 {}

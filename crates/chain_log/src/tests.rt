@@ -1,10 +1,13 @@
 //! The scenes that every log shows, over a chain; where its words lie; how it is opened; and a pass that stops before its exchange.
 
+ghost use Rattle.std.specs.Prelude.{◌≡◌};
+ghost use Rattle.chain_log.specs.ChainPass.{place_of, home_of};
+
 use crate::layout::{cell_name, cell_start, count_words};
-use crate::{ChainLog, laws};
+use crate::{ChainLog, ChainPass, laws};
 use decision_log::{AddFault, DecisionLog, OpenFault, battery};
 use xa_words::Entry;
-use xa_xid::Statement;
+use xa_xid::{Bytes, Statement, Xid};
 
 #[test]
 fn an_add_is_overtaken_then_stands_until_the_log_is_full(rt: HostRuntime) {
@@ -56,6 +59,9 @@ fn cells_lie_row_by_row(rt: HostRuntime) {
     laws::one_history_of_its_words();
     laws::one_history_of_its_newest_cell();
     laws::later_entries_are_of_others();
+    laws::passes_are_sessions_of_the_machine();
+    laws::store_keeps_the_history();
+    laws::won_exchange_adds_its_entry();
     assert_eq!(rt; count_words(2, 4), 177);
     assert_eq!(rt; cell_name(2, 2, 1), 5);
     assert_eq!(rt; cell_start(5), 89);
@@ -83,6 +89,17 @@ fn a_log_is_opened_for_its_sizes_alone(rt: HostRuntime) {
     }
 }
 
+/// Adds an entry of the pass's number, where the statement may enter.
+fn adds(log: &ChainLog, pass: &mut ChainPass, statement: &Statement) -> bool
+    requires home { home_of pass.old ≡ place_of log.now }
+    ensures home { home_of pass.new ≡ home_of pass.old }
+{
+    match Entry::of(log.number(pass), statement) {
+        Some(entry) => log.try_add(pass, &entry) == Ok(()),
+        None => false,
+    }
+}
+
 #[test]
 fn a_pass_that_stops_before_its_exchange_holds_up_nobody(rt: HostRuntime) {
     let Ok((log, mut passes)) = ChainLog::open(rt.alloc(), 4, 2) else {
@@ -91,18 +108,23 @@ fn a_pass_that_stops_before_its_exchange_holds_up_nobody(rt: HostRuntime) {
     let (Some(mut second), Some(mut first)) = (passes.pop(), passes.pop()) else {
         panic!(rt; "two passes")
     };
-    let (Some(left), Some(added)) = (
+    let xid = Xid {
+        format_id: 1,
+        gtrid: Bytes::new(),
+        bqual: Bytes::new(),
+    };
+    let (Some(left), Some(started)) = (
         Entry::of(log.number(&first), &Statement::Disconnect),
-        Entry::of(log.number(&second), &Statement::Disconnect),
+        Entry::of(log.number(&second), &Statement::Start(xid.copy())),
     ) else {
         panic!(rt; "two entries")
     };
     let own = cell_name(2, 0, first.number.get());
     log.write_cell(&mut first.seat, own, 0, &left);
-    assert!(rt; log.try_add(&mut second, &added) == Ok(()));
-    assert!(rt; log.try_add(&mut second, &added) == Ok(()));
-    assert!(rt; log.try_add(&mut second, &added) == Ok(()));
+    assert!(rt; log.try_add(&mut second, &started) == Ok(()));
+    assert!(rt; adds(&log, &mut second, &Statement::End(xid.copy())));
+    assert!(rt; adds(&log, &mut second, &Statement::Prepare(xid)));
     assert!(rt; log.try_add(&mut first, &left) == Err(AddFault::Overtaken { front: 3 }));
     assert!(rt; log.try_add(&mut first, &left) == Ok(()));
-    assert!(rt; log.entry(&mut first, 0) == added);
+    assert!(rt; log.entry(&mut first, 0) == started);
 }

@@ -1,25 +1,30 @@
 -- The law of the machine: what a session knows is a prefix of the history with its own entries in it.
-use Rattle.std.proofs.Common.{◌≡◌, ℕ, List, [], ◌∷◌, ◌++◌, refl, ap, sym, ◌∙◌, subst}
+use Rattle.std.proofs.Common.{◌≡◌, ℕ, ◌≤◌, List, [], ◌∷◌, ◌++◌, length, refl, ap, sym, ◌∙◌, subst, arith}
+use Rattle.std.proofs.lemmas.List.{length-append}
 use native.Mathlib.Decide.{ℕ_discrete}
 use mathlib.Core.Logic.{dite}
 use Rattle.xa_words.specs.Entry.{Entry}
 use Rattle.decision_log.specs.History.{Begins, entries_of}
-use Rattle.decision_log.specs.Machine.{Seen, Machine, Event, Look, Add, Looks, Appends, Happens, Runs, opening}
+use Rattle.decision_log.specs.Machine.{Seen, Machine, Event, Look, Add, Looks, Appends, Happens, Runs, opening, IsState}
 use Rattle.decision_log.proofs.Histories.{begins_itself, begins_more, own_last, own_other}
 
-record Knows (history : List Entry) (session : ℕ) (known : Seen) : Type 0 where
+pub record Knows (history : List Entry) (session : ℕ) (known : Seen) : Type 0 where
   pub begins : Begins known.seen history
   pub own : entries_of session history ≡ known.mine
   pub part : entries_of session known.seen ≡ known.mine
 
-Sound : Machine → Type 0
+abbrev pub Sound : Machine → Type 0
 Sound machine = (session : ℕ) → Knows machine.history session (machine.knows session)
 
-seen_by : (old new : Seen) → new.seen ≡ old.seen → new.mine ≡ old.mine → new ≡ old
-seen_by old new s m i = record { seen = s i; mine = m i }
+pub state_of : (machine : Machine) → length machine.history ≤ machine.capacity → Sound machine → IsState machine
+state_of machine room is = record {
+  room = room;
+  seen = λ session. (is session).begins;
+  mine = λ session. (is session).own;
+  part = λ session. (is session).part;
+}
 
 after_look : (session : ℕ) (old new : Machine) → Looks session old new → Sound old → Sound new
-unfolding Sound
 after_look session old new is sound other =
     dite (ℕ_discrete other session)
     (λ e. subst (λ n. Knows new.history n (new.knows n)) (sym e)
@@ -28,7 +33,6 @@ after_look session old new is sound other =
     (λ n. rw (is.history, is.others other n) (sound other))
 
 after_add : (session : ℕ) (entry : Entry) (old new : Machine) → Appends session entry old new → Sound old → Sound new
-unfolding Sound
 after_add session entry old new is sound other =
     dite (ℕ_discrete other session)
     (λ e. subst (λ n. Knows new.history n (new.knows n)) (sym e)
@@ -56,9 +60,27 @@ after_events [] old new is sound = subst Sound (sym is) sound
 after_events (event ∷ events) old new is sound = after_events events is.0 new is.2 (after_event event old is.0 is.1 sound)
 
 at_start : (capacity : ℕ) → Sound (opening capacity)
-unfolding Sound
 at_start capacity session = record { begins = refl; own = refl; part = refl }
 
+-- the history never gets longer than the capacity
+
+Fits : Machine → Type 0
+Fits machine = length machine.history ≤ machine.capacity
+
+room_after : (event : Event) (old new : Machine) → Happens event old new → Fits old → Fits new
+unfolding Fits
+room_after (Look session) old new is fits = omega (arith, ap length is.history, is.capacity, fits)
+room_after (Add session entry) old new is fits =
+    omega (arith, ap length is.history, length-append old.history (entry ∷ []), is.capacity, is.room)
+
+room_after_all : (events : List Event) (old new : Machine) → Runs events old new → Fits old → Fits new
+room_after_all [] old new is fits = subst Fits (sym is) fits
+room_after_all (event ∷ events) old new is fits = room_after_all events is.0 new is.2 (room_after event old is.0 is.1 fits)
+
+pub runs_end_in_states : (capacity : ℕ) (events : List Event) (machine : Machine) → Runs events (opening capacity) machine → IsState machine
+unfolding Fits
+runs_end_in_states capacity events machine is =
+    state_of machine (room_after_all events (opening capacity) machine is (omega arith)) (after_events events (opening capacity) machine is (at_start capacity))
+
 pub mine_is_own : (capacity : ℕ) (events : List Event) (machine : Machine) → Runs events (opening capacity) machine → (session : ℕ) → entries_of session (machine.knows session).seen ≡ (machine.knows session).mine
-unfolding Sound
-mine_is_own capacity events machine is session = (after_events events (opening capacity) machine is (at_start capacity) session).part
+mine_is_own capacity events machine is = (runs_end_in_states capacity events machine is).part

@@ -221,7 +221,20 @@ module _ (sizes : Sizes) (words : List ℕ) (views : List View) (r : TurnRule si
             (λ g apart low k. knows_longer sizes words words' r.log entry g (λ e. apart (sym e ∙ mine)) (λ e. apart (sym e ∙ own)) k);
       }
 
-fresh_has : (words : List ℕ) (log : List Entry) (h : Hand) → h.turn ≡ Fresh → HasTurn words log h h.turn → (h.known.seen ≡ log) × (slice_index words 1 ≡ h.known.number)
+  -- what they leave of the history
+
+  pub drafted_rule : (id : ℕ) (h : Hand) (index new : ℕ) → get_elem? views id ≡ some (One h) → h.known.seen ≡ r.log → slice_index words 1 ≡ h.known.number → h.turn ≡ Fresh
+      → index ≤ length h.draft → index < 21 → length r.log < sizes.capacity → (after : TurnRule sizes (set words (row_at (length r.log) + index) new) (set views id (One (drafted h index new)))) × (after.log ≡ r.log)
+  unfolding draft_keeps
+  drafted_rule id h index new here all mine fresh along below room = (draft_keeps id h index new here all mine fresh along below room, refl)
+
+  pub published_rule : (id : ℕ) (h : Hand) (entry : Entry) → get_elem? views id ≡ some (One h) → h.known.seen ≡ r.log → slice_index words 1 ≡ h.known.number
+      → IsEntry entry → entry.session ≡ h.known.number → h.draft ≡ words_of entry → length r.log < sizes.capacity
+      → (after : TurnRule sizes (set words 0 (length r.log + 1)) (set views id (One (published h entry)))) × (after.log ≡ r.log ++ entry ∷ [])
+  unfolding publish_keeps
+  published_rule id h entry here all mine is own whole room = (publish_keeps id h entry here all mine is own whole room, refl)
+
+pub fresh_has : (words : List ℕ) (log : List Entry) (h : Hand) → h.turn ≡ Fresh → HasTurn words log h h.turn → (h.known.seen ≡ log) × (slice_index words 1 ≡ h.known.number)
 fresh_has words log h fresh has = subst (λ t. HasTurn words log h t) fresh has
 
 pub take_step : (sizes : Sizes) (slots id : ℕ) (h : Hand) → Allows (Rules sizes) slots id (seated h) 1 (λ n. either (eqb n 0) h.known.number n) (Takes (seated h))

@@ -4,6 +4,7 @@ pub mod Faults
 pub mod Known
 pub mod Calls
 pub mod Seats
+pub mod Passes
 pub mod Draft
 pub mod Observed
 pub mod TurnRule

@@ -5,8 +5,10 @@
 --     Happens         one event, from one machine to the next
 --     Runs            any list of events
 --     opening         the machine at the start
-use Rattle.std.specs.Prelude.{◌≡◌, ◌≢◌, ◌<◌, ℕ, List, [], ◌∷◌, ◌++◌, length}
+--     IsState         what the sessions know fits the history
+use Rattle.std.specs.Prelude.{◌≡◌, ◌≢◌, ◌<◌, ◌≤◌, ℕ, List, [], ◌∷◌, ◌++◌, length}
 use Rattle.xa_words.specs.Entry.{Entry}
+use Rattle.decision_log.specs.History.{Begins, entries_of}
 
 -- a prefix of the history, and the history's entries of one's own number
 pub record Seen : Type 0 where
@@ -56,3 +58,10 @@ Runs (event ∷ events) old new = (next : Machine) × Happens event old next × 
 -- nothing has happened
 abbrev pub opening : ℕ → Machine
 opening capacity = record { history = []; capacity = capacity; knows = λ session. record { seen = []; mine = [] } }
+
+-- each session has seen a prefix of the history, in which it has all of the history's entries of its number
+pub record IsState (machine : Machine) : Type 0 where
+  pub room : length machine.history ≤ machine.capacity
+  pub seen : (session : ℕ) → Begins (machine.knows session).seen machine.history
+  pub mine : (session : ℕ) → entries_of session machine.history ≡ (machine.knows session).mine
+  pub part : (session : ℕ) → entries_of session (machine.knows session).seen ≡ (machine.knows session).mine

@@ -49,6 +49,11 @@ fn two_threads_add_each_one_in_its_order(rt: HostRuntime) {
 #[test]
 fn a_log_is_opened_for_its_sizes_alone(rt: HostRuntime) {
     laws::mine_is_the_own_part_of_seen();
+    laws::what_happens_leads_to_states();
+    laws::passes_are_sessions_of_the_machine();
+    laws::turn_keeps_the_history();
+    laws::store_keeps_the_history();
+    laws::stored_count_adds_its_entry();
     for (capacity, sessions, fault) in [
         (0, 17, OpenFault::CapacityOutOfRange),
         (1025, 1, OpenFault::CapacityOutOfRange),

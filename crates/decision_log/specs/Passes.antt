@@ -1,0 +1,30 @@
+-- The log machine whose sessions are the passes of a log.
+--     KnownTo         a pass knows what the machine's session of its number knows
+--     SeatKnownTo     the same of each pass that a seat knows
+--     HasPasses       the machine of a history and of all seats
+use Rattle.std.specs.Prelude.{◌≡◌, ℕ, List}
+use mathlib.Core.Option.{some}
+use lib.ListN.{get_elem?}
+use Rattle.xa_words.specs.Entry.{Entry}
+use Rattle.decision_log.specs.declared.view.Hand.{Hand}
+use Rattle.decision_log.specs.declared.view.View.{View}
+use Rattle.decision_log.specs.declared.view.View.TheVariants.{Spent, One, Two, Rest}
+use Rattle.decision_log.specs.Machine.{Machine, IsState}
+
+-- the pass knows what the session of its number knows
+abbrev pub KnownTo : Machine → Hand → Type 0
+KnownTo machine hand = machine.knows hand.known.number ≡ record { seen = hand.known.seen; mine = hand.known.mine }
+
+-- each pass that was given out and stands at the seat does
+abbrev pub SeatKnownTo : Machine → View → Type 0
+SeatKnownTo machine Spent = Unit {0}
+SeatKnownTo machine (One hand) = KnownTo machine hand
+SeatKnownTo machine (Two first second) = KnownTo machine first × KnownTo machine second
+SeatKnownTo machine (Rest hand) = Unit {0}
+
+-- a state of the machine that has this history and these passes
+pub record HasPasses (capacity : ℕ) (log : List Entry) (views : List View) (machine : Machine) : Type 0 where
+  pub state : IsState machine
+  pub capacity_is : machine.capacity ≡ capacity
+  pub history : machine.history ≡ log
+  pub passes : (id : ℕ) (view : View) → get_elem? views id ≡ some view → SeatKnownTo machine view
