@@ -1,8 +1,20 @@
 //! A store that threads share: a server that held nothing at first, and the history of statements that its sessions add.
 #![tactic(auto)]
 
+mod gate;
+mod gather;
+mod history;
+mod outcome;
+mod race_fault;
+mod racing;
+mod run;
 mod store;
 #[cfg(test)]
 mod tests;
 
+pub use gate::{Gate, OpenGate};
+pub use outcome::Outcome;
+pub use race_fault::RaceFault;
+pub use racing::race;
+pub use run::Run;
 pub use store::{Log, Pass, Store};

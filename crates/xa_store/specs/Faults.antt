@@ -1,0 +1,12 @@
+-- The numbers of the faults of a race.
+--     number_of_race_fault       why a race gave nothing
+use Rattle.std.specs.Prelude.{ℕ}
+use Rattle.xa_store.specs.declared.race_fault.RaceFault.{RaceFault}
+use Rattle.xa_store.specs.declared.race_fault.RaceFault.TheVariants.{GateShut, Full, NoMemory, ThreadRefused}
+
+-- in the order of docs/BEHAVIOR.md, 'Races'
+abbrev pub number_of_race_fault : RaceFault → ℕ
+number_of_race_fault (GateShut session line) = 1
+number_of_race_fault (Full session line) = 2
+number_of_race_fault NoMemory = 3
+number_of_race_fault ThreadRefused = 4

@@ -1,0 +1,28 @@
+-- What one session has seen and others have, once they have met.
+--     IsTakenIn       a history has what a session has seen, and just the entries that it knows as its own
+--     Keeps           what a session still has: it may have seen more
+--     last_known      what the last session of a list knows
+use Rattle.std.specs.Prelude.{◌≡◌, ◌≤◌, List, [], ◌∷◌}
+use Rattle.xa_words.specs.Entry.{Entry}
+use Rattle.decision_log.specs.declared.known.Known.{Known}
+use Rattle.decision_log.specs.Known.{newcomer}
+use Rattle.decision_log.specs.History.{Begins, entries_of}
+
+-- the history begins with all that was seen, and its entries of the session's number are the session's own
+pub record IsTakenIn (history : List Entry) (known : Known) : Type 0 where
+  pub seen : Begins known.seen history
+  pub mine : entries_of known.number history ≡ known.mine
+
+-- the session has added nothing, and what it sees begins with what it had seen
+pub record Keeps (old new : Known) : Type 0 where
+  pub number : new.number ≡ old.number
+  pub seen : Begins old.seen new.seen
+  pub mine : new.mine ≡ old.mine
+  pub looks : old.looks ≤ new.looks
+  pub tries : new.tries ≡ old.tries
+
+-- what the last knows; nothing where there is none
+abbrev pub last_known : List Known → Known
+last_known [] = newcomer 0
+last_known (known ∷ []) = known
+last_known (known ∷ other ∷ others) = last_known (other ∷ others)

@@ -1,0 +1,16 @@
+//! What a race gives.
+
+use crate::Pass;
+use xa_session::Answer;
+use xa_words::Entry;
+
+/// What a race gives, where each statement of each run was answered.
+#[derive(Drop)]
+pub struct Outcome {
+    /// What the last of the passes has seen; empty where there was no run.
+    pub history: Vec<Entry>,
+    /// For each run, in the order given, the answers to its statements, in order.
+    pub answers: Vec<Vec<Answer>>,
+    /// For each run, in the order given, its pass.
+    pub passes: Vec<Pass>,
+}

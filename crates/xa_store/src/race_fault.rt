@@ -1,0 +1,44 @@
+//! Why a race gave nothing.
+ghost use Rattle.std.specs.Prelude.{◌≡◌};
+ghost use Rattle.xa_store.specs.Faults.{number_of_race_fault};
+
+use xa_xid::SessionNo;
+
+/// Why a race gave nothing.
+#[derive(Clone, Copy, Debug, PartialEq, Eq)]
+pub enum RaceFault {
+    /// The gate shut this session's run before its statement at `line`, counted from 0.
+    GateShut {
+        /// The session of the run.
+        session: SessionNo,
+        /// The statement, counted from 0.
+        line: u64,
+    },
+    /// This session's statement at `line`, counted from 0, enters, and the history is as long as the log's capacity.
+    Full {
+        /// The session of the run.
+        session: SessionNo,
+        /// The statement, counted from 0.
+        line: u64,
+    },
+    /// Memory ran out.
+    NoMemory,
+    /// A thread couldn't be started.
+    ThreadRefused,
+}
+
+impl RaceFault {
+    /// The fault's number, from 1 to 4.
+    ///
+    /// Takes no memory. Doesn't wait. Own rule: docs/BEHAVIOR.md, 'Races'.
+    pub fn number(&self) -> u64
+        ensures { result ≡ number_of_race_fault self.now }
+    {
+        match self {
+            RaceFault::GateShut { .. } => 1,
+            RaceFault::Full { .. } => 2,
+            RaceFault::NoMemory => 3,
+            RaceFault::ThreadRefused => 4,
+        }
+    }
+}
