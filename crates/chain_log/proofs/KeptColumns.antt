@@ -1,6 +1,6 @@
 -- The table of columns says which cell stands in a row, and stays so of a longer history.
-use Rattle.std.proofs.Common.{◌≡◌, ◌≢◌, ℕ, zero, suc, ◌+◌, ◌-◌, ◌*◌, ◌%◌, ◌<◌, ◌≤◌, List, [], ◌∷◌, ◌++◌, length, get_or, set, refl, ap, sym, ◌∙◌, subst, Some, arith, add-one, length-append}
-use Rattle.std.specs.Prelude.{slice_get, slice_index}
+use Rattle.std.proofs.Common.{◌≡◌, ℕ, ◌+◌, ◌-◌, ◌*◌, ◌%◌, ◌<◌, ◌≤◌, List, [], ◌∷◌, ◌++◌, length, get_or, set, refl, ap, sym, ◌∙◌, subst, arith, add-one, length-append}
+use Rattle.std.specs.Prelude.{slice_index}
 use mathlib.Core.Logic.{dite}
 use native.Mathlib.Decide.{ℕ_discrete, dec_le}
 use native.Mathlib.Nat.{add-mul-mod_self_right, mod-eq_of_lt}
@@ -8,7 +8,7 @@ use Rattle.std.proofs.lemmas.List.{length-set, get_or-set_same, get_or-set_other
 use Rattle.xa_words.specs.Entry.{Entry}
 use Rattle.decision_log.specs.History.{Begins}
 use Rattle.decision_log.specs.Known.{AllOf}
-use Rattle.decision_log.proofs.Histories.{get_begins, length_begins, begins_append}
+use Rattle.decision_log.proofs.Histories.{get_begins, begins_append}
 use Rattle.chain_log.specs.Cells.{name_at, session_at, name_before}
 use Rattle.chain_log.specs.Columns.{HasColumns}
 use Rattle.chain_log.proofs.Names.{there, session_there, ranged_all, get_end}
