@@ -1,4 +1,6 @@
 pub mod Names
+pub mod KeptColumns
+pub mod PassColumns
 pub mod Ours
 pub mod Chains
 pub mod ChainSteps

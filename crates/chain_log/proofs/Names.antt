@@ -111,7 +111,7 @@ name_begins sessions xs ys (suc row) begins within =
     let e = there xs row (omega arith) in
     name_next sessions xs row e.0 e.1 ∙ sym (name_next sessions ys row e.0 (get_begins xs ys row e.0 begins e.1))
 
-get_end : (log : List Entry) (entry : Entry) → slice_get (log ++ entry ∷ []) (length log) ≡ Some entry
+pub get_end : (log : List Entry) (entry : Entry) → slice_get (log ++ entry ∷ []) (length log) ≡ Some entry
 get_end [] entry = refl
 get_end (x ∷ xs) entry = get_end xs entry
 

@@ -1,5 +1,6 @@
 pub mod Cells
 pub mod Chain
+pub mod Columns
 pub mod ChainRule
 pub mod ChainPlays
 pub mod ChainSeat

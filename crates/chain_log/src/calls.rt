@@ -36,13 +36,16 @@ impl DecisionLog for ChainLog {
     }
 
     fn look(&self, pass: &mut ChainPass) -> u64 {
+        let first = row_count(self.sessions, pass.newest);
         let newest = self.load_newest(&mut pass.seat);
+        self.fill(&mut pass.seat, &mut pass.columns, first, newest);
         pass.newest = newest;
         row_count(self.sessions, newest)
     }
 
     fn entry(&self, pass: &mut ChainPass, at: u64) -> Entry {
-        self.read_entry(&mut pass.seat, pass.newest, at)
+        let name = self.find(pass, at);
+        self.read_entry(&mut pass.seat, name, at)
     }
 
     fn try_add(&self, pass: &mut ChainPass, entry: &Entry) -> Result<(), AddFault>
@@ -60,10 +63,12 @@ impl DecisionLog for ChainLog {
         self.write_cell(&mut pass.seat, own, pass.newest, entry);
         let found = self.exchange(&mut pass.seat, pass.newest, own, entry);
         if found != pass.newest {
+            self.fill(&mut pass.seat, &mut pass.columns, row, found);
             pass.newest = found;
             let front = row_count(self.sessions, found);
             return Err(AddFault::Overtaken { front });
         }
+        pass.columns[row as usize] = pass.number.get() as u8;
         pass.newest = own;
         Ok(())
     }
@@ -74,8 +79,9 @@ impl DecisionLog for ChainLog {
         self.join(&mut first.seat, other);
         let newest = self.load_both(&mut first.seat);
         second.seat = self.split(&mut first.seat);
-        let first_count = row_count(self.sessions, first.newest);
-        if row_count(self.sessions, second.newest) < first_count {
+        let second_count = row_count(self.sessions, second.newest);
+        if second_count < row_count(self.sessions, first.newest) {
+            self.fill(&mut second.seat, &mut second.columns, second_count, newest);
             second.newest = newest;
         }
     }

@@ -1,5 +1,5 @@
 //! Where the words of a chain lie.
-ghost use Rattle.std.specs.Prelude.{◌≡◌, ◌<◌, ◌≤◌, List, length};
+ghost use Rattle.std.specs.Prelude.{◌≡◌, ◌<◌, ◌≤◌, ℕ, List, length};
 ghost use Rattle.xa_words.specs.Entry.{Entry};
 ghost use Rattle.decision_log.specs.Known.{AllOf};
 ghost use Rattle.chain_log.specs.Cells.{word_count, name_at, cell_at, newest_of};
@@ -29,6 +29,16 @@ pub(crate) fn cell_name(sessions: u64, row: u64, session: u64) -> u64
     ensures { result ≡ name_at sessions row session }
 {
     row * sessions + session
+}
+
+/// The session in whose column the cell of a name stands.
+pub(crate) fn cell_column(sessions: u64, name: u64) -> u8
+    requires some { 1 ≤ sessions }
+    requires few { sessions ≤ 16 }
+    requires name { 1 ≤ name }
+    ensures { (row session : ℕ) → 1 ≤ session → session ≤ sessions → name ≡ name_at sessions row session → result ≡ session }
+{
+    ((name - 1) % sessions + 1) as u8
 }
 
 /// The first word of the cell of a name.

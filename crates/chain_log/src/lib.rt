@@ -3,6 +3,7 @@
 
 mod calls;
 mod chain;
+mod columns;
 pub mod laws;
 mod layout;
 mod open;

@@ -79,10 +79,12 @@ impl ChainLog {
         for index in 0..self.sessions {
             let seat = self.deal(&mut rest);
             let number = SessionNo::of(index + 1).unwrap();
+            let columns = vec![in alloc; 0; self.capacity as usize]?;
             passes.push(ChainPass {
                 seat,
                 number,
                 newest: 0,
+                columns,
             })?;
         }
         Ok(passes)

@@ -1,7 +1,7 @@
 //! The scenes that every log shows, over a chain; where its words lie; how it is opened; and a pass that stops before its exchange.
 
-ghost use Rattle.std.specs.Prelude.{◌≡◌};
-ghost use Rattle.chain_log.specs.ChainPass.{place_of, home_of};
+ghost use Rattle.std.specs.Prelude.{◌≡◌, []};
+ghost use Rattle.chain_log.specs.ChainPass.{place_of, home_of, known_of};
 
 use crate::layout::{cell_name, cell_start, count_words};
 use crate::{ChainLog, ChainPass, laws};
@@ -100,6 +100,17 @@ fn adds(log: &ChainLog, pass: &mut ChainPass, statement: &Statement) -> bool
     }
 }
 
+/// Stores all words of the cell in the first row, and stops before the exchange.
+fn stops(log: &ChainLog, pass: &mut ChainPass, entry: &Entry)
+    requires home { home_of pass.old ≡ place_of log.now }
+    requires nothing { (known_of pass.old).seen ≡ [] }
+    ensures home { home_of pass.new ≡ home_of pass.old }
+    ensures known { known_of pass.new ≡ known_of pass.old }
+{
+    let own = cell_name(log.sessions, 0, pass.number.get());
+    log.write_cell(&mut pass.seat, own, 0, entry);
+}
+
 #[test]
 fn a_pass_that_stops_before_its_exchange_holds_up_nobody(rt: HostRuntime) {
     let Ok((log, mut passes)) = ChainLog::open(rt.alloc(), 4, 2) else {
@@ -119,8 +130,7 @@ fn a_pass_that_stops_before_its_exchange_holds_up_nobody(rt: HostRuntime) {
     ) else {
         panic!(rt; "two entries")
     };
-    let own = cell_name(2, 0, first.number.get());
-    log.write_cell(&mut first.seat, own, 0, &left);
+    stops(&log, &mut first, &left);
     assert!(rt; log.try_add(&mut second, &started) == Ok(()));
     assert!(rt; adds(&log, &mut second, &Statement::End(xid.copy())));
     assert!(rt; adds(&log, &mut second, &Statement::Prepare(xid)));

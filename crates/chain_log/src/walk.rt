@@ -1,37 +1,18 @@
-//! The cells, walked from link to link, read and written.
+//! The cells, read and written.
 ghost use Rattle.std.specs.Prelude.{◌≡◌, ◌<◌, ◌+◌, ℕ, ◌∷◌, length, slice_get, Some};
 ghost use Rattle.xa_words.specs.Entry.{Entry, IsEntry};
 ghost use Rattle.xa_words.specs.Words.{words_of};
 ghost use Rattle.decision_log.specs.Draft.{with_draft};
 ghost use Rattle.decision_log.specs.Seats.{hand};
-ghost use Rattle.chain_log.specs.Cells.{name_at, name_before, newest_of};
+ghost use Rattle.chain_log.specs.Cells.{name_at, name_before};
 ghost use Rattle.chain_log.specs.ChainSeat.{IsSeat, IsOurs};
 
 use crate::ChainLog;
-use crate::layout::row_count;
 use atomic_table::Seat;
 use decision_log::View;
 use xa_words::{Entry, WORDS, decode, encode};
 
 impl ChainLog {
-    /// The name of the cell in a row: from the newest that was seen back along the links.
-    fn find(&self, seat: &mut Seat<Entry, View>, newest: u64, row: u64) -> u64
-        requires seat { IsSeat self.now seat.old }
-        requires ours { IsOurs self.now (hand seat.old) }
-        requires newest { newest ≡ newest_of (hand seat.old).sessions (hand seat.old).known.seen }
-        requires seen { row < length (hand seat.old).known.seen }
-        ensures seat { IsSeat self.now seat.new }
-        ensures same { hand seat.new ≡ hand seat.old }
-        ensures name { result ≡ name_before (hand seat.old).sessions (hand seat.old).known.seen (row + 1) }
-    {
-        let behind = row_count(self.sessions, newest) - row - 1;
-        let mut name = newest;
-        for _step in 0..behind {
-            name = self.load_word(seat, name, 0);
-        }
-        name
-    }
-
     /// The entry's words in the cell of an entry that was seen.
     fn read_cell(&self, seat: &mut Seat<Entry, View>, name: u64) -> [u64; WORDS]
         requires seat { IsSeat self.now seat.old }
@@ -48,17 +29,16 @@ impl ChainLog {
         words
     }
 
-    /// An entry that was seen.
-    pub(crate) fn read_entry(&self, seat: &mut Seat<Entry, View>, newest: u64, row: u64) -> Entry
+    /// The entry of a row that was seen, from the cell of a name.
+    pub(crate) fn read_entry(&self, seat: &mut Seat<Entry, View>, name: u64, row: u64) -> Entry
         requires seat { IsSeat self.now seat.old }
         requires ours { IsOurs self.now (hand seat.old) }
-        requires newest { newest ≡ newest_of (hand seat.old).sessions (hand seat.old).known.seen }
         requires seen { row < length (hand seat.old).known.seen }
+        requires name { name ≡ name_before (hand seat.old).sessions (hand seat.old).known.seen (row + 1) }
         ensures seat { IsSeat self.now seat.new }
         ensures same { hand seat.new ≡ hand seat.old }
         ensures entry { slice_get (hand seat.old).known.seen row ≡ Some result }
     {
-        let name = self.find(seat, newest, row);
         let words = self.read_cell(seat, name);
         decode(&words).unwrap()
     }

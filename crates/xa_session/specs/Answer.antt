@@ -10,12 +10,13 @@
 --     Fails            why a statement was not answered
 --     IsFinal          trying again is of no use
 --     RepliesAfter     an answer, or Full, comes only once the replica stands for what it was found on
-use Rattle.std.specs.Prelude.{◌≡◌, ◌<◌, ◌≤◌, ℕ, Bool, true, false, IsTrue, List, [], ◌∷◌, ◌++◌, length, take, slice_get, Some, Result, Ok, Err}
+--     WantsMemory      the only causes of want of memory
+use Rattle.std.specs.Prelude.{◌≡◌, ◌<◌, ◌≤◌, ℕ, Bool, true, false, IsTrue, ◌⊎◌, List, [], ◌∷◌, ◌++◌, length, take, slice_get, Some, Result, Ok, Err}
 use Rattle.xa_words.specs.Entry.{Entry}
 use Rattle.xa_xid.specs.declared.statement.Statement.{Statement}
 use Rattle.xa_server.specs.State.{State}
 use Rattle.xa_server.specs.Replies.{reply_to}
-use Rattle.xa_server.specs.Step.{enters}
+use Rattle.xa_server.specs.Step.{enters, is_recover}
 use Rattle.xa_server.specs.declared.reply.Reply.{Reply}
 use Rattle.decision_log.specs.History.{Begins}
 use Rattle.decision_log.specs.Calls.{IsOvertaken}
@@ -94,3 +95,10 @@ RepliesAfter (Err (Overtaken front)) replica known = Unit {0}
 RepliesAfter (Err Full) replica known = replica.replayed ≡ length known.seen
 RepliesAfter (Err NoMemory) replica known = Unit {0}
 RepliesAfter (Err Busy) replica known = Unit {0}
+
+-- there is no memory only for the list of an XA RECOVER, or for a replica that hasn't replayed all that is seen
+abbrev pub WantsMemory : Statement → Fault → Replica → Known → Type 0
+WantsMemory statement (Overtaken front) replica known = Unit {0}
+WantsMemory statement Full replica known = Unit {0}
+WantsMemory statement NoMemory replica known = (is_recover statement ≡ true) ⊎ (replica.replayed < length known.seen)
+WantsMemory statement Busy replica known = Unit {0}

@@ -1,9 +1,8 @@
 //! One try to have a statement answered.
-ghost use Rattle.std.specs.Prelude.{◌≡◌, ◌<◌, ◌≤◌, ◌+◌, ◌^◌, length, IfOk, IfErr, OnOk};
+ghost use Rattle.std.specs.Prelude.{◌≡◌, ◌<◌, ◌≤◌, ◌+◌, ◌^◌, length, IfOk, IfErr, OnOk, OnErr};
 ghost use Rattle.decision_log.specs.Calls.{Looked};
-ghost use Rattle.xa_session.specs.Answer.{IsAnswered, Fails, RepliesAfter};
+ghost use Rattle.xa_session.specs.Answer.{IsAnswered, Fails, RepliesAfter, WantsMemory};
 
-use crate::replica::Replica;
 use crate::{Answer, Fault, Session};
 use decision_log::{AddFault, DecisionLog};
 use xa_words::Entry;
@@ -18,20 +17,22 @@ impl<'a, L: DecisionLog> Session<'a, L> {
         ensures base { self.new.base.now ≡ self.old.base.now }
         ensures known { L.known self.new.pass ≡ L.known self.old.pass }
         ensures next { OnOk result (self.new.replica.replayed ≡ self.old.replica.replayed + 1) }
+        ensures err { OnErr result (self.new.replica ≡ self.old.replica) }
     {
         let entry = self.log.entry(&mut self.pass, self.replica.replayed);
         self.replica.replay(&entry)
     }
 
-    /// Has the replica stand for all that is seen.
+    /// Has the replica stand for all that is seen: it replays the entries that it hasn't replayed.
     fn catch_up(&mut self) -> Result<(), NoMemory>
         ensures home { L.home self.new.pass ≡ L.home self.old.pass }
         ensures base { self.new.base.now ≡ self.old.base.now }
         ensures known { L.known self.new.pass ≡ L.known self.old.pass }
+        ensures folds { self.old.replica.replayed ≤ self.new.replica.replayed }
         ensures whole { OnOk result (self.new.replica.replayed ≡ length (L.known self.new.pass).seen) }
+        ensures memory { OnErr result (self.new.replica.replayed < length (L.known self.new.pass).seen) }
     {
-        self.replica = Replica::of(self.base)?;
-        for _ in 0..self.log.length(&self.pass) {
+        for _ in self.replica.replayed..self.log.length(&self.pass) {
             self.replay_next()?;
         }
         Ok(())
@@ -43,7 +44,9 @@ impl<'a, L: DecisionLog> Session<'a, L> {
         ensures base { self.new.base.now ≡ self.old.base.now }
         ensures looked { Looked (L.known self.old.pass) (L.known self.new.pass) }
         ensures length { IfOk result (λ count. count ≡ length (L.known self.new.pass).seen) }
+        ensures folds { self.old.replica.replayed ≤ self.new.replica.replayed }
         ensures whole { OnOk result (self.new.replica.replayed ≡ length (L.known self.new.pass).seen) }
+        ensures memory { OnErr result (self.new.replica.replayed < length (L.known self.new.pass).seen) }
     {
         let count = self.look();
         self.catch_up()?;
@@ -52,10 +55,10 @@ impl<'a, L: DecisionLog> Session<'a, L> {
 
     /// Answers a statement from the whole history, as it is at one step of the call, and adds it there if it enters.
     ///
-    /// The answer's place is how long the history was. Errors, in this order: `NoMemory`, where the replica couldn't be had or
-    /// the reply of `XA RECOVER` couldn't; `Full`, where the statement enters and the history is as long as the log's
+    /// The answer's place is how long the history was. Errors, in this order: `NoMemory`, where an entry couldn't be replayed or
+    /// the reply of `XA RECOVER` couldn't be had; `Full`, where the statement enters and the history is as long as the log's
     /// capacity; `Busy`, only in a log with turns, where another has the turn; `Overtaken`, where another session added
-    /// first. After an error nothing of the statement stands in the history, and the session may have seen more.
+    /// first. After an error nothing of the statement stands in the history, and the session may have seen and replayed more.
     ///
     /// May answer `NoMemory`, and never after an add. Doesn't wait.
     /// Own rule: docs/BEHAVIOR.md, 'Sessions'.
@@ -66,6 +69,8 @@ impl<'a, L: DecisionLog> Session<'a, L> {
         ensures fails { IfErr result (λ fault. Fails L.TURNS (L.home self.old.pass).capacity self.old.base.now statement.now fault (L.known self.old.pass) (L.known self.new.pass)) }
         ensures tries { (L.known self.new.pass).tries ≤ (L.known self.old.pass).tries + 1 }
         ensures replayed { RepliesAfter result self.new.replica (L.known self.new.pass) }
+        ensures folds { self.old.replica.replayed ≤ self.new.replica.replayed }
+        ensures memory { IfErr result (λ fault. WantsMemory statement.now fault self.new.replica (L.known self.new.pass)) }
     {
         let Ok(place) = self.observe() else {
             return Err(Fault::NoMemory);

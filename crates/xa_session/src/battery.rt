@@ -4,7 +4,9 @@
 //! that the answers are given, so that sessions that always answer `NoMemory` or `Busy` fail here.
 //!
 //! Own rule: docs/BEHAVIOR.md, 'Sessions'.
-ghost use Rattle.std.specs.Prelude.{◌≡◌};
+ghost use Rattle.std.specs.Prelude.{◌≡◌, ◌<◌, false, length, IfSome, IfErr};
+ghost use Rattle.xa_server.specs.Step.{is_recover};
+ghost use Rattle.xa_session.specs.declared.fault.Fault.TheVariants.{NoMemory};
 
 use crate::{Answer, Fault, Session};
 use decision_log::DecisionLog;
@@ -36,7 +38,9 @@ fn put(key: u8, value: u8) -> Option<Statement> {
     Some(Statement::Put(Key::of(name(key))?, name(value)))
 }
 
-fn get(key: u8) -> Option<Statement> {
+fn get(key: u8) -> Option<Statement>
+    ensures { IfSome result (λ statement. is_recover statement ≡ false) }
+{
     Some(Statement::Get(Key::of(name(key))?))
 }
 
@@ -118,6 +122,46 @@ pub fn full_log_still_answers<L: DecisionLog>(
         && second.attempt(&commit(b'a')).err() == Some(Fault::Full)
         && is_value_at(&second.attempt(&get_k), 4, None)
         && is_list_at(&second.attempt(&RECOVER), 4, b"a")
+}
+
+/// Tries once, in a session whose replica has replayed all that is seen. The statement isn't `XA RECOVER`, so memory is wanted only
+/// for entries that others added meanwhile.
+///
+/// Errors: as those of `attempt`.
+///
+/// May take memory. Doesn't wait.
+fn ask_again<L: DecisionLog>(
+    session: &mut Session<'_, L>,
+    statement: &Statement,
+) -> Result<Answer, Fault>
+    requires whole { session.old.replica.replayed ≡ length (L.known session.old.pass).seen }
+    requires other { is_recover statement.now ≡ false }
+    ensures { IfErr result (λ fault. fault ≡ NoMemory → length (L.known session.old.pass).seen < length (L.known session.new.pass).seen) }
+{
+    session.attempt(statement)
+}
+
+/// A branch with a row is prepared in a log with room for eight entries. Another session then reads the row, and has replayed all four
+/// entries; asked again, it answers the same with nothing to replay.
+///
+/// May take memory. Waits where other sessions are faster.
+pub fn kept_replica_answers_again<L: DecisionLog, R: Wait>(
+    rt: &R,
+    first: &mut Session<'_, L>,
+    second: &mut Session<'_, L>,
+) -> bool {
+    let (Some(put_k), Some(get_k)) = (put(b'k', b'v'), get(b'k')) else {
+        return false;
+    };
+    is_ok_at(&first.execute(rt, &Statement::Start(xid(b'a'))), 0)
+        && is_ok_at(&first.execute(rt, &put_k), 1)
+        && is_ok_at(&first.execute(rt, &Statement::End(xid(b'a'))), 2)
+        && is_ok_at(&first.execute(rt, &Statement::Prepare(xid(b'a'))), 3)
+        && is_value_at(&second.attempt(&get_k), 4, None)
+        && second.folded() == 4
+        && second.seen() == 4
+        && is_value_at(&ask_again(second, &get_k), 4, None)
+        && second.folded() == 4
 }
 
 /// A session reads what another wrote, with no meeting between them.

@@ -1,7 +1,7 @@
 //! A session over a log.
-ghost use Rattle.std.specs.Prelude.{◌≡◌, ◌<◌, length, slice_get, Some, IfOk, IfErr};
+ghost use Rattle.std.specs.Prelude.{◌≡◌, ◌<◌, ◌≤◌, length, slice_get, Some, IfOk, IfErr};
 ghost use Rattle.decision_log.specs.Calls.{Looked, MeetsFirst, MeetsSecond};
-ghost use Rattle.xa_session.specs.Replay.{Stands};
+ghost use Rattle.xa_session.specs.Replay.{Stands, state_at};
 
 use crate::replica::Replica;
 use decision_log::DecisionLog;
@@ -9,7 +9,8 @@ use xa_server::Server;
 use xa_words::Entry;
 use xa_xid::{NoMemory, SessionNo};
 
-/// A session: a pass of a log, and a replica of the server that what the pass has seen leaves.
+/// A session: a pass of a log, and a replica of the server that what the pass has seen leaves. The replica is kept between
+/// statements, and replays each entry once.
 ///
 /// A contract sees what the session knows as what its pass knows, `L.known session.pass`, and the state in which the history
 /// begins as `session.base.now`. A session that is dropped leaves its open branch, with its locks.
@@ -71,7 +72,20 @@ impl<'a, L: DecisionLog> Session<'a, L> {
         self.log.length(&self.pass)
     }
 
-    /// Sees the whole history, as it is at one step of the call. The answer is its length.
+    /// How many entries of what the session has seen its replica has replayed, from the first on. It never falls, and after an
+    /// answer it is at least the answer's place.
+    ///
+    /// Takes no memory. Doesn't wait.
+    /// Own rule: docs/BEHAVIOR.md, 'Sessions'.
+    pub fn folded(&self) -> u64
+        ensures replayed { result ≡ self.now.replica.replayed }
+        ensures within { result ≤ length (L.known self.now.pass).seen }
+        ensures state { self.now.replica.server ≡ state_at self.now.base.now (L.known self.now.pass).seen result }
+    {
+        self.replica.replayed
+    }
+
+    /// Sees the whole history, as it is at one step of the call. The answer is its length. The replica stays.
     ///
     /// Takes no memory. Doesn't wait.
     /// Own rule: docs/BEHAVIOR.md, 'Sessions'.
@@ -100,7 +114,7 @@ impl<'a, L: DecisionLog> Session<'a, L> {
         self.log.entry(&mut self.pass, at)
     }
 
-    /// Two sessions of one log meet: what this one has seen begins what the other has seen afterwards.
+    /// Two sessions of one log meet: what this one has seen begins what the other has seen afterwards. Both replicas stay.
     ///
     /// Takes no memory. Doesn't wait.
     /// Own rule: docs/BEHAVIOR.md, 'Sessions'.
@@ -108,6 +122,7 @@ impl<'a, L: DecisionLog> Session<'a, L> {
         requires { L.home self.old.pass ≡ L.home other.old.pass }
         ensures homes { (L.home self.new.pass ≡ L.home self.old.pass) × (L.home other.new.pass ≡ L.home other.old.pass) }
         ensures bases { (self.new.base.now ≡ self.old.base.now) × (other.new.base.now ≡ other.old.base.now) }
+        ensures replicas { (self.new.replica ≡ self.old.replica) × (other.new.replica ≡ other.old.replica) }
         ensures first { MeetsFirst (L.known self.old.pass) (L.known self.new.pass) }
         ensures second { MeetsSecond (L.known self.old.pass) (L.known other.old.pass) (L.known other.new.pass) }
     {

@@ -42,6 +42,18 @@ fn full_log_still_answers_over_a_turn(rt: HostRuntime) {
 }
 
 #[test]
+fn kept_replica_answers_again_over_a_turn(rt: HostRuntime) {
+    let Ok((log, passes)) = TurnLog::open(rt.alloc(), 8, 2) else {
+        panic!(rt; "not opened")
+    };
+    let base = Server::new(rt.alloc());
+    let Some((mut first, mut second)) = connected(&log, &base, passes) else {
+        panic!(rt; "not connected")
+    };
+    assert!(rt; battery::kept_replica_answers_again(&rt, &mut first, &mut second));
+}
+
+#[test]
 fn write_is_seen_by_others_over_a_turn(rt: HostRuntime) {
     let Ok((log, passes)) = TurnLog::open(rt.alloc(), 8, 2) else {
         panic!(rt; "not opened")
@@ -99,6 +111,18 @@ fn full_log_still_answers_over_a_chain(rt: HostRuntime) {
         panic!(rt; "not connected")
     };
     assert!(rt; battery::full_log_still_answers(&mut first, &mut second));
+}
+
+#[test]
+fn kept_replica_answers_again_over_a_chain(rt: HostRuntime) {
+    let Ok((log, passes)) = ChainLog::open(rt.alloc(), 8, 2) else {
+        panic!(rt; "not opened")
+    };
+    let base = Server::new(rt.alloc());
+    let Some((mut first, mut second)) = connected(&log, &base, passes) else {
+        panic!(rt; "not connected")
+    };
+    assert!(rt; battery::kept_replica_answers_again(&rt, &mut first, &mut second));
 }
 
 #[test]

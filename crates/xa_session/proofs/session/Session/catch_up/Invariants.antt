@@ -1,4 +1,4 @@
-use Rattle.std.proofs.Common.{◌≡◌, length}
+use Rattle.std.proofs.Common.{◌≡◌, ◌≤◌, length}
 use Rattle.xa_session.proofs.session.Session.catch_up.Given as goal
 
 abbrev pub invariant-loop : goal.invariant-loop
@@ -8,4 +8,5 @@ invariant-loop g l = record {
   known : g.L.DecisionLog.known l.self.pass ≡ g.L.DecisionLog.known l.fn.self.pass;
   end : l.end ≡ length (g.L.DecisionLog.known l.fn.self.pass).seen;
   replayed : l.self.replica.replayed ≡ l.counter;
+  folds : l.fn.self.replica.replayed ≤ l.self.replica.replayed;
 }

@@ -1,0 +1,15 @@
+use Rattle.std.proofs.Common.{◌≡◌, length}
+use Rattle.decision_log.specs.Seats.{hand}
+use Rattle.chain_log.specs.Cells.{name_before}
+use Rattle.chain_log.specs.ChainSeat.{IsSeat}
+use Rattle.chain_log.proofs.KeptColumns.{IsFilling}
+use Rattle.chain_log.proofs.chain.ChainLog.fill.Given as goal
+
+abbrev pub invariant-loop-row : goal.invariant-loop-row
+invariant-loop-row l = record {
+  seat : IsSeat l.self l.seat;
+  same : hand l.seat ≡ hand l.fn.seat;
+  count : l.count ≡ length (hand l.fn.seat).known.seen;
+  name : l.name ≡ name_before (hand l.fn.seat).sessions (hand l.fn.seat).known.seen l.row;
+  filling : IsFilling (hand l.fn.seat).capacity l.first l.row (hand l.fn.seat).known.seen l.columns.items;
+}

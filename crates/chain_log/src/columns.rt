@@ -1,0 +1,48 @@
+//! The table of columns: for each row that a pass has seen, in whose column the row's cell stands.
+ghost use Rattle.std.specs.Prelude.{◌≡◌, ◌<◌, ◌+◌, length};
+ghost use Rattle.decision_log.specs.Seats.{hand};
+ghost use Rattle.chain_log.specs.Cells.{name_before, newest_of};
+ghost use Rattle.chain_log.specs.ChainPass.{place_of, home_of, known_of};
+ghost use Rattle.chain_log.specs.ChainSeat.{IsSeat, IsOurs};
+ghost use Rattle.chain_log.specs.Columns.{HasColumns};
+
+use crate::layout::{cell_column, cell_name, row_count};
+use crate::{ChainLog, ChainPass};
+use atomic_table::Seat;
+use decision_log::View;
+use xa_words::Entry;
+
+impl ChainLog {
+    /// The name of the cell in a row that was seen.
+    pub(crate) fn find(&self, pass: &ChainPass, row: u64) -> u64
+        requires home { home_of pass.now ≡ place_of self.now }
+        requires seen { row < length (known_of pass.now).seen }
+        ensures { result ≡ name_before self.now.sessions (known_of pass.now).seen (row + 1) }
+    {
+        cell_name(self.sessions, row, u64::from(pass.columns[row as usize]))
+    }
+
+    /// Fills the table for the rows from `first` on, from the newest cell back along the links.
+    pub(crate) fn fill(
+        &self,
+        seat: &mut Seat<Entry, View>,
+        columns: &mut Vec<u8>,
+        first: u64,
+        newest: u64,
+    )
+        requires seat { IsSeat self.now seat.old }
+        requires ours { IsOurs self.now (hand seat.old) }
+        requires newest { newest ≡ newest_of (hand seat.old).sessions (hand seat.old).known.seen }
+        requires kept { HasColumns (hand seat.old).capacity first (hand seat.old).known.seen columns.old.items }
+        ensures seat { IsSeat self.now seat.new }
+        ensures same { hand seat.new ≡ hand seat.old }
+        ensures kept { HasColumns (hand seat.old).capacity (length (hand seat.old).known.seen) (hand seat.old).known.seen columns.new.items }
+    {
+        let count = row_count(self.sessions, newest);
+        let mut name = newest;
+        for row in (first..count).rev() {
+            columns[row as usize] = cell_column(self.sessions, name);
+            name = self.load_word(seat, name, 0);
+        }
+    }
+}
