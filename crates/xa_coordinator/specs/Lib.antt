@@ -1,0 +1,5 @@
+pub mod View
+pub mod Branch
+pub mod Decisions
+pub mod Agreement
+pub mod OpenBranches
