@@ -1,11 +1,25 @@
 //! Two-phase commit over several stores, with presumed abort.
 #![tactic(auto)]
 
+mod begin_fault;
+mod branch_xid;
+mod cause;
 mod coordinator;
+mod decisions;
 mod open_branch;
+mod participants;
+mod prepared;
 mod speak;
 mod standing;
+mod tell;
+mod transaction;
 
+pub use begin_fault::BeginFault;
+pub use branch_xid::{FORMAT_ID, branch_xid as xid_of_branch};
+pub use cause::Cause;
 pub use coordinator::Coordinator;
+pub use decisions::{Closed, Decisions};
+pub use prepared::Prepared;
 pub use speak::Speak;
 pub use standing::Standing;
+pub use transaction::Transaction;

@@ -1,0 +1,18 @@
+-- Lists at their places, where one place is written.
+use Rattle.std.proofs.Common.{◌≡◌, ◌≢◌, ◌<◌, ℕ, zero, suc, List, [], ◌∷◌, length, refl, ap, Option, Some, arith}
+use Rattle.std.specs.Prelude.{slice_get, slice_set}
+
+module _ {A : Type 0} where
+  -- the place that was written
+  pub get_set_same : (xs : List A) (place : ℕ) (x : A) → place < length xs → slice_get (slice_set xs place x) place ≡ Some x
+  get_set_same [] place x below = absurd (omega arith)
+  get_set_same (y ∷ ys) zero x below = refl
+  get_set_same (y ∷ ys) (suc place) x below = get_set_same ys place x (omega arith)
+
+  -- another place
+  pub get_set_other : (xs : List A) (place other : ℕ) (x : A) → other ≢ place → slice_get (slice_set xs place x) other ≡ slice_get xs other
+  get_set_other [] place other x apart = refl
+  get_set_other (y ∷ ys) zero zero x apart = absurd (apart refl)
+  get_set_other (y ∷ ys) zero (suc other) x apart = refl
+  get_set_other (y ∷ ys) (suc place) zero x apart = refl
+  get_set_other (y ∷ ys) (suc place) (suc other) x apart = get_set_other ys place other x (λ same. apart (ap suc same))

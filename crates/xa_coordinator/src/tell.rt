@@ -1,0 +1,37 @@
+//! Giving one statement to the session of one store.
+ghost use Rattle.std.specs.Prelude.{◌≡◌, OnOk, IfErr};
+ghost use Rattle.xa_server.specs.Locks.{LockLaw};
+ghost use Rattle.xa_coordinator.specs.View.{StaysOfLog};
+ghost use Rattle.xa_coordinator.specs.Told.{IsOfBranch, IsDone, HasCause};
+
+use crate::{Cause, Speak};
+use std::sync::Wait;
+use xa_server::Reply;
+use xa_session::Answer;
+use xa_xid::Statement;
+
+/// Gives a statement about a branch to a session: whether it was carried out, and why not.
+///
+/// May wait: no number of tries is promised.
+pub(crate) fn tell<S: Speak, R: Wait>(
+    rt: &R,
+    session: &mut S,
+    statement: &Statement,
+) -> Result<(), Cause>
+    requires { IsOfBranch statement.now }
+    ensures stays { StaysOfLog (S.view session.old) (S.view session.new) }
+    ensures lawful { LockLaw (S.view session.new).base }
+    ensures done { OnOk result (IsDone statement.now (S.view session.old) (S.view session.new)) }
+    ensures cause { IfErr result (λ cause. HasCause statement.now cause (S.view session.old) (S.view session.new)) }
+{
+    match session.execute(rt, statement) {
+        Ok(
+            Answer {
+                reply: Reply::Refused(error),
+                ..
+            },
+        ) => Err(Cause::Refused(error)),
+        Ok(_) => Ok(()),
+        Err(fault) => Err(Cause::Session(fault)),
+    }
+}
