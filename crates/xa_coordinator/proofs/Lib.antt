@@ -4,3 +4,4 @@ pub mod Places
 pub mod Standings
 pub mod Marks
 pub mod Telling
+pub mod Keeping

@@ -16,3 +16,9 @@ module _ {A : Type 0} where
   get_set_other (y ∷ ys) zero (suc other) x apart = refl
   get_set_other (y ∷ ys) (suc place) zero x apart = refl
   get_set_other (y ∷ ys) (suc place) (suc other) x apart = get_set_other ys place other x (λ same. apart (ap suc same))
+
+  -- what stands at the place that was written is what was written
+  pub get_set_is : (xs : List A) (place : ℕ) (x y : A) → slice_get (slice_set xs place x) place ≡ Some y → x ≡ y
+  get_set_is [] place x y is = absurd (cc)
+  get_set_is (z ∷ zs) zero x y is = cc
+  get_set_is (z ∷ zs) (suc place) x y is = get_set_is zs place x y is

@@ -1,21 +1,31 @@
 -- What an answered statement adds, and what it leaves open.
-use Rattle.std.proofs.Common.{◌≡◌, ◌≤◌, ℕ, Bool, true, false, List, [], ◌∷◌, ◌++◌, refl, ap, sym, ◌∙◌, subst, arith, append-nil, append_assoc}
+use Rattle.std.proofs.Common.{◌≡◌, ◌≤◌, ℕ, Bool, true, false, List, [], ◌∷◌, ◌++◌, take, refl, ap, sym, ◌∙◌, subst, arith, append-nil, append_assoc}
 use Rattle.std.specs.Prelude.{not, ◌&&◌, map}
 use Rattle.std.proofs.lemmas.List.{map-append}
 use Rattle.xa_xid.specs.declared.xid.Xid.{Xid}
 use Rattle.xa_xid.specs.declared.statement.Statement.{Statement}
 use Rattle.xa_xid.specs.declared.statement.Statement.TheVariants.{Start, End, Prepare, Commit, Rollback, Recover, Unsupported, Get, Put, Del, Disconnect}
 use Rattle.xa_server.specs.State.{State, seat_of}
+use Rattle.xa_server.specs.Locks.{LockLaw}
 use Rattle.xa_server.specs.Replies.{reply_to}
-use Rattle.xa_server.specs.Step.{enters, may_enter, is_refused}
+use Rattle.xa_server.specs.Step.{enters, may_enter, is_refused, after}
+use Rattle.xa_server.specs.declared.reply.Reply.TheVariants.{Refused}
+use Rattle.decision_log.specs.History.{entries_of}
 use Rattle.decision_log.specs.declared.known.Known.{Known}
 use Rattle.xa_session.specs.Answer.{entry_of, Advances, IsAnswered, IsUnanswered}
-use Rattle.xa_session.specs.Replay.{state_at}
+use Rattle.xa_session.specs.Replay.{state_after, state_at}
 use Rattle.xa_session.specs.declared.answer.Answer.{Answer}
-use Rattle.xa_session.proofs.Answering.{advances_through, unanswered_through}
+use Rattle.xa_session.proofs.Answering.{advances_through, fails_unanswered}
 use Rattle.xa_coordinator.specs.Agreement.{Adds}
-use Rattle.xa_coordinator.specs.Told.{IsOfBranch, IsDone}
-use Rattle.xa_coordinator.specs.View.{SessionView}
+use Rattle.xa_coordinator.specs.Told.{IsOfBranch, IsDone, HasCause}
+use Rattle.xa_coordinator.specs.View.{SessionView, StaysOfLog}
+use Rattle.xa_coordinator.specs.OpenBranches.{seat_seen, seat_in, opening}
+use Rattle.xa_coordinator.specs.declared.open_branch.Phase.{Phase}
+use Rattle.xa_coordinator.specs.declared.open_branch.Phase.TheVariants.{Active, Idle}
+use Rattle.xa_coordinator.specs.declared.cause.Cause.{Cause}
+use Rattle.xa_coordinator.specs.declared.cause.Cause.TheVariants.{Session, Refused as RefusedBy}
+use Rattle.xa_coordinator.proofs.OwnSeats.{started, ended}
+use Rattle.xa_coordinator.proofs.Seats.{law_seen, seat_unanswered, state_entered}
 
 -- a statement about a branch enters where it isn't refused
 enters_unrefused : (state : State) (session : ℕ) (statement : Statement) → IsOfBranch statement → is_refused (reply_to state session statement) ≡ false → enters state session statement ≡ true
@@ -49,3 +59,51 @@ is_done statement answer old new kind is accepted = record {
   accepted = accepted;
   adds = record { advances = is.advances; mine = (is.entered (entering_there old.base statement answer old.known new.known kind is accepted)).mine };
 }
+
+-- ---- what the session has open
+
+-- after XA START or XA END
+pub seat_done : (old new : SessionView) (phase : Phase) (xid : Xid) → LockLaw new.base → StaysOfLog old new → entries_of old.known.number old.known.seen ≡ old.known.mine → entries_of new.known.number new.known.seen ≡ new.known.mine →
+    IsDone (opening phase xid) old new → seat_seen new ≡ seat_in phase xid
+seat_done old new phase xid law stays own_old own_new is =
+    let base : State = old.base in
+    let number : ℕ = old.known.number in
+    let place : ℕ = is.answer.place in
+    let law_base : LockLaw base = subst LockLaw stays.base law in
+    let there : State = state_at base new.known.seen place in
+    let kept : LockLaw there = law_seen base (take place new.known.seen) law_base in
+    let accepted = accepted_there base (opening phase xid) is.answer old.known new.known is.answered is.accepted in
+    let entering = entering_there base (opening phase xid) is.answer old.known new.known (of_branch phase xid) is.answered is.accepted in
+    ap (λ b. seat_of (state_after b new.known.seen) new.known.number) stays.base
+    ∙ ap (seat_of (state_after base new.known.seen)) is.answered.advances.number
+    ∙ ap (λ state. seat_of state number) (state_entered base (opening phase xid) is.answer old.known new.known is.answered entering)
+    ∙ opened phase there kept number accepted
+  where
+    of_branch : (phase : Phase) (xid : Xid) → IsOfBranch (opening phase xid)
+    of_branch Active xid = tt
+    of_branch Idle xid = tt
+
+    opened : (phase : Phase) (state : State) → LockLaw state → (session : ℕ) → is_refused (reply_to state session (opening phase xid)) ≡ false → seat_of (after state session (opening phase xid)) session ≡ seat_in phase xid
+    opened Active state law session accepted = started state law session xid accepted
+    opened Idle state law session accepted = ended state law session xid accepted
+
+-- a refused statement adds nothing
+refused_unanswered : (base : State) (statement : Statement) (answer : Answer) (old new : Known) → IsAnswered base statement answer old new → is_refused answer.reply ≡ true → IsUnanswered old new
+unfolding enters
+refused_unanswered base statement answer old new is refused =
+    let there : is_refused (reply_to (state_at base new.seen answer.place) old.number statement) ≡ true = sym (ap is_refused is.at.reply_is) ∙ refused in
+    record {
+      advances = is.advances;
+      mine = (is.outside (ap (λ b. not b && may_enter (state_at base new.seen answer.place) (seat_of (state_at base new.seen answer.place) old.number) statement) there)).mine;
+    }
+
+-- nor does one that a session couldn't answer
+pub cause_unanswered : (statement : Statement) (cause : Cause) (old new : SessionView) → HasCause statement cause old new → IsUnanswered old.known new.known
+cause_unanswered statement (Session fault) old new is = fails_unanswered old.turns old.place.capacity old.base statement fault old.known new.known is.0
+cause_unanswered statement (RefusedBy error) old new is = refused_unanswered old.base statement (record { place = is.place; reply = Refused error }) old.known new.known is.answered refl
+
+pub seat_refused : (statement : Statement) (cause : Cause) (old new : SessionView) → LockLaw new.base → StaysOfLog old new → entries_of old.known.number old.known.seen ≡ old.known.mine → entries_of new.known.number new.known.seen ≡ new.known.mine →
+    HasCause statement cause old new → seat_seen new ≡ seat_seen old
+seat_refused statement cause old new law stays own_old own_new is =
+    ap (λ b. seat_of (state_after b new.known.seen) new.known.number) stays.base
+    ∙ seat_unanswered old.base (subst LockLaw stays.base law) old.known new.known (cause_unanswered statement cause old new is) own_old own_new

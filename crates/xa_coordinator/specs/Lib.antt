@@ -5,3 +5,4 @@ pub mod Participants
 pub mod Agreement
 pub mod OpenBranches
 pub mod Told
+pub mod Stores

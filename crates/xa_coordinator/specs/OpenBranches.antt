@@ -2,8 +2,12 @@
 --     seat_seen        what a session has open, as far as it has seen
 --     seat_in          a session that has the branch open in this phase
 --     OpenThere        each branch that the coordinator has open is what the session of its store has open
-use Rattle.std.specs.Prelude.{◌≡◌, ℕ, List, Option, Some, slice_get}
+--     opening          the statement that brings a branch into a phase
+--     LeavesOpen       a statement leaves this branch open
+use Rattle.std.specs.Prelude.{◌≡◌, ℕ, List, Option, Some, None, slice_get}
 use Rattle.xa_xid.specs.declared.xid.Xid.{Xid}
+use Rattle.xa_xid.specs.declared.statement.Statement.{Statement}
+use Rattle.xa_xid.specs.declared.statement.Statement.TheVariants.{Start, End}
 use Rattle.xa_server.specs.State.{seat_of}
 use Rattle.xa_server.specs.declared.seat.Seat.{Seat}
 use Rattle.xa_server.specs.declared.seat.Seat.TheVariants.{Active as SeatActive, Idle as SeatIdle}
@@ -28,3 +32,13 @@ abbrev pub OpenThere : {S : Type 0} → (S → SessionView) → List ℕ → Lis
 OpenThere view name stores branches =
     (store : ℕ) (session : _) (branch : OpenBranch) → slice_get stores store ≡ Some session → slice_get branches store ≡ Some (Some branch) →
     seat_seen (view session) ≡ seat_in branch.phase (branch_xid name branch.number store)
+
+-- the statement that brings a branch into this phase
+abbrev pub opening : Phase → Xid → Statement
+opening Active xid = Start xid
+opening Idle xid = End xid
+
+-- the statement, once it is carried out, leaves this branch open, or none that the coordinator keeps
+abbrev pub LeavesOpen : List ℕ → ℕ → Statement → Option OpenBranch → Type 0
+LeavesOpen name store statement None = Unit {0}
+LeavesOpen name store statement (Some branch) = statement ≡ opening branch.phase (branch_xid name branch.number store)

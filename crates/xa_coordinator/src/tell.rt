@@ -1,14 +1,27 @@
 //! Giving one statement to the session of one store.
-ghost use Rattle.std.specs.Prelude.{◌≡◌, OnOk, IfErr};
+ghost use Rattle.std.specs.Prelude.{◌≡◌, false, OnOk, IfErr, MatchOption};
 ghost use Rattle.xa_server.specs.Locks.{LockLaw};
+ghost use Rattle.xa_server.specs.Step.{is_refused};
+ghost use Rattle.xa_server.specs.declared.reply.Reply.TheVariants.{Refused};
 ghost use Rattle.xa_coordinator.specs.View.{StaysOfLog};
 ghost use Rattle.xa_coordinator.specs.Told.{IsOfBranch, IsDone, HasCause};
 
 use crate::{Cause, Speak};
 use std::sync::Wait;
-use xa_server::Reply;
-use xa_session::Answer;
+use xa_server::{Reply, XaError};
 use xa_xid::Statement;
+
+/// Why the statement was refused, where it was.
+pub(crate) fn refusal(reply: &Reply) -> Option<XaError>
+    ensures { MatchOption result (is_refused reply.now ≡ false) (λ error. reply.now ≡ Refused error) }
+{
+    match reply {
+        Reply::Refused(error) => Some(*error),
+        Reply::Ok => None,
+        Reply::Value(_) => None,
+        Reply::Recovered(_) => None,
+    }
+}
 
 /// Gives a statement about a branch to a session: whether it was carried out, and why not.
 ///
@@ -25,13 +38,10 @@ pub(crate) fn tell<S: Speak, R: Wait>(
     ensures cause { IfErr result (λ cause. HasCause statement.now cause (S.view session.old) (S.view session.new)) }
 {
     match session.execute(rt, statement) {
-        Ok(
-            Answer {
-                reply: Reply::Refused(error),
-                ..
-            },
-        ) => Err(Cause::Refused(error)),
-        Ok(_) => Ok(()),
+        Ok(answer) => match refusal(&answer.reply) {
+            None => Ok(()),
+            Some(error) => Err(Cause::Refused(error)),
+        },
         Err(fault) => Err(Cause::Session(fault)),
     }
 }

@@ -1,0 +1,5 @@
+use Rattle.xa_coordinator.proofs.Telling.{is_done}
+use Rattle.xa_coordinator.proofs.tell.tell.Goals as goal
+
+pub returns-in-None-clause-done : goal.returns-in-None-clause-done
+returns-in-None-clause-done g c = is_done c.args.statement.now c.in-Ok.answer _ _ c.requires c.in-Ok.ensures.answered c.in-None.ensures
