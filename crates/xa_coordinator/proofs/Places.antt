@@ -1,5 +1,5 @@
 -- Lists at their places, where one place is written.
-use Rattle.std.proofs.Common.{◌≡◌, ◌≢◌, ◌<◌, ℕ, zero, suc, List, [], ◌∷◌, length, refl, ap, Option, Some, arith}
+use Rattle.std.proofs.Common.{◌≡◌, ◌≢◌, ◌<◌, ℕ, get_or, zero, suc, List, [], ◌∷◌, length, refl, ap, Option, Some, arith}
 use Rattle.std.specs.Prelude.{slice_get, slice_set}
 
 module _ {A : Type 0} where
@@ -22,3 +22,9 @@ module _ {A : Type 0} where
   get_set_is [] place x y is = absurd (cc)
   get_set_is (z ∷ zs) zero x y is = cc
   get_set_is (z ∷ zs) (suc place) x y is = get_set_is zs place x y is
+
+  -- a place that is written was there before
+  pub get_before_set : (xs : List A) (place : ℕ) (x y d : A) → slice_get (slice_set xs place x) place ≡ Some y → slice_get xs place ≡ Some (get_or xs place d)
+  get_before_set [] place x y d is = absurd (cc)
+  get_before_set (z ∷ zs) zero x y d is = refl
+  get_before_set (z ∷ zs) (suc place) x y d is = get_before_set zs place x y d is

@@ -9,6 +9,7 @@ mod decisions;
 mod open_branch;
 mod participants;
 mod prepared;
+mod say;
 mod speak;
 mod standing;
 mod tell;
