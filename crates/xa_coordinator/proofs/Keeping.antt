@@ -8,7 +8,7 @@ use Rattle.xa_xid.specs.declared.xid.Xid.{Xid}
 use Rattle.xa_xid.specs.declared.statement.Statement.{Statement}
 use Rattle.xa_server.specs.Locks.{LockLaw}
 use Rattle.decision_log.specs.History.{entries_of}
-use Rattle.xa_coordinator.specs.View.{SessionView, StaysOfLog}
+use Rattle.xa_coordinator.specs.View.{SessionView}
 use Rattle.xa_coordinator.specs.Told.{IsDone}
 use Rattle.xa_coordinator.proofs.Telling.{seat_done}
 use Rattle.xa_coordinator.specs.Branch.{branch_xid}
@@ -57,12 +57,12 @@ pub changes_at : {S : Type 0} (stores : List S) (store : ℕ) (session : S) → 
 changes_at stores store session = record { count = length-set stores store session; others = λ other apart. get_set_other stores store other session apart }
 
 -- a statement that was carried out leaves open what it says
-pub leaves_seat : (name : List ℕ) (store : ℕ) (statement : Statement) (mark : Option OpenBranch) (old new : SessionView) → LeavesOpen name store statement mark → LockLaw new.base → StaysOfLog old new →
+pub leaves_seat : (name : List ℕ) (store : ℕ) (statement : Statement) (mark : Option OpenBranch) (old new : SessionView) → LeavesOpen name store statement mark → LockLaw new.base →
     entries_of old.known.number old.known.seen ≡ old.known.mine → entries_of new.known.number new.known.seen ≡ new.known.mine → IsDone statement old new →
     (branch : OpenBranch) → mark ≡ Some branch → seat_seen new ≡ seat_in branch.phase (branch_xid name branch.number store)
-leaves_seat name store statement None old new leaves law stays own_old own_new is branch marked = absurd (cc)
-leaves_seat name store statement (Some open_one) old new leaves law stays own_old own_new is branch marked =
+leaves_seat name store statement None old new leaves law own_old own_new is branch marked = absurd (cc)
+leaves_seat name store statement (Some open_one) old new leaves law own_old own_new is branch marked =
     let same : open_one ≡ branch = cc in
     let xid : Xid = branch_xid name open_one.number store in
-    seat_done old new open_one.phase xid law stays own_old own_new (subst (λ s. IsDone s old new) leaves is)
+    seat_done old new open_one.phase xid law own_old own_new (subst (λ s. IsDone s old new) leaves is)
     ∙ ap (λ (b : OpenBranch). seat_in b.phase (branch_xid name b.number store)) same

@@ -10,14 +10,15 @@ use Rattle.xa_server.specs.Locks.{LockLaw}
 use Rattle.xa_server.specs.Replies.{reply_to}
 use Rattle.xa_server.specs.Step.{enters, may_enter, is_refused, after}
 use Rattle.xa_server.specs.declared.reply.Reply.TheVariants.{Refused}
+use Rattle.xa_server.specs.declared.xa_error.XaError.{XaError}
 use Rattle.decision_log.specs.History.{entries_of}
 use Rattle.decision_log.specs.declared.known.Known.{Known}
 use Rattle.xa_session.specs.Answer.{entry_of, Advances, IsAnswered, IsUnanswered}
 use Rattle.xa_session.specs.Replay.{state_after, state_at}
 use Rattle.xa_session.specs.declared.answer.Answer.{Answer}
-use Rattle.xa_session.proofs.Answering.{advances_through, fails_unanswered}
+use Rattle.xa_session.proofs.Answering.{advances_through, fails_unanswered, unanswered_itself}
 use Rattle.xa_coordinator.specs.Agreement.{Adds}
-use Rattle.xa_coordinator.specs.Told.{IsOfBranch, IsDone, HasCause}
+use Rattle.xa_coordinator.specs.Told.{IsOfBranch, IsDone, IsUndone, HasCause}
 use Rattle.xa_coordinator.specs.View.{SessionView, StaysOfLog}
 use Rattle.xa_coordinator.specs.OpenBranches.{seat_seen, seat_in, opening}
 use Rattle.xa_coordinator.specs.declared.open_branch.Phase.{Phase}
@@ -52,20 +53,21 @@ entering_there base statement answer old new kind is accepted =
     enters_unrefused (state_at base new.seen answer.place) old.number statement kind (accepted_there base statement answer old new is accepted)
 
 -- it was carried out
-pub is_done : (statement : Statement) (answer : Answer) (old new : SessionView) → IsOfBranch statement → IsAnswered old.base statement answer old.known new.known → is_refused answer.reply ≡ false → IsDone statement old new
-is_done statement answer old new kind is accepted = record {
+pub is_done : (statement : Statement) (answer : Answer) (old new : SessionView) → IsOfBranch statement → StaysOfLog old new → IsAnswered old.base statement answer old.known new.known → is_refused answer.reply ≡ false → IsDone statement old new
+is_done statement answer old new kind stays is accepted = record {
   answer = answer;
   answered = is;
   accepted = accepted;
-  adds = record { advances = is.advances; mine = (is.entered (entering_there old.base statement answer old.known new.known kind is accepted)).mine };
+  adds = record { log = stays; advances = is.advances; mine = (is.entered (entering_there old.base statement answer old.known new.known kind is accepted)).mine };
 }
 
 -- ---- what the session has open
 
 -- after XA START or XA END
-pub seat_done : (old new : SessionView) (phase : Phase) (xid : Xid) → LockLaw new.base → StaysOfLog old new → entries_of old.known.number old.known.seen ≡ old.known.mine → entries_of new.known.number new.known.seen ≡ new.known.mine →
+pub seat_done : (old new : SessionView) (phase : Phase) (xid : Xid) → LockLaw new.base → entries_of old.known.number old.known.seen ≡ old.known.mine → entries_of new.known.number new.known.seen ≡ new.known.mine →
     IsDone (opening phase xid) old new → seat_seen new ≡ seat_in phase xid
-seat_done old new phase xid law stays own_old own_new is =
+seat_done old new phase xid law own_old own_new is =
+    let stays : StaysOfLog old new = is.adds.log in
     let base : State = old.base in
     let number : ℕ = old.known.number in
     let place : ℕ = is.answer.place in
@@ -98,12 +100,42 @@ refused_unanswered base statement answer old new is refused =
     }
 
 -- nor does one that a session couldn't answer
-pub cause_unanswered : (statement : Statement) (cause : Cause) (old new : SessionView) → HasCause statement cause old new → IsUnanswered old.known new.known
+cause_unanswered : (statement : Statement) (cause : Cause) (old new : SessionView) → HasCause statement cause old new → IsUnanswered old.known new.known
 cause_unanswered statement (Session fault) old new is = fails_unanswered old.turns old.place.capacity old.base statement fault old.known new.known is.0
 cause_unanswered statement (RefusedBy error) old new is = refused_unanswered old.base statement (record { place = is.place; reply = Refused error }) old.known new.known is.answered refl
 
-pub seat_refused : (statement : Statement) (cause : Cause) (old new : SessionView) → LockLaw new.base → StaysOfLog old new → entries_of old.known.number old.known.seen ≡ old.known.mine → entries_of new.known.number new.known.seen ≡ new.known.mine →
-    HasCause statement cause old new → seat_seen new ≡ seat_seen old
-seat_refused statement cause old new law stays own_old own_new is =
-    ap (λ b. seat_of (state_after b new.known.seen) new.known.number) stays.base
-    ∙ seat_unanswered old.base (subst LockLaw stays.base law) old.known new.known (cause_unanswered statement cause old new is) own_old own_new
+pub is_undone : (statement : Statement) (cause : Cause) (old new : SessionView) → StaysOfLog old new → HasCause statement cause old new → IsUndone statement cause old new
+is_undone statement cause old new stays why =
+    let nothing = cause_unanswered statement cause old new why in
+    record { adds = record { log = stays; advances = nothing.advances; mine = nothing.mine ∙ sym (append-nil old.known.mine) }; why = why }
+
+pub refused : (statement : Statement) (answer : Answer) (error : XaError) (old new : SessionView) → StaysOfLog old new → IsAnswered old.base statement answer old.known new.known → answer.reply ≡ Refused error → IsUndone statement (RefusedBy error) old new
+refused statement answer error old new stays is reply =
+    is_undone statement (RefusedBy error) old new stays
+    (record { place = answer.place; answered = subst (λ r. IsAnswered old.base statement (record { place = answer.place; reply = r }) old.known new.known) reply is })
+
+pub seat_refused : (statement : Statement) (cause : Cause) (old new : SessionView) → LockLaw new.base → entries_of old.known.number old.known.seen ≡ old.known.mine → entries_of new.known.number new.known.seen ≡ new.known.mine →
+    IsUndone statement cause old new → seat_seen new ≡ seat_seen old
+seat_refused statement cause old new law own_old own_new is =
+    ap (λ b. seat_of (state_after b new.known.seen) new.known.number) is.adds.log.base
+    ∙ seat_unanswered old.base (subst LockLaw is.adds.log.base law) old.known new.known (cause_unanswered statement cause old new is.why) own_old own_new
+
+-- ---- one statement after another
+
+pub adds_then : (first second : List Statement) (old mid new : SessionView) → Adds first old mid → Adds second mid new → Adds (first ++ second) old new
+adds_then first second old mid new one two = record {
+  log = record { place = two.log.place ∙ one.log.place; turns = two.log.turns ∙ one.log.turns; base = two.log.base ∙ one.log.base };
+  advances = advances_through old.known mid.known new.known one.advances two.advances;
+  mine = two.mine
+  ∙ ap (λ list. list ++ map (entry_of mid.known.number) second) one.mine
+  ∙ ap (λ n. (old.known.mine ++ map (entry_of old.known.number) first) ++ map (entry_of n) second) one.advances.number
+  ∙ append_assoc old.known.mine (map (entry_of old.known.number) first) (map (entry_of old.known.number) second)
+  ∙ ap (λ list. old.known.mine ++ list) (sym (map-append (entry_of old.known.number) first second));
+}
+
+pub adds_nothing : (session : SessionView) → Adds [] session session
+adds_nothing session = record {
+  log = record { place = refl; turns = refl; base = refl };
+  advances = (unanswered_itself session.known).advances;
+  mine = sym (append-nil session.known.mine);
+}

@@ -1,19 +1,22 @@
 -- What became of a statement that a coordinator gave to the session of one store.
 --     IsOfBranch       a statement that begins, ends, prepares or finishes a branch
 --     IsDone           it was carried out
---     HasCause         why it wasn't
---     MayEnd           XA END was carried out first, or nothing was
-use Rattle.std.specs.Prelude.{◌≡◌, ℕ, Bool, true, false, List, [], ◌∷◌, ◌⊎◌}
+--     HasCause, IsUndone      why it wasn't;  and nothing was added
+--     IsStopped        one of two statements, of which the first is XA END, wasn't
+--     IsMissing        the branch wasn't known
+use Rattle.std.specs.Prelude.{◌≡◌, ℕ, Bool, true, false, List, [], ◌∷◌}
 use Rattle.xa_xid.specs.declared.xid.Xid.{Xid}
 use Rattle.xa_xid.specs.declared.statement.Statement.{Statement}
 use Rattle.xa_xid.specs.declared.statement.Statement.TheVariants.{Start, End, Prepare, Commit, Rollback, Recover, Unsupported, Get, Put, Del, Disconnect}
 use Rattle.xa_server.specs.declared.reply.Reply.TheVariants.{Refused}
+use Rattle.xa_server.specs.declared.xa_error.XaError.{XaError}
+use Rattle.xa_server.specs.declared.xa_error.XaError.TheVariants.{Nota}
 use Rattle.xa_server.specs.Step.{is_refused}
 use Rattle.xa_session.specs.Answer.{IsAnswered, Fails, IsFinal}
 use Rattle.xa_session.specs.declared.answer.Answer.{Answer}
 use Rattle.xa_coordinator.specs.declared.cause.Cause.{Cause}
 use Rattle.xa_coordinator.specs.declared.cause.Cause.TheVariants.{Session, Refused as RefusedBy}
-use Rattle.xa_coordinator.specs.View.{SessionView, StaysOfLog}
+use Rattle.xa_coordinator.specs.View.{SessionView}
 use Rattle.xa_coordinator.specs.Agreement.{Adds}
 
 -- XA START, XA END, XA PREPARE, XA COMMIT and XA ROLLBACK
@@ -35,19 +38,30 @@ pub record IsDone (statement : Statement) (old new : SessionView) : Type 0 where
   pub answer : Answer
   pub answered : IsAnswered old.base statement answer old.known new.known
   pub accepted : is_refused answer.reply ≡ false
-  pub adds : Adds (statement ∷ []) old.known new.known
+  pub adds : Adds (statement ∷ []) old new
 
--- the statement was refused with this error
-pub record IsRefused (statement : Statement) (error : _) (old new : SessionView) : Type 0 where
+-- the statement was answered, at a place not before what had been seen, with this refusal
+pub record IsRefused (statement : Statement) (error : XaError) (old new : SessionView) : Type 0 where
   pub place : ℕ
   pub answered : IsAnswered old.base statement (record { place = place; reply = Refused error }) old.known new.known
 
--- the session's fault, or the refusal that it was answered
+-- the session's fault, or the refusal that the statement was answered
 abbrev pub HasCause : Statement → Cause → SessionView → SessionView → Type 0
 HasCause statement (Session fault) old new = Fails old.turns old.place.capacity old.base statement fault old.known new.known × IsFinal fault
 HasCause statement (RefusedBy error) old new = IsRefused statement error old new
 
--- XA END was carried out first, or nothing was said
-pub data MayEnd (xid : Xid) (old : SessionView) : SessionView → Type 0 where
-  nothing : MayEnd xid old old
-  ends : (mid : SessionView) → StaysOfLog old mid → IsDone (End xid) old mid → MayEnd xid old mid
+-- the statement wasn't carried out, for this cause, and nothing was added
+pub record IsUndone (statement : Statement) (cause : Cause) (old new : SessionView) : Type 0 where
+  pub adds : Adds [] old new
+  pub why : HasCause statement cause old new
+
+-- XA END of the branch or, without it or behind it, the statement wasn't carried out
+pub data IsStopped (statement : Statement) (xid : Xid) (cause : Cause) (old new : SessionView) : Type 0 where
+  at_end : IsUndone (End xid) cause old new → IsStopped statement xid cause old new
+  at_once : IsUndone statement cause old new → IsStopped statement xid cause old new
+  behind_end : (mid : SessionView) → IsDone (End xid) old mid → IsUndone statement cause mid new → IsStopped statement xid cause old new
+
+-- the statement, maybe behind XA END of the branch, was answered XAER_NOTA
+pub data IsMissing (statement : Statement) (xid : Xid) (old new : SessionView) : Type 0 where
+  at_once : IsUndone statement (RefusedBy Nota) old new → IsMissing statement xid old new
+  behind_end : (mid : SessionView) → IsDone (End xid) old mid → IsUndone statement (RefusedBy Nota) mid new → IsMissing statement xid old new

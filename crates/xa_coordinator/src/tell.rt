@@ -3,8 +3,7 @@ ghost use Rattle.std.specs.Prelude.{◌≡◌, false, OnOk, IfErr, MatchOption};
 ghost use Rattle.xa_server.specs.Locks.{LockLaw};
 ghost use Rattle.xa_server.specs.Step.{is_refused};
 ghost use Rattle.xa_server.specs.declared.reply.Reply.TheVariants.{Refused};
-ghost use Rattle.xa_coordinator.specs.View.{StaysOfLog};
-ghost use Rattle.xa_coordinator.specs.Told.{IsOfBranch, IsDone, HasCause};
+ghost use Rattle.xa_coordinator.specs.Told.{IsOfBranch, IsDone, IsUndone};
 
 use crate::{Cause, Speak};
 use std::sync::Wait;
@@ -32,10 +31,9 @@ pub(crate) fn tell<S: Speak, R: Wait>(
     statement: &Statement,
 ) -> Result<(), Cause>
     requires { IsOfBranch statement.now }
-    ensures stays { StaysOfLog (S.view session.old) (S.view session.new) }
     ensures lawful { LockLaw (S.view session.new).base }
     ensures done { OnOk result (IsDone statement.now (S.view session.old) (S.view session.new)) }
-    ensures cause { IfErr result (λ cause. HasCause statement.now cause (S.view session.old) (S.view session.new)) }
+    ensures undone { IfErr result (λ cause. IsUndone statement.now cause (S.view session.old) (S.view session.new)) }
 {
     match session.execute(rt, statement) {
         Ok(answer) => match refusal(&answer.reply) {

@@ -1,6 +1,4 @@
-use Rattle.std.proofs.Common.{◌≡◌}
-use Rattle.xa_coordinator.specs.View.{StaysOfLog}
-use Rattle.xa_coordinator.specs.Told.{IsDone, HasCause}
+use Rattle.xa_coordinator.specs.Told.{IsDone, IsUndone}
 use Rattle.xa_coordinator.proofs.Keeping.{marked, unmarked, at_place, changes_at, leaves_seat}
 use Rattle.xa_coordinator.proofs.Telling.{seat_refused}
 use Rattle.xa_coordinator.proofs.coordinator.Coordinator.say.Goals as goal
@@ -15,7 +13,7 @@ invariant_of-self g c =
       named = me.named;
       sized = me.sized;
       open_there = marked view me.name.items me.stores.items me.branches c.args.store new c.args.then me.open_there
-      (leaves_seat me.name.items c.args.store c.args.statement.now c.args.then (view old) (view new) c.requires.leaves c.in-Ok.ensures.lawful c.in-Ok.ensures.stays
+      (leaves_seat me.name.items c.args.store c.args.statement.now c.args.then (view old) (view new) c.requires.leaves c.in-Ok.ensures.lawful
       (g.met.S.Speak.own_part old) (g.met.S.Speak.own_part new) c.in-Ok.ensures.done);
     }
 
@@ -29,16 +27,12 @@ invariant_of-self-in-Err-1 g c =
       named = me.named;
       sized = me.sized;
       open_there = unmarked view me.name.items me.stores.items me.branches c.args.store old new c.index_mut.ensures.value me.open_there
-      (seat_refused c.args.statement.now c.in-Err.cause (view old) (view new) c.in-Err.ensures.lawful c.in-Err.ensures.stays
-      (g.met.S.Speak.own_part old) (g.met.S.Speak.own_part new) c.in-Err.ensures.cause);
+      (seat_refused c.args.statement.now c.in-Err.cause (view old) (view new) c.in-Err.ensures.lawful
+      (g.met.S.Speak.own_part old) (g.met.S.Speak.own_part new) c.in-Err.ensures.undone);
     }
 
 pub returns-in-Ok-clause-frame : goal.returns-in-Ok-clause-frame
 returns-in-Ok-clause-frame g c = changes_at c.args.self.now.stores.items c.args.store c.tell.new.session
-
-pub returns-in-Ok-clause-stays : goal.returns-in-Ok-clause-stays
-returns-in-Ok-clause-stays g c =
-    at_place g.S.Speak.view c.args.self.now.name.items StaysOfLog c.args.self.now.stores.items c.args.store c.index_mut.result.now c.tell.new.session c.index_mut.ensures.value c.in-Ok.ensures.stays
 
 pub returns-in-Ok-clause-done : goal.returns-in-Ok-clause-done
 returns-in-Ok-clause-done g c =
@@ -47,10 +41,6 @@ returns-in-Ok-clause-done g c =
 pub returns-in-Err-clause-frame : goal.returns-in-Err-clause-frame
 returns-in-Err-clause-frame g c = changes_at c.args.self.now.stores.items c.args.store c.tell.new.session
 
-pub returns-in-Err-clause-stays : goal.returns-in-Err-clause-stays
-returns-in-Err-clause-stays g c =
-    at_place g.S.Speak.view c.args.self.now.name.items StaysOfLog c.args.self.now.stores.items c.args.store c.index_mut.result.now c.tell.new.session c.index_mut.ensures.value c.in-Err.ensures.stays
-
-pub returns-in-Err-clause-cause : goal.returns-in-Err-clause-cause
-returns-in-Err-clause-cause g c =
-    at_place g.S.Speak.view c.args.self.now.name.items (HasCause c.args.statement.now c.in-Err.cause) c.args.self.now.stores.items c.args.store c.index_mut.result.now c.tell.new.session c.index_mut.ensures.value c.in-Err.ensures.cause
+pub returns-in-Err-clause-undone : goal.returns-in-Err-clause-undone
+returns-in-Err-clause-undone g c =
+    at_place g.S.Speak.view c.args.self.now.name.items (IsUndone c.args.statement.now c.in-Err.cause) c.args.self.now.stores.items c.args.store c.index_mut.result.now c.tell.new.session c.index_mut.ensures.value c.in-Err.ensures.undone
