@@ -5,3 +5,5 @@ pub mod Standings
 pub mod Marks
 pub mod Telling
 pub mod Keeping
+pub mod Walk
+pub mod Closings

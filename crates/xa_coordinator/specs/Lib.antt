@@ -6,3 +6,4 @@ pub mod Agreement
 pub mod OpenBranches
 pub mod Told
 pub mod Stores
+pub mod Outcomes

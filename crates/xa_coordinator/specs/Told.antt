@@ -2,9 +2,10 @@
 --     IsOfBranch       a statement that begins, ends, prepares or finishes a branch
 --     IsDone           it was carried out
 --     HasCause, IsUndone      why it wasn't;  and nothing was added
+--     Says             whether it was, by the answer
 --     IsStopped        one of two statements, of which the first is XA END, wasn't
 --     IsMissing        the branch wasn't known
-use Rattle.std.specs.Prelude.{◌≡◌, ℕ, Bool, true, false, List, [], ◌∷◌}
+use Rattle.std.specs.Prelude.{◌≡◌, ℕ, Bool, true, false, List, [], ◌∷◌, Result, Ok, Err}
 use Rattle.xa_xid.specs.declared.xid.Xid.{Xid}
 use Rattle.xa_xid.specs.declared.statement.Statement.{Statement}
 use Rattle.xa_xid.specs.declared.statement.Statement.TheVariants.{Start, End, Prepare, Commit, Rollback, Recover, Unsupported, Get, Put, Del, Disconnect}
@@ -55,6 +56,11 @@ pub record IsUndone (statement : Statement) (cause : Cause) (old new : SessionVi
   pub adds : Adds [] old new
   pub why : HasCause statement cause old new
 
+-- what became of the statement, by the answer
+abbrev pub Says : Statement → Result (Unit {0}) Cause → SessionView → SessionView → Type 0
+Says statement (Ok _) old new = IsDone statement old new
+Says statement (Err cause) old new = IsUndone statement cause old new
+
 -- XA END of the branch or, without it or behind it, the statement wasn't carried out
 pub data IsStopped (statement : Statement) (xid : Xid) (cause : Cause) (old new : SessionView) : Type 0 where
   at_end : IsUndone (End xid) cause old new → IsStopped statement xid cause old new
@@ -63,5 +69,5 @@ pub data IsStopped (statement : Statement) (xid : Xid) (cause : Cause) (old new 
 
 -- the statement, maybe behind XA END of the branch, was answered XAER_NOTA
 pub data IsMissing (statement : Statement) (xid : Xid) (old new : SessionView) : Type 0 where
-  at_once : IsUndone statement (RefusedBy Nota) old new → IsMissing statement xid old new
-  behind_end : (mid : SessionView) → IsDone (End xid) old mid → IsUndone statement (RefusedBy Nota) mid new → IsMissing statement xid old new
+  unknown_at_once : IsUndone statement (RefusedBy Nota) old new → IsMissing statement xid old new
+  unknown_behind_end : (mid : SessionView) → IsDone (End xid) old mid → IsUndone statement (RefusedBy Nota) mid new → IsMissing statement xid old new

@@ -3,7 +3,9 @@
 
 mod begin_fault;
 mod branch_xid;
+mod branches;
 mod cause;
+mod closing;
 mod coordinator;
 mod decisions;
 mod open_branch;

@@ -1,9 +1,9 @@
 //! What a coordinator says to the session of one store.
-ghost use Rattle.std.specs.Prelude.{◌≡◌, ◌<◌, OnOk, IfErr, vec_len};
+ghost use Rattle.std.specs.Prelude.{◌≡◌, ◌<◌, vec_len};
 ghost use Rattle.xa_coordinator.specs.Branch.{branch_xid as xid_of_branch};
 ghost use Rattle.xa_coordinator.specs.OpenBranches.{LeavesOpen};
 ghost use Rattle.xa_coordinator.specs.Stores.{AtStore, ChangesAt};
-ghost use Rattle.xa_coordinator.specs.Told.{IsOfBranch, IsDone, IsUndone};
+ghost use Rattle.xa_coordinator.specs.Told.{IsOfBranch, Says};
 
 use crate::branch_xid::branch_xid;
 use crate::open_branch::OpenBranch;
@@ -36,8 +36,7 @@ impl<S: Speak> Coordinator<S> {
         requires leaves { LeavesOpen self.old.name.items store statement.now then }
         ensures name { self.new.name ≡ self.old.name }
         ensures frame { ChangesAt store self.old.stores.items self.new.stores.items }
-        ensures done { OnOk result (AtStore S.view store (IsDone statement.now) self.old.stores.items self.new.stores.items) }
-        ensures undone { IfErr result (λ cause. AtStore S.view store (IsUndone statement.now cause) self.old.stores.items self.new.stores.items) }
+        ensures says { AtStore S.view store (Says statement.now result) self.old.stores.items self.new.stores.items }
     {
         match tell(rt, &mut self.stores[store as usize], statement) {
             Ok(()) => {

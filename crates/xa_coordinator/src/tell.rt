@@ -1,9 +1,9 @@
 //! Giving one statement to the session of one store.
-ghost use Rattle.std.specs.Prelude.{◌≡◌, false, OnOk, IfErr, MatchOption};
+ghost use Rattle.std.specs.Prelude.{◌≡◌, false, MatchOption};
 ghost use Rattle.xa_server.specs.Locks.{LockLaw};
 ghost use Rattle.xa_server.specs.Step.{is_refused};
 ghost use Rattle.xa_server.specs.declared.reply.Reply.TheVariants.{Refused};
-ghost use Rattle.xa_coordinator.specs.Told.{IsOfBranch, IsDone, IsUndone};
+ghost use Rattle.xa_coordinator.specs.Told.{IsOfBranch, Says};
 
 use crate::{Cause, Speak};
 use std::sync::Wait;
@@ -32,8 +32,7 @@ pub(crate) fn tell<S: Speak, R: Wait>(
 ) -> Result<(), Cause>
     requires { IsOfBranch statement.now }
     ensures lawful { LockLaw (S.view session.new).base }
-    ensures done { OnOk result (IsDone statement.now (S.view session.old) (S.view session.new)) }
-    ensures undone { IfErr result (λ cause. IsUndone statement.now cause (S.view session.old) (S.view session.new)) }
+    ensures says { Says statement.now result (S.view session.old) (S.view session.new) }
 {
     match session.execute(rt, statement) {
         Ok(answer) => match refusal(&answer.reply) {

@@ -14,7 +14,7 @@ invariant_of-self g c =
       sized = me.sized;
       open_there = marked view me.name.items me.stores.items me.branches c.args.store new c.args.then me.open_there
       (leaves_seat me.name.items c.args.store c.args.statement.now c.args.then (view old) (view new) c.requires.leaves c.in-Ok.ensures.lawful
-      (g.met.S.Speak.own_part old) (g.met.S.Speak.own_part new) c.in-Ok.ensures.done);
+      (g.met.S.Speak.own_part old) (g.met.S.Speak.own_part new) c.in-Ok.ensures.says);
     }
 
 pub invariant_of-self-in-Err-1 : goal.invariant_of-self-in-Err-1
@@ -28,19 +28,19 @@ invariant_of-self-in-Err-1 g c =
       sized = me.sized;
       open_there = unmarked view me.name.items me.stores.items me.branches c.args.store old new c.index_mut.ensures.value me.open_there
       (seat_refused c.args.statement.now c.in-Err.cause (view old) (view new) c.in-Err.ensures.lawful
-      (g.met.S.Speak.own_part old) (g.met.S.Speak.own_part new) c.in-Err.ensures.undone);
+      (g.met.S.Speak.own_part old) (g.met.S.Speak.own_part new) c.in-Err.ensures.says);
     }
 
 pub returns-in-Ok-clause-frame : goal.returns-in-Ok-clause-frame
 returns-in-Ok-clause-frame g c = changes_at c.args.self.now.stores.items c.args.store c.tell.new.session
 
-pub returns-in-Ok-clause-done : goal.returns-in-Ok-clause-done
-returns-in-Ok-clause-done g c =
-    at_place g.S.Speak.view c.args.self.now.name.items (IsDone c.args.statement.now) c.args.self.now.stores.items c.args.store c.index_mut.result.now c.tell.new.session c.index_mut.ensures.value c.in-Ok.ensures.done
+pub returns-in-Ok-clause-says : goal.returns-in-Ok-clause-says
+returns-in-Ok-clause-says g c =
+    at_place g.S.Speak.view c.args.self.now.name.items (IsDone c.args.statement.now) c.args.self.now.stores.items c.args.store c.index_mut.result.now c.tell.new.session c.index_mut.ensures.value c.in-Ok.ensures.says
 
 pub returns-in-Err-clause-frame : goal.returns-in-Err-clause-frame
 returns-in-Err-clause-frame g c = changes_at c.args.self.now.stores.items c.args.store c.tell.new.session
 
-pub returns-in-Err-clause-undone : goal.returns-in-Err-clause-undone
-returns-in-Err-clause-undone g c =
-    at_place g.S.Speak.view c.args.self.now.name.items (IsUndone c.args.statement.now c.in-Err.cause) c.args.self.now.stores.items c.args.store c.index_mut.result.now c.tell.new.session c.index_mut.ensures.value c.in-Err.ensures.undone
+pub returns-in-Err-clause-says : goal.returns-in-Err-clause-says
+returns-in-Err-clause-says g c =
+    at_place g.S.Speak.view c.args.self.now.name.items (IsUndone c.args.statement.now c.in-Err.cause) c.args.self.now.stores.items c.args.store c.index_mut.result.now c.tell.new.session c.index_mut.ensures.value c.in-Err.ensures.says

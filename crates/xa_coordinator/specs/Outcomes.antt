@@ -1,0 +1,77 @@
+-- What a call over several stores did in them.
+--     closing_of       the statement that finishes a branch
+--     IsClosed         the branch was finished
+--     ClosesAs         what became of one branch that was to be finished
+--     PreparesAs       what became of one branch that was to be prepared
+--     is_listed        whether a store is in a list
+--     Settles          a store whose turn has passed, when branches are finished
+--     IsVoted          a store whose turn has passed, when branches are prepared
+--     IsHazard         a list of participants, ascending
+use Rattle.std.specs.Prelude.{◌≡◌, ◌<◌, ◌⊎◌, ℕ, Bool, true, false, nat_eq, List, [], ◌∷◌, length, All, Result, Ok, Err}
+use Rattle.std.specs.List.{list_any}
+use Rattle.std.specs.List.Sorted.{IsStrictlyIncreasing}
+use Rattle.xa_xid.specs.declared.xid.Xid.{Xid}
+use Rattle.xa_xid.specs.declared.statement.Statement.{Statement}
+use Rattle.xa_xid.specs.declared.statement.Statement.TheVariants.{End, Prepare, Commit, Rollback}
+use Rattle.xa_server.specs.declared.xa_error.XaError.TheVariants.{Nota}
+use Rattle.xa_coordinator.specs.declared.cause.Cause.{Cause}
+use Rattle.xa_coordinator.specs.declared.cause.Cause.TheVariants.{Refused as RefusedBy}
+use Rattle.xa_coordinator.specs.declared.closing.Closing.{Closing}
+use Rattle.xa_coordinator.specs.declared.closing.Closing.TheVariants.{InTwoPhases, InOnePhase, RollBack}
+use Rattle.xa_coordinator.specs.declared.closing.Found.{Found}
+use Rattle.xa_coordinator.specs.declared.closing.Found.TheVariants.{Closed, Missing}
+use Rattle.xa_coordinator.specs.View.{SessionView}
+use Rattle.xa_coordinator.specs.Agreement.{Adds}
+use Rattle.xa_coordinator.specs.Participants.{takes_part}
+use Rattle.xa_coordinator.specs.declared.participants.Participants.{Participants}
+use Rattle.xa_coordinator.specs.Told.{IsUndone, IsStopped, IsMissing}
+
+-- the statement that finishes a branch
+abbrev pub closing_of : Closing → Xid → Statement
+closing_of InTwoPhases xid = Commit xid false
+closing_of InOnePhase xid = Commit xid true
+closing_of RollBack xid = Rollback xid
+
+-- the branch was finished: the statement was added; a branch that took work and is rolled back is ended first
+abbrev pub IsClosed : Closing → Xid → SessionView → SessionView → Type 0
+IsClosed InTwoPhases xid old new = Adds (Commit xid false ∷ []) old new
+IsClosed InOnePhase xid old new = Adds (Commit xid true ∷ []) old new
+IsClosed RollBack xid old new = Adds (Rollback xid ∷ []) old new ⊎ Adds (End xid ∷ Rollback xid ∷ []) old new
+
+-- one statement that was to finish a branch
+abbrev pub SaysAs : Statement → Result Found Cause → SessionView → SessionView → Type 0
+SaysAs statement (Ok Closed) old new = Adds (statement ∷ []) old new
+SaysAs statement (Ok Missing) old new = IsUndone statement (RefusedBy Nota) old new
+SaysAs statement (Err cause) old new = IsUndone statement cause old new
+
+-- a branch that was to be finished
+abbrev pub ClosesAs : Closing → Xid → Result Found Cause → SessionView → SessionView → Type 0
+ClosesAs closing xid (Ok Closed) old new = IsClosed closing xid old new
+ClosesAs closing xid (Ok Missing) old new = IsMissing (closing_of closing xid) xid old new
+ClosesAs closing xid (Err cause) old new = IsStopped (closing_of closing xid) xid cause old new
+
+-- a branch that was to be ended and prepared
+abbrev pub PreparesAs : Xid → Result (Unit {0}) Cause → SessionView → SessionView → Type 0
+PreparesAs xid (Ok _) old new = Adds (End xid ∷ Prepare xid ∷ []) old new
+PreparesAs xid (Err cause) old new = IsStopped (Prepare xid) xid cause old new
+
+-- the store is in the list
+unfoldable pub is_listed : List ℕ → ℕ → Bool
+is_listed stores store = list_any (nat_eq store) stores
+
+-- a participant's branch was finished, or wasn't known there; another store's session is as it was
+abbrev pub Settles : Closing → Xid → (takes_part listed : Bool) → SessionView → SessionView → Type 0
+Settles closing xid false listed old new = new ≡ old
+Settles closing xid true false old new = IsClosed closing xid old new
+Settles closing xid true true old new = IsMissing (closing_of closing xid) xid old new
+
+-- a participant's branch was ended and prepared; another store's session is as it was
+abbrev pub IsVoted : Xid → (takes_part : Bool) → SessionView → SessionView → Type 0
+IsVoted xid false old new = new ≡ old
+IsVoted xid true old new = Adds (End xid ∷ Prepare xid ∷ []) old new
+
+-- some of the participants, ascending
+pub record IsHazard (participants : Participants) (stores : List ℕ) : Type 0 where
+  pub some : 0 < length stores
+  pub ascending : IsStrictlyIncreasing stores
+  pub participate : All (λ store. takes_part participants store ≡ true) stores
