@@ -6,10 +6,13 @@
 --     is_listed        whether a store is in a list
 --     Settles          a store whose turn has passed, when branches are finished
 --     IsVoted          a store whose turn has passed, when branches are prepared
+--     IsEnded          the store of the only participant, when it is ended alone
 --     IsHazard         a list of participants, ascending
+--     branch_of        the branch of a transaction in a store
+--     EndsAs           what the finishing of a transaction came to
+--     VotesAs          what the stores voted
 use Rattle.std.specs.Prelude.{◌≡◌, ◌<◌, ◌⊎◌, ℕ, Bool, true, false, nat_eq, List, [], ◌∷◌, length, All, Result, Ok, Err}
 use Rattle.std.specs.List.{list_any}
-use Rattle.std.specs.List.Sorted.{IsStrictlyIncreasing}
 use Rattle.xa_xid.specs.declared.xid.Xid.{Xid}
 use Rattle.xa_xid.specs.declared.statement.Statement.{Statement}
 use Rattle.xa_xid.specs.declared.statement.Statement.TheVariants.{End, Prepare, Commit, Rollback}
@@ -22,7 +25,16 @@ use Rattle.xa_coordinator.specs.declared.closing.Found.{Found}
 use Rattle.xa_coordinator.specs.declared.closing.Found.TheVariants.{Closed, Missing}
 use Rattle.xa_coordinator.specs.View.{SessionView}
 use Rattle.xa_coordinator.specs.Agreement.{Adds}
-use Rattle.xa_coordinator.specs.Participants.{takes_part}
+use Rattle.xa_coordinator.specs.Branch.{branch_xid}
+use Rattle.xa_coordinator.specs.Stores.{EachStore, EndsAt}
+use Rattle.xa_coordinator.specs.Participants.{takes_part, TwoTakePart, OnlyTakesPart}
+use Rattle.xa_coordinator.specs.declared.transaction.Transaction.{Transaction}
+use Rattle.xa_coordinator.specs.declared.prepared.Prepared.{Prepared}
+use Rattle.xa_coordinator.specs.declared.prepared.Ballot.TheVariants.{Ready as BallotReady, OnePhase as BallotOnePhase, No as BallotNo}
+use Rattle.xa_coordinator.specs.declared.ending.Ending.{Ending}
+use Rattle.xa_coordinator.specs.declared.ending.Ending.TheVariants.{Committed, RolledBack, Hazard, Unfinished}
+use Rattle.xa_coordinator.specs.declared.vote.Vote.{Vote}
+use Rattle.xa_coordinator.specs.declared.vote.Vote.TheVariants.{Ready, OnePhase, No, Nothing}
 use Rattle.xa_coordinator.specs.declared.participants.Participants.{Participants}
 use Rattle.xa_coordinator.specs.Told.{IsUndone, IsStopped, IsMissing}
 
@@ -70,8 +82,68 @@ abbrev pub IsVoted : Xid → (takes_part : Bool) → SessionView → SessionView
 IsVoted xid false old new = new ≡ old
 IsVoted xid true old new = Adds (End xid ∷ Prepare xid ∷ []) old new
 
+-- a participant's branch was ended; another store's session is as it was
+abbrev pub IsEnded : Xid → (takes_part : Bool) → SessionView → SessionView → Type 0
+IsEnded xid false old new = new ≡ old
+IsEnded xid true old new = Adds (End xid ∷ []) old new
+
+-- each is less than all behind it
+abbrev pub Ascends : List ℕ → Type 0
+Ascends [] = Unit {0}
+Ascends (store ∷ stores) = All (λ later. store < later) stores × Ascends stores
+
 -- some of the participants, ascending
 pub record IsHazard (participants : Participants) (stores : List ℕ) : Type 0 where
   pub some : 0 < length stores
-  pub ascending : IsStrictlyIncreasing stores
+  pub ascending : Ascends stores
   pub participate : All (λ store. takes_part participants store ≡ true) stores
+
+-- the branches of a transaction were committed
+abbrev pub commits : Closing → Bool
+commits InTwoPhases = true
+commits InOnePhase = true
+commits RollBack = false
+
+-- the branch of a transaction in a store
+abbrev pub branch_of : Transaction → ℕ → Xid
+branch_of transaction store = branch_xid transaction.name.items transaction.number store
+
+-- what the finishing of a transaction's branches came to
+abbrev pub EndsAs : {S : Type 0} → (S → SessionView) → Transaction → Closing → Ending → List S → List S → Type 0
+EndsAs view transaction closing Committed old new =
+    (commits closing ≡ true) × EachStore view (λ store. Settles closing (branch_of transaction store) (takes_part transaction.participants store) false) old new
+EndsAs view transaction closing RolledBack old new =
+    (commits closing ≡ false) × EachStore view (λ store. Settles closing (branch_of transaction store) (takes_part transaction.participants store) false) old new
+EndsAs view transaction closing (Hazard stores) old new =
+    IsHazard transaction.participants stores.items
+    × EachStore view (λ store. Settles closing (branch_of transaction store) (takes_part transaction.participants store) (is_listed stores.items store)) old new
+EndsAs view transaction closing (Unfinished store cause) old new =
+    (takes_part transaction.participants store ≡ true)
+    × EndsAt view (λ other before after. (listed : Bool) × Settles closing (branch_of transaction other) (takes_part transaction.participants other) listed before after)
+    store (IsStopped (closing_of closing (branch_of transaction store)) (branch_of transaction store) cause) old new
+
+-- what the stores voted
+abbrev pub VotesAs : {S : Type 0} → (S → SessionView) → Transaction → Vote → List S → List S → Type 0
+VotesAs view transaction (Ready prepared) old new =
+    (prepared ≡ record { transaction = transaction; ballot = BallotReady })
+    × TwoTakePart transaction.participants
+    × EachStore view (λ store. IsVoted (branch_of transaction store) (takes_part transaction.participants store)) old new
+VotesAs view transaction (OnePhase prepared) old new =
+    (prepared ≡ record { transaction = transaction; ballot = BallotOnePhase })
+    × ((store : ℕ) × OnlyTakesPart transaction.participants store)
+    × EachStore view (λ store. IsEnded (branch_of transaction store) (takes_part transaction.participants store)) old new
+VotesAs view transaction (No prepared store cause) old new =
+    (prepared ≡ record { transaction = transaction; ballot = BallotNo })
+    × (takes_part transaction.participants store ≡ true)
+    × EndsAt view (λ other. IsVoted (branch_of transaction other) (takes_part transaction.participants other))
+    store (IsStopped (Prepare (branch_of transaction store)) (branch_of transaction store) cause) old new
+VotesAs view transaction Nothing old new =
+    ((store : ℕ) → takes_part transaction.participants store ≡ false) × (new ≡ old)
+
+-- the participants were asked to prepare, in ascending order, up to the first that didn't
+abbrev pub PollsAs : {S : Type 0} → (S → SessionView) → Transaction → Result (Unit {0}) (ℕ × Cause) → List S → List S → Type 0
+PollsAs view transaction (Ok _) old new = EachStore view (λ store. IsVoted (branch_of transaction store) (takes_part transaction.participants store)) old new
+PollsAs view transaction (Err (store, cause)) old new =
+    (takes_part transaction.participants store ≡ true)
+    × EndsAt view (λ other. IsVoted (branch_of transaction other) (takes_part transaction.participants other))
+    store (IsStopped (Prepare (branch_of transaction store)) (branch_of transaction store) cause) old new

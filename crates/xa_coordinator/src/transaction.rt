@@ -1,5 +1,6 @@
 //! A global transaction that takes work.
-ghost use Rattle.std.specs.Prelude.{◌≡◌, ◌<◌, ◌≤◌, ℕ, true};
+ghost use Rattle.std.specs.Prelude.{◌≡◌, ◌<◌, ◌≤◌, ◌^◌, ℕ, true};
+ghost use Rattle.xa_coordinator.specs.Participants.{takes_part};
 
 use crate::participants::Participants;
 use xa_xid::Bytes;
@@ -12,6 +13,9 @@ pub struct Transaction {
     pub(crate) name: Bytes,
     pub(crate) stores: u8,
     pub(crate) participants: Participants,
+    ghost eight_bytes: { number < 2 ^ 64 },
+    ghost among: { stores ≤ 16 },
+    ghost within: { (store : ℕ) → takes_part participants store ≡ true → store < stores },
 }
 
 impl Transaction {
@@ -23,8 +27,6 @@ impl Transaction {
     {
         self.number
     }
-
-    ghost use Rattle.xa_coordinator.specs.Participants.{takes_part};
 
     /// Whether a store takes part.
     ///
