@@ -7,3 +7,5 @@ pub mod Telling
 pub mod Keeping
 pub mod Walk
 pub mod Closings
+pub mod Agreeing
+pub mod Ended

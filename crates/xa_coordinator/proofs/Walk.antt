@@ -2,6 +2,7 @@
 use Rattle.std.proofs.Common.{◌≡◌, ◌≢◌, ◌<◌, ◌≤◌, ◌+◌, ◌⊎◌, ℕ, List, length, get_or, refl, ap, sym, ◌∙◌, subst, inl, inr, Some, None, arith}
 use Rattle.std.specs.Prelude.{slice_get}
 use Rattle.std.proofs.lemmas.Bool.{cases_order, cases_lt}
+use Rattle.std.proofs.lemmas.Bool.Decides.{eqb_tells}
 use Rattle.std.proofs.lemmas.Option.{slice_get_within, slice_get-get_or, slice_get_past}
 use Rattle.xa_coordinator.specs.View.{SessionView}
 use Rattle.xa_coordinator.specs.Stores.{AtStore, EachStore, ChangesAt, Reached, EndsAt}
@@ -13,7 +14,7 @@ changes_then store old mid new one two = record { count = two.count ∙ one.coun
 pub unchanged : {S : Type 0} (store : ℕ) (old : List S) → ChangesAt store old old
 unchanged store old = record { count = refl; others = λ other apart. refl }
 
-same_one : {S : Type 0} (found : _) (a b : S) → found ≡ Some a → found ≡ Some b → a ≡ b
+pub same_one : {S : Type 0} (found : _) (a b : S) → found ≡ Some a → found ≡ Some b → a ≡ b
 same_one found a b is_a is_b = cc
 
 module _ {S : Type 0} (view : S → SessionView) where
@@ -99,3 +100,11 @@ module _ {S : Type 0} (view : S → SessionView) where
     below = λ store less. at_weaker store (f store) (g store) (weaken store less) old now (so_far.below store less);
     behind = so_far.behind;
   }
+
+  -- where only one store was spoken to
+  pub only_at : (fact : ℕ → SessionView → SessionView → Type 0) (store : ℕ) (old new : List S) → ChangesAt store old new → AtStore view store (fact store) old new → ((other : ℕ) → other ≢ store → (a : SessionView) → fact other a a) → EachStore view fact old new
+  only_at fact store old new changes is same other =
+      elim (eqb_tells other store) [
+        | inl (_, here) ↦ subst (λ s. AtStore view s (fact s) old new) (sym here) is
+        | inr (_, apart) ↦ at_same other (fact other) (same other apart) old new (changes.others other apart)
+      ]

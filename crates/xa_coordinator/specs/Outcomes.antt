@@ -11,6 +11,9 @@
 --     branch_of        the branch of a transaction in a store
 --     EndsAs           what the finishing of a transaction came to
 --     VotesAs          what the stores voted
+--     PollsAs          what became of the participants that were to be prepared
+--     Allows           the decisions allow that a transaction is finished so
+--     closing_for      how a transaction that was voted on is finished
 use Rattle.std.specs.Prelude.{◌≡◌, ◌<◌, ◌⊎◌, ℕ, Bool, true, false, nat_eq, List, [], ◌∷◌, length, All, Result, Ok, Err}
 use Rattle.std.specs.List.{list_any}
 use Rattle.xa_xid.specs.declared.xid.Xid.{Xid}
@@ -25,6 +28,9 @@ use Rattle.xa_coordinator.specs.declared.closing.Found.{Found}
 use Rattle.xa_coordinator.specs.declared.closing.Found.TheVariants.{Closed, Missing}
 use Rattle.xa_coordinator.specs.View.{SessionView}
 use Rattle.xa_coordinator.specs.Agreement.{Adds}
+use Rattle.xa_coordinator.specs.Decisions.{is_decided}
+use Rattle.xa_coordinator.specs.declared.standing.Standing.{Standing}
+use Rattle.xa_coordinator.specs.declared.prepared.Ballot.{Ballot}
 use Rattle.xa_coordinator.specs.Branch.{branch_xid}
 use Rattle.xa_coordinator.specs.Stores.{EachStore, EndsAt}
 use Rattle.xa_coordinator.specs.Participants.{takes_part, TwoTakePart, OnlyTakesPart}
@@ -147,3 +153,16 @@ PollsAs view transaction (Err (store, cause)) old new =
     (takes_part transaction.participants store ≡ true)
     × EndsAt view (λ other. IsVoted (branch_of transaction other) (takes_part transaction.participants other))
     store (IsStopped (Prepare (branch_of transaction store)) (branch_of transaction store) cause) old new
+
+-- the decisions allow that a transaction is finished so
+abbrev pub Allows : List Standing → ℕ → Closing → Type 0
+Allows decisions number InTwoPhases = is_decided decisions number ≡ true
+Allows decisions number InOnePhase = Unit {0}
+Allows decisions number RollBack = is_decided decisions number ≡ false
+
+-- how a transaction that was voted on is finished: as it was decided, and else in one phase or by rolling back (presumed abort)
+abbrev pub closing_for : Bool → Ballot → Closing
+closing_for true ballot = InTwoPhases
+closing_for false BallotReady = RollBack
+closing_for false BallotOnePhase = InOnePhase
+closing_for false BallotNo = RollBack
