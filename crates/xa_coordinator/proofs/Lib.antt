@@ -9,3 +9,4 @@ pub mod Walk
 pub mod Closings
 pub mod Agreeing
 pub mod Ended
+pub mod Hazards

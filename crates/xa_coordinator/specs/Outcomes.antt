@@ -11,10 +11,11 @@
 --     branch_of        the branch of a transaction in a store
 --     EndsAs           what the finishing of a transaction came to
 --     VotesAs          what the stores voted
+--     ClosesNext       what became of one participant that was to be finished
 --     PollsAs          what became of the participants that were to be prepared
 --     Allows           the decisions allow that a transaction is finished so
 --     closing_for      how a transaction that was voted on is finished
-use Rattle.std.specs.Prelude.{◌≡◌, ◌<◌, ◌⊎◌, ℕ, Bool, true, false, nat_eq, List, [], ◌∷◌, length, All, Result, Ok, Err}
+use Rattle.std.specs.Prelude.{◌≡◌, ◌<◌, ◌⊎◌, ℕ, Bool, true, false, nat_eq, List, [], ◌∷◌, ◌++◌, length, All, Result, Ok, Err}
 use Rattle.std.specs.List.{list_any}
 use Rattle.xa_xid.specs.declared.xid.Xid.{Xid}
 use Rattle.xa_xid.specs.declared.statement.Statement.{Statement}
@@ -32,7 +33,7 @@ use Rattle.xa_coordinator.specs.Decisions.{is_decided}
 use Rattle.xa_coordinator.specs.declared.standing.Standing.{Standing}
 use Rattle.xa_coordinator.specs.declared.prepared.Ballot.{Ballot}
 use Rattle.xa_coordinator.specs.Branch.{branch_xid}
-use Rattle.xa_coordinator.specs.Stores.{EachStore, EndsAt}
+use Rattle.xa_coordinator.specs.Stores.{AtStore, EachStore, EndsAt}
 use Rattle.xa_coordinator.specs.Participants.{takes_part, TwoTakePart, OnlyTakesPart}
 use Rattle.xa_coordinator.specs.declared.transaction.Transaction.{Transaction}
 use Rattle.xa_coordinator.specs.declared.prepared.Prepared.{Prepared}
@@ -145,6 +146,12 @@ VotesAs view transaction (No prepared store cause) old new =
     store (IsStopped (Prepare (branch_of transaction store)) (branch_of transaction store) cause) old new
 VotesAs view transaction Nothing old new =
     ((store : ℕ) → takes_part transaction.participants store ≡ false) × (new ≡ old)
+
+-- the branch of a store was finished, or wasn't known there and the store was listed
+abbrev pub ClosesNext : {S : Type 0} → (S → SessionView) → Closing → Xid → ℕ → (listed listed' : List ℕ) → List S → List S → Type 0
+ClosesNext view closing xid store listed listed' old new =
+    ((listed' ≡ listed) × AtStore view store (IsClosed closing xid) old new)
+    ⊎ ((listed' ≡ listed ++ store ∷ []) × AtStore view store (IsMissing (closing_of closing xid) xid) old new)
 
 -- the participants were asked to prepare, in ascending order, up to the first that didn't
 abbrev pub PollsAs : {S : Type 0} → (S → SessionView) → Transaction → Result (Unit {0}) (ℕ × Cause) → List S → List S → Type 0

@@ -9,6 +9,7 @@ mod closing;
 mod coordinator;
 mod decisions;
 mod open_branch;
+mod finish;
 mod participants;
 mod prepared;
 mod say;
