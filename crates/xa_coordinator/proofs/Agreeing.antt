@@ -20,7 +20,10 @@ use Rattle.xa_coordinator.specs.Participants.{takes_part}
 use Rattle.xa_coordinator.specs.Agreement.{Adds, AgreesWith, Agrees}
 use Rattle.xa_coordinator.specs.Stores.{AtStore, EachStore, EndsAt}
 use Rattle.xa_coordinator.specs.Told.{IsDone, IsUndone, IsStopped, at_end, at_once, behind_end, IsMissing, unknown_at_once, unknown_behind_end}
-use Rattle.xa_coordinator.specs.Outcomes.{branch_of, closing_of, IsClosed, Settles, IsVoted, IsEnded, EndsAs, VotesAs, Allows, is_listed}
+use Rattle.xa_coordinator.specs.Outcomes.{branch_of, closing_of, IsClosed, Settles, IsVoted, IsEnded, EndsAs, VotesAs, Allows, closing_for, is_listed}
+use Rattle.xa_coordinator.specs.Decisions.{is_decided}
+use Rattle.xa_coordinator.specs.declared.prepared.Ballot.{Ballot}
+use Rattle.xa_coordinator.specs.declared.prepared.Ballot.TheVariants.{Ready as BallotReady, OnePhase as BallotOnePhase, No as BallotNo}
 use Rattle.xa_coordinator.proofs.Telling.{adds_then, adds_nothing}
 use Rattle.xa_coordinator.proofs.Walk.{at_weaker, from_ends, same_one}
 
@@ -115,3 +118,13 @@ module _ {S : Type 0} (view : S → SessionView) (decisions : List Standing) (tr
   vote_agrees Nothing old new is store = λ before after is_before is_after.
       subst (λ (s : S). Agrees decisions transaction.name.items store (view before) (view s)) (same_one (slice_get new store) before after (subst (λ (list : List S). slice_get list store ≡ Some before) (sym is.1) is_before) is_after)
       (nothing_agrees decisions transaction.name.items store (view before))
+
+-- a transaction that was voted on is finished as the decisions allow
+pub allows_for : (decisions : List Standing) (number : ℕ) (ballot : Ballot) → Allows decisions number (closing_for (is_decided decisions number) ballot)
+allows_for decisions number ballot = by (is_decided decisions number) ballot refl
+  where
+    by : (b : Bool) (ballot : Ballot) → is_decided decisions number ≡ b → Allows decisions number (closing_for b ballot)
+    by true ballot is = is
+    by false BallotReady is = is
+    by false BallotOnePhase is = tt
+    by false BallotNo is = is

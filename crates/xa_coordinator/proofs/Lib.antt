@@ -10,3 +10,4 @@ pub mod Closings
 pub mod Agreeing
 pub mod Ended
 pub mod Hazards
+pub mod Working

@@ -7,3 +7,4 @@ pub mod OpenBranches
 pub mod Told
 pub mod Stores
 pub mod Outcomes
+pub mod Work

@@ -4,6 +4,7 @@
 --     OpenThere        each branch that the coordinator has open is what the session of its store has open
 --     opening          the statement that brings a branch into a phase
 --     LeavesOpen       a statement leaves this branch open
+--     HasOpen          the coordinator has a transaction's branch open
 use Rattle.std.specs.Prelude.{◌≡◌, ℕ, List, Option, Some, None, slice_get}
 use Rattle.xa_xid.specs.declared.xid.Xid.{Xid}
 use Rattle.xa_xid.specs.declared.statement.Statement.{Statement}
@@ -42,3 +43,9 @@ opening Idle xid = End xid
 abbrev pub LeavesOpen : List ℕ → ℕ → Statement → Option OpenBranch → Type 0
 LeavesOpen name store statement None = Unit {0}
 LeavesOpen name store statement (Some branch) = statement ≡ opening branch.phase (branch_xid name branch.number store)
+
+-- the coordinator has the transaction's branch open in the store
+pub record HasOpen (branches : List (Option OpenBranch)) (store number : ℕ) : Type 0 where
+  pub branch : OpenBranch
+  pub there : slice_get branches store ≡ Some (Some branch)
+  pub is : branch.number ≡ number

@@ -1,6 +1,7 @@
 //! The branch of a transaction in one store, from its start to its end.
-ghost use Rattle.std.specs.Prelude.{◌≡◌, ◌<◌, vec_len};
+ghost use Rattle.std.specs.Prelude.{◌≡◌, ◌<◌, Some, OnOk, IfSome, IfNone, slice_get, vec_len};
 ghost use Rattle.xa_coordinator.specs.Branch.{branch_xid};
+ghost use Rattle.xa_coordinator.specs.OpenBranches.{HasOpen};
 ghost use Rattle.xa_coordinator.specs.Outcomes.{closing_of, SaysAs, ClosesAs, PreparesAs};
 ghost use Rattle.xa_coordinator.specs.Stores.{AtStore, ChangesAt};
 ghost use Rattle.xa_coordinator.specs.Told.{Says};
@@ -38,6 +39,7 @@ impl<S: Speak> Coordinator<S> {
         requires { store < vec_len self.old.stores }
         ensures name { self.new.name ≡ self.old.name }
         ensures frame { ChangesAt store self.old.stores.items self.new.stores.items }
+        ensures mark { OnOk result (slice_get self.new.branches store ≡ Some (Some (record { number = number; phase = Phase.Active }))) }
         ensures says { AtStore S.view store (Says (Start (branch_xid self.old.name.items number store)) result) self.old.stores.items self.new.stores.items }
     {
         let statement = Statement::Start(self.branch(number, store));
@@ -132,12 +134,29 @@ impl<S: Speak> Coordinator<S> {
         }
     }
 
-    /// Whether the coordinator has the transaction's branch open in a store, and it takes work.
-    pub(crate) fn is_working(&self, store: u8, number: u64) -> bool {
-        match self.branches.get(store as usize) {
-            Some(Some(branch)) => branch.number == number && branch.phase == Phase::Active,
-            _ => false,
+    /// The phase of the transaction's branch in a store, where the coordinator has it open there.
+    pub(crate) fn phase_of(&self, store: u8, number: u64) -> Option<Phase>
+        requires { store < 16 }
+        ensures some { IfSome result (λ phase. slice_get self.now.branches store ≡ Some (Some (record { number = number; phase = phase }))) }
+        ensures none { IfNone result (HasOpen self.now.branches store number → ⊥) }
+    {
+        match self.branches[store as usize] {
+            Some(branch) => {
+                if branch.number == number {
+                    Some(branch.phase)
+                } else {
+                    None
+                }
+            }
+            None => None,
         }
+    }
+
+    /// Whether the coordinator has the transaction's branch open in a store, and it takes work.
+    fn is_working(&self, store: u8, number: u64) -> bool
+        requires { store < 16 }
+    {
+        matches!(self.phase_of(store, number), Some(Phase::Active))
     }
 
     /// Finishes a branch; one that takes work and is to be rolled back is ended first.

@@ -20,6 +20,8 @@ mod standing;
 mod tell;
 mod transaction;
 mod vote;
+mod work;
+mod work_fault;
 
 pub use begin_fault::BeginFault;
 pub use branch_xid::{FORMAT_ID, branch_xid as xid_of_branch};
@@ -33,3 +35,4 @@ pub use speak::Speak;
 pub use standing::Standing;
 pub use transaction::Transaction;
 pub use vote::Vote;
+pub use work_fault::WorkFault;
