@@ -11,3 +11,4 @@ pub mod Agreeing
 pub mod Ended
 pub mod Hazards
 pub mod Working
+pub mod Works

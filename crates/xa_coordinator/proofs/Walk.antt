@@ -32,7 +32,7 @@ module _ {S : Type 0} (view : S → SessionView) where
   at_weaker store f g weaken old new is = λ before after is_before is_after. weaken (view before) (view after) (is before after is_before is_after)
 
   -- where nothing changed
-  at_same : (store : ℕ) (f : SessionView → SessionView → Type 0) → ((a : SessionView) → f a a) → (old new : List S) → slice_get new store ≡ slice_get old store → AtStore view store f old new
+  pub at_same : (store : ℕ) (f : SessionView → SessionView → Type 0) → ((a : SessionView) → f a a) → (old new : List S) → slice_get new store ≡ slice_get old store → AtStore view store f old new
   at_same store f same old new is = λ before after is_before is_after.
       subst (λ s. f (view before) (view s)) (same_one (slice_get new store) before after (is ∙ is_before) is_after) (same (view before))
 

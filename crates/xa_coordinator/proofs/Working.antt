@@ -12,7 +12,11 @@ use Rattle.xa_server.specs.Locks.{LockLaw}
 use Rattle.xa_server.specs.Replies.{reply_to}
 use Rattle.xa_server.specs.Step.{enters, may_enter, is_refused, after}
 use Rattle.decision_log.specs.History.{entries_of}
-use Rattle.xa_session.specs.Answer.{IsAnswered}
+use Rattle.std.specs.Prelude.{Result, Ok, Err, IfOk, IfErr}
+use Rattle.xa_session.specs.declared.fault.Fault.{Fault}
+use Rattle.xa_coordinator.specs.declared.cause.Cause.TheVariants.{Session}
+use Rattle.xa_coordinator.proofs.Telling.{is_undone, seat_refused}
+use Rattle.xa_session.specs.Answer.{IsAnswered, Fails, IsFinal}
 use Rattle.xa_session.specs.Replay.{state_after, state_at}
 use Rattle.xa_session.specs.declared.answer.Answer.{Answer}
 use Rattle.xa_coordinator.specs.View.{SessionView, StaysOfLog}
@@ -66,3 +70,11 @@ module _ (statement : Statement) (answer : Answer) (xid : Xid) (old new : Sessio
           ∙ row_entered (state_at old.base new.known.seen answer.place) (law_seen old.base (take answer.place new.known.seen) law_base) old.known.number xid statement row there entering
       by false outside =
           ap (λ state. seat_of state old.known.number) (state_outside old.base statement answer old.known new.known is outside) ∙ there
+
+-- and whatever the session answered
+pub active_still : (statement : Statement) (result : Result Answer Fault) (xid : Xid) (old new : SessionView) → LockLaw new.base → StaysOfLog old new → entries_of old.known.number old.known.seen ≡ old.known.mine → entries_of new.known.number new.known.seen ≡ new.known.mine →
+    seat_seen old ≡ Active xid → IsRow statement → IfOk result (λ answer. IsAnswered old.base statement answer old.known new.known) →
+    IfErr result (λ fault. Fails old.turns old.place.capacity old.base statement fault old.known new.known) → IfErr result IsFinal → seat_seen new ≡ seat_seen old
+active_still statement (Ok answer) xid old new law stays own_old own_new seat row answered fails final = active_after statement answer xid old new law stays own_old own_new seat row answered ∙ sym seat
+active_still statement (Err fault) xid old new law stays own_old own_new seat row answered fails final =
+    seat_refused statement (Session fault) old new law own_old own_new (is_undone statement (Session fault) old new stays (fails, final))

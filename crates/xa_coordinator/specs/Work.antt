@@ -6,8 +6,10 @@
 --     IsReplied        a row statement was answered within the branch
 --     IsWorked         the branch was open or was started, and the row statement was answered
 --     IsCut            the branch was open or was started, and the row statement wasn't answered
+--     WorksWithin      what a row statement came to in an open branch
+--     Keeps            the transaction is the same but for one store
 --     WorksAs          what work came to, by the answer
-use Rattle.std.specs.Prelude.{◌≡◌, ◌⊎◌, ℕ, Bool, true, List, [], ◌∷◌, ◌++◌, Result, Ok, Err}
+use Rattle.std.specs.Prelude.{◌≡◌, ◌≢◌, ◌⊎◌, ℕ, Bool, true, List, [], ◌∷◌, ◌++◌, Result, Ok, Err}
 use Rattle.xa_xid.specs.declared.xid.Xid.{Xid}
 use Rattle.xa_xid.specs.declared.statement.Statement.{Statement}
 use Rattle.xa_xid.specs.declared.statement.Statement.TheVariants.{Start, End, Prepare, Commit, Rollback, Recover, Unsupported, Get, Put, Del, Disconnect}
@@ -21,7 +23,7 @@ use Rattle.xa_coordinator.specs.declared.cause.Cause.TheVariants.{Session as Cau
 use Rattle.xa_coordinator.specs.declared.work_fault.WorkFault.{WorkFault}
 use Rattle.xa_coordinator.specs.declared.work_fault.WorkFault.TheVariants.{Session, Refused, Lost}
 use Rattle.xa_coordinator.specs.declared.transaction.Transaction.{Transaction}
-use Rattle.xa_coordinator.specs.View.{SessionView}
+use Rattle.xa_coordinator.specs.View.{SessionView, StaysOfLog}
 use Rattle.xa_coordinator.specs.Agreement.{Adds}
 use Rattle.xa_coordinator.specs.OpenBranches.{seat_seen}
 use Rattle.xa_coordinator.specs.Outcomes.{branch_of}
@@ -62,6 +64,7 @@ pub data MayStart (xid : Xid) (old : SessionView) : SessionView → Type 0 where
 
 -- the row statement was answered, at a place not before what had been seen, where the session's branch was this one and ACTIVE
 pub record IsReplied (row : Statement) (reply : Reply) (xid : Xid) (old new : SessionView) : Type 0 where
+  pub log : StaysOfLog old new
   pub place : ℕ
   pub answered : IsAnswered old.base row (record { place = place; reply = reply }) old.known new.known
   pub active : seat_of (state_at old.base new.known.seen place) old.known.number ≡ Active xid
@@ -77,6 +80,20 @@ pub record IsCut (row : Statement) (cause : Cause) (xid : Xid) (old new : Sessio
   pub mid : SessionView
   pub opened : MayStart xid old mid
   pub undone : IsUndone row cause mid new
+
+-- what a row statement came to in a branch that is ACTIVE
+abbrev pub WorksWithin : {S : Type 0} → (S → SessionView) → Xid → ℕ → Statement → Result Reply WorkFault → List S → List S → Type 0
+WorksWithin view xid store row (Ok reply) before after = AtStore view store (IsReplied row reply xid) before after
+WorksWithin view xid store row (Err (Session fault)) before after = AtStore view store (IsUndone row (CauseSession fault)) before after
+WorksWithin view xid store row (Err (Refused error)) before after = ⊥
+WorksWithin view xid store row (Err Lost) before after = ⊥
+
+-- the transaction is the same, and no other store comes to take part or ceases to
+pub record Keeps (store : ℕ) (old new : Transaction) : Type 0 where
+  pub number : new.number ≡ old.number
+  pub name : new.name ≡ old.name
+  pub stores : new.stores ≡ old.stores
+  pub others : (other : ℕ) → other ≢ store → takes_part new.participants other ≡ takes_part old.participants other
 
 -- what work came to in its store, and whether the store takes part then
 abbrev pub WorksAs : {S : Type 0} → (S → SessionView) → (lost : Type 0) → Transaction → Transaction → ℕ → Statement → Result Reply WorkFault → List S → List S → Type 0
