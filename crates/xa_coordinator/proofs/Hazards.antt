@@ -33,9 +33,10 @@ listed_skip participants place stores is = record {
 
 ascends_last : (stores : List ℕ) (last : ℕ) → Ascends stores → All (λ store. store < last) stores → Ascends (stores ++ last ∷ [])
 ascends_last [] last ascending below = (All-nil (λ later. last < later), tt)
-ascends_last (store ∷ stores) last ascending below =
-    (All-push (λ later. store < later) stores last ascending.0 (All-head (λ s. s < last) store stores below),
-     ascends_last stores last ascending.1 (All-tail (λ s. s < last) store stores below))
+ascends_last (store ∷ stores) last ascending below = (
+  All-push (λ later. store < later) stores last ascending.0 (All-head (λ s. s < last) store stores below),
+  ascends_last stores last ascending.1 (All-tail (λ s. s < last) store stores below),
+)
 
 pub listed_more : (participants : Participants) (place : ℕ) (stores : List ℕ) → IsListed participants place stores → takes_part participants place ≡ true → IsListed participants (place + 1) (stores ++ place ∷ [])
 listed_more participants place stores is takes = record {

@@ -85,7 +85,7 @@ before base statement answer old new is own_old own_new = by (enters (state_at b
         record {
           begins = begins_between old.seen front new.seen is.advances.seen begins (omega (arith, is.not_before, is.at.within, length-take answer.place new.seen));
           own = append_cancel_right (entries_of old.number front) (entries_of old.number old.seen) (entry ∷ [])
-          (sym (own_last old.number front entry refl) ∙ ap (entries_of old.number) (sym added.seen) ∙ all_own ∙ added.mine ∙ ap (λ list. list ++ entry ∷ []) (sym own_old));
+              (sym (own_last old.number front entry refl) ∙ ap (entries_of old.number) (sym added.seen) ∙ all_own ∙ added.mine ∙ ap (λ list. list ++ entry ∷ []) (sym own_old));
         }
     by false outside =
         let stays = is.outside outside in

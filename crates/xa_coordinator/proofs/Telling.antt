@@ -127,10 +127,10 @@ adds_then first second old mid new one two = record {
   log = record { place = two.log.place ∙ one.log.place; turns = two.log.turns ∙ one.log.turns; base = two.log.base ∙ one.log.base };
   advances = advances_through old.known mid.known new.known one.advances two.advances;
   mine = two.mine
-  ∙ ap (λ list. list ++ map (entry_of mid.known.number) second) one.mine
-  ∙ ap (λ n. (old.known.mine ++ map (entry_of old.known.number) first) ++ map (entry_of n) second) one.advances.number
-  ∙ append_assoc old.known.mine (map (entry_of old.known.number) first) (map (entry_of old.known.number) second)
-  ∙ ap (λ list. old.known.mine ++ list) (sym (map-append (entry_of old.known.number) first second));
+      ∙ ap (λ list. list ++ map (entry_of mid.known.number) second) one.mine
+      ∙ ap (λ n. (old.known.mine ++ map (entry_of old.known.number) first) ++ map (entry_of n) second) one.advances.number
+      ∙ append_assoc old.known.mine (map (entry_of old.known.number) first) (map (entry_of old.known.number) second)
+      ∙ ap (λ list. old.known.mine ++ list) (sym (map-append (entry_of old.known.number) first second));
 }
 
 pub adds_nothing : (session : SessionView) → Adds [] session session

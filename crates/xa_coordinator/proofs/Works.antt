@@ -85,7 +85,7 @@ work_agrees decisions name store xid row is old new work = record {
   statements = work.started ++ work.worked;
   adds = work.adds;
   each = All-append (AgreesWith decisions name store) work.started work.worked (maybe_all (AgreesWith decisions name store) (Start xid) work.started work.is_start tt)
-  (maybe_all (AgreesWith decisions name store) row work.worked work.is_row (row_agrees decisions name store row is));
+      (maybe_all (AgreesWith decisions name store) row work.worked work.is_row (row_agrees decisions name store row is));
 }
 
 module _ {S : Type 0} (view : S → SessionView) where
@@ -112,14 +112,17 @@ module _ {S : Type 0} (view : S → SessionView) where
   pub works_started : (lost : Type 0) (old new : Transaction) (store : ℕ) (row : Statement) (result : Result Reply WorkFault) (before mid after : List S) → length mid ≡ length before →
       AtStore view store (IsDone (Start (branch_of old store))) before mid → takes_part new.participants store ≡ true →
       WorksWithin view (branch_of old store) store row result mid after → WorksAs view lost old new store row result before after
-  works_started lost old new store row (Ok reply) before mid after count started takes is =
-      (takes,
-       at_then view store (IsDone (Start (branch_of old store))) (IsReplied row reply (branch_of old store)) (IsWorked row reply (branch_of old store))
-       (λ a m b done replied. record { mid = m; opened = was_started m done; replied = replied }) before mid after count started is)
+  works_started lost old new store row (Ok reply) before mid after count started takes is = (
+    takes,
+    at_then view store (IsDone (Start (branch_of old store))) (IsReplied row reply (branch_of old store)) (IsWorked row reply (branch_of old store))
+        (λ a m b done replied. record { mid = m; opened = was_started m done; replied = replied }) before mid after count started is,
+  )
   works_started lost old new store row (Err (Session fault)) before mid after count started takes is =
-      inl (takes,
-      at_then view store (IsDone (Start (branch_of old store))) (IsUndone row (CauseSession fault)) (IsCut row (CauseSession fault) (branch_of old store))
-      (λ a m b done undone. record { mid = m; opened = was_started m done; undone = undone }) before mid after count started is)
+      inl (
+        takes,
+        at_then view store (IsDone (Start (branch_of old store))) (IsUndone row (CauseSession fault)) (IsCut row (CauseSession fault) (branch_of old store))
+            (λ a m b done undone. record { mid = m; opened = was_started m done; undone = undone }) before mid after count started is,
+      )
   works_started lost old new store row (Err (Refused error)) before mid after count started takes is = absurd is
   works_started lost old new store row (Err Lost) before mid after count started takes is = absurd is
 

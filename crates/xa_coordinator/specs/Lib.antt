@@ -8,3 +8,4 @@ pub mod Told
 pub mod Stores
 pub mod Outcomes
 pub mod Work
+pub mod Faults

@@ -117,12 +117,7 @@ impl<S: Speak> Coordinator<S> {
     }
 
     /// Ends a branch that takes work, and rolls it back.
-    fn end_and_roll_back<R: Wait>(
-        &mut self,
-        rt: &R,
-        store: u8,
-        number: u64,
-    ) -> Result<Found, Cause>
+    fn end_and_roll_back<R: Wait>(&mut self, rt: &R, store: u8, number: u64) -> Result<Found, Cause>
         requires { store < vec_len self.old.stores }
         ensures name { self.new.name ≡ self.old.name }
         ensures frame { ChangesAt store self.old.stores.items self.new.stores.items }

@@ -3,9 +3,9 @@ ghost use Rattle.std.specs.Prelude.{◌≡◌, ◌≤◌, ◌<◌, ◌+◌, ◌+
 ghost use Rattle.arrayvec.specs.ArrayVec.{array_vec_len};
 ghost use Rattle.xa_coordinator.specs.OpenBranches.{OpenThere};
 
+use crate::open_branch::OpenBranch;
 use crate::participants::Participants;
 use crate::{BeginFault, Decisions, Speak, Transaction};
-use crate::open_branch::OpenBranch;
 use xa_xid::{Bytes, copy_of};
 
 /// A coordinator: a name, and a session of each store.

@@ -93,12 +93,7 @@ impl<S: Speak> Coordinator<S> {
     ///
     /// May answer a fault of a session. May wait: no number of tries is promised.
     /// Own rule: docs/COORDINATOR.md, 'The second phase'.
-    pub fn finish<R: Wait>(
-        &mut self,
-        rt: &R,
-        decisions: &Decisions,
-        prepared: Prepared,
-    ) -> Ending
+    pub fn finish<R: Wait>(&mut self, rt: &R, decisions: &Decisions, prepared: Prepared) -> Ending
         requires name { prepared.transaction.name.items ≡ self.old.name.items }
         requires stores { prepared.transaction.stores ≡ vec_len self.old.stores }
         ensures name { self.new.name ≡ self.old.name }

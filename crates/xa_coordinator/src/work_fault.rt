@@ -1,4 +1,6 @@
 //! Why work in a store wasn't answered.
+ghost use Rattle.std.specs.Prelude.{◌≡◌};
+ghost use Rattle.xa_coordinator.specs.Faults.{number_of_work_fault};
 
 use xa_server::XaError;
 use xa_session::Fault;
@@ -12,4 +14,20 @@ pub enum WorkFault {
     Refused(XaError),
     /// The store takes part, and this coordinator has no open branch of the transaction there. Nothing was said to the store.
     Lost,
+}
+
+impl WorkFault {
+    /// The fault's number, in `[1, 3]`.
+    ///
+    /// Takes no memory. Doesn't wait.
+    /// Own rule: docs/BEHAVIOR.md, 'Faults of a coordinator'.
+    pub fn number(&self) -> u64
+        ensures { result ≡ number_of_work_fault self.now }
+    {
+        match self {
+            WorkFault::Session(_) => 1,
+            WorkFault::Refused(_) => 2,
+            WorkFault::Lost => 3,
+        }
+    }
 }

@@ -14,10 +14,11 @@ returns-in-Err-clause-polls g c =
     let transaction = c.args.transaction.now in
     let store : ℕ = c.loop-store.store in
     let cause = c.in-Err.cause in
-    let names : c.loop-store.self.name.items ≡ transaction.name.items = ap (λ (name : Text). name.items) c.loop-store.invariant.name ∙ sym c.requires.name in
-    (sym (c.if-not-has.ensures),
-     ended_at g.S.Speak.view (λ other. IsVoted (branch_of transaction other) (takes_part transaction.participants other)) store
-     (IsStopped (Prepare (branch_of transaction store)) (branch_of transaction store) cause)
-     c.args.self.now.stores.items c.loop-store.self.stores.items c.prepare_branch.new.self.stores.items c.loop-store.invariant.reached c.in-Err.ensures.frame
-     (subst (λ (name : List ℕ). AtStore g.S.Speak.view store (PreparesAs (branch_xid name transaction.number store) (Err cause)) c.loop-store.self.stores.items c.prepare_branch.new.self.stores.items)
-     names c.in-Err.ensures.prepares))
+    let names : c.loop-store.self.name.items ≡ transaction.name.items = ap (λ (name : Text). name.items) c.loop-store.invariant.name ∙ sym c.requires.name in (
+      sym (c.if-not-has.ensures),
+      ended_at g.S.Speak.view (λ other. IsVoted (branch_of transaction other) (takes_part transaction.participants other)) store
+          (IsStopped (Prepare (branch_of transaction store)) (branch_of transaction store) cause)
+          c.args.self.now.stores.items c.loop-store.self.stores.items c.prepare_branch.new.self.stores.items c.loop-store.invariant.reached c.in-Err.ensures.frame
+          (subst (λ (name : List ℕ). AtStore g.S.Speak.view store (PreparesAs (branch_xid name transaction.number store) (Err cause)) c.loop-store.self.stores.items c.prepare_branch.new.self.stores.items)
+          names c.in-Err.ensures.prepares),
+    )

@@ -27,8 +27,8 @@ invariant_of-self g c =
       named = me.named;
       sized = me.sized;
       open_there = unmarked view me.name.items me.stores.items me.branches c.args.store old new c.index_mut.ensures.value me.open_there
-      (active_still c.args.statement.now c.execute.result xid (view old) (view new) c.execute.ensures.lawful c.execute.ensures.stays (g.met.S.Speak.own_part old) (g.met.S.Speak.own_part new) seat c.requires.row
-      c.execute.ensures.answered c.execute.ensures.fails c.execute.ensures.lasts);
+          (active_still c.args.statement.now c.execute.result xid (view old) (view new) c.execute.ensures.lawful c.execute.ensures.stays (g.met.S.Speak.own_part old) (g.met.S.Speak.own_part new) seat c.requires.row
+          c.execute.ensures.answered c.execute.ensures.fails c.execute.ensures.lasts);
     }
 
 pub returns-in-Ok-clause-frame : goal.returns-in-Ok-clause-frame

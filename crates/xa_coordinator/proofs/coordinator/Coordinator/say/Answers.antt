@@ -13,8 +13,8 @@ invariant_of-self g c =
       named = me.named;
       sized = me.sized;
       open_there = marked view me.name.items me.stores.items me.branches c.args.store new c.args.then me.open_there
-      (leaves_seat me.name.items c.args.store c.args.statement.now c.args.then (view old) (view new) c.requires.leaves c.in-Ok.ensures.lawful
-      (g.met.S.Speak.own_part old) (g.met.S.Speak.own_part new) c.in-Ok.ensures.says);
+          (leaves_seat me.name.items c.args.store c.args.statement.now c.args.then (view old) (view new) c.requires.leaves c.in-Ok.ensures.lawful
+          (g.met.S.Speak.own_part old) (g.met.S.Speak.own_part new) c.in-Ok.ensures.says);
     }
 
 pub invariant_of-self-in-Err-1 : goal.invariant_of-self-in-Err-1
@@ -27,8 +27,8 @@ invariant_of-self-in-Err-1 g c =
       named = me.named;
       sized = me.sized;
       open_there = unmarked view me.name.items me.stores.items me.branches c.args.store old new c.index_mut.ensures.value me.open_there
-      (seat_refused c.args.statement.now c.in-Err.cause (view old) (view new) c.in-Err.ensures.lawful
-      (g.met.S.Speak.own_part old) (g.met.S.Speak.own_part new) c.in-Err.ensures.says);
+          (seat_refused c.args.statement.now c.in-Err.cause (view old) (view new) c.in-Err.ensures.lawful
+          (g.met.S.Speak.own_part old) (g.met.S.Speak.own_part new) c.in-Err.ensures.says);
     }
 
 pub returns-in-Ok-clause-frame : goal.returns-in-Ok-clause-frame

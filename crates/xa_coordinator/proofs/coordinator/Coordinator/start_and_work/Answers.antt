@@ -19,17 +19,20 @@ returns-in-Ok-clause-works g c =
 pub returns-in-Err-Session-clause-works : goal.returns-in-Err-Session-clause-works
 returns-in-Err-Session-clause-works g c =
     let transaction = c.args.transaction.now in
-    inr (refl,
-    subst (λ cause. AtStore g.S.Speak.view c.args.store (IsUndone (Start (branch_xid transaction.name.items transaction.number c.args.store)) cause) c.args.self.now.stores.items c.start_branch.new.self.stores.items)
-    c.in-Err-Session.field-0-is
-    (subst (λ (name : List ℕ). AtStore g.S.Speak.view c.args.store (IsUndone (Start (branch_xid name transaction.number c.args.store)) c.in-Err-Session.field-0) c.args.self.now.stores.items c.start_branch.new.self.stores.items)
-    (sym c.requires.name) c.in-Err-Session.ensures.says))
+    inr (
+      refl,
+      subst (λ cause. AtStore g.S.Speak.view c.args.store (IsUndone (Start (branch_xid transaction.name.items transaction.number c.args.store)) cause) c.args.self.now.stores.items c.start_branch.new.self.stores.items)
+          c.in-Err-Session.field-0-is
+          (subst (λ (name : List ℕ). AtStore g.S.Speak.view c.args.store (IsUndone (Start (branch_xid name transaction.number c.args.store)) c.in-Err-Session.field-0) c.args.self.now.stores.items c.start_branch.new.self.stores.items)
+          (sym c.requires.name) c.in-Err-Session.ensures.says),
+    )
 
 pub returns-in-Err-Refused-clause-works : goal.returns-in-Err-Refused-clause-works
 returns-in-Err-Refused-clause-works g c =
-    let transaction = c.args.transaction.now in
-    (refl,
-     subst (λ cause. AtStore g.S.Speak.view c.args.store (IsUndone (Start (branch_xid transaction.name.items transaction.number c.args.store)) cause) c.args.self.now.stores.items c.start_branch.new.self.stores.items)
-     c.in-Err-Refused.field-0-is
-     (subst (λ (name : List ℕ). AtStore g.S.Speak.view c.args.store (IsUndone (Start (branch_xid name transaction.number c.args.store)) c.in-Err-Refused.field-0) c.args.self.now.stores.items c.start_branch.new.self.stores.items)
-     (sym c.requires.name) c.in-Err-Refused.ensures.says))
+    let transaction = c.args.transaction.now in (
+      refl,
+      subst (λ cause. AtStore g.S.Speak.view c.args.store (IsUndone (Start (branch_xid transaction.name.items transaction.number c.args.store)) cause) c.args.self.now.stores.items c.start_branch.new.self.stores.items)
+          c.in-Err-Refused.field-0-is
+          (subst (λ (name : List ℕ). AtStore g.S.Speak.view c.args.store (IsUndone (Start (branch_xid name transaction.number c.args.store)) c.in-Err-Refused.field-0) c.args.self.now.stores.items c.start_branch.new.self.stores.items)
+          (sym c.requires.name) c.in-Err-Refused.ensures.says),
+    )
