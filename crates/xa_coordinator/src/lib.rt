@@ -28,7 +28,7 @@ mod work_fault;
 pub use begin_fault::BeginFault;
 pub use branch_xid::{FORMAT_ID, branch_xid as xid_of_branch};
 pub use cause::Cause;
-pub use closing::{Closing, Found};
+pub use closing::Closing;
 pub use coordinator::Coordinator;
 pub use decisions::{Closed, Decisions};
 pub use ending::Ending;
