@@ -1,7 +1,7 @@
 //! A coordinator over real stores.
-ghost use Rattle.std.specs.Prelude.{◌≡◌, ◌<◌, IfSome, vec_len};
-ghost use Rattle.arrayvec.specs.ArrayVec.{array_vec_len};
+ghost use Rattle.std.specs.Prelude.{◌≡◌, ◌<◌, ◌≤◌, ◌∷◌, [], vec_len};
 ghost use Rattle.xa_coordinator.specs.Work.{IsRow};
+ghost use Rattle.xa_coordinator.specs.declared.prepared.Ballot.TheVariants.{Ready as BallotReady};
 
 use crate::{
     BeginFault, Cause, Coordinator, Decisions, Ending, Prepared, Speak, Transaction, Vote,
@@ -17,7 +17,7 @@ use xa_store::{Log, Pass, Store};
 use xa_xid::{Bytes, Key, Statement, write_xid};
 
 fn text(letter: u8) -> Bytes
-    ensures { array_vec_len result ≡ 1 }
+    ensures { result.items ≡ letter ∷ [] }
 {
     let mut bytes = Bytes::new();
     bytes.push(letter);
@@ -149,6 +149,7 @@ fn works<S: Speak>(
     requires stores { transaction.old.stores ≡ vec_len c.old.stores }
     requires store { store < vec_len c.old.stores }
     requires row { IsRow statement.now }
+    ensures kept { transaction.new.name.items ≡ transaction.old.name.items }
     ensures name { transaction.new.name.items ≡ c.new.name.items }
     ensures stores { transaction.new.stores ≡ vec_len c.new.stores }
     ensures count { vec_len c.new.stores ≡ vec_len c.old.stores }
@@ -166,6 +167,7 @@ fn puts<S: Speak, R: Abort + Wait>(
     requires name { transaction.old.name.items ≡ c.old.name.items }
     requires stores { transaction.old.stores ≡ vec_len c.old.stores }
     requires store { store < vec_len c.old.stores }
+    ensures kept { transaction.new.name.items ≡ transaction.old.name.items }
     ensures name { transaction.new.name.items ≡ c.new.name.items }
     ensures stores { transaction.new.stores ≡ vec_len c.new.stores }
     ensures count { vec_len c.new.stores ≡ vec_len c.old.stores }
@@ -184,7 +186,7 @@ fn ready<S: Speak, R: Abort + Wait>(
     requires { vec_len c.old.stores ≡ 3 }
     ensures name { result.transaction.name.items ≡ c.new.name.items }
     ensures stores { result.transaction.stores ≡ vec_len c.new.stores }
-    ensures ballot { result.ballot ≡ Ballot.Ready }
+    ensures ballot { result.ballot ≡ BallotReady }
 {
     let mut transaction = begun(rt, c, decisions);
     let worked = puts(rt, c, &mut transaction, 0) && puts(rt, c, &mut transaction, 1);
@@ -395,12 +397,13 @@ fn second_branch_is_refused<S: Speak, R: Abort + Wait>(
 }
 
 /// A branch that another coordinator of the name began is lost.
-fn lost_work_is_told<S: Speak, R: Abort + Wait>(rt: &R, alloc: Global, mut c: Coordinator<S>)
+fn lost_work_is_told<S: Speak, R: Abort + Wait>(rt: &R, alloc: Global, stores: Vec<S>)
 where
     S: Drop,
-    requires { vec_len c.stores ≡ 3 }
+    requires { (1 ≤ vec_len stores) × (vec_len stores ≤ 16) }
 {
     let mut decisions = Decisions::new(alloc);
+    let mut c = Coordinator::new(text(b'c'), stores);
     let mut transaction = begun(rt, &c, &mut decisions);
     let worked = puts(rt, &mut c, &mut transaction, 0);
     assert!(rt; worked);
@@ -579,7 +582,7 @@ fn work_of_another_coordinator_is_lost(rt: HostRuntime) {
         connected(&rt, &third, pass_2),
     ];
     let c = coordinator(&rt, rt.alloc(), sessions);
-    lost_work_is_told(&rt, rt.alloc(), c);
+    lost_work_is_told(&rt, rt.alloc(), c.stop());
 }
 
 /// Whether all numbers are given, and then no more.
