@@ -70,12 +70,13 @@ fn connected<'a>(rt: &impl Abort, store: &'a Store, pass: Pass) -> Session<'a, L
 fn coordinator<'a>(
     rt: &impl Abort,
     alloc: Global,
-    sessions: [Session<'a, Log>; 3],
+    first: Session<'a, Log>,
+    second: Session<'a, Log>,
+    third: Session<'a, Log>,
 ) -> Coordinator<Session<'a, Log>>
     ensures { vec_len result.stores ≡ 3 }
 {
     let mut stores = Vec::new(alloc);
-    let [first, second, third] = sessions;
     let (Ok(()), Ok(()), Ok(())) = (stores.push(first), stores.push(second), stores.push(third))
     else {
         panic!(rt; "three sessions")
@@ -83,23 +84,29 @@ fn coordinator<'a>(
     Coordinator::new(text(b'c'), stores)
 }
 
-/// Whether the row `k` has this value for a session, or none.
-fn reads<S: Speak>(rt: &(impl Abort + Wait), session: &mut S, value: Option<u8>) -> bool {
-    match session.execute(rt, &get(rt, b'k')) {
-        Ok(
-            Answer {
-                reply: Reply::Value(Some(bytes)),
-                ..
-            },
-        ) => bytes.len() == 1 && bytes.first().copied() == value,
+/// Whether a row was read, with the value of one byte, or with none.
+fn is_value(answer: &Result<Answer, Fault>, value: Option<u8>) -> bool {
+    match answer {
         Ok(
             Answer {
                 reply: Reply::Value(None),
                 ..
             },
         ) => value.is_none(),
+        Ok(
+            Answer {
+                reply: Reply::Value(Some(bytes)),
+                ..
+            },
+        ) => bytes.len() == 1 && bytes.first().copied() == value,
         _ => false,
     }
+}
+
+/// Whether the row `k` has this value for a session, or none.
+fn reads<S: Speak, R: Abort + Wait>(rt: &R, session: &mut S, value: Option<u8>) -> bool {
+    let get_k = get(rt, b'k');
+    is_value(&session.execute(rt, &get_k), value)
 }
 
 /// Whether a session carries a statement out.
@@ -418,12 +425,10 @@ fn decided_transaction_commits(rt: HostRuntime) {
     let (first, pass_0, reader_0) = opened(&rt, rt.alloc(), 16);
     let (second, pass_1, reader_1) = opened(&rt, rt.alloc(), 16);
     let (third, pass_2, _) = opened(&rt, rt.alloc(), 16);
-    let sessions = [
-        connected(&rt, &first, pass_0),
-        connected(&rt, &second, pass_1),
-        connected(&rt, &third, pass_2),
-    ];
-    let mut c = coordinator(&rt, rt.alloc(), sessions);
+    let one = connected(&rt, &first, pass_0);
+    let two = connected(&rt, &second, pass_1);
+    let three = connected(&rt, &third, pass_2);
+    let mut c = coordinator(&rt, rt.alloc(), one, two, three);
     let mut reader_0 = connected(&rt, &first, reader_0);
     let mut reader_1 = connected(&rt, &second, reader_1);
     decided_commits(&rt, rt.alloc(), &mut c, &mut reader_0, &mut reader_1);
@@ -434,12 +439,10 @@ fn undecided_transaction_rolls_back(rt: HostRuntime) {
     let (first, pass_0, reader_0) = opened(&rt, rt.alloc(), 16);
     let (second, pass_1, reader_1) = opened(&rt, rt.alloc(), 16);
     let (third, pass_2, _) = opened(&rt, rt.alloc(), 16);
-    let sessions = [
-        connected(&rt, &first, pass_0),
-        connected(&rt, &second, pass_1),
-        connected(&rt, &third, pass_2),
-    ];
-    let mut c = coordinator(&rt, rt.alloc(), sessions);
+    let one = connected(&rt, &first, pass_0);
+    let two = connected(&rt, &second, pass_1);
+    let three = connected(&rt, &third, pass_2);
+    let mut c = coordinator(&rt, rt.alloc(), one, two, three);
     let mut reader_0 = connected(&rt, &first, reader_0);
     let mut reader_1 = connected(&rt, &second, reader_1);
     undecided_rolls_back(&rt, rt.alloc(), &mut c, &mut reader_0, &mut reader_1);
@@ -450,12 +453,10 @@ fn only_participant_commits_in_one_phase(rt: HostRuntime) {
     let (first, pass_0, _) = opened(&rt, rt.alloc(), 16);
     let (second, pass_1, _) = opened(&rt, rt.alloc(), 16);
     let (third, pass_2, reader_2) = opened(&rt, rt.alloc(), 16);
-    let sessions = [
-        connected(&rt, &first, pass_0),
-        connected(&rt, &second, pass_1),
-        connected(&rt, &third, pass_2),
-    ];
-    let mut c = coordinator(&rt, rt.alloc(), sessions);
+    let one = connected(&rt, &first, pass_0);
+    let two = connected(&rt, &second, pass_1);
+    let three = connected(&rt, &third, pass_2);
+    let mut c = coordinator(&rt, rt.alloc(), one, two, three);
     let mut reader_2 = connected(&rt, &third, reader_2);
     single_commits(&rt, rt.alloc(), &mut c, &mut reader_2);
 }
@@ -465,12 +466,10 @@ fn no_work_is_no_vote(rt: HostRuntime) {
     let (first, pass_0, _) = opened(&rt, rt.alloc(), 16);
     let (second, pass_1, _) = opened(&rt, rt.alloc(), 16);
     let (third, pass_2, _) = opened(&rt, rt.alloc(), 16);
-    let sessions = [
-        connected(&rt, &first, pass_0),
-        connected(&rt, &second, pass_1),
-        connected(&rt, &third, pass_2),
-    ];
-    let mut c = coordinator(&rt, rt.alloc(), sessions);
+    let one = connected(&rt, &first, pass_0);
+    let two = connected(&rt, &second, pass_1);
+    let three = connected(&rt, &third, pass_2);
+    let mut c = coordinator(&rt, rt.alloc(), one, two, three);
     nothing_to_vote(&rt, rt.alloc(), &mut c);
 }
 
@@ -479,12 +478,10 @@ fn abandoned_transaction_leaves_nothing(rt: HostRuntime) {
     let (first, pass_0, reader_0) = opened(&rt, rt.alloc(), 16);
     let (second, pass_1, _) = opened(&rt, rt.alloc(), 16);
     let (third, pass_2, _) = opened(&rt, rt.alloc(), 16);
-    let sessions = [
-        connected(&rt, &first, pass_0),
-        connected(&rt, &second, pass_1),
-        connected(&rt, &third, pass_2),
-    ];
-    let mut c = coordinator(&rt, rt.alloc(), sessions);
+    let one = connected(&rt, &first, pass_0);
+    let two = connected(&rt, &second, pass_1);
+    let three = connected(&rt, &third, pass_2);
+    let mut c = coordinator(&rt, rt.alloc(), one, two, three);
     let mut reader_0 = connected(&rt, &first, reader_0);
     abandoned_leaves_nothing(&rt, rt.alloc(), &mut c, &mut reader_0);
 }
@@ -494,12 +491,10 @@ fn locked_row_is_a_reply(rt: HostRuntime) {
     let (first, pass_0, reader_0) = opened(&rt, rt.alloc(), 16);
     let (second, pass_1, _) = opened(&rt, rt.alloc(), 16);
     let (third, pass_2, _) = opened(&rt, rt.alloc(), 16);
-    let sessions = [
-        connected(&rt, &first, pass_0),
-        connected(&rt, &second, pass_1),
-        connected(&rt, &third, pass_2),
-    ];
-    let mut c = coordinator(&rt, rt.alloc(), sessions);
+    let one = connected(&rt, &first, pass_0);
+    let two = connected(&rt, &second, pass_1);
+    let three = connected(&rt, &third, pass_2);
+    let mut c = coordinator(&rt, rt.alloc(), one, two, three);
     let mut reader_0 = connected(&rt, &first, reader_0);
     locked_row_is_told(&rt, rt.alloc(), &mut c, &mut reader_0);
 }
@@ -509,12 +504,10 @@ fn branch_that_a_stranger_finished_is_a_hazard(rt: HostRuntime) {
     let (first, pass_0, reader_0) = opened(&rt, rt.alloc(), 16);
     let (second, pass_1, reader_1) = opened(&rt, rt.alloc(), 16);
     let (third, pass_2, reader_2) = opened(&rt, rt.alloc(), 16);
-    let sessions = [
-        connected(&rt, &first, pass_0),
-        connected(&rt, &second, pass_1),
-        connected(&rt, &third, pass_2),
-    ];
-    let mut c = coordinator(&rt, rt.alloc(), sessions);
+    let one = connected(&rt, &first, pass_0);
+    let two = connected(&rt, &second, pass_1);
+    let three = connected(&rt, &third, pass_2);
+    let mut c = coordinator(&rt, rt.alloc(), one, two, three);
     let mut reader_0 = connected(&rt, &first, reader_0);
     let mut reader_1 = connected(&rt, &second, reader_1);
     let mut reader_2 = connected(&rt, &third, reader_2);
@@ -533,12 +526,10 @@ fn full_store_votes_no(rt: HostRuntime) {
     let (first, pass_0, _) = opened(&rt, rt.alloc(), 3);
     let (second, pass_1, reader_1) = opened(&rt, rt.alloc(), 16);
     let (third, pass_2, _) = opened(&rt, rt.alloc(), 16);
-    let sessions = [
-        connected(&rt, &first, pass_0),
-        connected(&rt, &second, pass_1),
-        connected(&rt, &third, pass_2),
-    ];
-    let mut c = coordinator(&rt, rt.alloc(), sessions);
+    let one = connected(&rt, &first, pass_0);
+    let two = connected(&rt, &second, pass_1);
+    let three = connected(&rt, &third, pass_2);
+    let mut c = coordinator(&rt, rt.alloc(), one, two, three);
     let mut reader_1 = connected(&rt, &second, reader_1);
     full_store_is_told(&rt, rt.alloc(), &mut c, &mut reader_1);
 }
@@ -548,12 +539,10 @@ fn full_store_takes_no_work(rt: HostRuntime) {
     let (first, pass_0, _) = opened(&rt, rt.alloc(), 1);
     let (second, pass_1, _) = opened(&rt, rt.alloc(), 16);
     let (third, pass_2, _) = opened(&rt, rt.alloc(), 16);
-    let sessions = [
-        connected(&rt, &first, pass_0),
-        connected(&rt, &second, pass_1),
-        connected(&rt, &third, pass_2),
-    ];
-    let mut c = coordinator(&rt, rt.alloc(), sessions);
+    let one = connected(&rt, &first, pass_0);
+    let two = connected(&rt, &second, pass_1);
+    let three = connected(&rt, &third, pass_2);
+    let mut c = coordinator(&rt, rt.alloc(), one, two, three);
     full_store_takes_part(&rt, rt.alloc(), &mut c);
 }
 
@@ -562,12 +551,10 @@ fn busy_session_starts_no_second_branch(rt: HostRuntime) {
     let (first, pass_0, _) = opened(&rt, rt.alloc(), 16);
     let (second, pass_1, _) = opened(&rt, rt.alloc(), 16);
     let (third, pass_2, _) = opened(&rt, rt.alloc(), 16);
-    let sessions = [
-        connected(&rt, &first, pass_0),
-        connected(&rt, &second, pass_1),
-        connected(&rt, &third, pass_2),
-    ];
-    let mut c = coordinator(&rt, rt.alloc(), sessions);
+    let one = connected(&rt, &first, pass_0);
+    let two = connected(&rt, &second, pass_1);
+    let three = connected(&rt, &third, pass_2);
+    let mut c = coordinator(&rt, rt.alloc(), one, two, three);
     second_branch_is_refused(&rt, rt.alloc(), &mut c);
 }
 
@@ -576,12 +563,10 @@ fn work_of_another_coordinator_is_lost(rt: HostRuntime) {
     let (first, pass_0, _) = opened(&rt, rt.alloc(), 16);
     let (second, pass_1, _) = opened(&rt, rt.alloc(), 16);
     let (third, pass_2, _) = opened(&rt, rt.alloc(), 16);
-    let sessions = [
-        connected(&rt, &first, pass_0),
-        connected(&rt, &second, pass_1),
-        connected(&rt, &third, pass_2),
-    ];
-    let c = coordinator(&rt, rt.alloc(), sessions);
+    let one = connected(&rt, &first, pass_0);
+    let two = connected(&rt, &second, pass_1);
+    let three = connected(&rt, &third, pass_2);
+    let c = coordinator(&rt, rt.alloc(), one, two, three);
     lost_work_is_told(&rt, rt.alloc(), c.stop());
 }
 
@@ -600,12 +585,10 @@ fn numbers_are_spent(rt: HostRuntime) {
     let (first, pass_0, _) = opened(&rt, rt.alloc(), 1);
     let (second, pass_1, _) = opened(&rt, rt.alloc(), 1);
     let (third, pass_2, _) = opened(&rt, rt.alloc(), 1);
-    let sessions = [
-        connected(&rt, &first, pass_0),
-        connected(&rt, &second, pass_1),
-        connected(&rt, &third, pass_2),
-    ];
-    let c = coordinator(&rt, rt.alloc(), sessions);
+    let one = connected(&rt, &first, pass_0);
+    let two = connected(&rt, &second, pass_1);
+    let three = connected(&rt, &third, pass_2);
+    let c = coordinator(&rt, rt.alloc(), one, two, three);
     let mut decisions = Decisions::new(rt.alloc());
     assert!(rt; spends_all(&c, &mut decisions));
     assert!(rt; !decisions.is_decided(1_000_000) && !decisions.is_decided(0));
