@@ -1,12 +1,13 @@
 -- How numbers stand, before and after a decision.
-use Rattle.std.proofs.Common.{◌≡◌, ◌<◌, ◌+◌, ◌-◌, ℕ, Bool, true, false, List, length, refl, ap, sym, ◌∙◌, Option, Some, None, cond, arith, ne_eqb}
+use Rattle.std.proofs.Common.{◌≡◌, ◌<◌, ◌+◌, ◌-◌, ℕ, Bool, true, false, List, length, refl, ap, sym, ◌∙◌, Option, Some, None, cond, arith, ne_eqb, subst, inl, inr, ◌⊎◌}
 use Rattle.std.proofs.lemmas.Bool.{eqb-false}
+use Rattle.std.proofs.lemmas.Bool.Decides.{eqb_tells}
 use Rattle.std.proofs.lemmas.Option.{slice_get_within}
 use Rattle.std.specs.Prelude.{◌==◌, slice_get, slice_set}
 use Rattle.xa_coordinator.specs.declared.standing.Standing.{Standing}
 use Rattle.xa_coordinator.specs.declared.standing.Standing.TheVariants.{Decided}
 use Rattle.xa_coordinator.specs.Decisions.{standing_of, is_open, decides, may_be_decided, is_decided, with_decided}
-use Rattle.xa_coordinator.proofs.Places.{get_set_same}
+use Rattle.xa_coordinator.proofs.Places.{get_set_same, get_set_other}
 
 -- a number that was given has its place in the list
 pub record HasPlace (decisions : List Standing) (number : ℕ) : Type 0 where
@@ -38,3 +39,21 @@ decided_after decisions place number is below =
 pub with_decided-at : (decisions : List Standing) (place number : ℕ) → place + 1 ≡ number → slice_set decisions place Decided ≡ with_decided decisions number
 unfolding with_decided
 with_decided-at decisions place number is = ap (λ at. slice_set decisions at Decided) (omega arith)
+
+-- what was decided stays so
+decided_in : (decisions : List Standing) (place : ℕ) (found : Option Standing) → slice_get decisions place ≡ found → decides found ≡ true → place < length decisions
+decided_in decisions place None is decided = absurd (cc)
+decided_in decisions place (Some standing) is decided = slice_get_within decisions place standing is
+
+pub decided_kept : (decisions : List Standing) (place other : ℕ) → is_decided decisions other ≡ true → is_decided (slice_set decisions place Decided) other ≡ true
+unfolding standing_of
+decided_kept decisions place other is = by (other == 0) is
+  where
+    by : (b : Bool) → decides (cond b None (slice_get decisions (other - 1))) ≡ true → decides (cond b None (slice_get (slice_set decisions place Decided) (other - 1))) ≡ true
+    by true was = was
+    by false was = elim (eqb_tells (other - 1) place) [
+      | inl (_, here) ↦
+          ap (λ at. decides (slice_get (slice_set decisions place Decided) at)) here
+          ∙ ap decides (get_set_same decisions place Decided (subst (λ at. at < length decisions) here (decided_in decisions (other - 1) (slice_get decisions (other - 1)) refl was)))
+      | inr (_, apart) ↦ ap decides (get_set_other decisions place (other - 1) Decided apart) ∙ was
+    ]

@@ -1,5 +1,5 @@
 //! The decisions of a coordinator.
-ghost use Rattle.std.specs.Prelude.{◌≡◌, ◌≤◌, ◌<◌, ◌+◌, [], ◌∷◌, ◌++◌, true, false, length, OnOk, OnErr, IfOk, IfSome, IfNone};
+ghost use Rattle.std.specs.Prelude.{ℕ, ◌≡◌, ◌≤◌, ◌<◌, ◌+◌, [], ◌∷◌, ◌++◌, true, false, length, OnOk, OnErr, IfOk, IfSome, IfNone};
 ghost use Rattle.xa_coordinator.specs.declared.standing.Standing.TheVariants.{Undecided as StandsUndecided};
 ghost use Rattle.xa_coordinator.specs.Decisions.{standing_of, is_decided as is_decided_by, may_be_decided, with_decided};
 
@@ -125,6 +125,7 @@ impl Decisions {
         ensures given { OnOk result (may_be_decided self.old prepared.now.transaction.number ≡ true) }
         ensures ok { OnOk result (self.new ≡ with_decided self.old prepared.now.transaction.number) }
         ensures decided { OnOk result (is_decided_by self.new prepared.now.transaction.number ≡ true) }
+        ensures kept { OnOk result ((other : ℕ) → is_decided_by self.old other ≡ true → is_decided_by self.new other ≡ true) }
         ensures closed { OnErr result (may_be_decided self.old prepared.now.transaction.number ≡ false) }
         ensures err { OnErr result (self.new ≡ self.old) }
     {

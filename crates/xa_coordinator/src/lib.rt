@@ -1,6 +1,8 @@
 //! Two-phase commit over several stores, with presumed abort.
 #![tactic(auto)]
 
+#[cfg(test)]
+mod acts;
 mod begin_fault;
 mod branch_xid;
 mod branches;
@@ -15,6 +17,8 @@ mod participants;
 mod prepare;
 mod prepared;
 mod say;
+#[cfg(test)]
+mod scenes;
 mod speak;
 mod standing;
 mod tell;
