@@ -69,6 +69,16 @@ impl Server {
         })
     }
 
+    /// Every server keeps the lock law: no two branches hold one row, a session owns at most one branch, exactly the PREPARED
+    /// branches are nobody's, and a branch writes only rows that it holds.
+    ///
+    /// Takes no memory. Doesn't wait. Own rule: docs/BEHAVIOR.md, 'Rows'.
+    pub fn keeps_lock_law(&self)
+        ensures { LockLaw self.now }
+    {
+        let _branches = &self.branches;
+    }
+
     /// What the session has open. Every server keeps the lock law.
     pub(crate) fn seat(&self, session: SessionNo) -> Seat
         ensures seat { result ≡ seat_of self.now session }

@@ -1,6 +1,7 @@
 //! A session over a log.
 ghost use Rattle.std.specs.Prelude.{◌≡◌, ◌<◌, ◌≤◌, length, slice_get, Some, IfOk, IfErr};
 ghost use Rattle.decision_log.specs.Calls.{Looked, MeetsFirst, MeetsSecond};
+ghost use Rattle.xa_server.specs.Locks.{LockLaw};
 ghost use Rattle.xa_session.specs.Replay.{Stands, state_at};
 
 use crate::replica::Replica;
@@ -50,6 +51,16 @@ impl<'a, L: DecisionLog> Session<'a, L> {
             }),
             Err(error) => Err((pass, error)),
         }
+    }
+
+    /// The state in which the history begins keeps the lock law, as every server's does.
+    ///
+    /// Takes no memory. Doesn't wait.
+    /// Own rule: docs/BEHAVIOR.md, 'Rows'.
+    pub fn base_keeps_lock_law(&self)
+        ensures { LockLaw self.now.base.now }
+    {
+        self.base.keeps_lock_law();
     }
 
     /// The session's number.

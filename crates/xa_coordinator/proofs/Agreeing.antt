@@ -1,0 +1,130 @@
+-- What calls add agrees with the decisions.
+use Rattle.std.proofs.Common.{◌≡◌, ◌<◌, ◌⊎◌, inl, inr, ◌^◌, ℕ, Bool, true, false, List, [], ◌∷◌, ◌++◌, refl, sym, subst}
+use Rattle.std.specs.Prelude.{All, slice_get, Some}
+use Rattle.std.proofs.lemmas.List.Elements.{All-nil, All-cons}
+use Rattle.xa_xid.specs.declared.xid.Xid.{Xid}
+use Rattle.xa_xid.specs.declared.statement.Statement.{Statement}
+use Rattle.xa_xid.specs.declared.statement.Statement.TheVariants.{End, Prepare, Commit, Rollback}
+use Rattle.xa_coordinator.specs.declared.cause.Cause.{Cause}
+use Rattle.xa_coordinator.specs.declared.standing.Standing.{Standing}
+use Rattle.xa_coordinator.specs.declared.transaction.Transaction.{Transaction}
+use Rattle.xa_coordinator.specs.declared.closing.Closing.{Closing}
+use Rattle.xa_coordinator.specs.declared.closing.Closing.TheVariants.{InTwoPhases, InOnePhase, RollBack}
+use Rattle.xa_coordinator.specs.declared.ending.Ending.{Ending}
+use Rattle.xa_coordinator.specs.declared.ending.Ending.TheVariants.{Committed, RolledBack, Hazard, Unfinished}
+use Rattle.xa_coordinator.specs.declared.vote.Vote.{Vote}
+use Rattle.xa_coordinator.specs.declared.vote.Vote.TheVariants.{Ready, OnePhase, No, Nothing}
+use Rattle.xa_coordinator.specs.View.{SessionView}
+use Rattle.xa_coordinator.specs.Branch.{branch_xid, IsBranchOf}
+use Rattle.xa_coordinator.specs.Participants.{takes_part}
+use Rattle.xa_coordinator.specs.Agreement.{Adds, AgreesWith, Agrees}
+use Rattle.xa_coordinator.specs.Stores.{AtStore, EachStore, EndsAt}
+use Rattle.xa_coordinator.specs.Told.{IsDone, IsUndone, IsStopped, at_end, at_once, behind_end, IsMissing, unknown_at_once, unknown_behind_end}
+use Rattle.xa_coordinator.specs.Outcomes.{branch_of, closing_of, IsClosed, Settles, IsVoted, IsEnded, EndsAs, VotesAs, Allows, closing_for, is_listed}
+use Rattle.xa_coordinator.specs.Decisions.{is_decided}
+use Rattle.xa_coordinator.specs.declared.prepared.Ballot.{Ballot}
+use Rattle.xa_coordinator.specs.declared.prepared.Ballot.TheVariants.{Ready as BallotReady, OnePhase as BallotOnePhase, No as BallotNo}
+use Rattle.xa_coordinator.proofs.Telling.{adds_then, adds_nothing}
+use Rattle.xa_coordinator.proofs.Walk.{at_weaker, from_ends, same_one}
+
+module _ (decisions : List Standing) (name : List ℕ) (store : ℕ) where
+  pub nothing_agrees : (session : SessionView) → Agrees decisions name store session session
+  nothing_agrees session = record { statements = []; adds = adds_nothing session; each = All-nil (AgreesWith decisions name store) }
+
+  -- one statement
+  pub one_agrees : (statement : Statement) (old new : SessionView) → AgreesWith decisions name store statement → Adds (statement ∷ []) old new → Agrees decisions name store old new
+  one_agrees statement old new is adds = record {
+    statements = statement ∷ [];
+    adds = adds;
+    each = All-cons (AgreesWith decisions name store) statement [] is (All-nil (AgreesWith decisions name store));
+  }
+
+  -- two
+  pub two_agree : (first second : Statement) (old new : SessionView) → AgreesWith decisions name store first → AgreesWith decisions name store second → Adds (first ∷ second ∷ []) old new → Agrees decisions name store old new
+  two_agree first second old new is also adds = record {
+    statements = first ∷ second ∷ [];
+    adds = adds;
+    each = All-cons (AgreesWith decisions name store) first (second ∷ []) is (All-cons (AgreesWith decisions name store) second [] also (All-nil (AgreesWith decisions name store)));
+  }
+
+  none_agrees : (old new : SessionView) → Adds [] old new → Agrees decisions name store old new
+  none_agrees old new adds = record { statements = []; adds = adds; each = All-nil (AgreesWith decisions name store) }
+
+  pub undone_agrees : (statement : Statement) (cause : Cause) (old new : SessionView) → IsUndone statement cause old new → Agrees decisions name store old new
+  undone_agrees statement cause old new is = none_agrees old new is.adds
+
+  ended_agrees : (xid : Xid) (old mid new : SessionView) → IsDone (End xid) old mid → Adds [] mid new → Agrees decisions name store old new
+  ended_agrees xid old mid new ends nothing = one_agrees (End xid) old new tt (adds_then (End xid ∷ []) [] old mid new ends.adds nothing)
+
+  pub stopped_agrees : (statement : Statement) (xid : Xid) (cause : Cause) (old new : SessionView) → IsStopped statement xid cause old new → Agrees decisions name store old new
+  stopped_agrees statement xid cause old new (at_end is) = undone_agrees (End xid) cause old new is
+  stopped_agrees statement xid cause old new (at_once is) = undone_agrees statement cause old new is
+  stopped_agrees statement xid cause old new (behind_end mid ends is) = ended_agrees xid old mid new ends is.adds
+
+  pub missing_agrees : (statement : Statement) (xid : Xid) (old new : SessionView) → IsMissing statement xid old new → Agrees decisions name store old new
+  missing_agrees statement xid old new (unknown_at_once is) = undone_agrees statement _ old new is
+  missing_agrees statement xid old new (unknown_behind_end mid ends is) = ended_agrees xid old mid new ends is.adds
+
+  pub voted_agrees : (xid : Xid) (takes : Bool) (old new : SessionView) → IsVoted xid takes old new → Agrees decisions name store old new
+  voted_agrees xid false old new is = subst (λ s. Agrees decisions name store old s) (sym is) (nothing_agrees old)
+  voted_agrees xid true old new is = two_agree (End xid) (Prepare xid) old new tt tt is
+
+  pub ends_agrees : (xid : Xid) (takes : Bool) (old new : SessionView) → IsEnded xid takes old new → Agrees decisions name store old new
+  ends_agrees xid false old new is = subst (λ s. Agrees decisions name store old s) (sym is) (nothing_agrees old)
+  ends_agrees xid true old new is = one_agrees (End xid) old new tt is
+
+  closed_agrees : (number : ℕ) → number < 2 ^ 64 → (closing : Closing) → Allows decisions number closing → (old new : SessionView) → IsClosed closing (branch_xid name number store) old new → Agrees decisions name store old new
+  closed_agrees number fits InTwoPhases allows old new is = one_agrees (Commit (branch_xid name number store) false) old new (number, record { fits = fits; is = refl }, allows) is
+  closed_agrees number fits InOnePhase allows old new is = one_agrees (Commit (branch_xid name number store) true) old new (number, record { fits = fits; is = refl }) is
+  closed_agrees number fits RollBack allows old new (inl is) = one_agrees (Rollback (branch_xid name number store)) old new (number, record { fits = fits; is = refl }, allows) is
+  closed_agrees number fits RollBack allows old new (inr is) =
+      two_agree (End (branch_xid name number store)) (Rollback (branch_xid name number store)) old new tt (number, record { fits = fits; is = refl }, allows) is
+
+  pub settled_agrees : (number : ℕ) → number < 2 ^ 64 → (closing : Closing) → Allows decisions number closing → (takes listed : Bool) (old new : SessionView) → Settles closing (branch_xid name number store) takes listed old new →
+      Agrees decisions name store old new
+  settled_agrees number fits closing allows false listed old new is = subst (λ s. Agrees decisions name store old s) (sym is) (nothing_agrees old)
+  settled_agrees number fits closing allows true false old new is = closed_agrees number fits closing allows old new is
+  settled_agrees number fits closing allows true true old new is = missing_agrees (closing_of closing (branch_xid name number store)) (branch_xid name number store) old new is
+
+module _ {S : Type 0} (view : S → SessionView) (decisions : List Standing) (transaction : Transaction) where
+  -- however a transaction was finished
+  pub ending_agrees : (closing : Closing) (ending : Ending) (old new : List S) → Allows decisions transaction.number closing → EndsAs view transaction closing ending old new → EachStore view (Agrees decisions transaction.name.items) old new
+  ending_agrees closing Committed old new allows is store =
+      at_weaker view store _ (Agrees decisions transaction.name.items store) (settled_agrees decisions transaction.name.items store transaction.number transaction.eight_bytes closing allows (takes_part transaction.participants store) false) old new (is.1 store)
+  ending_agrees closing RolledBack old new allows is store =
+      at_weaker view store _ (Agrees decisions transaction.name.items store) (settled_agrees decisions transaction.name.items store transaction.number transaction.eight_bytes closing allows (takes_part transaction.participants store) false) old new (is.1 store)
+  ending_agrees closing (Hazard stores) old new allows is store =
+      at_weaker view store _ (Agrees decisions transaction.name.items store)
+      (settled_agrees decisions transaction.name.items store transaction.number transaction.eight_bytes closing allows (takes_part transaction.participants store) (is_listed stores.items store)) old new (is.1 store)
+  ending_agrees closing (Unfinished last cause) old new allows is store =
+      from_ends view _ (Agrees decisions transaction.name.items) last _ old new is.1
+      (λ other a b settled. settled_agrees decisions transaction.name.items other transaction.number transaction.eight_bytes closing allows (takes_part transaction.participants other) settled.0 a b settled.1)
+      (λ a b stopped. stopped_agrees decisions transaction.name.items last (closing_of closing (branch_of transaction last)) (branch_of transaction last) cause a b stopped)
+      (λ other a. nothing_agrees decisions transaction.name.items other a)
+      store
+
+  -- whatever the stores voted
+  pub vote_agrees : (vote : Vote) (old new : List S) → VotesAs view transaction vote old new → EachStore view (Agrees decisions transaction.name.items) old new
+  vote_agrees (Ready prepared) old new is store =
+      at_weaker view store _ (Agrees decisions transaction.name.items store) (voted_agrees decisions transaction.name.items store (branch_of transaction store) (takes_part transaction.participants store)) old new (is.2 store)
+  vote_agrees (OnePhase prepared) old new is store =
+      at_weaker view store _ (Agrees decisions transaction.name.items store) (ends_agrees decisions transaction.name.items store (branch_of transaction store) (takes_part transaction.participants store)) old new (is.2 store)
+  vote_agrees (No prepared last cause) old new is store =
+      from_ends view _ (Agrees decisions transaction.name.items) last _ old new is.2
+      (λ other a b voted. voted_agrees decisions transaction.name.items other (branch_of transaction other) (takes_part transaction.participants other) a b voted)
+      (λ a b stopped. stopped_agrees decisions transaction.name.items last (Prepare (branch_of transaction last)) (branch_of transaction last) cause a b stopped)
+      (λ other a. nothing_agrees decisions transaction.name.items other a)
+      store
+  vote_agrees Nothing old new is store = λ before after is_before is_after.
+      subst (λ (s : S). Agrees decisions transaction.name.items store (view before) (view s)) (same_one (slice_get new store) before after (subst (λ (list : List S). slice_get list store ≡ Some before) (sym is.1) is_before) is_after)
+      (nothing_agrees decisions transaction.name.items store (view before))
+
+-- a transaction that was voted on is finished as the decisions allow
+pub allows_for : (decisions : List Standing) (number : ℕ) (ballot : Ballot) → Allows decisions number (closing_for (is_decided decisions number) ballot)
+allows_for decisions number ballot = by (is_decided decisions number) ballot refl
+  where
+    by : (b : Bool) (ballot : Ballot) → is_decided decisions number ≡ b → Allows decisions number (closing_for b ballot)
+    by true ballot is = is
+    by false BallotReady is = is
+    by false BallotOnePhase is = tt
+    by false BallotNo is = is

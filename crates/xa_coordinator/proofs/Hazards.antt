@@ -1,0 +1,125 @@
+-- The list of the stores whose branch wasn't known, as it grows.
+use Rattle.std.proofs.Common.{◌≡◌, ◌≢◌, ◌<◌, ◌≤◌, ◌+◌, ℕ, Bool, true, false, List, [], ◌∷◌, ◌++◌, length, refl, ap, sym, ◌∙◌, subst, inl, inr, ◌⊎◌, arith, ne_eqb, eq-eqb, length-append}
+use Rattle.std.specs.Prelude.{All, nat_eq, ◌||◌}
+use Rattle.std.proofs.lemmas.List.Elements.{All-nil, All-push, All-head, All-tail, All-weaker}
+use Rattle.std.proofs.lemmas.List.Folds.{list_any-append, list_any_none}
+use Rattle.xa_coordinator.specs.declared.participants.Participants.{Participants}
+use Rattle.xa_coordinator.specs.declared.closing.Closing.{Closing}
+use Rattle.xa_coordinator.specs.declared.transaction.Transaction.{Transaction}
+use Rattle.xa_coordinator.specs.View.{SessionView}
+use Rattle.xa_coordinator.specs.Participants.{takes_part}
+use Rattle.xa_coordinator.specs.Stores.{AtStore, EachStore, ChangesAt, Reached}
+use Rattle.xa_coordinator.specs.Told.{IsMissing}
+use Rattle.xa_coordinator.specs.Outcomes.{Ascends, IsHazard, is_listed, branch_of, closing_of, IsClosed, Settles, ClosesNext}
+use Rattle.xa_coordinator.proofs.Walk.{reached_skip, reached_next, reached_weaker, at_weaker}
+
+-- participants below a number, ascending
+pub record IsListed (participants : Participants) (place : ℕ) (stores : List ℕ) : Type 0 where
+  pub below : All (λ store. store < place) stores
+  pub ascending : Ascends stores
+  pub participate : All (λ store. takes_part participants store ≡ true) stores
+  pub short : length stores ≤ place
+
+pub listed_none : (participants : Participants) → IsListed participants 0 []
+listed_none participants = record { below = All-nil (λ store. store < 0); ascending = tt; participate = All-nil (λ store. takes_part participants store ≡ true); short = omega arith }
+
+pub listed_skip : (participants : Participants) (place : ℕ) (stores : List ℕ) → IsListed participants place stores → IsListed participants (place + 1) stores
+listed_skip participants place stores is = record {
+  below = All-weaker (λ store. store < place) (λ store. store < place + 1) (λ store less. omega arith) stores is.below;
+  ascending = is.ascending;
+  participate = is.participate;
+  short = omega (arith, is.short);
+}
+
+ascends_last : (stores : List ℕ) (last : ℕ) → Ascends stores → All (λ store. store < last) stores → Ascends (stores ++ last ∷ [])
+ascends_last [] last ascending below = (All-nil (λ later. last < later), tt)
+ascends_last (store ∷ stores) last ascending below = (
+  All-push (λ later. store < later) stores last ascending.0 (All-head (λ s. s < last) store stores below),
+  ascends_last stores last ascending.1 (All-tail (λ s. s < last) store stores below),
+)
+
+pub listed_more : (participants : Participants) (place : ℕ) (stores : List ℕ) → IsListed participants place stores → takes_part participants place ≡ true → IsListed participants (place + 1) (stores ++ place ∷ [])
+listed_more participants place stores is takes = record {
+  below = All-push (λ store. store < place + 1) stores place (All-weaker (λ store. store < place) (λ store. store < place + 1) (λ store less. omega arith) stores is.below) (omega arith);
+  ascending = ascends_last stores place is.ascending is.below;
+  participate = All-push (λ store. takes_part participants store ≡ true) stores place is.participate takes;
+  short = omega (arith, is.short, length-append stores (place ∷ []));
+}
+
+-- a store that isn't below the list's end isn't in it
+not_listed : (participants : Participants) (place : ℕ) (stores : List ℕ) → IsListed participants place stores → is_listed stores place ≡ false
+unfolding is_listed
+not_listed participants place stores is =
+    list_any_none (nat_eq place) stores (All-weaker (λ store. store < place) (λ store. nat_eq place store ≡ false) (λ store less. ne_eqb place store (λ same. absurd (omega arith))) stores is.below)
+
+last_listed : (stores : List ℕ) (place : ℕ) → is_listed (stores ++ place ∷ []) place ≡ true
+unfolding is_listed
+last_listed stores place =
+    list_any-append (nat_eq place) stores (place ∷ []) ∙ ap (λ b. list_any' stores place || (b || false)) (eq-eqb place place refl) ∙ or_true (list_any' stores place)
+  where
+    list_any' : List ℕ → ℕ → Bool
+    list_any' stores place = is_listed stores place
+
+    or_true : (b : Bool) → (b || true) ≡ true
+    or_true true = refl
+    or_true false = refl
+
+same_listed : (stores : List ℕ) (place store : ℕ) → store < place → is_listed (stores ++ place ∷ []) store ≡ is_listed stores store
+unfolding is_listed
+same_listed stores place store less =
+    list_any-append (nat_eq store) stores (place ∷ []) ∙ ap (λ b. is_listed stores store || (b || false)) (ne_eqb store place (λ same. absurd (omega arith))) ∙ or_false (is_listed stores store)
+  where
+    or_false : (b : Bool) → (b || false) ≡ b
+    or_false true = refl
+    or_false false = refl
+
+-- what holds of the stores that were passed, by the list
+abbrev pub SettledBy : Transaction → Closing → List ℕ → ℕ → SessionView → SessionView → Type 0
+SettledBy transaction closing stores store = Settles closing (branch_of transaction store) (takes_part transaction.participants store) (is_listed stores store)
+
+module _ {S : Type 0} (view : S → SessionView) (transaction : Transaction) (closing : Closing) (stores : List ℕ) (place : ℕ) where
+  pub settled_skip : (old now : List S) → takes_part transaction.participants place ≡ false → Reached view (SettledBy transaction closing stores) place old now → Reached view (SettledBy transaction closing stores) (place + 1) old now
+  settled_skip old now out so_far =
+      reached_skip view (SettledBy transaction closing stores) place old now so_far
+      (λ a. subst (λ takes. Settles closing (branch_of transaction place) takes (is_listed stores place) a a) (sym out) refl)
+
+  pub settled_closed : (old now next : List S) → takes_part transaction.participants place ≡ true → IsListed transaction.participants place stores → Reached view (SettledBy transaction closing stores) place old now → ChangesAt place now next →
+      AtStore view place (IsClosed closing (branch_of transaction place)) now next → Reached view (SettledBy transaction closing stores) (place + 1) old next
+  settled_closed old now next takes listed so_far changes is =
+      reached_next view (SettledBy transaction closing stores) place old now next so_far changes
+      (at_weaker view place (IsClosed closing (branch_of transaction place)) (SettledBy transaction closing stores place)
+      (λ a b closed. subst (λ t. Settles closing (branch_of transaction place) t (is_listed stores place) a b) (sym takes)
+      (subst (λ l. Settles closing (branch_of transaction place) true l a b) (sym (not_listed transaction.participants place stores listed)) closed)) now next is)
+
+  pub settled_missing : (old now next : List S) → takes_part transaction.participants place ≡ true → Reached view (SettledBy transaction closing stores) place old now → ChangesAt place now next →
+      AtStore view place (IsMissing (closing_of closing (branch_of transaction place)) (branch_of transaction place)) now next → Reached view (SettledBy transaction closing (stores ++ place ∷ [])) (place + 1) old next
+  settled_missing old now next takes so_far changes is =
+      reached_next view (SettledBy transaction closing (stores ++ place ∷ [])) place old now next
+      (reached_weaker view (SettledBy transaction closing stores) (SettledBy transaction closing (stores ++ place ∷ [])) place old now
+      (λ store less a b settled. subst (λ l. Settles closing (branch_of transaction store) (takes_part transaction.participants store) l a b) (sym (same_listed stores place store less)) settled) so_far)
+      changes
+      (at_weaker view place (IsMissing (closing_of closing (branch_of transaction place)) (branch_of transaction place)) (SettledBy transaction closing (stores ++ place ∷ []) place)
+      (λ a b missing. subst (λ t. Settles closing (branch_of transaction place) t (is_listed (stores ++ place ∷ []) place) a b) (sym takes)
+      (subst (λ l. Settles closing (branch_of transaction place) true l a b) (sym (last_listed stores place)) missing)) now next is)
+
+  -- one store more, whatever its branch came to
+  pub settled_next : (stores' : List ℕ) (old now next : List S) → takes_part transaction.participants place ≡ true → IsListed transaction.participants place stores → Reached view (SettledBy transaction closing stores) place old now → ChangesAt place now next →
+      ClosesNext view closing (branch_of transaction place) place stores stores' now next → IsListed transaction.participants (place + 1) stores' × Reached view (SettledBy transaction closing stores') (place + 1) old next
+  settled_next stores' old now next takes listed so_far changes (inl (same, is)) =
+      let P : List ℕ → Type 0 = λ list. IsListed transaction.participants (place + 1) list × Reached view (SettledBy transaction closing list) (place + 1) old next in
+      subst P (sym same) (listed_skip transaction.participants place stores listed, settled_closed old now next takes listed so_far changes is)
+  settled_next stores' old now next takes listed so_far changes (inr (more, is)) =
+      let P : List ℕ → Type 0 = λ list. IsListed transaction.participants (place + 1) list × Reached view (SettledBy transaction closing list) (place + 1) old next in
+      subst P (sym more) (listed_more transaction.participants place stores listed takes, settled_missing old now next takes so_far changes is)
+
+-- where none is listed
+pub none_listed : (stores : List ℕ) (store : ℕ) → length stores ≡ 0 → is_listed stores store ≡ false
+unfolding is_listed
+none_listed [] store none = refl
+none_listed (x ∷ stores) store none = absurd (omega arith)
+
+pub settled_none : {S : Type 0} (view : S → SessionView) (transaction : Transaction) (closing : Closing) (stores : List ℕ) (old new : List S) → length stores ≡ 0 → EachStore view (SettledBy transaction closing stores) old new →
+    EachStore view (λ store. Settles closing (branch_of transaction store) (takes_part transaction.participants store) false) old new
+settled_none view transaction closing stores old new none is store =
+    at_weaker view store (SettledBy transaction closing stores store) (Settles closing (branch_of transaction store) (takes_part transaction.participants store) false)
+    (λ a b settled. subst (λ l. Settles closing (branch_of transaction store) (takes_part transaction.participants store) l a b) (none_listed stores store none) settled) old new (is store)

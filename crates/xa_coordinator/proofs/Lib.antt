@@ -1,0 +1,14 @@
+pub mod OwnSeats
+pub mod Seats
+pub mod Places
+pub mod Standings
+pub mod Marks
+pub mod Telling
+pub mod Keeping
+pub mod Walk
+pub mod Closings
+pub mod Agreeing
+pub mod Ended
+pub mod Hazards
+pub mod Working
+pub mod Works

@@ -1,0 +1,141 @@
+-- What an answered statement adds, and what it leaves open.
+use Rattle.std.proofs.Common.{◌≡◌, ◌≤◌, ℕ, Bool, true, false, List, [], ◌∷◌, ◌++◌, take, refl, ap, sym, ◌∙◌, subst, arith, append-nil, append_assoc}
+use Rattle.std.specs.Prelude.{not, ◌&&◌, map}
+use Rattle.std.proofs.lemmas.List.{map-append}
+use Rattle.xa_xid.specs.declared.xid.Xid.{Xid}
+use Rattle.xa_xid.specs.declared.statement.Statement.{Statement}
+use Rattle.xa_xid.specs.declared.statement.Statement.TheVariants.{Start, End, Prepare, Commit, Rollback, Recover, Unsupported, Get, Put, Del, Disconnect}
+use Rattle.xa_server.specs.State.{State, seat_of}
+use Rattle.xa_server.specs.Locks.{LockLaw}
+use Rattle.xa_server.specs.Replies.{reply_to}
+use Rattle.xa_server.specs.Step.{enters, may_enter, is_refused, after}
+use Rattle.xa_server.specs.declared.reply.Reply.TheVariants.{Refused}
+use Rattle.xa_server.specs.declared.xa_error.XaError.{XaError}
+use Rattle.decision_log.specs.History.{entries_of}
+use Rattle.decision_log.specs.declared.known.Known.{Known}
+use Rattle.xa_session.specs.Answer.{entry_of, Advances, IsAnswered, IsUnanswered}
+use Rattle.xa_session.specs.Replay.{state_after, state_at}
+use Rattle.xa_session.specs.declared.answer.Answer.{Answer}
+use Rattle.xa_session.proofs.Answering.{advances_through, fails_unanswered, unanswered_itself}
+use Rattle.xa_coordinator.specs.Agreement.{Adds}
+use Rattle.xa_coordinator.specs.Told.{IsOfBranch, IsDone, IsUndone, HasCause}
+use Rattle.xa_coordinator.specs.View.{SessionView, StaysOfLog}
+use Rattle.xa_coordinator.specs.OpenBranches.{seat_seen, seat_in, opening}
+use Rattle.xa_coordinator.specs.declared.open_branch.Phase.{Phase}
+use Rattle.xa_coordinator.specs.declared.open_branch.Phase.TheVariants.{Active, Idle}
+use Rattle.xa_coordinator.specs.declared.cause.Cause.{Cause}
+use Rattle.xa_coordinator.specs.declared.cause.Cause.TheVariants.{Session, Refused as RefusedBy}
+use Rattle.xa_coordinator.proofs.OwnSeats.{started, ended}
+use Rattle.xa_coordinator.proofs.Seats.{law_seen, seat_unanswered, state_entered}
+
+-- a statement about a branch enters where it isn't refused
+enters_unrefused : (state : State) (session : ℕ) (statement : Statement) → IsOfBranch statement → is_refused (reply_to state session statement) ≡ false → enters state session statement ≡ true
+unfolding enters may_enter
+enters_unrefused state session (Start xid) is accepted = ap (λ b. not b && true) accepted
+enters_unrefused state session (End xid) is accepted = ap (λ b. not b && true) accepted
+enters_unrefused state session (Prepare xid) is accepted = ap (λ b. not b && true) accepted
+enters_unrefused state session (Commit xid one_phase) is accepted = ap (λ b. not b && true) accepted
+enters_unrefused state session (Rollback xid) is accepted = ap (λ b. not b && true) accepted
+enters_unrefused state session (Recover convert) is accepted = absurd is
+enters_unrefused state session Unsupported is accepted = absurd is
+enters_unrefused state session (Get key) is accepted = absurd is
+enters_unrefused state session (Put key value) is accepted = absurd is
+enters_unrefused state session (Del key) is accepted = absurd is
+enters_unrefused state session Disconnect is accepted = absurd is
+
+pub accepted_there : (base : State) (statement : Statement) (answer : Answer) (old new : Known) → IsAnswered base statement answer old new → is_refused answer.reply ≡ false →
+    is_refused (reply_to (state_at base new.seen answer.place) old.number statement) ≡ false
+accepted_there base statement answer old new is accepted = sym (ap is_refused is.at.reply_is) ∙ accepted
+
+pub entering_there : (base : State) (statement : Statement) (answer : Answer) (old new : Known) → IsOfBranch statement → IsAnswered base statement answer old new → is_refused answer.reply ≡ false →
+    enters (state_at base new.seen answer.place) old.number statement ≡ true
+entering_there base statement answer old new kind is accepted =
+    enters_unrefused (state_at base new.seen answer.place) old.number statement kind (accepted_there base statement answer old new is accepted)
+
+-- it was carried out
+pub is_done : (statement : Statement) (answer : Answer) (old new : SessionView) → IsOfBranch statement → StaysOfLog old new → IsAnswered old.base statement answer old.known new.known → is_refused answer.reply ≡ false → IsDone statement old new
+is_done statement answer old new kind stays is accepted = record {
+  answer = answer;
+  answered = is;
+  accepted = accepted;
+  adds = record { log = stays; advances = is.advances; mine = (is.entered (entering_there old.base statement answer old.known new.known kind is accepted)).mine };
+}
+
+-- ---- what the session has open
+
+-- after XA START or XA END
+pub seat_done : (old new : SessionView) (phase : Phase) (xid : Xid) → LockLaw new.base → entries_of old.known.number old.known.seen ≡ old.known.mine → entries_of new.known.number new.known.seen ≡ new.known.mine →
+    IsDone (opening phase xid) old new → seat_seen new ≡ seat_in phase xid
+seat_done old new phase xid law own_old own_new is =
+    let stays : StaysOfLog old new = is.adds.log in
+    let base : State = old.base in
+    let number : ℕ = old.known.number in
+    let place : ℕ = is.answer.place in
+    let law_base : LockLaw base = subst LockLaw stays.base law in
+    let there : State = state_at base new.known.seen place in
+    let kept : LockLaw there = law_seen base (take place new.known.seen) law_base in
+    let accepted = accepted_there base (opening phase xid) is.answer old.known new.known is.answered is.accepted in
+    let entering = entering_there base (opening phase xid) is.answer old.known new.known (of_branch phase xid) is.answered is.accepted in
+    ap (λ b. seat_of (state_after b new.known.seen) new.known.number) stays.base
+    ∙ ap (seat_of (state_after base new.known.seen)) is.answered.advances.number
+    ∙ ap (λ state. seat_of state number) (state_entered base (opening phase xid) is.answer old.known new.known is.answered entering)
+    ∙ opened phase there kept number accepted
+  where
+    of_branch : (phase : Phase) (xid : Xid) → IsOfBranch (opening phase xid)
+    of_branch Active xid = tt
+    of_branch Idle xid = tt
+
+    opened : (phase : Phase) (state : State) → LockLaw state → (session : ℕ) → is_refused (reply_to state session (opening phase xid)) ≡ false → seat_of (after state session (opening phase xid)) session ≡ seat_in phase xid
+    opened Active state law session accepted = started state law session xid accepted
+    opened Idle state law session accepted = ended state law session xid accepted
+
+-- a refused statement adds nothing
+refused_unanswered : (base : State) (statement : Statement) (answer : Answer) (old new : Known) → IsAnswered base statement answer old new → is_refused answer.reply ≡ true → IsUnanswered old new
+unfolding enters
+refused_unanswered base statement answer old new is refused =
+    let there : is_refused (reply_to (state_at base new.seen answer.place) old.number statement) ≡ true = sym (ap is_refused is.at.reply_is) ∙ refused in
+    record {
+      advances = is.advances;
+      mine = (is.outside (ap (λ b. not b && may_enter (state_at base new.seen answer.place) (seat_of (state_at base new.seen answer.place) old.number) statement) there)).mine;
+    }
+
+-- nor does one that a session couldn't answer
+cause_unanswered : (statement : Statement) (cause : Cause) (old new : SessionView) → HasCause statement cause old new → IsUnanswered old.known new.known
+cause_unanswered statement (Session fault) old new is = fails_unanswered old.turns old.place.capacity old.base statement fault old.known new.known is.0
+cause_unanswered statement (RefusedBy error) old new is = refused_unanswered old.base statement (record { place = is.place; reply = Refused error }) old.known new.known is.answered refl
+
+pub is_undone : (statement : Statement) (cause : Cause) (old new : SessionView) → StaysOfLog old new → HasCause statement cause old new → IsUndone statement cause old new
+is_undone statement cause old new stays why =
+    let nothing = cause_unanswered statement cause old new why in
+    record { adds = record { log = stays; advances = nothing.advances; mine = nothing.mine ∙ sym (append-nil old.known.mine) }; why = why }
+
+pub refused : (statement : Statement) (answer : Answer) (error : XaError) (old new : SessionView) → StaysOfLog old new → IsAnswered old.base statement answer old.known new.known → answer.reply ≡ Refused error → IsUndone statement (RefusedBy error) old new
+refused statement answer error old new stays is reply =
+    is_undone statement (RefusedBy error) old new stays
+    (record { place = answer.place; answered = subst (λ r. IsAnswered old.base statement (record { place = answer.place; reply = r }) old.known new.known) reply is })
+
+pub seat_refused : (statement : Statement) (cause : Cause) (old new : SessionView) → LockLaw new.base → entries_of old.known.number old.known.seen ≡ old.known.mine → entries_of new.known.number new.known.seen ≡ new.known.mine →
+    IsUndone statement cause old new → seat_seen new ≡ seat_seen old
+seat_refused statement cause old new law own_old own_new is =
+    ap (λ b. seat_of (state_after b new.known.seen) new.known.number) is.adds.log.base
+    ∙ seat_unanswered old.base (subst LockLaw is.adds.log.base law) old.known new.known (cause_unanswered statement cause old new is.why) own_old own_new
+
+-- ---- one statement after another
+
+pub adds_then : (first second : List Statement) (old mid new : SessionView) → Adds first old mid → Adds second mid new → Adds (first ++ second) old new
+adds_then first second old mid new one two = record {
+  log = record { place = two.log.place ∙ one.log.place; turns = two.log.turns ∙ one.log.turns; base = two.log.base ∙ one.log.base };
+  advances = advances_through old.known mid.known new.known one.advances two.advances;
+  mine = two.mine
+      ∙ ap (λ list. list ++ map (entry_of mid.known.number) second) one.mine
+      ∙ ap (λ n. (old.known.mine ++ map (entry_of old.known.number) first) ++ map (entry_of n) second) one.advances.number
+      ∙ append_assoc old.known.mine (map (entry_of old.known.number) first) (map (entry_of old.known.number) second)
+      ∙ ap (λ list. old.known.mine ++ list) (sym (map-append (entry_of old.known.number) first second));
+}
+
+pub adds_nothing : (session : SessionView) → Adds [] session session
+adds_nothing session = record {
+  log = record { place = refl; turns = refl; base = refl };
+  advances = (unanswered_itself session.known).advances;
+  mine = sym (append-nil session.known.mine);
+}

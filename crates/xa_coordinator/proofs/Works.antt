@@ -1,0 +1,142 @@
+-- What work in a store comes to, from its statements.
+use Rattle.std.proofs.Common.{◌≡◌, ◌≢◌, ◌⊎◌, inl, inr, ℕ, Bool, true, false, List, [], ◌∷◌, ◌++◌, length, refl, ap, sym, ◌∙◌, subst, append-nil}
+use Rattle.std.specs.Prelude.{slice_get, Some, Result, Ok, Err, All, map}
+use Rattle.std.proofs.lemmas.List.Elements.{All-nil, All-cons, All-append}
+use Rattle.xa_xid.specs.declared.xid.Xid.{Xid}
+use Rattle.xa_xid.specs.declared.statement.Statement.{Statement}
+use Rattle.xa_xid.specs.declared.statement.Statement.TheVariants.{Start, End, Prepare, Commit, Rollback, Recover, Unsupported, Get, Put, Del, Disconnect}
+use Rattle.xa_server.specs.declared.seat.Seat.TheVariants.{Active}
+use Rattle.xa_server.specs.declared.reply.Reply.{Reply}
+use Rattle.xa_server.specs.Step.{enters}
+use Rattle.xa_session.specs.Answer.{entry_of}
+use Rattle.xa_session.specs.Replay.{state_at}
+use Rattle.xa_coordinator.specs.declared.cause.Cause.{Cause}
+use Rattle.xa_coordinator.specs.declared.cause.Cause.TheVariants.{Session as CauseSession, Refused as CauseRefused}
+use Rattle.xa_coordinator.specs.declared.work_fault.WorkFault.{WorkFault}
+use Rattle.xa_coordinator.specs.declared.work_fault.WorkFault.TheVariants.{Session, Refused, Lost}
+use Rattle.xa_coordinator.specs.declared.standing.Standing.{Standing}
+use Rattle.xa_coordinator.specs.declared.transaction.Transaction.{Transaction}
+use Rattle.xa_coordinator.specs.View.{SessionView}
+use Rattle.xa_coordinator.specs.Agreement.{Adds, AgreesWith, Agrees}
+use Rattle.xa_coordinator.specs.OpenBranches.{seat_seen}
+use Rattle.xa_coordinator.specs.Outcomes.{branch_of}
+use Rattle.xa_coordinator.specs.Participants.{takes_part}
+use Rattle.xa_coordinator.specs.Stores.{AtStore, EachStore, ChangesAt}
+use Rattle.xa_coordinator.specs.Told.{IsDone, IsUndone}
+use Rattle.xa_coordinator.specs.Work.{IsRow, MayBe, AddsWork, MayStart, was_open, was_started, IsReplied, IsWorked, IsCut, WorksWithin, WorksAs}
+use Rattle.xa_coordinator.proofs.Telling.{adds_then, adds_nothing}
+use Rattle.xa_coordinator.proofs.Agreeing.{nothing_agrees}
+use Rattle.xa_coordinator.proofs.Walk.{at_then, at_weaker, at_same, only_at}
+
+-- ---- at most two statements
+
+record AddsMaybe (statement : Statement) (old new : SessionView) : Type 0 where
+  added : List Statement
+  is : MayBe statement added
+  adds : Adds added old new
+
+may_start_adds : (xid : Xid) (old mid : SessionView) → MayStart xid old mid → AddsMaybe (Start xid) old mid
+may_start_adds xid old there (was_open seat) = record { added = []; is = inl refl; adds = adds_nothing old }
+may_start_adds xid old there (was_started mid done) = record { added = Start xid ∷ []; is = inr refl; adds = done.adds }
+
+replied_adds : (row : Statement) (reply : Reply) (xid : Xid) (old new : SessionView) → IsReplied row reply xid old new → AddsMaybe row old new
+replied_adds row reply xid old new is = by (enters (state_at old.base new.known.seen is.place) old.known.number row) refl
+  where
+    by : (b : Bool) → enters (state_at old.base new.known.seen is.place) old.known.number row ≡ b → AddsMaybe row old new
+    by true entering = record { added = row ∷ []; is = inr refl; adds = record { log = is.log; advances = is.answered.advances; mine = (is.answered.entered entering).mine } }
+    by false outside = record { added = []; is = inl refl; adds = record { log = is.log; advances = is.answered.advances; mine = (is.answered.outside outside).mine ∙ sym (append-nil old.known.mine) } }
+
+both : (xid : Xid) (row : Statement) (old mid new : SessionView) → AddsMaybe (Start xid) old mid → AddsMaybe row mid new → AddsWork xid row old new
+both xid row old mid new one two = record { started = one.added; is_start = one.is; worked = two.added; is_row = two.is; adds = adds_then one.added two.added old mid new one.adds two.adds }
+
+none : (statement : Statement) (old new : SessionView) → Adds [] old new → AddsMaybe statement old new
+none statement old new adds = record { added = []; is = inl refl; adds = adds }
+
+worked_adds : (row : Statement) (reply : Reply) (xid : Xid) (old new : SessionView) → IsWorked row reply xid old new → AddsWork xid row old new
+worked_adds row reply xid old new is = both xid row old is.mid new (may_start_adds xid old is.mid is.opened) (replied_adds row reply xid is.mid new is.replied)
+
+cut_adds : (row : Statement) (cause : Cause) (xid : Xid) (old new : SessionView) → IsCut row cause xid old new → AddsWork xid row old new
+cut_adds row cause xid old new is = both xid row old is.mid new (may_start_adds xid old is.mid is.opened) (none row is.mid new is.undone.adds)
+
+unstarted_adds : (row : Statement) (cause : Cause) (xid : Xid) (old new : SessionView) → IsUndone (Start xid) cause old new → AddsWork xid row old new
+unstarted_adds row cause xid old new is = both xid row old new new (none (Start xid) old new is.adds) (none row new new (adds_nothing new))
+
+-- ---- agreement
+
+row_agrees : (decisions : List Standing) (name : List ℕ) (store : ℕ) (row : Statement) → IsRow row → AgreesWith decisions name store row
+row_agrees decisions name store (Start xid) is = tt
+row_agrees decisions name store (End xid) is = tt
+row_agrees decisions name store (Prepare xid) is = tt
+row_agrees decisions name store (Commit xid one_phase) is = absurd is
+row_agrees decisions name store (Rollback xid) is = absurd is
+row_agrees decisions name store (Recover convert) is = tt
+row_agrees decisions name store Unsupported is = tt
+row_agrees decisions name store (Get key) is = tt
+row_agrees decisions name store (Put key value) is = tt
+row_agrees decisions name store (Del key) is = tt
+row_agrees decisions name store Disconnect is = tt
+
+maybe_all : (P : Statement → Type 0) (statement : Statement) (list : List Statement) → MayBe statement list → P statement → All P list
+maybe_all P statement list (inl is) holds = subst (All P) (sym is) (All-nil P)
+maybe_all P statement list (inr is) holds = subst (All P) (sym is) (All-cons P statement [] holds (All-nil P))
+
+pub work_agrees : (decisions : List Standing) (name : List ℕ) (store : ℕ) (xid : Xid) (row : Statement) → IsRow row → (old new : SessionView) → AddsWork xid row old new → Agrees decisions name store old new
+work_agrees decisions name store xid row is old new work = record {
+  statements = work.started ++ work.worked;
+  adds = work.adds;
+  each = All-append (AgreesWith decisions name store) work.started work.worked (maybe_all (AgreesWith decisions name store) (Start xid) work.started work.is_start tt)
+      (maybe_all (AgreesWith decisions name store) row work.worked work.is_row (row_agrees decisions name store row is));
+}
+
+module _ {S : Type 0} (view : S → SessionView) where
+  pub work_agrees_each : (decisions : List Standing) (name : List ℕ) (store : ℕ) (xid : Xid) (row : Statement) → IsRow row → (old new : List S) → ChangesAt store old new → AtStore view store (AddsWork xid row) old new → EachStore view (Agrees decisions name) old new
+  work_agrees_each decisions name store xid row is old new changes adds =
+      only_at view (Agrees decisions name) store old new changes
+      (at_weaker view store (AddsWork xid row) (Agrees decisions name store) (work_agrees decisions name store xid row is) old new adds)
+      (λ other apart a. nothing_agrees decisions name other a)
+
+  -- ---- what work came to
+
+  -- the branch was open
+  pub works_open : (lost : Type 0) (old new : Transaction) (store : ℕ) (row : Statement) (result : Result Reply WorkFault) (before after : List S) →
+      ((s : S) → slice_get before store ≡ Some s → seat_seen (view s) ≡ Active (branch_of old store)) → takes_part new.participants store ≡ true →
+      WorksWithin view (branch_of old store) store row result before after → WorksAs view lost old new store row result before after
+  works_open lost old new store row (Ok reply) before after seat takes is =
+      (takes, λ a b is_a is_b. record { mid = view a; opened = was_open (seat a is_a); replied = is a b is_a is_b })
+  works_open lost old new store row (Err (Session fault)) before after seat takes is =
+      inl (takes, λ a b is_a is_b. record { mid = view a; opened = was_open (seat a is_a); undone = is a b is_a is_b })
+  works_open lost old new store row (Err (Refused error)) before after seat takes is = absurd is
+  works_open lost old new store row (Err Lost) before after seat takes is = absurd is
+
+  -- it was started
+  pub works_started : (lost : Type 0) (old new : Transaction) (store : ℕ) (row : Statement) (result : Result Reply WorkFault) (before mid after : List S) → length mid ≡ length before →
+      AtStore view store (IsDone (Start (branch_of old store))) before mid → takes_part new.participants store ≡ true →
+      WorksWithin view (branch_of old store) store row result mid after → WorksAs view lost old new store row result before after
+  works_started lost old new store row (Ok reply) before mid after count started takes is = (
+    takes,
+    at_then view store (IsDone (Start (branch_of old store))) (IsReplied row reply (branch_of old store)) (IsWorked row reply (branch_of old store))
+        (λ a m b done replied. record { mid = m; opened = was_started m done; replied = replied }) before mid after count started is,
+  )
+  works_started lost old new store row (Err (Session fault)) before mid after count started takes is =
+      inl (
+        takes,
+        at_then view store (IsDone (Start (branch_of old store))) (IsUndone row (CauseSession fault)) (IsCut row (CauseSession fault) (branch_of old store))
+            (λ a m b done undone. record { mid = m; opened = was_started m done; undone = undone }) before mid after count started is,
+      )
+  works_started lost old new store row (Err (Refused error)) before mid after count started takes is = absurd is
+  works_started lost old new store row (Err Lost) before mid after count started takes is = absurd is
+
+  -- in every case at most two statements were added
+  pub works_add : (lost : Type 0) (old new : Transaction) (store : ℕ) (row : Statement) (result : Result Reply WorkFault) (before after : List S) → WorksAs view lost old new store row result before after →
+      AtStore view store (AddsWork (branch_of old store) row) before after
+  works_add lost old new store row (Ok reply) before after is =
+      at_weaker view store (IsWorked row reply (branch_of old store)) (AddsWork (branch_of old store) row) (worked_adds row reply (branch_of old store)) before after is.1
+  works_add lost old new store row (Err (Session fault)) before after (inl is) =
+      at_weaker view store (IsCut row (CauseSession fault) (branch_of old store)) (AddsWork (branch_of old store) row) (cut_adds row (CauseSession fault) (branch_of old store)) before after is.1
+  works_add lost old new store row (Err (Session fault)) before after (inr is) =
+      at_weaker view store (IsUndone (Start (branch_of old store)) (CauseSession fault)) (AddsWork (branch_of old store) row) (unstarted_adds row (CauseSession fault) (branch_of old store)) before after is.1
+  works_add lost old new store row (Err (Refused error)) before after is =
+      at_weaker view store (IsUndone (Start (branch_of old store)) (CauseRefused error)) (AddsWork (branch_of old store) row) (unstarted_adds row (CauseRefused error) (branch_of old store)) before after is.1
+  works_add lost old new store row (Err Lost) before after is =
+      at_same view store (AddsWork (branch_of old store) row) (λ a. both (branch_of old store) row a a a (none (Start (branch_of old store)) a a (adds_nothing a)) (none row a a (adds_nothing a)))
+      before after (ap (λ (list : List S). slice_get list store) is.3)

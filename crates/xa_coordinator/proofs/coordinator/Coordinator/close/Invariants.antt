@@ -1,0 +1,11 @@
+use Rattle.std.proofs.Common.{◌≡◌}
+use Rattle.xa_coordinator.specs.Stores.{Reached}
+use Rattle.xa_coordinator.proofs.Hazards.{IsListed, SettledBy}
+use Rattle.xa_coordinator.proofs.coordinator.Coordinator.close.Given as goal
+
+abbrev pub invariant-loop-store : goal.invariant-loop-store
+invariant-loop-store g l = record {
+  name : l.self.name ≡ l.fn.self.name;
+  listed : IsListed l.transaction.participants l.store l.missing.items;
+  reached : Reached g.S.Speak.view (SettledBy l.transaction l.closing l.missing.items) l.store l.fn.self.stores.items l.self.stores.items;
+}

@@ -1,0 +1,24 @@
+use Rattle.std.proofs.Common.{◌≡◌, ℕ, List, ap, sym, ◌∙◌, subst, Err}
+use Rattle.xa_xid.specs.Xid.{Text}
+use Rattle.xa_xid.specs.declared.statement.Statement.TheVariants.{Prepare}
+use Rattle.xa_coordinator.specs.Branch.{branch_xid}
+use Rattle.xa_coordinator.specs.Participants.{takes_part}
+use Rattle.xa_coordinator.specs.Stores.{AtStore}
+use Rattle.xa_coordinator.specs.Outcomes.{branch_of, IsVoted, PreparesAs}
+use Rattle.xa_coordinator.specs.Told.{IsStopped}
+use Rattle.xa_coordinator.proofs.Walk.{ended_at}
+use Rattle.xa_coordinator.proofs.coordinator.Coordinator.poll.Goals as goal
+
+pub returns-in-Err-clause-polls : goal.returns-in-Err-clause-polls
+returns-in-Err-clause-polls g c =
+    let transaction = c.args.transaction.now in
+    let store : ℕ = c.loop-store.store in
+    let cause = c.in-Err.cause in
+    let names : c.loop-store.self.name.items ≡ transaction.name.items = ap (λ (name : Text). name.items) c.loop-store.invariant.name ∙ sym c.requires.name in (
+      sym (c.if-not-has.ensures),
+      ended_at g.S.Speak.view (λ other. IsVoted (branch_of transaction other) (takes_part transaction.participants other)) store
+          (IsStopped (Prepare (branch_of transaction store)) (branch_of transaction store) cause)
+          c.args.self.now.stores.items c.loop-store.self.stores.items c.prepare_branch.new.self.stores.items c.loop-store.invariant.reached c.in-Err.ensures.frame
+          (subst (λ (name : List ℕ). AtStore g.S.Speak.view store (PreparesAs (branch_xid name transaction.number store) (Err cause)) c.loop-store.self.stores.items c.prepare_branch.new.self.stores.items)
+          names c.in-Err.ensures.prepares),
+    )

@@ -1,0 +1,38 @@
+use Rattle.std.proofs.Common.{ℕ, List, inr, refl, sym, subst, Ok, Err}
+use Rattle.xa_xid.specs.declared.statement.Statement.TheVariants.{Start}
+use Rattle.xa_coordinator.specs.Branch.{branch_xid}
+use Rattle.xa_coordinator.specs.OpenBranches.{HasOpen}
+use Rattle.xa_coordinator.specs.Stores.{AtStore}
+use Rattle.xa_coordinator.specs.Told.{IsDone, IsUndone}
+use Rattle.xa_coordinator.proofs.Works.{works_started}
+use Rattle.xa_coordinator.proofs.coordinator.Coordinator.start_and_work.Goals as goal
+
+pub returns-in-Ok-clause-works : goal.returns-in-Ok-clause-works
+returns-in-Ok-clause-works g c =
+    let transaction = c.args.transaction.now in
+    works_started g.S.Speak.view (HasOpen c.args.self.now.branches c.args.store transaction.number → ⊥) transaction c.work_within.new.transaction c.args.store c.args.statement.now c.work_within.result
+    c.args.self.now.stores.items c.start_branch.new.self.stores.items c.work_within.new.self.stores.items c.in-Ok.ensures.frame.count
+    (subst (λ (name : List ℕ). AtStore g.S.Speak.view c.args.store (IsDone (Start (branch_xid name transaction.number c.args.store))) c.args.self.now.stores.items c.start_branch.new.self.stores.items)
+    (sym c.requires.name) c.in-Ok.ensures.says)
+    c.work_within.ensures.part c.work_within.ensures.works
+
+pub returns-in-Err-Session-clause-works : goal.returns-in-Err-Session-clause-works
+returns-in-Err-Session-clause-works g c =
+    let transaction = c.args.transaction.now in
+    inr (
+      refl,
+      subst (λ cause. AtStore g.S.Speak.view c.args.store (IsUndone (Start (branch_xid transaction.name.items transaction.number c.args.store)) cause) c.args.self.now.stores.items c.start_branch.new.self.stores.items)
+          c.in-Err-Session.field-0-is
+          (subst (λ (name : List ℕ). AtStore g.S.Speak.view c.args.store (IsUndone (Start (branch_xid name transaction.number c.args.store)) c.in-Err-Session.field-0) c.args.self.now.stores.items c.start_branch.new.self.stores.items)
+          (sym c.requires.name) c.in-Err-Session.ensures.says),
+    )
+
+pub returns-in-Err-Refused-clause-works : goal.returns-in-Err-Refused-clause-works
+returns-in-Err-Refused-clause-works g c =
+    let transaction = c.args.transaction.now in (
+      refl,
+      subst (λ cause. AtStore g.S.Speak.view c.args.store (IsUndone (Start (branch_xid transaction.name.items transaction.number c.args.store)) cause) c.args.self.now.stores.items c.start_branch.new.self.stores.items)
+          c.in-Err-Refused.field-0-is
+          (subst (λ (name : List ℕ). AtStore g.S.Speak.view c.args.store (IsUndone (Start (branch_xid name transaction.number c.args.store)) c.in-Err-Refused.field-0) c.args.self.now.stores.items c.start_branch.new.self.stores.items)
+          (sym c.requires.name) c.in-Err-Refused.ensures.says),
+    )

@@ -1,0 +1,39 @@
+-- What a call may add to the histories of stores.
+--     Adds             the statements that a session added
+--     AgreesWith       a statement doesn't go against the decisions
+--     Agrees           a call added only statements that agree with the decisions
+use Rattle.std.specs.Prelude.{◌≡◌, ◌++◌, ℕ, Bool, true, false, List, map, All}
+use Rattle.xa_xid.specs.declared.statement.Statement.{Statement}
+use Rattle.xa_xid.specs.declared.statement.Statement.TheVariants.{Start, End, Prepare, Commit, Rollback, Recover, Unsupported, Get, Put, Del, Disconnect}
+use Rattle.xa_session.specs.Answer.{Advances, entry_of}
+use Rattle.xa_coordinator.specs.View.{SessionView, StaysOfLog}
+use Rattle.xa_coordinator.specs.Branch.{IsBranchOf}
+use Rattle.xa_coordinator.specs.Decisions.{is_decided}
+use Rattle.xa_coordinator.specs.declared.standing.Standing.{Standing}
+
+-- the session is of its log, has seen no less than before, and added these statements, in this order
+pub record Adds (statements : List Statement) (old new : SessionView) : Type 0 where
+  pub log : StaysOfLog old new
+  pub advances : Advances old.known new.known
+  pub mine : new.known.mine ≡ old.known.mine ++ map (entry_of old.known.number) statements
+
+-- XA COMMIT is of a decided number's branch, with ONE PHASE of any number's; XA ROLLBACK of a branch whose number isn't decided (presumed abort)
+abbrev pub AgreesWith : List Standing → List ℕ → ℕ → Statement → Type 0
+AgreesWith decisions name store (Start xid) = Unit {0}
+AgreesWith decisions name store (End xid) = Unit {0}
+AgreesWith decisions name store (Prepare xid) = Unit {0}
+AgreesWith decisions name store (Commit xid false) = (number : ℕ) × IsBranchOf name number store xid × (is_decided decisions number ≡ true)
+AgreesWith decisions name store (Commit xid true) = (number : ℕ) × IsBranchOf name number store xid
+AgreesWith decisions name store (Rollback xid) = (number : ℕ) × IsBranchOf name number store xid × (is_decided decisions number ≡ false)
+AgreesWith decisions name store (Recover convert) = Unit {0}
+AgreesWith decisions name store Unsupported = Unit {0}
+AgreesWith decisions name store (Get key) = Unit {0}
+AgreesWith decisions name store (Put key value) = Unit {0}
+AgreesWith decisions name store (Del key) = Unit {0}
+AgreesWith decisions name store Disconnect = Unit {0}
+
+-- whatever was added agrees with the decisions
+pub record Agrees (decisions : List Standing) (name : List ℕ) (store : ℕ) (old new : SessionView) : Type 0 where
+  pub statements : List Statement
+  pub adds : Adds statements old new
+  pub each : All (AgreesWith decisions name store) statements

@@ -1,0 +1,36 @@
+-- How the numbers of global transactions stand. A contract sees the decisions as the list of how numbers 1, 2, .. stand.
+--     standing_of      how a number stands, where it was given
+--     is_decided       whether a number is decided
+--     may_be_decided   whether a number was given and isn't closed
+--     with_decided     the decisions with this number decided
+use Rattle.std.specs.Prelude.{ℕ, Bool, true, false, Option, Some, None, if◌then◌else◌, ◌==◌, ◌-◌, List, slice_get, slice_set}
+use Rattle.xa_coordinator.specs.declared.standing.Standing.{Standing}
+use Rattle.xa_coordinator.specs.declared.standing.Standing.TheVariants.{Undecided, Decided, Closed}
+
+-- how the number stands; numbers are given from 1 on (own rule)
+unfoldable pub standing_of : List Standing → ℕ → Option Standing
+standing_of decisions number = if number == 0 then None else slice_get decisions (number - 1)
+
+-- the decision to commit was recorded
+abbrev pub decides : Option Standing → Bool
+decides None = false
+decides (Some Undecided) = false
+decides (Some Decided) = true
+decides (Some Closed) = false
+
+-- the number was given, and no recovery has closed it
+abbrev pub is_open : Option Standing → Bool
+is_open None = false
+is_open (Some Undecided) = true
+is_open (Some Decided) = true
+is_open (Some Closed) = false
+
+abbrev pub is_decided : List Standing → ℕ → Bool
+is_decided decisions number = decides (standing_of decisions number)
+
+abbrev pub may_be_decided : List Standing → ℕ → Bool
+may_be_decided decisions number = is_open (standing_of decisions number)
+
+-- this number is decided, the others stand as they did
+unfoldable pub with_decided : List Standing → ℕ → List Standing
+with_decided decisions number = slice_set decisions (number - 1) Decided

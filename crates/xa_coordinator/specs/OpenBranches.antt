@@ -1,0 +1,51 @@
+-- What a coordinator has open in its stores.
+--     seat_seen        what a session has open, as far as it has seen
+--     seat_in          a session that has the branch open in this phase
+--     OpenThere        each branch that the coordinator has open is what the session of its store has open
+--     opening          the statement that brings a branch into a phase
+--     LeavesOpen       a statement leaves this branch open
+--     HasOpen          the coordinator has a transaction's branch open
+use Rattle.std.specs.Prelude.{◌≡◌, ℕ, List, Option, Some, None, slice_get}
+use Rattle.xa_xid.specs.declared.xid.Xid.{Xid}
+use Rattle.xa_xid.specs.declared.statement.Statement.{Statement}
+use Rattle.xa_xid.specs.declared.statement.Statement.TheVariants.{Start, End}
+use Rattle.xa_server.specs.State.{seat_of}
+use Rattle.xa_server.specs.declared.seat.Seat.{Seat}
+use Rattle.xa_server.specs.declared.seat.Seat.TheVariants.{Active as SeatActive, Idle as SeatIdle}
+use Rattle.xa_session.specs.Replay.{state_after}
+use Rattle.xa_coordinator.specs.View.{SessionView}
+use Rattle.xa_coordinator.specs.Branch.{branch_xid}
+use Rattle.xa_coordinator.specs.declared.open_branch.OpenBranch.{OpenBranch}
+use Rattle.xa_coordinator.specs.declared.open_branch.Phase.{Phase}
+use Rattle.xa_coordinator.specs.declared.open_branch.Phase.TheVariants.{Active, Idle}
+
+-- what the session has open after all that it has seen
+abbrev pub seat_seen : SessionView → Seat
+seat_seen session = seat_of (state_after session.base session.known.seen) session.known.number
+
+-- a session that has the branch open in this phase
+abbrev pub seat_in : Phase → Xid → Seat
+seat_in Active xid = SeatActive xid
+seat_in Idle xid = SeatIdle xid
+
+-- whatever branch the coordinator has open in a store, the session of that store has it open in that phase
+abbrev pub OpenThere : {S : Type 0} → (S → SessionView) → List ℕ → List S → List (Option OpenBranch) → Type 0
+OpenThere view name stores branches =
+    (store : ℕ) (session : _) (branch : OpenBranch) → slice_get stores store ≡ Some session → slice_get branches store ≡ Some (Some branch) →
+    seat_seen (view session) ≡ seat_in branch.phase (branch_xid name branch.number store)
+
+-- the statement that brings a branch into this phase
+abbrev pub opening : Phase → Xid → Statement
+opening Active xid = Start xid
+opening Idle xid = End xid
+
+-- the statement, once it is carried out, leaves this branch open, or none that the coordinator keeps
+abbrev pub LeavesOpen : List ℕ → ℕ → Statement → Option OpenBranch → Type 0
+LeavesOpen name store statement None = Unit {0}
+LeavesOpen name store statement (Some branch) = statement ≡ opening branch.phase (branch_xid name branch.number store)
+
+-- the coordinator has the transaction's branch open in the store
+pub record HasOpen (branches : List (Option OpenBranch)) (store number : ℕ) : Type 0 where
+  pub branch : OpenBranch
+  pub there : slice_get branches store ≡ Some (Some branch)
+  pub is : branch.number ≡ number

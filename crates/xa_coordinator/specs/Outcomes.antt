@@ -1,0 +1,175 @@
+-- What a call over several stores did in them.
+--     closing_of       the statement that finishes a branch
+--     IsClosed         the branch was finished
+--     ClosesAs         what became of one branch that was to be finished
+--     PreparesAs       what became of one branch that was to be prepared
+--     is_listed        whether a store is in a list
+--     Settles          a store whose turn has passed, when branches are finished
+--     IsVoted          a store whose turn has passed, when branches are prepared
+--     IsEnded          the store of the only participant, when it is ended alone
+--     IsHazard         a list of participants, ascending
+--     branch_of        the branch of a transaction in a store
+--     EndsAs           what the finishing of a transaction came to
+--     VotesAs          what the stores voted
+--     ClosesNext       what became of one participant that was to be finished
+--     PollsAs          what became of the participants that were to be prepared
+--     Allows           the decisions allow that a transaction is finished so
+--     closing_for      how a transaction that was voted on is finished
+use Rattle.std.specs.Prelude.{◌≡◌, ◌<◌, ◌⊎◌, ℕ, Bool, true, false, nat_eq, List, [], ◌∷◌, ◌++◌, length, All, Result, Ok, Err}
+use Rattle.std.specs.List.{list_any}
+use Rattle.xa_xid.specs.declared.xid.Xid.{Xid}
+use Rattle.xa_xid.specs.declared.statement.Statement.{Statement}
+use Rattle.xa_xid.specs.declared.statement.Statement.TheVariants.{End, Prepare, Commit, Rollback}
+use Rattle.xa_server.specs.declared.xa_error.XaError.TheVariants.{Nota}
+use Rattle.xa_coordinator.specs.declared.cause.Cause.{Cause}
+use Rattle.xa_coordinator.specs.declared.cause.Cause.TheVariants.{Refused as RefusedBy}
+use Rattle.xa_coordinator.specs.declared.closing.Closing.{Closing}
+use Rattle.xa_coordinator.specs.declared.closing.Closing.TheVariants.{InTwoPhases, InOnePhase, RollBack}
+use Rattle.xa_coordinator.specs.declared.closing.Found.{Found}
+use Rattle.xa_coordinator.specs.declared.closing.Found.TheVariants.{Closed, Missing}
+use Rattle.xa_coordinator.specs.View.{SessionView}
+use Rattle.xa_coordinator.specs.Agreement.{Adds}
+use Rattle.xa_coordinator.specs.Decisions.{is_decided}
+use Rattle.xa_coordinator.specs.declared.standing.Standing.{Standing}
+use Rattle.xa_coordinator.specs.declared.prepared.Ballot.{Ballot}
+use Rattle.xa_coordinator.specs.Branch.{branch_xid}
+use Rattle.xa_coordinator.specs.Stores.{AtStore, EachStore, EndsAt}
+use Rattle.xa_coordinator.specs.Participants.{takes_part, TwoTakePart, OnlyTakesPart}
+use Rattle.xa_coordinator.specs.declared.transaction.Transaction.{Transaction}
+use Rattle.xa_coordinator.specs.declared.prepared.Prepared.{Prepared}
+use Rattle.xa_coordinator.specs.declared.prepared.Ballot.TheVariants.{Ready as BallotReady, OnePhase as BallotOnePhase, No as BallotNo}
+use Rattle.xa_coordinator.specs.declared.ending.Ending.{Ending}
+use Rattle.xa_coordinator.specs.declared.ending.Ending.TheVariants.{Committed, RolledBack, Hazard, Unfinished}
+use Rattle.xa_coordinator.specs.declared.vote.Vote.{Vote}
+use Rattle.xa_coordinator.specs.declared.vote.Vote.TheVariants.{Ready, OnePhase, No, Nothing}
+use Rattle.xa_coordinator.specs.declared.participants.Participants.{Participants}
+use Rattle.xa_coordinator.specs.Told.{IsUndone, IsStopped, IsMissing}
+
+-- the statement that finishes a branch
+abbrev pub closing_of : Closing → Xid → Statement
+closing_of InTwoPhases xid = Commit xid false
+closing_of InOnePhase xid = Commit xid true
+closing_of RollBack xid = Rollback xid
+
+-- the branch was finished: the statement was added; a branch that took work and is rolled back is ended first
+abbrev pub IsClosed : Closing → Xid → SessionView → SessionView → Type 0
+IsClosed InTwoPhases xid old new = Adds (Commit xid false ∷ []) old new
+IsClosed InOnePhase xid old new = Adds (Commit xid true ∷ []) old new
+IsClosed RollBack xid old new = Adds (Rollback xid ∷ []) old new ⊎ Adds (End xid ∷ Rollback xid ∷ []) old new
+
+-- one statement that was to finish a branch
+abbrev pub SaysAs : Statement → Result Found Cause → SessionView → SessionView → Type 0
+SaysAs statement (Ok Closed) old new = Adds (statement ∷ []) old new
+SaysAs statement (Ok Missing) old new = IsUndone statement (RefusedBy Nota) old new
+SaysAs statement (Err cause) old new = IsUndone statement cause old new
+
+-- a branch that was to be finished
+abbrev pub ClosesAs : Closing → Xid → Result Found Cause → SessionView → SessionView → Type 0
+ClosesAs closing xid (Ok Closed) old new = IsClosed closing xid old new
+ClosesAs closing xid (Ok Missing) old new = IsMissing (closing_of closing xid) xid old new
+ClosesAs closing xid (Err cause) old new = IsStopped (closing_of closing xid) xid cause old new
+
+-- a branch that was to be ended and prepared
+abbrev pub PreparesAs : Xid → Result (Unit {0}) Cause → SessionView → SessionView → Type 0
+PreparesAs xid (Ok _) old new = Adds (End xid ∷ Prepare xid ∷ []) old new
+PreparesAs xid (Err cause) old new = IsStopped (Prepare xid) xid cause old new
+
+-- the store is in the list
+unfoldable pub is_listed : List ℕ → ℕ → Bool
+is_listed stores store = list_any (nat_eq store) stores
+
+-- a participant's branch was finished, or wasn't known there; another store's session is as it was
+abbrev pub Settles : Closing → Xid → (takes_part listed : Bool) → SessionView → SessionView → Type 0
+Settles closing xid false listed old new = new ≡ old
+Settles closing xid true false old new = IsClosed closing xid old new
+Settles closing xid true true old new = IsMissing (closing_of closing xid) xid old new
+
+-- a participant's branch was ended and prepared; another store's session is as it was
+abbrev pub IsVoted : Xid → (takes_part : Bool) → SessionView → SessionView → Type 0
+IsVoted xid false old new = new ≡ old
+IsVoted xid true old new = Adds (End xid ∷ Prepare xid ∷ []) old new
+
+-- a participant's branch was ended; another store's session is as it was
+abbrev pub IsEnded : Xid → (takes_part : Bool) → SessionView → SessionView → Type 0
+IsEnded xid false old new = new ≡ old
+IsEnded xid true old new = Adds (End xid ∷ []) old new
+
+-- each is less than all behind it
+abbrev pub Ascends : List ℕ → Type 0
+Ascends [] = Unit {0}
+Ascends (store ∷ stores) = All (λ later. store < later) stores × Ascends stores
+
+-- some of the participants, ascending
+pub record IsHazard (participants : Participants) (stores : List ℕ) : Type 0 where
+  pub some : 0 < length stores
+  pub ascending : Ascends stores
+  pub participate : All (λ store. takes_part participants store ≡ true) stores
+
+-- the branches of a transaction were committed
+abbrev pub commits : Closing → Bool
+commits InTwoPhases = true
+commits InOnePhase = true
+commits RollBack = false
+
+-- the branch of a transaction in a store
+abbrev pub branch_of : Transaction → ℕ → Xid
+branch_of transaction store = branch_xid transaction.name.items transaction.number store
+
+-- what the finishing of a transaction's branches came to
+abbrev pub EndsAs : {S : Type 0} → (S → SessionView) → Transaction → Closing → Ending → List S → List S → Type 0
+EndsAs view transaction closing Committed old new =
+    (commits closing ≡ true) × EachStore view (λ store. Settles closing (branch_of transaction store) (takes_part transaction.participants store) false) old new
+EndsAs view transaction closing RolledBack old new =
+    (commits closing ≡ false) × EachStore view (λ store. Settles closing (branch_of transaction store) (takes_part transaction.participants store) false) old new
+EndsAs view transaction closing (Hazard stores) old new =
+    IsHazard transaction.participants stores.items
+    × EachStore view (λ store. Settles closing (branch_of transaction store) (takes_part transaction.participants store) (is_listed stores.items store)) old new
+EndsAs view transaction closing (Unfinished store cause) old new =
+    (takes_part transaction.participants store ≡ true)
+    × EndsAt view (λ other before after. (listed : Bool) × Settles closing (branch_of transaction other) (takes_part transaction.participants other) listed before after)
+    store (IsStopped (closing_of closing (branch_of transaction store)) (branch_of transaction store) cause) old new
+
+-- what the stores voted
+abbrev pub VotesAs : {S : Type 0} → (S → SessionView) → Transaction → Vote → List S → List S → Type 0
+VotesAs view transaction (Ready prepared) old new =
+    (prepared ≡ record { transaction = transaction; ballot = BallotReady })
+    × TwoTakePart transaction.participants
+    × EachStore view (λ store. IsVoted (branch_of transaction store) (takes_part transaction.participants store)) old new
+VotesAs view transaction (OnePhase prepared) old new =
+    (prepared ≡ record { transaction = transaction; ballot = BallotOnePhase })
+    × ((store : ℕ) × OnlyTakesPart transaction.participants store)
+    × EachStore view (λ store. IsEnded (branch_of transaction store) (takes_part transaction.participants store)) old new
+VotesAs view transaction (No prepared store cause) old new =
+    (prepared ≡ record { transaction = transaction; ballot = BallotNo })
+    × (takes_part transaction.participants store ≡ true)
+    × EndsAt view (λ other. IsVoted (branch_of transaction other) (takes_part transaction.participants other))
+    store (IsStopped (Prepare (branch_of transaction store)) (branch_of transaction store) cause) old new
+VotesAs view transaction Nothing old new =
+    ((store : ℕ) → takes_part transaction.participants store ≡ false) × (new ≡ old)
+
+-- the branch of a store was finished, or wasn't known there and the store was listed
+abbrev pub ClosesNext : {S : Type 0} → (S → SessionView) → Closing → Xid → ℕ → (listed listed' : List ℕ) → List S → List S → Type 0
+ClosesNext view closing xid store listed listed' old new =
+    ((listed' ≡ listed) × AtStore view store (IsClosed closing xid) old new)
+    ⊎ ((listed' ≡ listed ++ store ∷ []) × AtStore view store (IsMissing (closing_of closing xid) xid) old new)
+
+-- the participants were asked to prepare, in ascending order, up to the first that didn't
+abbrev pub PollsAs : {S : Type 0} → (S → SessionView) → Transaction → Result (Unit {0}) (ℕ × Cause) → List S → List S → Type 0
+PollsAs view transaction (Ok _) old new = EachStore view (λ store. IsVoted (branch_of transaction store) (takes_part transaction.participants store)) old new
+PollsAs view transaction (Err (store, cause)) old new =
+    (takes_part transaction.participants store ≡ true)
+    × EndsAt view (λ other. IsVoted (branch_of transaction other) (takes_part transaction.participants other))
+    store (IsStopped (Prepare (branch_of transaction store)) (branch_of transaction store) cause) old new
+
+-- the decisions allow that a transaction is finished so
+abbrev pub Allows : List Standing → ℕ → Closing → Type 0
+Allows decisions number InTwoPhases = is_decided decisions number ≡ true
+Allows decisions number InOnePhase = Unit {0}
+Allows decisions number RollBack = is_decided decisions number ≡ false
+
+-- how a transaction that was voted on is finished: as it was decided, and else in one phase or by rolling back (presumed abort)
+abbrev pub closing_for : Bool → Ballot → Closing
+closing_for true ballot = InTwoPhases
+closing_for false BallotReady = RollBack
+closing_for false BallotOnePhase = InOnePhase
+closing_for false BallotNo = RollBack

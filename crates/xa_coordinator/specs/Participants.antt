@@ -1,0 +1,30 @@
+-- Which stores take part in a global transaction.
+--     takes_part       whether a store takes part
+--     Counts           how many take part, as far as a vote has to know
+use Rattle.std.specs.Prelude.{◌≡◌, ◌<◌, ℕ, Bool, true, false, unwrap_or, slice_get}
+use Rattle.xa_coordinator.specs.declared.participants.Participants.{Participants}
+use Rattle.xa_coordinator.specs.declared.participants.Roll.{Roll}
+use Rattle.xa_coordinator.specs.declared.participants.Roll.TheVariants.{Nobody, Single, Several}
+
+-- the store takes part
+unfoldable pub takes_part : Participants → ℕ → Bool
+takes_part participants store = unwrap_or (slice_get participants.members store) false
+
+-- two stores take part
+pub record TwoTakePart (participants : Participants) : Type 0 where
+  pub first : ℕ
+  pub second : ℕ
+  pub apart : first < second
+  pub first_in : takes_part participants first ≡ true
+  pub second_in : takes_part participants second ≡ true
+
+-- only this store takes part
+pub record OnlyTakesPart (participants : Participants) (store : ℕ) : Type 0 where
+  pub in_it : takes_part participants store ≡ true
+  pub others : (other : ℕ) → takes_part participants other ≡ true → other ≡ store
+
+-- how many stores take part: none, one, or more
+abbrev pub Counts : Participants → Roll → Type 0
+Counts participants Nobody = (store : ℕ) → takes_part participants store ≡ false
+Counts participants (Single store) = OnlyTakesPart participants store
+Counts participants Several = TwoTakePart participants

@@ -1,0 +1,33 @@
+-- Facts about the stores of a coordinator, by their numbers, before and after a call.
+--     AtStore          a fact of one store
+--     EachStore        a fact of each store
+--     ChangesAt        only one store's session was used
+--     Reached          a call has come as far as this store
+--     EndsAt           a call ended at this store
+use Rattle.std.specs.Prelude.{◌≡◌, ◌≢◌, ◌<◌, ◌≤◌, ℕ, List, Some, length, slice_get}
+use Rattle.xa_coordinator.specs.View.{SessionView}
+
+-- a fact of one store, of what its session was and is
+abbrev pub AtStore : {S : Type 0} → (S → SessionView) → ℕ → (SessionView → SessionView → Type 0) → List S → List S → Type 0
+AtStore {S} view store fact old new = (before after : S) → slice_get old store ≡ Some before → slice_get new store ≡ Some after → fact (view before) (view after)
+
+-- a fact of each store
+abbrev pub EachStore : {S : Type 0} → (S → SessionView) → (ℕ → SessionView → SessionView → Type 0) → List S → List S → Type 0
+EachStore {S} view fact old new = (store : ℕ) → AtStore view store (fact store) old new
+
+-- as many stores, and the sessions of the others are as they were
+pub record ChangesAt {S : Type 0} (store : ℕ) (old new : List S) : Type 0 where
+  pub count : length new ≡ length old
+  pub others : (other : ℕ) → other ≢ store → slice_get new other ≡ slice_get old other
+
+-- all stores below this number are done with, and the sessions of the others are as they were
+pub record Reached {S : Type 0} (view : S → SessionView) (fact : ℕ → SessionView → SessionView → Type 0) (place : ℕ) (old now : List S) : Type 0 where
+  pub count : length now ≡ length old
+  pub below : (store : ℕ) → store < place → AtStore view store (fact store) old now
+  pub behind : (store : ℕ) → place ≤ store → slice_get now store ≡ slice_get old store
+
+-- a call ended at this store: those below are done with, this one fared so, and the sessions of those behind are as they were
+pub record EndsAt {S : Type 0} (view : S → SessionView) (fact : ℕ → SessionView → SessionView → Type 0) (store : ℕ) (last : SessionView → SessionView → Type 0) (old new : List S) : Type 0 where
+  pub below : (other : ℕ) → other < store → AtStore view other (fact other) old new
+  pub at : AtStore view store last old new
+  pub behind : (other : ℕ) → store < other → slice_get new other ≡ slice_get old other

@@ -1,0 +1,20 @@
+-- What a contract sees of a session that a coordinator speaks through.
+--     SessionView      the log that it is of, whether the log has turns, the state in which its history begins, and what it knows
+--     StaysOfLog       it is of the log that it was of
+use Rattle.std.specs.Prelude.{◌≡◌, Bool}
+use Rattle.xa_server.specs.State.{State}
+use Rattle.decision_log.specs.Known.{Place}
+use Rattle.decision_log.specs.declared.known.Known.{Known}
+
+-- a session, as contracts see it
+pub record SessionView : Type 0 where
+  pub place : Place
+  pub turns : Bool
+  pub base : State
+  pub known : Known
+
+-- the log is the same, and its history begins in the same state
+pub record StaysOfLog (old new : SessionView) : Type 0 where
+  pub place : new.place ≡ old.place
+  pub turns : new.turns ≡ old.turns
+  pub base : new.base ≡ old.base

@@ -1,0 +1,107 @@
+-- What work in a store came to.
+--     IsRow            a row statement
+--     MayBe            one statement, or none
+--     AddsWork         at most XA START and a row statement were added
+--     MayStart         the branch was open, or was started
+--     IsReplied        a row statement was answered within the branch
+--     IsWorked         the branch was open or was started, and the row statement was answered
+--     IsCut            the branch was open or was started, and the row statement wasn't answered
+--     WorksWithin      what a row statement came to in an open branch
+--     Keeps            the transaction is the same but for one store
+--     WorksAs          what work came to, by the answer
+use Rattle.std.specs.Prelude.{◌≡◌, ◌≢◌, ◌⊎◌, ℕ, Bool, true, List, [], ◌∷◌, ◌++◌, Result, Ok, Err}
+use Rattle.xa_xid.specs.declared.xid.Xid.{Xid}
+use Rattle.xa_xid.specs.declared.statement.Statement.{Statement}
+use Rattle.xa_xid.specs.declared.statement.Statement.TheVariants.{Start, End, Prepare, Commit, Rollback, Recover, Unsupported, Get, Put, Del, Disconnect}
+use Rattle.xa_server.specs.State.{seat_of}
+use Rattle.xa_server.specs.declared.seat.Seat.TheVariants.{Active}
+use Rattle.xa_server.specs.declared.reply.Reply.{Reply}
+use Rattle.xa_session.specs.Answer.{IsAnswered}
+use Rattle.xa_session.specs.Replay.{state_at}
+use Rattle.xa_coordinator.specs.declared.cause.Cause.{Cause}
+use Rattle.xa_coordinator.specs.declared.cause.Cause.TheVariants.{Session as CauseSession, Refused as CauseRefused}
+use Rattle.xa_coordinator.specs.declared.work_fault.WorkFault.{WorkFault}
+use Rattle.xa_coordinator.specs.declared.work_fault.WorkFault.TheVariants.{Session, Refused, Lost}
+use Rattle.xa_coordinator.specs.declared.transaction.Transaction.{Transaction}
+use Rattle.xa_coordinator.specs.View.{SessionView, StaysOfLog}
+use Rattle.xa_coordinator.specs.Agreement.{Adds}
+use Rattle.xa_coordinator.specs.OpenBranches.{seat_seen}
+use Rattle.xa_coordinator.specs.Outcomes.{branch_of}
+use Rattle.xa_coordinator.specs.Participants.{takes_part}
+use Rattle.xa_coordinator.specs.Stores.{AtStore}
+use Rattle.xa_coordinator.specs.Told.{IsDone, IsUndone}
+
+-- GET, PUT and DEL
+abbrev pub IsRow : Statement → Type 0
+IsRow (Start xid) = ⊥
+IsRow (End xid) = ⊥
+IsRow (Prepare xid) = ⊥
+IsRow (Commit xid one_phase) = ⊥
+IsRow (Rollback xid) = ⊥
+IsRow (Recover convert) = ⊥
+IsRow Unsupported = ⊥
+IsRow (Get key) = Unit {0}
+IsRow (Put key value) = Unit {0}
+IsRow (Del key) = Unit {0}
+IsRow Disconnect = ⊥
+
+-- this statement, or none
+abbrev pub MayBe : Statement → List Statement → Type 0
+MayBe statement statements = (statements ≡ []) ⊎ (statements ≡ statement ∷ [])
+
+-- XA START or nothing was added, and then the row statement or nothing
+pub record AddsWork (xid : Xid) (row : Statement) (old new : SessionView) : Type 0 where
+  pub started : List Statement
+  pub is_start : MayBe (Start xid) started
+  pub worked : List Statement
+  pub is_row : MayBe row worked
+  pub adds : Adds (started ++ worked) old new
+
+-- the session had the branch open, ACTIVE, or was told to start it and did
+pub data MayStart (xid : Xid) (old : SessionView) : SessionView → Type 0 where
+  was_open : seat_seen old ≡ Active xid → MayStart xid old old
+  was_started : (mid : SessionView) → IsDone (Start xid) old mid → MayStart xid old mid
+
+-- the row statement was answered, at a place not before what had been seen, where the session's branch was this one and ACTIVE
+pub record IsReplied (row : Statement) (reply : Reply) (xid : Xid) (old new : SessionView) : Type 0 where
+  pub log : StaysOfLog old new
+  pub place : ℕ
+  pub answered : IsAnswered old.base row (record { place = place; reply = reply }) old.known new.known
+  pub active : seat_of (state_at old.base new.known.seen place) old.known.number ≡ Active xid
+
+-- the row statement was answered within the branch, which was open before or was started
+pub record IsWorked (row : Statement) (reply : Reply) (xid : Xid) (old new : SessionView) : Type 0 where
+  pub mid : SessionView
+  pub opened : MayStart xid old mid
+  pub replied : IsReplied row reply xid mid new
+
+-- the row statement wasn't answered, in the branch that was open before or was started
+pub record IsCut (row : Statement) (cause : Cause) (xid : Xid) (old new : SessionView) : Type 0 where
+  pub mid : SessionView
+  pub opened : MayStart xid old mid
+  pub undone : IsUndone row cause mid new
+
+-- what a row statement came to in a branch that is ACTIVE
+abbrev pub WorksWithin : {S : Type 0} → (S → SessionView) → Xid → ℕ → Statement → Result Reply WorkFault → List S → List S → Type 0
+WorksWithin view xid store row (Ok reply) before after = AtStore view store (IsReplied row reply xid) before after
+WorksWithin view xid store row (Err (Session fault)) before after = AtStore view store (IsUndone row (CauseSession fault)) before after
+WorksWithin view xid store row (Err (Refused error)) before after = ⊥
+WorksWithin view xid store row (Err Lost) before after = ⊥
+
+-- the transaction is the same, and no other store comes to take part or ceases to
+pub record Keeps (store : ℕ) (old new : Transaction) : Type 0 where
+  pub number : new.number ≡ old.number
+  pub name : new.name ≡ old.name
+  pub stores : new.stores ≡ old.stores
+  pub others : (other : ℕ) → other ≢ store → takes_part new.participants other ≡ takes_part old.participants other
+
+-- what work came to in its store, and whether the store takes part then
+abbrev pub WorksAs : {S : Type 0} → (S → SessionView) → (lost : Type 0) → Transaction → Transaction → ℕ → Statement → Result Reply WorkFault → List S → List S → Type 0
+WorksAs view lost old new store row (Ok reply) before after =
+    (takes_part new.participants store ≡ true) × AtStore view store (IsWorked row reply (branch_of old store)) before after
+WorksAs view lost old new store row (Err (Session fault)) before after =
+    ((takes_part new.participants store ≡ true) × AtStore view store (IsCut row (CauseSession fault) (branch_of old store)) before after)
+    ⊎ ((new ≡ old) × AtStore view store (IsUndone (Start (branch_of old store)) (CauseSession fault)) before after)
+WorksAs view lost old new store row (Err (Refused error)) before after =
+    (new ≡ old) × AtStore view store (IsUndone (Start (branch_of old store)) (CauseRefused error)) before after
+WorksAs view lost old new store row (Err Lost) before after = (new ≡ old) × (takes_part old.participants store ≡ true) × lost × (after ≡ before)

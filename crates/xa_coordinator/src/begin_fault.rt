@@ -1,0 +1,27 @@
+//! Why no number was given.
+ghost use Rattle.std.specs.Prelude.{◌≡◌};
+ghost use Rattle.xa_coordinator.specs.Faults.{number_of_begin_fault};
+
+/// Why no number was given. The decisions are as before.
+#[derive(Clone, Copy, Debug, PartialEq, Eq)]
+pub enum BeginFault {
+    /// All 1,000,000 numbers were given.
+    NumbersSpent,
+    /// There was no memory.
+    NoMemory,
+}
+
+impl BeginFault {
+    /// The fault's number, in `[1, 2]`.
+    ///
+    /// Takes no memory. Doesn't wait.
+    /// Own rule: docs/BEHAVIOR.md, 'Faults of a coordinator'.
+    pub fn number(&self) -> u64
+        ensures { result ≡ number_of_begin_fault self.now }
+    {
+        match self {
+            BeginFault::NumbersSpent => 1,
+            BeginFault::NoMemory => 2,
+        }
+    }
+}

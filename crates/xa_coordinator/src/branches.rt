@@ -1,0 +1,177 @@
+//! The branch of a transaction in one store, from its start to its end.
+ghost use Rattle.std.specs.Prelude.{◌≡◌, ◌<◌, Some, OnOk, IfSome, IfNone, slice_get, vec_len};
+ghost use Rattle.xa_coordinator.specs.Branch.{branch_xid};
+ghost use Rattle.xa_coordinator.specs.OpenBranches.{HasOpen};
+ghost use Rattle.xa_coordinator.specs.Outcomes.{closing_of, SaysAs, ClosesAs, PreparesAs};
+ghost use Rattle.xa_coordinator.specs.Stores.{AtStore, ChangesAt};
+ghost use Rattle.xa_coordinator.specs.Told.{Says};
+ghost use Rattle.xa_coordinator.specs.View.{SessionView};
+ghost use Rattle.xa_xid.specs.declared.statement.Statement.{Statement};
+ghost use Rattle.xa_xid.specs.declared.statement.Statement.TheVariants.{Start, End, Prepare};
+
+use crate::closing::{Closing, Found};
+use crate::open_branch::{OpenBranch, Phase};
+use crate::{Cause, Coordinator, Speak};
+use std::sync::Wait;
+use xa_server::XaError;
+use xa_xid::Statement;
+
+/// Whether the branch was found that a statement was to finish.
+fn found(said: Result<(), Cause>) -> Result<Found, Cause>
+    ensures { (statement : Statement) (old new : SessionView) → Says statement said old new → SaysAs statement result old new }
+{
+    match said {
+        Ok(()) => Ok(Found::Closed),
+        Err(Cause::Session(fault)) => Err(Cause::Session(fault)),
+        Err(Cause::Refused(XaError::Nota)) => Ok(Found::Missing),
+        Err(Cause::Refused(error)) => Err(Cause::Refused(error)),
+    }
+}
+
+impl<S: Speak> Coordinator<S> {
+    /// Has a transaction's branch started in a store.
+    pub(crate) fn start_branch<R: Wait>(
+        &mut self,
+        rt: &R,
+        store: u8,
+        number: u64,
+    ) -> Result<(), Cause>
+        requires { store < vec_len self.old.stores }
+        ensures name { self.new.name ≡ self.old.name }
+        ensures frame { ChangesAt store self.old.stores.items self.new.stores.items }
+        ensures mark { OnOk result (slice_get self.new.branches store ≡ Some (Some (record { number = number; phase = Phase.Active }))) }
+        ensures says { AtStore S.view store (Says (Start (branch_xid self.old.name.items number store)) result) self.old.stores.items self.new.stores.items }
+    {
+        let statement = Statement::Start(self.branch(number, store));
+        let then = OpenBranch {
+            number,
+            phase: Phase::Active,
+        };
+        self.say(rt, store, &statement, Some(then))
+    }
+
+    /// Has the work of a transaction's branch ended in a store.
+    pub(crate) fn end_branch<R: Wait>(
+        &mut self,
+        rt: &R,
+        store: u8,
+        number: u64,
+    ) -> Result<(), Cause>
+        requires { store < vec_len self.old.stores }
+        ensures name { self.new.name ≡ self.old.name }
+        ensures frame { ChangesAt store self.old.stores.items self.new.stores.items }
+        ensures says { AtStore S.view store (Says (End (branch_xid self.old.name.items number store)) result) self.old.stores.items self.new.stores.items }
+    {
+        let statement = Statement::End(self.branch(number, store));
+        let then = OpenBranch {
+            number,
+            phase: Phase::Idle,
+        };
+        self.say(rt, store, &statement, Some(then))
+    }
+
+    /// Has a transaction's branch prepared, of which the work has ended.
+    fn prepare_ended<R: Wait>(&mut self, rt: &R, store: u8, number: u64) -> Result<(), Cause>
+        requires { store < vec_len self.old.stores }
+        ensures name { self.new.name ≡ self.old.name }
+        ensures frame { ChangesAt store self.old.stores.items self.new.stores.items }
+        ensures says { AtStore S.view store (Says (Prepare (branch_xid self.old.name.items number store)) result) self.old.stores.items self.new.stores.items }
+    {
+        let statement = Statement::Prepare(self.branch(number, store));
+        self.say(rt, store, &statement, None)
+    }
+
+    /// Has a transaction's branch ended and prepared.
+    pub(crate) fn prepare_branch<R: Wait>(
+        &mut self,
+        rt: &R,
+        store: u8,
+        number: u64,
+    ) -> Result<(), Cause>
+        requires { store < vec_len self.old.stores }
+        ensures name { self.new.name ≡ self.old.name }
+        ensures frame { ChangesAt store self.old.stores.items self.new.stores.items }
+        ensures prepares { AtStore S.view store (PreparesAs (branch_xid self.old.name.items number store) result) self.old.stores.items self.new.stores.items }
+    {
+        match self.end_branch(rt, store, number) {
+            Ok(()) => self.prepare_ended(rt, store, number),
+            Err(cause) => Err(cause),
+        }
+    }
+
+    /// Gives the statement that finishes a branch.
+    fn finish_branch<R: Wait>(
+        &mut self,
+        rt: &R,
+        store: u8,
+        number: u64,
+        closing: Closing,
+    ) -> Result<Found, Cause>
+        requires { store < vec_len self.old.stores }
+        ensures name { self.new.name ≡ self.old.name }
+        ensures frame { ChangesAt store self.old.stores.items self.new.stores.items }
+        ensures finishes { AtStore S.view store (SaysAs (closing_of closing (branch_xid self.old.name.items number store)) result) self.old.stores.items self.new.stores.items }
+    {
+        let statement = closing.statement(self.branch(number, store));
+        found(self.say(rt, store, &statement, None))
+    }
+
+    /// Ends a branch that takes work, and rolls it back.
+    fn end_and_roll_back<R: Wait>(&mut self, rt: &R, store: u8, number: u64) -> Result<Found, Cause>
+        requires { store < vec_len self.old.stores }
+        ensures name { self.new.name ≡ self.old.name }
+        ensures frame { ChangesAt store self.old.stores.items self.new.stores.items }
+        ensures closes { AtStore S.view store (ClosesAs Closing.RollBack (branch_xid self.old.name.items number store) result) self.old.stores.items self.new.stores.items }
+    {
+        match self.end_branch(rt, store, number) {
+            Ok(()) => self.finish_branch(rt, store, number, Closing::RollBack),
+            Err(cause) => Err(cause),
+        }
+    }
+
+    /// The phase of the transaction's branch in a store, where the coordinator has it open there.
+    pub(crate) fn phase_of(&self, store: u8, number: u64) -> Option<Phase>
+        requires { store < 16 }
+        ensures some { IfSome result (λ phase. slice_get self.now.branches store ≡ Some (Some (record { number = number; phase = phase }))) }
+        ensures none { IfNone result (HasOpen self.now.branches store number → ⊥) }
+    {
+        match self.branches[store as usize] {
+            Some(branch) => {
+                if branch.number == number {
+                    Some(branch.phase)
+                } else {
+                    None
+                }
+            }
+            None => None,
+        }
+    }
+
+    /// Whether the coordinator has the transaction's branch open in a store, and it takes work.
+    fn is_working(&self, store: u8, number: u64) -> bool
+        requires { store < 16 }
+    {
+        matches!(self.phase_of(store, number), Some(Phase::Active))
+    }
+
+    /// Finishes a branch; one that takes work and is to be rolled back is ended first.
+    pub(crate) fn close_branch<R: Wait>(
+        &mut self,
+        rt: &R,
+        store: u8,
+        number: u64,
+        closing: Closing,
+    ) -> Result<Found, Cause>
+        requires { store < vec_len self.old.stores }
+        ensures name { self.new.name ≡ self.old.name }
+        ensures frame { ChangesAt store self.old.stores.items self.new.stores.items }
+        ensures closes { AtStore S.view store (ClosesAs closing (branch_xid self.old.name.items number store) result) self.old.stores.items self.new.stores.items }
+    {
+        match closing {
+            Closing::RollBack if self.is_working(store, number) => {
+                self.end_and_roll_back(rt, store, number)
+            }
+            _ => self.finish_branch(rt, store, number, closing),
+        }
+    }
+}

@@ -1,0 +1,45 @@
+//! How a coordinator finishes a branch.
+ghost use Rattle.std.specs.Prelude.{◌≡◌};
+
+use xa_xid::{Statement, Xid};
+
+/// How a coordinator finishes the branches of a transaction.
+#[derive(Clone, Copy, Debug, PartialEq, Eq)]
+pub enum Closing {
+    /// `XA COMMIT` of prepared branches.
+    InTwoPhases,
+    /// `XA COMMIT .. ONE PHASE` of the only branch.
+    InOnePhase,
+    /// `XA ROLLBACK`.
+    RollBack,
+}
+
+/// Whether a branch that was to be finished was known.
+#[derive(Clone, Copy, Debug, PartialEq, Eq)]
+pub enum Found {
+    /// It was, and is finished.
+    Closed,
+    /// It wasn't: XAER_NOTA.
+    Missing,
+}
+
+impl Closing {
+    ghost use Rattle.xa_coordinator.specs.Outcomes.{closing_of};
+
+    /// The statement that finishes a branch so.
+    pub(crate) fn statement(self, xid: Xid) -> Statement
+        ensures { result ≡ closing_of self xid }
+    {
+        match self {
+            Closing::InTwoPhases => Statement::Commit {
+                xid,
+                one_phase: false,
+            },
+            Closing::InOnePhase => Statement::Commit {
+                xid,
+                one_phase: true,
+            },
+            Closing::RollBack => Statement::Rollback(xid),
+        }
+    }
+}

@@ -1,0 +1,138 @@
+//! The decisions of a coordinator.
+ghost use Rattle.std.specs.Prelude.{ℕ, ◌≡◌, ◌≤◌, ◌<◌, ◌+◌, [], ◌∷◌, ◌++◌, true, false, length, OnOk, OnErr, IfOk, IfSome, IfNone};
+ghost use Rattle.xa_coordinator.specs.declared.standing.Standing.TheVariants.{Undecided as StandsUndecided};
+ghost use Rattle.xa_coordinator.specs.Decisions.{standing_of, is_decided as is_decided_by, may_be_decided, with_decided};
+
+use crate::Standing;
+use crate::begin_fault::BeginFault;
+use crate::prepared::{Ballot, Prepared};
+use std::alloc::Global;
+use std::marker::Model;
+
+/// The number is closed, or was never given.
+#[derive(Clone, Copy, Debug, PartialEq, Eq)]
+pub struct Closed;
+
+/// The numbers of global transactions that were given, 1, 2, .., and how each stands. The caller keeps them.
+///
+/// A contract sees them as the list of how numbers 1, 2, .. stand.
+#[derive(Drop)]
+pub struct Decisions {
+    standings: Vec<Standing>,
+}
+
+impl Model for Decisions {
+    ghost use Rattle.std.specs.Prelude.{List, length, ◌≤◌};
+    ghost use Rattle.xa_coordinator.specs.declared.standing.Standing.{Standing};
+
+    ghost Value = { List Standing };
+
+    ghost view = { λ decisions. decisions.standings.items };
+
+    ghost invariant = { λ decisions. length decisions.standings.items ≤ 1000000 };
+}
+
+impl Decisions {
+    /// How many numbers can be given.
+    pub const MOST: usize = 1_000_000;
+
+    /// Decisions that have given no number.
+    ///
+    /// Takes no memory. Doesn't wait.
+    pub fn new(alloc: Global) -> Decisions
+        ensures { result ≡ [] }
+    {
+        Decisions {
+            standings: Vec::new(alloc),
+        }
+    }
+
+    /// How a number stands, where it was given.
+    #[tactic(auto, unfolding(crate::specs::Decisions::standing_of))]
+    fn standing(&self, number: u64) -> Option<Standing>
+        ensures { result ≡ standing_of self.now number }
+    {
+        if number == 0 {
+            return None;
+        }
+        self.standings.get((number - 1) as usize).copied()
+    }
+
+    /// Whether it is decided that the transaction of this number commits.
+    ///
+    /// Takes no memory. Doesn't wait.
+    /// Own rule: docs/COORDINATOR.md, 'Decisions'.
+    pub fn is_decided(&self, number: u64) -> bool
+        ensures { result ≡ is_decided_by self.now number }
+    {
+        match self.standing(number) {
+            Some(Standing::Decided) => true,
+            Some(Standing::Undecided) | Some(Standing::Closed) | None => false,
+        }
+    }
+
+    /// Whether the number was given and isn't closed.
+    fn may_be_decided(&self, number: u64) -> bool
+        ensures { result ≡ may_be_decided self.now number }
+    {
+        match self.standing(number) {
+            Some(Standing::Undecided) => true,
+            Some(Standing::Decided) => true,
+            Some(Standing::Closed) => false,
+            None => false,
+        }
+    }
+
+    /// Where a number stands that was given and isn't closed.
+    #[tactic(auto, using(crate::proofs::Standings::given))]
+    fn place_to_decide(&self, number: u64) -> Option<usize>
+        ensures some { IfSome result (λ place. (place + 1 ≡ number) × (place < length self.now) × (may_be_decided self.now number ≡ true)) }
+        ensures none { IfNone result (may_be_decided self.now number ≡ false) }
+    {
+        if !self.may_be_decided(number) {
+            return None;
+        }
+        Some((number - 1) as usize)
+    }
+
+    /// Gives the next number.
+    pub(crate) fn give(&mut self) -> Result<u64, BeginFault>
+        ensures number { IfOk result (λ number. number ≡ length self.old + 1) }
+        ensures ok { OnOk result (self.new ≡ self.old ++ StandsUndecided ∷ []) }
+        ensures room { OnOk result (length self.old < 1000000) }
+        ensures err { OnErr result (self.new ≡ self.old) }
+        ensures spent { result ≡ Err BeginFault.NumbersSpent → length self.old ≡ 1000000 }
+        ensures full { length self.old ≡ 1000000 → result ≡ Err BeginFault.NumbersSpent }
+    {
+        if self.standings.len() >= Self::MOST {
+            return Err(BeginFault::NumbersSpent);
+        }
+        let Ok(()) = self.standings.push(Standing::Undecided) else {
+            return Err(BeginFault::NoMemory);
+        };
+        Ok(self.standings.len() as u64)
+    }
+
+    /// Records that the transaction of a vote of Ready commits, before any of its branches does.
+    ///
+    /// Errors: `Closed`, where a recovery has closed the number, or these decisions never gave it. Nothing is recorded then.
+    /// A second call answers Ok again.
+    ///
+    /// Takes no memory. Doesn't wait.
+    /// Own rule: docs/COORDINATOR.md, 'Decisions'.
+    pub fn decide(&mut self, prepared: &Prepared) -> Result<(), Closed>
+        requires { prepared.now.ballot ≡ Ballot.Ready }
+        ensures given { OnOk result (may_be_decided self.old prepared.now.transaction.number ≡ true) }
+        ensures ok { OnOk result (self.new ≡ with_decided self.old prepared.now.transaction.number) }
+        ensures decided { OnOk result (is_decided_by self.new prepared.now.transaction.number ≡ true) }
+        ensures kept { OnOk result ((other : ℕ) → is_decided_by self.old other ≡ true → is_decided_by self.new other ≡ true) }
+        ensures closed { OnErr result (may_be_decided self.old prepared.now.transaction.number ≡ false) }
+        ensures err { OnErr result (self.new ≡ self.old) }
+    {
+        let Some(place) = self.place_to_decide(prepared.number()) else {
+            return Err(Closed);
+        };
+        self.standings[place] = Standing::Decided;
+        Ok(())
+    }
+}

@@ -1,0 +1,131 @@
+//! The second phase: the branches of a transaction are finished.
+ghost use Rattle.std.specs.Prelude.{◌≡◌, ◌<◌, List, false, OnOk, IfErr, vec_len};
+ghost use Rattle.xa_coordinator.specs.Agreement.{Agrees};
+ghost use Rattle.xa_coordinator.specs.Decisions.{is_decided};
+ghost use Rattle.xa_coordinator.specs.Stores.{AtStore, EachStore, ChangesAt};
+ghost use Rattle.xa_coordinator.specs.Told.{IsStopped};
+ghost use Rattle.xa_coordinator.specs.Branch.{branch_xid};
+ghost use Rattle.arrayvec.specs.ArrayVec.{array_vec_len};
+ghost use Rattle.xa_coordinator.specs.Outcomes.{EndsAs, ClosesNext, closing_of, closing_for as closing_of_vote};
+ghost use Rattle.xa_coordinator.specs.declared.standing.Standing.{Standing};
+
+use crate::closing::{Closing, Found};
+use crate::prepared::Ballot;
+use crate::{Cause, Coordinator, Decisions, Ending, Prepared, Speak, Transaction};
+use arrayvec::ArrayVec;
+use std::sync::Wait;
+
+/// How a transaction that was voted on is finished.
+fn closing_for(decided: bool, ballot: Ballot) -> Closing
+    ensures { result ≡ closing_of_vote decided ballot }
+{
+    if decided {
+        return Closing::InTwoPhases;
+    }
+    match ballot {
+        Ballot::OnePhase => Closing::InOnePhase,
+        Ballot::Ready => Closing::RollBack,
+        Ballot::No => Closing::RollBack,
+    }
+}
+
+impl<S: Speak> Coordinator<S> {
+    /// Finishes the branch of a store, or lists the store where the branch isn't known there.
+    fn close_next<R: Wait>(
+        &mut self,
+        rt: &R,
+        store: u8,
+        number: u64,
+        closing: Closing,
+        missing: &mut ArrayVec<u8, 16>,
+    ) -> Result<(), Cause>
+        requires store { store < vec_len self.old.stores }
+        requires room { array_vec_len missing.old < 16 }
+        ensures name { self.new.name ≡ self.old.name }
+        ensures frame { ChangesAt store self.old.stores.items self.new.stores.items }
+        ensures closed { OnOk result (ClosesNext S.view closing (branch_xid self.old.name.items number store) store missing.old.items missing.new.items self.old.stores.items self.new.stores.items) }
+        ensures stopped { IfErr result (λ cause. AtStore S.view store (IsStopped (closing_of closing (branch_xid self.old.name.items number store)) (branch_xid self.old.name.items number store) cause) self.old.stores.items self.new.stores.items) }
+    {
+        match self.close_branch(rt, store, number, closing) {
+            Ok(Found::Closed) => Ok(()),
+            Ok(Found::Missing) => {
+                missing.push(store);
+                Ok(())
+            }
+            Err(cause) => Err(cause),
+        }
+    }
+
+    /// Finishes the branch of each participant, in ascending order, up to the first that isn't finished.
+    fn close<R: Wait>(&mut self, rt: &R, transaction: &Transaction, closing: Closing) -> Ending
+        requires name { transaction.now.name.items ≡ self.old.name.items }
+        requires stores { transaction.now.stores ≡ vec_len self.old.stores }
+        ensures name { self.new.name ≡ self.old.name }
+        ensures count { vec_len self.new.stores ≡ vec_len self.old.stores }
+        ensures ends { EndsAs S.view transaction.now closing result self.old.stores.items self.new.stores.items }
+    {
+        let mut missing = ArrayVec::<u8, 16>::new();
+        for store in 0..transaction.stores {
+            if !transaction.has(store) {
+                continue;
+            }
+            let number = transaction.number;
+            if let Err(cause) = self.close_next(rt, store, number, closing, &mut missing) {
+                return Ending::Unfinished { store, cause };
+            }
+        }
+        if !missing.is_empty() {
+            return Ending::Hazard { stores: missing };
+        }
+        match closing {
+            Closing::InTwoPhases => Ending::Committed,
+            Closing::InOnePhase => Ending::Committed,
+            Closing::RollBack => Ending::RolledBack,
+        }
+    }
+
+    /// Finishes a transaction that was voted on. One that is decided commits; the only participant of a vote of OnePhase commits in
+    /// one phase; else each participant rolls back, after `XA END` where this coordinator has its branch open and ACTIVE.
+    ///
+    /// The condition is that the transaction was begun under this name, over as many stores. The participants are told in
+    /// ascending order. One that answers XAER_NOTA is passed by; another refusal, or a fault of a session, ends the call. The
+    /// transaction is spent in every case.
+    ///
+    /// May answer a fault of a session. May wait: no number of tries is promised.
+    /// Own rule: docs/COORDINATOR.md, 'The second phase'.
+    pub fn finish<R: Wait>(&mut self, rt: &R, decisions: &Decisions, prepared: Prepared) -> Ending
+        requires name { prepared.transaction.name.items ≡ self.old.name.items }
+        requires stores { prepared.transaction.stores ≡ vec_len self.old.stores }
+        ensures name { self.new.name ≡ self.old.name }
+        ensures count { vec_len self.new.stores ≡ vec_len self.old.stores }
+        ensures ends { EndsAs S.view prepared.transaction (closing_of_vote (is_decided decisions.now prepared.transaction.number) prepared.ballot) result self.old.stores.items self.new.stores.items }
+        ensures agrees { EachStore S.view (Agrees decisions.now self.old.name.items) self.old.stores.items self.new.stores.items }
+    {
+        let Prepared {
+            transaction,
+            ballot,
+        } = prepared;
+        let closing = closing_for(decisions.is_decided(transaction.number), ballot);
+        self.close(rt, &transaction, closing)
+    }
+
+    /// Rolls a transaction back that wasn't voted on: each participant, after `XA END` where this coordinator has its branch open
+    /// and ACTIVE.
+    ///
+    /// The condition is that the transaction was begun under this name, over as many stores. The participants are told in
+    /// ascending order. One that answers XAER_NOTA is passed by; another refusal, or a fault of a session, ends the call. The
+    /// transaction is spent in every case.
+    ///
+    /// May answer a fault of a session. May wait: no number of tries is promised.
+    /// Own rule: docs/COORDINATOR.md, 'The second phase'.
+    pub fn abandon<R: Wait>(&mut self, rt: &R, transaction: Transaction) -> Ending
+        requires name { transaction.name.items ≡ self.old.name.items }
+        requires stores { transaction.stores ≡ vec_len self.old.stores }
+        ensures name { self.new.name ≡ self.old.name }
+        ensures count { vec_len self.new.stores ≡ vec_len self.old.stores }
+        ensures ends { EndsAs S.view transaction Closing.RollBack result self.old.stores.items self.new.stores.items }
+        ensures agrees { (decisions : List Standing) → is_decided decisions transaction.number ≡ false → EachStore S.view (Agrees decisions self.old.name.items) self.old.stores.items self.new.stores.items }
+    {
+        self.close(rt, &transaction, Closing::RollBack)
+    }
+}

@@ -1,0 +1,113 @@
+//! The first phase: the stores vote.
+ghost use Rattle.std.specs.Prelude.{◌≡◌, List, vec_len};
+ghost use Rattle.xa_coordinator.specs.Agreement.{Agrees};
+ghost use Rattle.xa_coordinator.specs.Stores.{EachStore};
+ghost use Rattle.xa_coordinator.specs.Outcomes.{VotesAs, PollsAs};
+ghost use Rattle.xa_coordinator.specs.Participants.{TwoTakePart, OnlyTakesPart};
+ghost use Rattle.xa_coordinator.specs.declared.standing.Standing.{Standing};
+
+use crate::participants::Roll;
+use crate::prepared::Ballot;
+use crate::{Cause, Coordinator, Prepared, Speak, Transaction, Vote};
+use std::sync::Wait;
+
+/// A vote of No.
+fn no(transaction: Transaction, store: u8, cause: Cause) -> Vote
+    ensures { result ≡ Vote.No (record { transaction = transaction; ballot = Ballot.No }) store cause }
+{
+    let prepared = Prepared {
+        transaction,
+        ballot: Ballot::No,
+    };
+    Vote::No {
+        prepared,
+        store,
+        cause,
+    }
+}
+
+impl<S: Speak> Coordinator<S> {
+    /// Has each participant ended and prepared, in ascending order, up to the first that isn't.
+    fn poll<R: Wait>(&mut self, rt: &R, transaction: &Transaction) -> Result<(), (u8, Cause)>
+        requires name { transaction.now.name.items ≡ self.old.name.items }
+        requires stores { transaction.now.stores ≡ vec_len self.old.stores }
+        ensures name { self.new.name ≡ self.old.name }
+        ensures count { vec_len self.new.stores ≡ vec_len self.old.stores }
+        ensures polls { PollsAs S.view transaction.now result self.old.stores.items self.new.stores.items }
+    {
+        for store in 0..transaction.stores {
+            if !transaction.has(store) {
+                continue;
+            }
+            if let Err(cause) = self.prepare_branch(rt, store, transaction.number) {
+                return Err((store, cause));
+            }
+        }
+        Ok(())
+    }
+
+    /// Has the only participant's work ended.
+    fn end_alone<R: Wait>(&mut self, rt: &R, transaction: Transaction, store: u8) -> Vote
+        requires name { transaction.name.items ≡ self.old.name.items }
+        requires stores { transaction.stores ≡ vec_len self.old.stores }
+        requires only { OnlyTakesPart transaction.participants store }
+        ensures name { self.new.name ≡ self.old.name }
+        ensures count { vec_len self.new.stores ≡ vec_len self.old.stores }
+        ensures vote { VotesAs S.view transaction result self.old.stores.items self.new.stores.items }
+    {
+        match self.end_branch(rt, store, transaction.number) {
+            Ok(()) => {
+                let ballot = Ballot::OnePhase;
+                Vote::OnePhase(Prepared {
+                    transaction,
+                    ballot,
+                })
+            }
+            Err(cause) => no(transaction, store, cause),
+        }
+    }
+
+    /// Has each participant ended and prepared.
+    fn prepare_each<R: Wait>(&mut self, rt: &R, transaction: Transaction) -> Vote
+        requires name { transaction.name.items ≡ self.old.name.items }
+        requires stores { transaction.stores ≡ vec_len self.old.stores }
+        requires several { TwoTakePart transaction.participants }
+        ensures name { self.new.name ≡ self.old.name }
+        ensures count { vec_len self.new.stores ≡ vec_len self.old.stores }
+        ensures vote { VotesAs S.view transaction result self.old.stores.items self.new.stores.items }
+    {
+        match self.poll(rt, &transaction) {
+            Ok(()) => {
+                let ballot = Ballot::Ready;
+                Vote::Ready(Prepared {
+                    transaction,
+                    ballot,
+                })
+            }
+            Err((store, cause)) => no(transaction, store, cause),
+        }
+    }
+
+    /// Has the stores vote: each participant, in ascending order, is told `XA END` and `XA PREPARE`; the only one `XA END`
+    /// alone.
+    ///
+    /// The condition is that the transaction was begun under this name, over as many stores. The vote is No at the first store
+    /// that doesn't carry its statement out; those above it aren't asked.
+    ///
+    /// May answer a fault of a session. May wait: no number of tries is promised.
+    /// Own rule: docs/COORDINATOR.md, 'The vote'.
+    pub fn prepare<R: Wait>(&mut self, rt: &R, transaction: Transaction) -> Vote
+        requires name { transaction.name.items ≡ self.old.name.items }
+        requires stores { transaction.stores ≡ vec_len self.old.stores }
+        ensures name { self.new.name ≡ self.old.name }
+        ensures count { vec_len self.new.stores ≡ vec_len self.old.stores }
+        ensures vote { VotesAs S.view transaction result self.old.stores.items self.new.stores.items }
+        ensures agrees { (decisions : List Standing) → EachStore S.view (Agrees decisions self.old.name.items) self.old.stores.items self.new.stores.items }
+    {
+        match transaction.participants.roll() {
+            Roll::Nobody => Vote::Nothing,
+            Roll::Single(store) => self.end_alone(rt, transaction, store),
+            Roll::Several => self.prepare_each(rt, transaction),
+        }
+    }
+}

@@ -1,0 +1,54 @@
+//! What a coordinator asks of a session.
+ghost use Rattle.std.specs.Prelude.{◌≡◌, ◌≤◌, ◌+◌, IfOk, IfErr};
+ghost use Rattle.decision_log.specs.History.{entries_of};
+ghost use Rattle.xa_server.specs.Locks.{LockLaw};
+ghost use Rattle.xa_session.specs.Answer.{IsAnswered, Fails, IsFinal};
+ghost use Rattle.xa_coordinator.specs.View.{SessionView, StaysOfLog};
+
+use decision_log::DecisionLog;
+use std::sync::Wait;
+use xa_session::{Answer, Fault, Session};
+use xa_xid::Statement;
+
+/// Something that statements can be given to, as a session.
+pub trait Speak {
+    // what a contract sees of it
+    ghost view: { Self → SessionView };
+
+    /// Answers a statement from the whole history, as it is at one step of the call, and adds it there if it enters.
+    fn attempt(&mut self, statement: &Statement) -> Result<Answer, Fault>
+        ensures stays { StaysOfLog (view self.old) (view self.new) }
+        ensures lawful { LockLaw (view self.new).base }
+        ensures answered { IfOk result (λ answer. IsAnswered (view self.old).base statement.now answer (view self.old).known (view self.new).known) }
+        ensures fails { IfErr result (λ fault. Fails (view self.old).turns (view self.old).place.capacity (view self.old).base statement.now fault (view self.old).known (view self.new).known) }
+        ensures tries { (view self.new).known.tries ≤ (view self.old).known.tries + 1 };
+
+    /// Answers a statement as `attempt` does, trying again after `Overtaken` and `Busy`.
+    fn execute<R: Wait>(&mut self, rt: &R, statement: &Statement) -> Result<Answer, Fault>
+        ensures stays { StaysOfLog (view self.old) (view self.new) }
+        ensures lawful { LockLaw (view self.new).base }
+        ensures answered { IfOk result (λ answer. IsAnswered (view self.old).base statement.now answer (view self.old).known (view self.new).known) }
+        ensures fails { IfErr result (λ fault. Fails (view self.old).turns (view self.old).place.capacity (view self.old).base statement.now fault (view self.old).known (view self.new).known) }
+        ensures lasts { IfErr result IsFinal };
+
+    // the entries of its own number in what it has seen are its own
+    ghost own_part: { (session : Self) → entries_of (view session).known.number (view session).known.seen ≡ (view session).known.mine };
+}
+
+impl<'a, L: DecisionLog> Speak for Session<'a, L> {
+    ghost view = { λ session. record { place = L.home session.pass; turns = L.TURNS; base = session.base.now; known = L.known session.pass } };
+
+    ghost own_part = { λ session. L.own_part session.pass };
+
+    fn attempt(&mut self, statement: &Statement) -> Result<Answer, Fault> {
+        let answered = Session::attempt(self, statement);
+        self.base_keeps_lock_law();
+        answered
+    }
+
+    fn execute<R: Wait>(&mut self, rt: &R, statement: &Statement) -> Result<Answer, Fault> {
+        let answered = Session::execute(self, rt, statement);
+        self.base_keeps_lock_law();
+        answered
+    }
+}

@@ -1,0 +1,39 @@
+//! A global transaction that takes work.
+ghost use Rattle.std.specs.Prelude.{◌≡◌, ◌<◌, ◌≤◌, ◌^◌, ℕ, true};
+ghost use Rattle.xa_coordinator.specs.Participants.{takes_part};
+
+use crate::participants::Participants;
+use xa_xid::Bytes;
+
+/// A global transaction that takes work: its number, the name and the count of stores of its coordinator, and the stores
+/// that take part.
+#[derive(Debug, Drop)]
+pub struct Transaction {
+    pub(crate) number: u64,
+    pub(crate) name: Bytes,
+    pub(crate) stores: u8,
+    pub(crate) participants: Participants,
+    ghost eight_bytes: { number < 2 ^ 64 },
+    ghost among: { stores ≤ 16 },
+    ghost within: { (store : ℕ) → takes_part participants store ≡ true → store < stores },
+}
+
+impl Transaction {
+    /// The number, from 1 on.
+    ///
+    /// Takes no memory. Doesn't wait.
+    pub fn number(&self) -> u64
+        ensures { result ≡ self.now.number }
+    {
+        self.number
+    }
+
+    /// Whether a store takes part.
+    ///
+    /// Takes no memory. Doesn't wait.
+    pub fn has(&self, store: u8) -> bool
+        ensures { result ≡ takes_part self.now.participants store }
+    {
+        self.participants.contains(store)
+    }
+}
