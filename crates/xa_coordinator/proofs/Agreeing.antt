@@ -1,6 +1,6 @@
 -- What calls add agrees with the decisions.
-use Rattle.std.proofs.Common.{◌≡◌, ◌<◌, ◌⊎◌, inl, inr, ◌^◌, ℕ, Bool, true, false, List, [], ◌∷◌, ◌++◌, refl, sym, subst}
-use Rattle.std.specs.Prelude.{All, slice_get, Some}
+use Rattle.std.proofs.Common.{◌≡◌, ◌<◌, inl, inr, ◌^◌, ℕ, Bool, true, false, List, [], ◌∷◌, refl, sym, subst}
+use Rattle.std.specs.Prelude.{slice_get, Some}
 use Rattle.std.proofs.lemmas.List.Elements.{All-nil, All-cons}
 use Rattle.xa_xid.specs.declared.xid.Xid.{Xid}
 use Rattle.xa_xid.specs.declared.statement.Statement.{Statement}
@@ -15,10 +15,10 @@ use Rattle.xa_coordinator.specs.declared.ending.Ending.TheVariants.{Committed, R
 use Rattle.xa_coordinator.specs.declared.vote.Vote.{Vote}
 use Rattle.xa_coordinator.specs.declared.vote.Vote.TheVariants.{Ready, OnePhase, No, Nothing}
 use Rattle.xa_coordinator.specs.View.{SessionView}
-use Rattle.xa_coordinator.specs.Branch.{branch_xid, IsBranchOf}
+use Rattle.xa_coordinator.specs.Branch.{branch_xid}
 use Rattle.xa_coordinator.specs.Participants.{takes_part}
 use Rattle.xa_coordinator.specs.Agreement.{Adds, AgreesWith, Agrees}
-use Rattle.xa_coordinator.specs.Stores.{AtStore, EachStore, EndsAt}
+use Rattle.xa_coordinator.specs.Stores.{EachStore}
 use Rattle.xa_coordinator.specs.Told.{IsDone, IsUndone, IsStopped, at_end, at_once, behind_end, IsMissing, unknown_at_once, unknown_behind_end}
 use Rattle.xa_coordinator.specs.Outcomes.{branch_of, closing_of, IsClosed, Settles, IsVoted, IsEnded, EndsAs, VotesAs, Allows, closing_for, is_listed}
 use Rattle.xa_coordinator.specs.Decisions.{is_decided}

@@ -1,7 +1,7 @@
 -- What one statement, or two, make of a branch that is prepared or finished.
-use Rattle.std.proofs.Common.{◌≡◌, ◌⊎◌, inl, inr, refl, List, [], ◌∷◌, Result, Ok, Err}
+use Rattle.std.proofs.Common.{inl, inr, [], ◌∷◌, Result, Ok, Err}
 use Rattle.xa_xid.specs.declared.xid.Xid.{Xid}
-use Rattle.xa_xid.specs.declared.statement.Statement.TheVariants.{End, Prepare, Commit, Rollback}
+use Rattle.xa_xid.specs.declared.statement.Statement.TheVariants.{End, Prepare, Rollback}
 use Rattle.xa_coordinator.specs.declared.cause.Cause.{Cause}
 use Rattle.xa_coordinator.specs.declared.closing.Closing.{Closing}
 use Rattle.xa_coordinator.specs.declared.closing.Closing.TheVariants.{InTwoPhases, InOnePhase, RollBack}
@@ -9,8 +9,8 @@ use Rattle.xa_coordinator.specs.declared.closing.Found.{Found}
 use Rattle.xa_coordinator.specs.declared.closing.Found.TheVariants.{Closed, Missing}
 use Rattle.xa_coordinator.specs.View.{SessionView}
 use Rattle.xa_coordinator.specs.Agreement.{Adds}
-use Rattle.xa_coordinator.specs.Outcomes.{closing_of, SaysAs, ClosesAs, IsClosed, PreparesAs}
-use Rattle.xa_coordinator.specs.Told.{Says, IsDone, IsUndone, IsStopped, IsMissing, at_once, behind_end, unknown_at_once, unknown_behind_end}
+use Rattle.xa_coordinator.specs.Outcomes.{closing_of, SaysAs, ClosesAs, PreparesAs}
+use Rattle.xa_coordinator.specs.Told.{Says, IsDone, at_once, behind_end, unknown_at_once, unknown_behind_end}
 use Rattle.xa_coordinator.proofs.Telling.{adds_then}
 
 -- XA END and then XA PREPARE

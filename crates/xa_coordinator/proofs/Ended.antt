@@ -1,7 +1,5 @@
 -- The store of the only participant, when its work has ended.
 use Rattle.std.proofs.Common.{◌≡◌, ◌≢◌, ℕ, Bool, true, false, List, sym, subst, refl}
-use mathlib.Core.Bool.{true≢false}
-use Rattle.xa_xid.specs.declared.xid.Xid.{Xid}
 use Rattle.xa_xid.specs.declared.statement.Statement.TheVariants.{End}
 use Rattle.xa_coordinator.specs.declared.transaction.Transaction.{Transaction}
 use Rattle.xa_coordinator.specs.View.{SessionView}

@@ -1,5 +1,5 @@
 -- The list of the stores whose branch wasn't known, as it grows.
-use Rattle.std.proofs.Common.{◌≡◌, ◌≢◌, ◌<◌, ◌≤◌, ◌+◌, ℕ, Bool, true, false, List, [], ◌∷◌, ◌++◌, length, refl, ap, sym, ◌∙◌, subst, inl, inr, ◌⊎◌, arith, ne_eqb, eq-eqb, length-append}
+use Rattle.std.proofs.Common.{◌≡◌, ◌<◌, ◌≤◌, ◌+◌, ℕ, Bool, true, false, List, [], ◌∷◌, ◌++◌, length, refl, ap, sym, ◌∙◌, subst, inl, inr, arith, ne_eqb, eq-eqb, length-append}
 use Rattle.std.specs.Prelude.{All, nat_eq, ◌||◌}
 use Rattle.std.proofs.lemmas.List.Elements.{All-nil, All-push, All-head, All-tail, All-weaker}
 use Rattle.std.proofs.lemmas.List.Folds.{list_any-append, list_any_none}
@@ -10,7 +10,7 @@ use Rattle.xa_coordinator.specs.View.{SessionView}
 use Rattle.xa_coordinator.specs.Participants.{takes_part}
 use Rattle.xa_coordinator.specs.Stores.{AtStore, EachStore, ChangesAt, Reached}
 use Rattle.xa_coordinator.specs.Told.{IsMissing}
-use Rattle.xa_coordinator.specs.Outcomes.{Ascends, IsHazard, is_listed, branch_of, closing_of, IsClosed, Settles, ClosesNext}
+use Rattle.xa_coordinator.specs.Outcomes.{Ascends, is_listed, branch_of, closing_of, IsClosed, Settles, ClosesNext}
 use Rattle.xa_coordinator.proofs.Walk.{reached_skip, reached_next, reached_weaker, at_weaker}
 
 -- participants below a number, ascending

@@ -1,5 +1,5 @@
 -- What a session has open after a statement of its own that was carried out.
-use Rattle.std.proofs.Common.{◌≡◌, ℕ, Bool, true, false, refl, ap, sym, ◌∙◌, subst, Option, Some, None, List, cond, eq-eqb}
+use Rattle.std.proofs.Common.{◌≡◌, ℕ, true, false, refl, ap, sym, ◌∙◌, subst, Option, Some, None, List, cond, eq-eqb}
 use Rattle.std.specs.Prelude.{◌==◌}
 use Rattle.std.proofs.lemmas.Bool.{eqb-true}
 use Rattle.std.specs.Option.{option_map, option_map_or, option_and_then}
@@ -10,16 +10,13 @@ use Rattle.xa_xid.specs.Xid.{same_xid, Text}
 use Rattle.xa_xid.proofs.Orders.{xids_total, exact_xids}
 use Rattle.xa_xid.specs.declared.statement.Statement.{Statement}
 use Rattle.xa_xid.specs.declared.statement.Statement.TheVariants.{Start, End, Get, Put, Del}
-use Rattle.xa_server.specs.declared.branch.Phase.{Phase}
-use Rattle.xa_server.specs.declared.branch.Phase.TheVariants.{Active as PhaseActive, Idle as PhaseIdle}
-use Rattle.xa_server.specs.declared.seat.Seat.{Seat}
 use Rattle.xa_server.specs.declared.seat.Seat.TheVariants.{Free, Active, Idle}
-use Rattle.xa_server.specs.State.{Branch, State, owns, own_xid, phase_at, seat_in, seat_of}
+use Rattle.xa_server.specs.State.{Branch, State, owns, phase_at, seat_in, seat_of}
 use Rattle.xa_server.specs.Locks.{LockLaw}
-use Rattle.xa_server.specs.Replies.{reply_to, table}
-use Rattle.xa_server.specs.Step.{started_by, with_lock, with_own_write, effect, is_refused, after}
+use Rattle.xa_server.specs.Replies.{reply_to}
+use Rattle.xa_server.specs.Step.{started_by, with_lock, with_own_write, is_refused, after}
 use Rattle.xa_server.proofs.Maps.{same_itself}
-use Rattle.xa_server.proofs.Others.{is_owned, IsOwn, own_seat, own_found, accepted_end_own}
+use Rattle.xa_server.proofs.Others.{IsOwn, own_seat, own_found, accepted_end_own}
 use Rattle.xa_server.proofs.Changes.{idle, branch_after, effect-branch, accepted_done}
 use Rattle.xa_server.proofs.Keeping.{law_after}
 

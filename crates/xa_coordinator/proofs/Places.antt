@@ -1,5 +1,5 @@
 -- Lists at their places, where one place is written.
-use Rattle.std.proofs.Common.{◌≡◌, ◌≢◌, ◌<◌, ℕ, get_or, zero, suc, List, [], ◌∷◌, length, refl, ap, Option, Some, arith}
+use Rattle.std.proofs.Common.{◌≡◌, ◌≢◌, ◌<◌, ℕ, get_or, zero, suc, List, [], ◌∷◌, length, refl, ap, Some, arith}
 use Rattle.std.specs.Prelude.{slice_get, slice_set}
 
 module _ {A : Type 0} where

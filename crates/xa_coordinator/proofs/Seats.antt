@@ -1,5 +1,5 @@
 -- What a session has open stays while only others add, and what its own statements make of it.
-use Rattle.std.proofs.Common.{◌≡◌, ◌≢◌, ◌≤◌, ◌+◌, ℕ, Bool, true, false, List, [], ◌∷◌, ◌++◌, length, take, drop, refl, ap, sym, ◌∙◌, subst, Some, cond, arith, append-nil}
+use Rattle.std.proofs.Common.{◌≡◌, ℕ, Bool, true, false, List, [], ◌∷◌, ◌++◌, length, take, drop, refl, ap, sym, ◌∙◌, subst, cond, arith, append-nil}
 use Rattle.std.specs.Prelude.{nat_eq}
 use Rattle.std.proofs.lemmas.Bool.{eqb-false}
 use Rattle.std.proofs.lemmas.List.{append_cancel_left, append_cancel_right, take_all, length-take}
@@ -7,15 +7,14 @@ use Rattle.xa_words.specs.Entry.{Entry}
 use Rattle.xa_xid.specs.declared.statement.Statement.{Statement}
 use Rattle.xa_server.specs.State.{State, seat_of}
 use Rattle.xa_server.specs.Locks.{LockLaw}
-use Rattle.xa_server.specs.Replies.{reply_to}
-use Rattle.xa_server.specs.Step.{after, after_all, enters}
+use Rattle.xa_server.specs.Step.{after, enters}
 use Rattle.xa_server.proofs.Others.{others_left}
-use Rattle.xa_server.proofs.Keeping.{law_after, law_after_all}
-use Rattle.decision_log.specs.History.{Begins, is_of, entries_of}
+use Rattle.xa_server.proofs.Keeping.{law_after}
+use Rattle.decision_log.specs.History.{Begins, entries_of}
 use Rattle.decision_log.specs.declared.known.Known.{Known}
-use Rattle.decision_log.proofs.Histories.{behind, own_append, own_last, begins_between, begins_append, length_begins}
+use Rattle.decision_log.proofs.Histories.{behind, own_append, own_last, begins_between, begins_append}
 use Rattle.xa_session.specs.Answer.{entry_of, IsAnswered, IsUnanswered}
-use Rattle.xa_session.specs.Replay.{call_of, state_after, state_at}
+use Rattle.xa_session.specs.Replay.{state_after, state_at}
 use Rattle.xa_session.specs.declared.answer.Answer.{Answer}
 use Rattle.xa_session.proofs.Replaying.{state_after-last, state_at-whole}
 

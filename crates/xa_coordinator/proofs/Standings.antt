@@ -1,5 +1,5 @@
 -- How numbers stand, before and after a decision.
-use Rattle.std.proofs.Common.{◌≡◌, ◌<◌, ◌+◌, ◌-◌, ℕ, Bool, true, false, List, length, refl, ap, sym, ◌∙◌, Option, Some, None, cond, arith, ne_eqb, subst, inl, inr, ◌⊎◌}
+use Rattle.std.proofs.Common.{◌≡◌, ◌<◌, ◌+◌, ◌-◌, ℕ, Bool, true, false, List, length, refl, ap, ◌∙◌, Option, Some, None, cond, arith, ne_eqb, subst, inl, inr}
 use Rattle.std.proofs.lemmas.Bool.{eqb-false}
 use Rattle.std.proofs.lemmas.Bool.Decides.{eqb_tells}
 use Rattle.std.proofs.lemmas.Option.{slice_get_within}

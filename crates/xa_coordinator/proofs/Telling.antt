@@ -1,5 +1,5 @@
 -- What an answered statement adds, and what it leaves open.
-use Rattle.std.proofs.Common.{◌≡◌, ◌≤◌, ℕ, Bool, true, false, List, [], ◌∷◌, ◌++◌, take, refl, ap, sym, ◌∙◌, subst, arith, append-nil, append_assoc}
+use Rattle.std.proofs.Common.{◌≡◌, ℕ, true, false, List, [], ◌++◌, take, refl, ap, sym, ◌∙◌, subst, append-nil, append_assoc}
 use Rattle.std.specs.Prelude.{not, ◌&&◌, map}
 use Rattle.std.proofs.lemmas.List.{map-append}
 use Rattle.xa_xid.specs.declared.xid.Xid.{Xid}
@@ -13,7 +13,7 @@ use Rattle.xa_server.specs.declared.reply.Reply.TheVariants.{Refused}
 use Rattle.xa_server.specs.declared.xa_error.XaError.{XaError}
 use Rattle.decision_log.specs.History.{entries_of}
 use Rattle.decision_log.specs.declared.known.Known.{Known}
-use Rattle.xa_session.specs.Answer.{entry_of, Advances, IsAnswered, IsUnanswered}
+use Rattle.xa_session.specs.Answer.{entry_of, IsAnswered, IsUnanswered}
 use Rattle.xa_session.specs.Replay.{state_after, state_at}
 use Rattle.xa_session.specs.declared.answer.Answer.{Answer}
 use Rattle.xa_session.proofs.Answering.{advances_through, fails_unanswered, unanswered_itself}

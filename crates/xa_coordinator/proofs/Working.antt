@@ -1,13 +1,11 @@
 -- What a row statement makes of a branch that is open and ACTIVE.
-use Rattle.std.proofs.Common.{◌≡◌, ℕ, Bool, true, false, List, [], ◌∷◌, ◌++◌, take, refl, ap, sym, ◌∙◌, subst, inl, inr, append-nil}
+use Rattle.std.proofs.Common.{◌≡◌, ℕ, Bool, true, false, take, refl, ap, sym, ◌∙◌, subst}
 use Rattle.std.specs.Prelude.{not, ◌&&◌}
-use mathlib.Core.Bool.{true≢false}
 use Rattle.xa_xid.specs.declared.xid.Xid.{Xid}
 use Rattle.xa_xid.specs.declared.statement.Statement.{Statement}
 use Rattle.xa_xid.specs.declared.statement.Statement.TheVariants.{Start, End, Prepare, Commit, Rollback, Recover, Unsupported, Get, Put, Del, Disconnect}
 use Rattle.xa_server.specs.State.{State, seat_of}
 use Rattle.xa_server.specs.declared.seat.Seat.TheVariants.{Active}
-use Rattle.xa_server.specs.declared.reply.Reply.{Reply}
 use Rattle.xa_server.specs.Locks.{LockLaw}
 use Rattle.xa_server.specs.Replies.{reply_to}
 use Rattle.xa_server.specs.Step.{enters, may_enter, is_refused, after}
@@ -21,7 +19,7 @@ use Rattle.xa_session.specs.Replay.{state_after, state_at}
 use Rattle.xa_session.specs.declared.answer.Answer.{Answer}
 use Rattle.xa_coordinator.specs.View.{SessionView, StaysOfLog}
 use Rattle.xa_coordinator.specs.OpenBranches.{seat_seen}
-use Rattle.xa_coordinator.specs.Work.{IsRow, MayBe, IsReplied}
+use Rattle.xa_coordinator.specs.Work.{IsRow}
 use Rattle.xa_coordinator.proofs.OwnSeats.{read, written, deleted}
 use Rattle.xa_coordinator.proofs.Seats.{law_seen, seat_at, state_entered, state_outside}
 

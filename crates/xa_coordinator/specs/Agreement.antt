@@ -2,7 +2,7 @@
 --     Adds             the statements that a session added
 --     AgreesWith       a statement doesn't go against the decisions
 --     Agrees           a call added only statements that agree with the decisions
-use Rattle.std.specs.Prelude.{◌≡◌, ◌++◌, ℕ, Bool, true, false, List, map, All}
+use Rattle.std.specs.Prelude.{◌≡◌, ◌++◌, ℕ, true, false, List, map, All}
 use Rattle.xa_xid.specs.declared.statement.Statement.{Statement}
 use Rattle.xa_xid.specs.declared.statement.Statement.TheVariants.{Start, End, Prepare, Commit, Rollback, Recover, Unsupported, Get, Put, Del, Disconnect}
 use Rattle.xa_session.specs.Answer.{Advances, entry_of}

@@ -36,7 +36,6 @@ use Rattle.xa_coordinator.specs.Branch.{branch_xid}
 use Rattle.xa_coordinator.specs.Stores.{AtStore, EachStore, EndsAt}
 use Rattle.xa_coordinator.specs.Participants.{takes_part, TwoTakePart, OnlyTakesPart}
 use Rattle.xa_coordinator.specs.declared.transaction.Transaction.{Transaction}
-use Rattle.xa_coordinator.specs.declared.prepared.Prepared.{Prepared}
 use Rattle.xa_coordinator.specs.declared.prepared.Ballot.TheVariants.{Ready as BallotReady, OnePhase as BallotOnePhase, No as BallotNo}
 use Rattle.xa_coordinator.specs.declared.ending.Ending.{Ending}
 use Rattle.xa_coordinator.specs.declared.ending.Ending.TheVariants.{Committed, RolledBack, Hazard, Unfinished}

@@ -2,11 +2,10 @@ use Rattle.std.proofs.Common.{◌≡◌, ℕ, List, ap, sym, ◌∙◌, subst, a
 use Rattle.std.proofs.lemmas.Bool.{eqb-true}
 use Rattle.xa_xid.specs.Xid.{Text}
 use Rattle.xa_coordinator.specs.Branch.{branch_xid}
-use Rattle.xa_coordinator.specs.Participants.{takes_part}
-use Rattle.xa_coordinator.specs.Stores.{AtStore, EachStore}
+use Rattle.xa_coordinator.specs.Stores.{AtStore}
 use Rattle.xa_coordinator.specs.Outcomes.{branch_of, closing_of, commits, ClosesNext, is_listed}
 use Rattle.xa_coordinator.specs.Told.{IsStopped}
-use Rattle.xa_coordinator.proofs.Walk.{ended_at, from_ends, reached_all, reached_weaker}
+use Rattle.xa_coordinator.proofs.Walk.{ended_at, reached_all, reached_weaker}
 use Rattle.xa_coordinator.proofs.Hazards.{SettledBy, settled_next, settled_none}
 use Rattle.xa_coordinator.proofs.coordinator.Coordinator.close.Goals as goal
 

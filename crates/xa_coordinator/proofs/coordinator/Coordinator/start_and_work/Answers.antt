@@ -1,4 +1,4 @@
-use Rattle.std.proofs.Common.{ℕ, List, inr, refl, sym, subst, Ok, Err}
+use Rattle.std.proofs.Common.{ℕ, List, inr, refl, sym, subst}
 use Rattle.xa_xid.specs.declared.statement.Statement.TheVariants.{Start}
 use Rattle.xa_coordinator.specs.Branch.{branch_xid}
 use Rattle.xa_coordinator.specs.OpenBranches.{HasOpen}

@@ -1,8 +1,5 @@
-use Rattle.std.proofs.Common.{ℕ, List, subst}
-use Rattle.xa_coordinator.specs.Agreement.{Agrees}
 use Rattle.xa_coordinator.specs.OpenBranches.{HasOpen}
 use Rattle.xa_coordinator.specs.Outcomes.{branch_of}
-use Rattle.xa_coordinator.specs.Stores.{EachStore}
 use Rattle.xa_coordinator.proofs.Works.{works_add, work_agrees_each}
 use Rattle.xa_coordinator.proofs.coordinator.Coordinator.work.Goals as goal
 
