@@ -1,4 +1,5 @@
 pub mod Script
 pub mod Printed
 pub mod Transcript
+pub mod Race
 pub mod Cut

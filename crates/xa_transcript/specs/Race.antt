@@ -1,0 +1,172 @@
+-- What a race of a script's sessions writes.
+--     fault_place, faults_text     where a line goes wrong;  what is written for all faulty lines
+--     last_session                 the greatest session that a line names
+--     statements_of                what a session gives
+--     AreRuns                      the runs of the sessions 1 to the last
+--     history_text, answers_text   how a history and the answers are printed
+--     IsRaced                      what is written for a race that was held
+--     IsRaceText                   what is written for a script
+--     script_fault_of              how a race's fault is told
+--     AfterRaceFault               what a fault leaves in the writer
+use Rattle.std.specs.Prelude.{◌≡◌, ◌⊎◌, ℕ, ◌+◌, max, ◌==◌, cond, Option, Some, None, Result, Ok, Err, List, [], ◌∷◌, ◌++◌, length, map, codes, decimal, IfSome}
+use Rattle.std.specs.List.{filter_map}
+use Rattle.std.specs.Io.KnownBytes.{Keeps, Appends}
+use Rattle.xa_xid.specs.declared.statement.Statement.{Statement}
+use Rattle.xa_statement.specs.Canonical.{statement_text}
+use Rattle.xa_statement.specs.Reading.{read_of}
+use Rattle.xa_words.specs.Entry.{Entry}
+use Rattle.xa_server.specs.State.{no_state}
+use Rattle.decision_log.specs.Known.{newcomer, AllOf}
+use Rattle.chain_log.specs.ChainPass.{known_of}
+use Rattle.xa_session.specs.declared.answer.Answer.{Answer}
+use Rattle.xa_store.specs.Legal.{IsOutcome}
+use Rattle.xa_store.specs.declared.run.Run.{Run}
+use Rattle.xa_store.specs.declared.outcome.Outcome.{Outcome}
+use Rattle.xa_store.specs.declared.race_fault.RaceFault.{RaceFault}
+use Rattle.xa_store.specs.declared.race_fault.RaceFault.TheVariants as race
+use Rattle.xa_transcript.specs.declared.script_fault.ScriptFault.{ScriptFault}
+use Rattle.xa_transcript.specs.declared.script_fault.ScriptFault.TheVariants.{Read, TooLong, Write, NoMemory, Full, GateShut, ThreadRefused}
+use Rattle.xa_transcript.specs.Script.{Line, Blank, Bad, Given, line_of, lines_of}
+use Rattle.xa_transcript.specs.Printed.{reply_text, syntax_text, converts}
+use Rattle.xa_transcript.specs.Transcript.{AppendsPrefix}
+
+-- where a statement goes wrong, if it isn't read
+abbrev pub place_of_fault : Result Statement ℕ → Option ℕ
+place_of_fault (Ok statement) = None
+place_of_fault (Err place) = Some place
+
+-- where a line goes wrong; a bad one does so at its beginning (own rule)
+abbrev pub fault_place : Line → Option ℕ
+fault_place Blank = None
+fault_place Bad = Some 0
+fault_place (Given session text) = place_of_fault (read_of text)
+
+-- what is written for the line of this number (own rule)
+abbrev pub fault_text : ℕ → Option ℕ → List ℕ
+fault_text number None = []
+fault_text number (Some place) = codes "LINE " ++ decimal number ++ codes " " ++ syntax_text place ++ codes "\n"
+
+-- what is written for the lines that go wrong, the first of which has this number
+unfoldable pub faults_text : ℕ → List (List ℕ) → List ℕ
+faults_text number [] = []
+faults_text number (line ∷ lines) = fault_text number (fault_place (line_of line)) ++ faults_text (number + 1) lines
+
+-- the session that a line names, or 0
+abbrev pub session_in : Line → ℕ
+session_in Blank = 0
+session_in Bad = 0
+session_in (Given session text) = session
+
+-- the greatest session that a line names, or 0 where none does
+unfoldable pub last_session : List (List ℕ) → ℕ
+last_session [] = 0
+last_session (line ∷ lines) = max (session_in (line_of line)) (last_session lines)
+
+-- a statement, if it is read
+abbrev pub statement_read : Result Statement ℕ → Option Statement
+statement_read (Ok statement) = Some statement
+statement_read (Err place) = None
+
+-- the statement that the session gives on a line
+abbrev pub statement_by : ℕ → Line → Option Statement
+statement_by session Blank = None
+statement_by session Bad = None
+statement_by session (Given other text) = cond (other == session) (statement_read (read_of text)) None
+
+-- the statements that a session gives, in order
+unfoldable pub statements_of : ℕ → List (List ℕ) → List Statement
+statements_of session lines = filter_map (λ line. statement_by session (line_of line)) lines
+
+-- the run of a session: a pass that knows nothing, and the session's statements
+pub record IsRun (session : ℕ) (lines : List (List ℕ)) (run : Run) : Type 0 where
+  pub pass : known_of run.pass ≡ newcomer session
+  pub statements : run.lines.items ≡ statements_of session lines
+
+-- runs of one session after another, from this one on
+abbrev pub AreRunsFrom : ℕ → List (List ℕ) → List Run → Type 0
+AreRunsFrom session lines [] = Unit {0}
+AreRunsFrom session lines (run ∷ runs) = IsRun session lines run × AreRunsFrom (session + 1) lines runs
+
+-- the runs of the sessions 1 to the greatest that a line names (own rule)
+pub record AreRuns (lines : List (List ℕ)) (runs : List Run) : Type 0 where
+  pub count : length runs ≡ last_session lines
+  pub each : AreRunsFrom 1 lines runs
+
+-- place, session and canonical text of an entry
+abbrev pub entry_text : ℕ → Entry → List ℕ
+entry_text place entry = decimal place ++ codes " " ++ decimal entry.session ++ codes " " ++ statement_text entry.statement ++ codes "\n"
+
+-- entries, the first of which stands at this place
+unfoldable pub entries_text : ℕ → List Entry → List ℕ
+entries_text place [] = []
+entries_text place (entry ∷ entries) = entry_text place entry ++ entries_text (place + 1) entries
+
+-- how many entries a history has, and each of them (own rule)
+abbrev pub history_text : List Entry → List ℕ
+history_text history = codes "HISTORY " ++ decimal (length history) ++ codes "\n" ++ entries_text 0 history
+
+-- session, place and reply of an answer
+abbrev pub placed_text : ℕ → Statement → Answer → List ℕ
+placed_text session statement answer = decimal session ++ codes " " ++ decimal answer.place ++ codes " " ++ reply_text (converts statement) answer.reply ++ codes "\n"
+
+-- a session's answers, each to its statement
+unfoldable pub session_text : ℕ → List Statement → List Answer → List ℕ
+session_text session [] answers = []
+session_text session (statement ∷ statements) [] = []
+session_text session (statement ∷ statements) (answer ∷ answers) = placed_text session statement answer ++ session_text session statements answers
+
+-- the answers of one session after another, from this one on (own rule)
+unfoldable pub answers_text : ℕ → List (List ℕ) → List (List Answer) → List ℕ
+answers_text session lines [] = []
+answers_text session lines (answers ∷ others) = session_text session (statements_of session lines) answers ++ answers_text (session + 1) lines others
+
+-- the history, and then all answers
+abbrev pub outcome_text : List (List ℕ) → Outcome → List ℕ
+outcome_text lines outcome = history_text outcome.history.items ++ answers_text 1 lines (map (λ answers. answers.items) outcome.answers.items)
+
+-- the text of what a race of the script's runs gave: one history, of these sessions alone and empty at first, explains all answers
+pub record IsRaced (lines : List (List ℕ)) (text : List ℕ) : Type 0 where
+  pub runs : List Run
+  pub outcome : Outcome
+  pub are_runs : AreRuns lines runs
+  pub legal : IsOutcome no_state runs outcome
+  pub own : AllOf (length runs) outcome.history.items
+  pub text_is : text ≡ outcome_text lines outcome
+
+-- with no faulty line a race is held; else the faulty lines are told, and nothing else
+abbrev pub IsTold : List ℕ → List (List ℕ) → List ℕ → Type 0
+IsTold [] lines text = IsRaced lines text
+IsTold (byte ∷ faults) lines text = text ≡ byte ∷ faults
+
+-- what a race of a script writes (own rule)
+abbrev pub IsRaceText : List ℕ → List ℕ → Type 0
+IsRaceText script text = IsTold (faults_text 1 (lines_of script)) (lines_of script) text
+
+-- the writer got what a race of the script writes
+abbrev pub AppendsRace : List ℕ → Option (List ℕ) → Option (List ℕ) → Type 0
+AppendsRace script old new = (text : List ℕ) × IsRaceText script text × Appends old new text
+
+-- the writer got a prefix of that
+abbrev pub AppendsRacePrefix : List ℕ → Option (List ℕ) → Option (List ℕ) → Type 0
+AppendsRacePrefix script old new = (text : List ℕ) × IsRaceText script text × AppendsPrefix old new text
+
+-- one line a fault (own rule)
+abbrev pub script_fault_of : RaceFault → ScriptFault
+script_fault_of (race.GateShut session line) = GateShut
+script_fault_of (race.Full session line) = Full
+script_fault_of race.NoMemory = NoMemory
+script_fault_of race.ThreadRefused = ThreadRefused
+
+-- what a fault leaves in the writer: a prefix where a write failed, else nothing
+abbrev pub AfterRaceFault : ScriptFault → Option (List ℕ) → Option (List ℕ) → Option (List ℕ) → Type 0
+AfterRaceFault Read input old new = Keeps old new
+AfterRaceFault TooLong input old new = Keeps old new
+AfterRaceFault Write input old new = IfSome input (λ script. AppendsRacePrefix script old new)
+AfterRaceFault NoMemory input old new = Keeps old new
+AfterRaceFault Full input old new = Keeps old new
+AfterRaceFault GateShut input old new = Keeps old new
+AfterRaceFault ThreadRefused input old new = Keeps old new
+
+-- a fault by which a race ends
+abbrev pub IsOfRace : ScriptFault → Type 0
+IsOfRace fault = (fault ≡ NoMemory) ⊎ (fault ≡ Full) ⊎ (fault ≡ GateShut) ⊎ (fault ≡ ThreadRefused)
