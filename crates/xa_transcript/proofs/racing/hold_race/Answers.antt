@@ -18,8 +18,9 @@ returns-in-Ok-print_outcome-clause-raced g c =
     let outcome = c.in-Ok-race.outcome in
     let opened = c.in-Ok.ensures.ok in
     let raced = c.in-Ok-race.ensures.legal in
+    let kept : length c.in-Ok.passes.items ≡ max greatest 1 = omega (arith, opened.count, c.max.ensures) in
     let count : length runs ≡ greatest =
-    runs_count greatest c.in-Ok.passes.items c.truncate.new.self.items runs (opened.count ∙ c.max.ensures) c.truncate.ensures.items c.in-Ok-runs_of.ensures.passes in
+    runs_count greatest c.in-Ok.passes.items c.truncate.new.self.items runs kept c.truncate.ensures.items c.in-Ok-runs_of.ensures.passes in
     let homes : All (λ run. home_of run.pass ≡ place) runs =
     runs_home place greatest c.in-Ok.passes.items c.truncate.new.self.items runs opened.homes c.truncate.ensures.items c.in-Ok-runs_of.ensures.passes in
     let sessions : place.sessions ≡ max (length runs) 1 = omega (arith, opened.sessions_is, c.max.ensures, count) in
