@@ -28,10 +28,7 @@ rows_are m name rows e f =
     both_parts (subcommand_rows_of m) name rows
     (e ∙ map_first (λ b. (out-SubCommand (box_value b)).name.now) (λ b. rows_of (found_of (out-SubCommand (box_value b)).matches)) (out-ArgMatches m).subcommand) f
 
-pub runs : (m : ArgMatches) (name : Text) (rows : List Row) → subcommand_rows_of m ≡ Some (name, rows) → name ≡ codes "run" → IsSomeAnd (subcommand_rows_of m) (IsJob Run)
-runs m name rows is run = let P : Option (Text × List Row) → Type 0 = λ s. IsSomeAnd s (IsJob Run) in subst P (sym is) run
-
-pub races : (m found : ArgMatches) (name : Text) (job : Job) → subcommand_rows_of m ≡ Some (name, rows_of (found_of found)) → name ≡ codes "race" → IsRaceOf (one_text (found_of found) (codes "capacity")) job
+races : (m found : ArgMatches) (name : Text) (job : Job) → subcommand_rows_of m ≡ Some (name, rows_of (found_of found)) → name ≡ codes "race" → IsRaceOf (one_text (found_of found) (codes "capacity")) job
     → IsSomeAnd (subcommand_rows_of m) (IsJob job)
 races m found name Run is race of = absurd of
 races m found name (Race capacity) is race of =
@@ -42,12 +39,6 @@ races m found name (Race capacity) is race of =
 at_found : (m : ArgMatches) (name : Text) (rows : List Row) (job : Job) → subcommand_rows_of m ≡ Some (name, rows) → IsSomeAnd (subcommand_rows_of m) (IsJob job) → IsJob job (name, rows)
 at_found m name rows job is h = let P : Option (Text × List Row) → Type 0 = λ s. IsSomeAnd s (IsJob job) in subst P is h
 
--- neither run nor race
-pub no_job : (m : ArgMatches) (name : Text) (rows : List Row) → subcommand_rows_of m ≡ Some (name, rows) → (name ≡ codes "run" → ⊥) → (name ≡ codes "race" → ⊥)
-    → (job : Job) → IsSomeAnd (subcommand_rows_of m) (IsJob job) → ⊥
-no_job m name rows is run race Run h = run (at_found m name rows Run is h)
-no_job m name rows is run race (Race capacity) h = race (at_found m name rows (Race capacity) is h).0
-
 -- a race of no capacity
 pub no_race : (m found : ArgMatches) (name : Text) → subcommand_rows_of m ≡ Some (name, rows_of (found_of found)) → name ≡ codes "race"
     → ((capacity : ℕ) → IsSomeAnd (one_text (found_of found) (codes "capacity")) (IsCapacityText capacity) → ⊥) → (job : Job) → IsSomeAnd (subcommand_rows_of m) (IsJob job) → ⊥
@@ -57,14 +48,6 @@ no_race m found name is race none Run h =
 no_race m found name is race none (Race capacity) h =
     let Q : Option Text → Type 0 = λ t. IsSomeAnd t (IsCapacityText capacity) in
     none capacity (subst Q (sym (one_text-rows (found_of found) (codes "capacity"))) (at_found m name (rows_of (found_of found)) (Race capacity) is h).1)
-
--- no subcommand
-pub nothing_found : (m : ArgMatches) → None ≡ option_map (λ p. p.1) (subcommand_rows_of m) → (job : Job) → IsSomeAnd (subcommand_rows_of m) (IsJob job) → ⊥
-nothing_found m none job h = go (subcommand_rows_of m) none h
-  where
-    go : (s : Option (Text × List Row)) → None ≡ option_map (λ p. p.1) s → IsSomeAnd s (IsJob job) → ⊥
-    go None e h = h
-    go (Some x) e h = cc
 
 pub races_if : (m found : ArgMatches) (name : Text) (r : Option Job) → subcommand_rows_of m ≡ Some (name, rows_of (found_of found)) → name ≡ codes "race"
     → IfSome r (IsRaceOf (one_text (found_of found) (codes "capacity"))) → IfSome r (λ job. IsSomeAnd (subcommand_rows_of m) (IsJob job))

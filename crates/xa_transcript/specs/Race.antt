@@ -7,6 +7,7 @@
 --     IsRaced                      what is written for a race that was held
 --     IsRaceText                   what is written for a script
 --     script_fault_of              how a race's fault is told
+--     IsReadable                   when a race is held
 --     AfterRaceFault               what a fault leaves in the writer
 use Rattle.std.specs.Prelude.{◌≡◌, ◌⊎◌, ℕ, ◌+◌, max, ◌==◌, cond, Option, Some, None, Result, Ok, Err, List, [], ◌∷◌, ◌++◌, length, map, codes, decimal, IfSome}
 use Rattle.std.specs.List.{filter_map}
@@ -157,15 +158,29 @@ script_fault_of (race.Full session line) = Full
 script_fault_of race.NoMemory = NoMemory
 script_fault_of race.ThreadRefused = ThreadRefused
 
+-- no line goes wrong, so a race is held
+abbrev pub IsReadable : List ℕ → Type 0
+IsReadable script = faults_text 1 (lines_of script) ≡ []
+
+-- a fault before anything is written; but for want of memory it comes only of a race
+abbrev pub IsOfText : List ℕ → ScriptFault → Type 0
+IsOfText script Read = ⊥
+IsOfText script TooLong = ⊥
+IsOfText script Write = ⊥
+IsOfText script NoMemory = Unit {0}
+IsOfText script Full = IsReadable script
+IsOfText script GateShut = IsReadable script
+IsOfText script ThreadRefused = IsReadable script
+
 -- what a fault leaves in the writer: a prefix where a write failed, else nothing
 abbrev pub AfterRaceFault : ScriptFault → Option (List ℕ) → Option (List ℕ) → Option (List ℕ) → Type 0
 AfterRaceFault Read input old new = Keeps old new
 AfterRaceFault TooLong input old new = Keeps old new
 AfterRaceFault Write input old new = IfSome input (λ script. AppendsRacePrefix script old new)
 AfterRaceFault NoMemory input old new = Keeps old new
-AfterRaceFault Full input old new = Keeps old new
-AfterRaceFault GateShut input old new = Keeps old new
-AfterRaceFault ThreadRefused input old new = Keeps old new
+AfterRaceFault Full input old new = Keeps old new × IfSome input IsReadable
+AfterRaceFault GateShut input old new = Keeps old new × IfSome input IsReadable
+AfterRaceFault ThreadRefused input old new = Keeps old new × IfSome input IsReadable
 
 -- a fault by which a race ends
 abbrev pub IsOfRace : ScriptFault → Type 0

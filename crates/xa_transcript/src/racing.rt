@@ -7,7 +7,7 @@ ghost use Rattle.chain_log.specs.ChainPass.{known_of};
 ghost use Rattle.chain_log.specs.declared.pass.ChainPass.{ChainPass};
 ghost use Rattle.xa_transcript.specs.Script.{lines_of};
 ghost use Rattle.xa_transcript.specs.Transcript.{ConsumesMoreThan};
-ghost use Rattle.xa_transcript.specs.Race.{AreRunsFrom, IsRaced, IsRaceText, AppendsRace, AfterRaceFault, IsOfRace, script_fault_of};
+ghost use Rattle.xa_transcript.specs.Race.{AreRunsFrom, IsRaced, IsRaceText, AppendsRace, AfterRaceFault, IsOfRace, IsOfText, script_fault_of};
 
 use crate::ScriptFault;
 use crate::race_lines::{greatest_session, statements_given, tell_faults};
@@ -86,7 +86,7 @@ fn text_of_race<G: Gate + Sync, R: Threads + Wait + Sync>(
     requires capacity { IsCapacity capacity }
     requires short { length script.now ≤ SCRIPT_BYTES }
     ensures text { IfOk result (λ text. IsRaceText script.now text.items) }
-    ensures fault { IfErr result IsOfRace }
+    ensures fault { IfErr result (IsOfText script.now) }
 {
     let Ok(faults) = tell_faults(alloc, script) else {
         return Err(ScriptFault::NoMemory);
