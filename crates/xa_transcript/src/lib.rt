@@ -7,6 +7,8 @@ mod cut_writer;
 mod lines;
 mod print;
 mod race_lines;
+#[cfg(test)]
+mod race_tests;
 mod race_text;
 mod racing;
 mod run;
