@@ -2,7 +2,6 @@
 use Rattle.std.proofs.Common.{◌≡◌, ℕ, zero, suc, ◌+◌, ◌<◌, ◌≤◌, List, [], ◌∷◌, ◌++◌, length, map, get_or, set, refl, ap, sym, ◌∙◌, subst, arith}
 use Rattle.std.specs.List.{All, AllZip, AllWithin}
 use Rattle.std.proofs.lemmas.List.Elements.{AllWithin-more_set, AllWithin-none, All-get_or, AllZip-get_or, length_all_zip}
-use Rattle.xa_words.specs.Entry.{Entry}
 use Rattle.decision_log.specs.declared.known.Known.{Known}
 use Rattle.decision_log.specs.History.{Begins, entries_of}
 use Rattle.decision_log.specs.Calls.{MeetsFirst, MeetsSecond}

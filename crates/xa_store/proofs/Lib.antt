@@ -1,1 +1,4 @@
 pub mod Gathering
+pub mod Legality
+pub mod Spreading
+pub mod Races

@@ -6,6 +6,8 @@
 --     Legal           the answers of all runs
 --     IsReturned      a run's pass, as it is afterwards
 --     IsOutcome       what a race gives
+--     Stops           why a session's run stops at a statement
+--     StopsBefore     the same, at one of so many statements
 --     NamesLine       a run of a session has a statement at this place
 --     Blames          why a race gives nothing
 use Rattle.std.specs.Prelude.{◌≡◌, ◌<◌, ◌≤◌, ◌+◌, ℕ, cond, List, [], ◌∷◌, ◌++◌, length, map, slice_get, Some}
@@ -68,6 +70,20 @@ pub record IsOutcome (base : State) (runs : List Run) (outcome : Outcome) : Type
   pub legal : Legal base outcome.history.items runs (map (λ answers. answers.items) outcome.answers.items)
   pub passes : AllZip (IsReturned outcome.history.items) runs outcome.passes.items
   pub history : outcome.history.items ≡ (last_known (map known_of outcome.passes.items)).seen
+
+-- a fault that names a statement names the one at which the run stops
+abbrev pub Stops : ℕ → ℕ → RaceFault → Type 0
+Stops number place (GateShut session line) = (session ≡ number) × (line ≡ place)
+Stops number place (Full session line) = (session ≡ number) × (line ≡ place)
+Stops number place NoMemory = Unit {0}
+Stops number place ThreadRefused = ⊥
+
+-- the run stops at one of its first so many statements
+abbrev pub StopsBefore : ℕ → ℕ → RaceFault → Type 0
+StopsBefore number count (GateShut session line) = (session ≡ number) × (line < count)
+StopsBefore number count (Full session line) = (session ≡ number) × (line < count)
+StopsBefore number count NoMemory = Unit {0}
+StopsBefore number count ThreadRefused = ⊥
 
 -- one of the runs is of this session, and has a statement at this place
 pub record NamesLine (runs : List Run) (session line : ℕ) : Type 0 where

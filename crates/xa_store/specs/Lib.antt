@@ -1,3 +1,4 @@
 pub mod Gathered
 pub mod Legal
 pub mod Faults
+pub mod Spread

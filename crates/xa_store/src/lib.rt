@@ -1,6 +1,8 @@
 //! A store that threads share: a server that held nothing at first, and the history of statements that its sessions add.
 #![tactic(auto)]
 
+mod answering;
+mod blame;
 mod gate;
 mod gather;
 mod history;
@@ -8,6 +10,7 @@ mod outcome;
 mod race_fault;
 mod racing;
 mod run;
+mod spread;
 mod store;
 #[cfg(test)]
 mod tests;

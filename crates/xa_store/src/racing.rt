@@ -1,13 +1,69 @@
 //! Runs of sessions side by side.
-ghost use Rattle.std.specs.Prelude.{◌≡◌, IfOk, IfErr};
-ghost use Rattle.std.specs.List.{All};
-ghost use Rattle.chain_log.specs.ChainPass.{place_of, home_of};
+ghost use Rattle.std.specs.Prelude.{◌≡◌, map, IfOk, IfErr};
+ghost use Rattle.std.specs.List.{All, AllZip};
+ghost use Rattle.chain_log.specs.ChainPass.{place_of, home_of, known_of};
+ghost use Rattle.xa_store.specs.Gathered.{IsTakenIn, Keeps, last_known};
 ghost use Rattle.xa_store.specs.Legal.{IsOutcome, Blames};
 
-use crate::{Gate, Outcome, RaceFault, Run, Store};
+use crate::spread::{AllEnded, Started, run_all};
+use crate::{Gate, Log, Outcome, Pass, RaceFault, Run, Store};
 use std::alloc::Global;
 use std::sync::Wait;
 use std::thread::Threads;
+use xa_session::Session;
+use xa_xid::NoMemory;
+
+/// A session for each run, in the order of the runs.
+fn start_all<'a>(
+    alloc: Global,
+    store: &'a Store,
+    runs: Vec<Run>,
+) -> Result<Vec<Started<'a, Log>>, NoMemory>
+    requires { All (λ run. home_of run.pass ≡ place_of store.now.log) runs.items }
+    ensures { IfOk result (λ all. AllZip (λ run started. (started.session.base.now ≡ store.entry.now.base) × (started.session.pass ≡ run.pass) × (started.lines.items ≡ run.lines.items)) runs.items all.items) }
+{
+    let mut all = Vec::with_capacity(alloc, runs.len())?;
+    for run in runs {
+        let Run { pass, lines } = run;
+        match store.connect(pass) {
+            Ok(session) => all.push(Started { session, lines })?,
+            Err((_, error)) => return Err(error),
+        }
+    }
+    Ok(all)
+}
+
+/// The passes of all sessions, in their order.
+fn leave_all(alloc: Global, sessions: Vec<Session<'_, Log>>) -> Result<Vec<Pass>, NoMemory>
+    ensures { IfOk result (λ passes. passes.items ≡ map (λ session. session.pass) sessions.entry.items) }
+{
+    let mut passes = Vec::with_capacity(alloc, sessions.len())?;
+    for session in sessions {
+        passes.push(session.leave())?;
+    }
+    Ok(passes)
+}
+
+/// All that a race gives, once its runs have ended: the sessions meet, and leave.
+fn conclude(alloc: Global, store: &Store, ended: AllEnded<'_, Log>) -> Result<Outcome, NoMemory>
+    requires { All (λ session. home_of session.pass ≡ place_of store.now.log) ended.sessions.items }
+    ensures answers { IfOk result (λ outcome. outcome.answers ≡ ended.entry.answers) }
+    ensures passes { IfOk result (λ outcome. AllZip (λ session pass. (home_of pass ≡ home_of session.pass) × Keeps (known_of session.pass) (known_of pass)) ended.entry.sessions.items outcome.passes.items) }
+    ensures last { IfOk result (λ outcome. outcome.history.items ≡ (last_known (map known_of outcome.passes.items)).seen) }
+    ensures whole { IfOk result (λ outcome. All (λ pass. IsTakenIn outcome.history.items (known_of pass)) outcome.passes.items) }
+{
+    let AllEnded {
+        mut sessions,
+        answers,
+    } = ended;
+    let history = store.history(alloc, &mut sessions)?;
+    let passes = leave_all(alloc, sessions)?;
+    Ok(Outcome {
+        history,
+        answers,
+        passes,
+    })
+}
 
 /// Runs each of the runs on a thread of its own, and gives all answers with the one history that explains them.
 ///
@@ -30,5 +86,15 @@ pub fn race<G: Gate + Sync, R: Threads + Wait + Sync>(
     ensures legal { IfOk result (λ outcome. IsOutcome store.now.base runs.items outcome) }
     ensures fault { IfErr result (λ fault. Blames runs.items fault) }
 {
-    Err(RaceFault::NoMemory)
+    let Ok(started) = start_all(alloc, store, runs) else {
+        return Err(RaceFault::NoMemory);
+    };
+    let ended = match run_all(rt, alloc, started, gate) {
+        Ok(ended) => ended,
+        Err(blame) => return Err(blame.fault),
+    };
+    let Ok(outcome) = conclude(alloc, store, ended) else {
+        return Err(RaceFault::NoMemory);
+    };
+    Ok(outcome)
 }

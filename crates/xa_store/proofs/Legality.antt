@@ -1,0 +1,205 @@
+-- Answers in order: one more of them, and in a longer history.
+use Rattle.std.proofs.Common.{◌≡◌, ◌⊎◌, ℕ, Bool, true, false, cond, ◌+◌, ◌<◌, ◌≤◌, List, [], ◌∷◌, ◌++◌, length, take, refl, ap, sym, ◌∙◌, subst, inl, inr, ⊎_elim, arith, length-append, append-nil}
+use Rattle.std.proofs.lemmas.List.{length-take-le, append_assoc}
+use Rattle.xa_xid.specs.declared.statement.Statement.{Statement}
+use Rattle.xa_words.specs.Entry.{Entry}
+use Rattle.xa_server.specs.State.{State}
+use Rattle.xa_server.specs.Replies.{reply_to}
+use Rattle.xa_server.specs.Step.{enters}
+use Rattle.decision_log.specs.declared.known.Known.{Known}
+use Rattle.decision_log.specs.History.{Begins, entries_of}
+use Rattle.decision_log.proofs.Histories.{begins_itself, begins_through, length_begins, get_begins}
+use Rattle.xa_session.specs.Replay.{state_at}
+use Rattle.xa_session.specs.Answer.{entry_of, AnswersAt, IsAnswered}
+use Rattle.xa_session.specs.declared.answer.Answer.{Answer}
+use Rattle.xa_session.proofs.Replaying.{state_at-begins}
+use Rattle.xa_store.specs.Gathered.{IsTakenIn}
+use Rattle.xa_store.specs.Legal.{next_place, Answered, entered, IsLegal, Stops, StopsBefore}
+use Rattle.xa_store.specs.declared.race_fault.RaceFault.{RaceFault}
+use Rattle.xa_store.specs.declared.race_fault.RaceFault.TheVariants.{GateShut, Full, NoMemory, ThreadRefused}
+
+either_way : (b : Bool) → (b ≡ true) ⊎ (b ≡ false)
+either_way true = inl refl
+either_way false = inr refl
+
+-- where the next answer may stand, after all of these
+pub reached : State → List Entry → ℕ → ℕ → List Statement → List Answer → ℕ
+reached base history session from [] answers = from
+reached base history session from (statement ∷ statements) [] = from
+reached base history session from (statement ∷ statements) (answer ∷ answers) = reached base history session (next_place base history session statement answer) statements answers
+
+module _ (base : State) (history : List Entry) (session : ℕ) where
+  pub answered_more : (from : ℕ) (statements : List Statement) (answers : List Answer) (statement : Statement) (answer : Answer) → Answered base history session from statements answers
+      → reached base history session from statements answers ≤ answer.place → AnswersAt base history session statement answer.place answer.reply
+      → Answered base history session from (statements ++ statement ∷ []) (answers ++ answer ∷ [])
+  unfolding reached
+  answered_more from [] [] statement answer before behind at = (behind, at, tt)
+  answered_more from [] (a ∷ answers) statement answer before behind at = absurd before
+  answered_more from (s ∷ statements) [] statement answer before behind at = absurd before
+  answered_more from (s ∷ statements) (a ∷ answers) statement answer before behind at =
+      (before.0, before.1, answered_more (next_place base history session s a) statements answers statement answer before.2 behind at)
+
+  pub reached_more : (from : ℕ) (statements : List Statement) (answers : List Answer) (statement : Statement) (answer : Answer) → Answered base history session from statements answers
+      → reached base history session from (statements ++ statement ∷ []) (answers ++ answer ∷ []) ≡ next_place base history session statement answer
+  unfolding reached
+  reached_more from [] [] statement answer before = refl
+  reached_more from [] (a ∷ answers) statement answer before = absurd before
+  reached_more from (s ∷ statements) [] statement answer before = absurd before
+  reached_more from (s ∷ statements) (a ∷ answers) statement answer before = reached_more (next_place base history session s a) statements answers statement answer before.2
+
+  -- what one statement adds, where it enters
+  added : Statement → Answer → List Entry
+  added statement answer = cond (enters (state_at base history answer.place) session statement) (entry_of session statement ∷ []) []
+
+  cond_front : (b : Bool) (x : Entry) (xs ys : List Entry) → cond b (x ∷ (xs ++ ys)) (xs ++ ys) ≡ cond b (x ∷ xs) xs ++ ys
+  cond_front true x xs ys = refl
+  cond_front false x xs ys = refl
+
+  entered_more : (from : ℕ) (statements : List Statement) (answers : List Answer) (statement : Statement) (answer : Answer) → Answered base history session from statements answers
+      → entered base history session (statements ++ statement ∷ []) (answers ++ answer ∷ []) ≡ entered base history session statements answers ++ added statement answer
+  unfolding added
+  entered_more from [] [] statement answer before = refl
+  entered_more from [] (a ∷ answers) statement answer before = absurd before
+  entered_more from (s ∷ statements) [] statement answer before = absurd before
+  entered_more from (s ∷ statements) (a ∷ answers) statement answer before =
+      let enters_there = enters (state_at base history a.place) session s in
+      let old = entered base history session statements answers in
+      let rest = entered_more (next_place base history session s a) statements answers statement answer before.2 in
+      ap (λ list. cond enters_there (entry_of session s ∷ list) list) rest ∙ cond_front enters_there (entry_of session s) old (added statement answer)
+
+-- in a longer history
+
+module _ (base : State) (history longer : List Entry) (session : ℕ) (begins : Begins history longer) where
+  answers_longer : (statement : Statement) (answer : Answer) → AnswersAt base history session statement answer.place answer.reply → AnswersAt base longer session statement answer.place answer.reply
+  answers_longer statement answer at =
+      let same = state_at-begins base history longer answer.place begins at.within in
+      record {
+        within = omega (arith, length_begins history longer begins, at.within);
+        reply_is = at.reply_is ∙ ap (λ s. reply_to s session statement) (sym same);
+        next = λ entering. get_begins history longer answer.place (entry_of session statement) begins (at.next (ap (λ s. enters s session statement) (sym same) ∙ entering));
+      }
+
+  next_longer : (statement : Statement) (answer : Answer) → AnswersAt base history session statement answer.place answer.reply → next_place base longer session statement answer ≡ next_place base history session statement answer
+  next_longer statement answer at =
+      ap (λ s. cond (enters s session statement) (answer.place + 1) answer.place) (state_at-begins base history longer answer.place begins at.within)
+
+  answered_longer : (from : ℕ) (statements : List Statement) (answers : List Answer) → Answered base history session from statements answers → Answered base longer session from statements answers
+  answered_longer from [] [] before = tt
+  answered_longer from [] (a ∷ answers) before = absurd before
+  answered_longer from (s ∷ statements) [] before = absurd before
+  answered_longer from (s ∷ statements) (a ∷ answers) before = (
+    before.0,
+    answers_longer s a before.1,
+    subst (λ n. Answered base longer session n statements answers) (sym (next_longer s a before.1)) (answered_longer (next_place base history session s a) statements answers before.2),
+  )
+
+  reached_longer : (from : ℕ) (statements : List Statement) (answers : List Answer) → Answered base history session from statements answers
+      → reached base longer session from statements answers ≡ reached base history session from statements answers
+  unfolding reached
+  reached_longer from [] [] before = refl
+  reached_longer from [] (a ∷ answers) before = absurd before
+  reached_longer from (s ∷ statements) [] before = absurd before
+  reached_longer from (s ∷ statements) (a ∷ answers) before =
+      ap (λ n. reached base longer session n statements answers) (next_longer s a before.1) ∙ reached_longer (next_place base history session s a) statements answers before.2
+
+  entered_longer : (from : ℕ) (statements : List Statement) (answers : List Answer) → Answered base history session from statements answers
+      → entered base longer session statements answers ≡ entered base history session statements answers
+  entered_longer from [] [] before = refl
+  entered_longer from [] (a ∷ answers) before = absurd before
+  entered_longer from (s ∷ statements) [] before = absurd before
+  entered_longer from (s ∷ statements) (a ∷ answers) before =
+      let same = state_at-begins base history longer a.place begins before.1.within in
+      let rest = entered_longer (next_place base history session s a) statements answers before.2 in
+      ap (λ list. cond (enters (state_at base longer a.place) session s) (entry_of session s ∷ list) list) rest
+      ∙ ap (λ t. cond (enters t session s) (entry_of session s ∷ entered base history session statements answers) (entered base history session statements answers)) same
+
+-- one session's answers up to now: legal in what it has seen, and none stands behind that
+pub record IsOnTheWay (base : State) (old now : Known) (statements : List Statement) (answers : List Answer) : Type 0 where
+  pub number : now.number ≡ old.number
+  pub legal : IsLegal base now.seen old statements answers
+  pub within : reached base now.seen old.number (length old.seen) statements answers ≤ length now.seen
+
+pub sets_out : (base : State) (old : Known) → entries_of old.number old.seen ≡ old.mine → IsOnTheWay base old old [] []
+unfolding reached
+sets_out base old part = record {
+  number = refl;
+  legal = record { seen = begins_itself old.seen; answered = tt; mine = part ∙ sym (append-nil old.mine) };
+  within = omega arith;
+}
+
+module _ (base : State) (old now new : Known) (statements : List Statement) (answers : List Answer) (statement : Statement) (answer : Answer) where
+  -- what the session has added so far
+  mine_more : entries_of now.number now.seen ≡ now.mine → entries_of new.number new.seen ≡ new.mine → IsOnTheWay base old now statements answers → IsAnswered base statement answer now new
+      → entries_of old.number new.seen ≡ old.mine ++ entered base new.seen old.number (statements ++ statement ∷ []) (answers ++ answer ∷ [])
+  unfolding added
+  mine_more part part' way is =
+      let begins = is.advances.seen in
+      let number = way.number in
+      let number' : new.number ≡ old.number = is.advances.number ∙ way.number in
+      let legal = way.legal in
+      let answered' = answered_longer base now.seen new.seen old.number begins (length old.seen) statements answers legal.answered in
+      let more = entered_more base new.seen old.number (length old.seen) statements answers statement answer answered' in
+      let same = entered_longer base now.seen new.seen old.number begins (length old.seen) statements answers legal.answered in
+      let had : now.mine ≡ old.mine ++ entered base new.seen old.number statements answers =
+      sym part ∙ ap (λ n. entries_of n now.seen) number ∙ legal.mine ∙ ap (λ list. old.mine ++ list) (sym same) in
+      let Gets : List Entry → Type 0 = λ list. new.mine ≡ now.mine ++ list in
+      let enters_there = enters (state_at base new.seen answer.place) now.number statement in
+      let there : enters_there ≡ enters (state_at base new.seen answer.place) old.number statement = ap (λ n. enters (state_at base new.seen answer.place) n statement) number in
+      let gets : Gets (added base new.seen old.number statement answer) =
+      ⊎_elim
+      (λ entering. subst (λ b. Gets (cond b (entry_of old.number statement ∷ []) [])) (sym entering ∙ there)
+      ((is.entered entering).mine ∙ ap (λ n. now.mine ++ entry_of n statement ∷ []) number))
+      (λ other. subst (λ b. Gets (cond b (entry_of old.number statement ∷ []) [])) (sym other ∙ there) ((is.outside other).mine ∙ sym (append-nil now.mine)))
+      (either_way enters_there) in
+      ap (λ n. entries_of n new.seen) (sym number') ∙ part' ∙ gets ∙ ap (λ list. list ++ added base new.seen old.number statement answer) had
+      ∙ append_assoc old.mine (entered base new.seen old.number statements answers) (added base new.seen old.number statement answer)
+      ∙ ap (λ list. old.mine ++ list) (sym more)
+
+  -- an answer doesn't stand behind what is seen after it
+  within_more : IsAnswered base statement answer now new → now.number ≡ old.number → next_place base new.seen old.number statement answer ≤ length new.seen
+  within_more is number =
+      let enters_there = enters (state_at base new.seen answer.place) now.number statement in
+      let there : enters_there ≡ enters (state_at base new.seen answer.place) old.number statement = ap (λ n. enters (state_at base new.seen answer.place) n statement) number in
+      ⊎_elim
+      (λ entering. subst (λ b. cond b (answer.place + 1) answer.place ≤ length new.seen) (sym entering ∙ there)
+      (let e = is.entered entering in
+      omega (arith, ap length e.seen, length-append (take answer.place new.seen) (entry_of now.number statement ∷ []), length-take-le answer.place new.seen is.at.within)))
+      (λ other. subst (λ b. cond b (answer.place + 1) answer.place ≤ length new.seen) (sym other ∙ there) is.at.within)
+      (either_way enters_there)
+
+  pub goes_on : entries_of now.number now.seen ≡ now.mine → entries_of new.number new.seen ≡ new.mine → IsOnTheWay base old now statements answers → IsAnswered base statement answer now new
+      → IsOnTheWay base old new (statements ++ statement ∷ []) (answers ++ answer ∷ [])
+  goes_on part part' way is =
+      let begins = is.advances.seen in
+      let legal = way.legal in
+      let answered' = answered_longer base now.seen new.seen old.number begins (length old.seen) statements answers legal.answered in
+      let reached' = reached_longer base now.seen new.seen old.number begins (length old.seen) statements answers legal.answered in
+      record {
+        number = is.advances.number ∙ way.number;
+        legal = record {
+          seen = begins_through old.seen now.seen new.seen legal.seen begins;
+          answered =
+              answered_more base new.seen old.number (length old.seen) statements answers statement answer answered' (omega (arith, reached', way.within, is.not_before))
+              (subst (λ n. AnswersAt base new.seen n statement answer.place answer.reply) way.number is.at);
+          mine = mine_more part part' way is;
+        };
+        within =
+            subst (λ n. n ≤ length new.seen) (sym (reached_more base new.seen old.number (length old.seen) statements answers statement answer answered')) (within_more is way.number);
+      }
+
+-- what is legal in what the session has seen is so in every history that has all that it knows
+pub legal_longer : (base : State) (history : List Entry) (old new : Known) (statements : List Statement) (answers : List Answer) → new.number ≡ old.number → entries_of new.number new.seen ≡ new.mine → IsTakenIn history new
+    → IsLegal base new.seen old statements answers → IsLegal base history old statements answers
+legal_longer base history old new statements answers number part taken legal = record {
+  seen = begins_through old.seen new.seen history legal.seen taken.seen;
+  answered = answered_longer base new.seen history old.number taken.seen (length old.seen) statements answers legal.answered;
+  mine =
+      ap (λ n. entries_of n history) (sym number) ∙ taken.mine ∙ sym part ∙ ap (λ n. entries_of n new.seen) number ∙ legal.mine
+      ∙ ap (λ list. old.mine ++ list) (sym (entered_longer base new.seen history old.number taken.seen (length old.seen) statements answers legal.answered));
+}
+
+pub stops_before : (number place count : ℕ) (fault : RaceFault) → place < count → Stops number place fault → StopsBefore number count fault
+stops_before number place count (GateShut session line) below is = (is.0, omega (arith, is.1))
+stops_before number place count (Full session line) below is = (is.0, omega (arith, is.1))
+stops_before number place count NoMemory below is = tt
+stops_before number place count ThreadRefused below is = absurd is

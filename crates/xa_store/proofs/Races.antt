@@ -1,0 +1,37 @@
+-- What a race gives is legal.
+use Rattle.std.proofs.Common.{◌≡◌, ℕ, List, length, ap, sym, ◌∙◌, Some}
+use Rattle.std.specs.Prelude.{slice_get}
+use Rattle.xa_xid.specs.declared.statement.Statement.{Statement}
+use Rattle.xa_words.specs.Entry.{Entry}
+use Rattle.xa_server.specs.State.{State}
+use Rattle.decision_log.specs.declared.known.Known.{Known}
+use Rattle.decision_log.specs.History.{entries_of}
+use Rattle.decision_log.proofs.Histories.{begins_through}
+use Rattle.chain_log.specs.ChainPass.{known_of}
+use Rattle.xa_session.specs.declared.answer.Answer.{Answer}
+use Rattle.xa_store.specs.Gathered.{IsTakenIn, Keeps}
+use Rattle.xa_store.specs.Legal.{IsLegal, StopsBefore, Blames}
+use Rattle.xa_store.specs.Spread.{HasAnswered}
+use Rattle.xa_store.specs.declared.run.Run.{Run}
+use Rattle.xa_store.specs.declared.race_fault.RaceFault.{RaceFault}
+use Rattle.xa_store.specs.declared.race_fault.RaceFault.TheVariants.{GateShut, Full, NoMemory, ThreadRefused}
+use Rattle.xa_store.proofs.Legality.{legal_longer}
+
+-- what is taken in of a pass was taken in of it before it saw more
+pub taken_before : (history : List Entry) (old new : Known) → Keeps old new → IsTakenIn history new → IsTakenIn history old
+taken_before history old new keeps taken = record {
+  seen = begins_through old.seen new.seen history keeps.seen taken.seen;
+  mine = ap (λ n. entries_of n history) (sym keeps.number) ∙ taken.mine ∙ keeps.mine;
+}
+
+-- a run's answers are legal in a history that has all that its pass knows in the end
+pub legal_in : (base : State) (history : List Entry) (old new last : Known) (statements : List Statement) (answers : List Answer) → entries_of new.number new.seen ≡ new.mine → HasAnswered base old new statements answers
+    → Keeps new last → IsTakenIn history last → IsLegal base history old statements answers
+legal_in base history old new last statements answers part answered keeps taken =
+    legal_longer base history old new statements answers answered.number part (taken_before history new last keeps taken) answered.legal
+
+pub blames : (runs : List Run) (index : ℕ) (run : Run) (fault : RaceFault) → slice_get runs index ≡ Some run → StopsBefore (known_of run.pass).number (length run.lines.items) fault → Blames runs fault
+blames runs index run (GateShut session line) found is = record { index = index; run = run; found = found; number = is.0; below = is.1 }
+blames runs index run (Full session line) found is = record { index = index; run = run; found = found; number = is.0; below = is.1 }
+blames runs index run NoMemory found is = tt
+blames runs index run ThreadRefused found is = tt

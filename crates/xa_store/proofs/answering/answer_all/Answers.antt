@@ -1,0 +1,36 @@
+use Rattle.std.proofs.Common.{◌+◌, ◌<◌, [], ◌∷◌, ◌++◌, length, take, refl, ap, sym, ◌∙◌, subst, rules, arith}
+use Rattle.std.proofs.lemmas.List.{take_more}
+use Rattle.xa_session.specs.Answer.{IsAnswered}
+use Rattle.xa_store.proofs.Legality.{IsOnTheWay, sets_out, goes_on}
+use Rattle.xa_store.proofs.answering.answer_all.Goals as goal
+
+pub loop-index-init : goal.loop-index-init
+loop-index-init g c =
+    let known = g.L.DecisionLog.known c.args.session.pass in (
+      refl,
+      refl,
+      subst (λ items. IsOnTheWay c.args.session.base.now known known [] items) (sym c.in-Ok.ensures.items) (sets_out c.args.session.base.now known (g.met.L.DecisionLog.own_part c.args.session.pass)),
+      search rules,
+      search rules,
+    )
+
+pub loop-index-preserved : goal.loop-index-preserved
+loop-index-preserved g c =
+    let inv = c.loop-index.invariant in
+    let base = c.args.session.base.now in
+    let known = g.L.DecisionLog.known in
+    let statement = c.index-lines-index.result in
+    let below : c.loop-index.index < length c.args.lines.now = omega (arith, c.loop-index-test.true) in
+    let taken = take_more c.args.lines.now c.loop-index.index statement below ∙ ap (λ one. take c.loop-index.index c.args.lines.now ++ one ∷ []) (sym c.index-lines-index.is) in
+    let told = c.in_ok-answer.ensures in
+    let way = goes_on base (known c.args.session.pass) (known c.loop-index.session.pass) (known c.answer_one.new.session.pass) (take c.loop-index.index c.args.lines.now) c.loop-index.answers.items
+    statement c.in_ok-answer.answer
+    (g.met.L.DecisionLog.own_part c.loop-index.session.pass) (g.met.L.DecisionLog.own_part c.answer_one.new.session.pass) inv.2
+    (subst (λ b. IsAnswered b statement c.in_ok-answer.answer (known c.loop-index.session.pass) (known c.answer_one.new.session.pass)) inv.0 told.answered) in (
+      told.base ∙ inv.0,
+      told.home ∙ inv.1,
+      subst (λ items. IsOnTheWay base (known c.args.session.pass) (known c.answer_one.new.session.pass) (take (c.loop-index.index + 1) c.args.lines.now) items) (sym c.push_reserved.ensures.items)
+          (subst (λ lines. IsOnTheWay base (known c.args.session.pass) (known c.answer_one.new.session.pass) lines (c.loop-index.answers.items ++ c.in_ok-answer.answer ∷ [])) (sym taken) way),
+      omega (arith, c.push_reserved.ensures.len, inv.3),
+      omega (arith, c.push_reserved.ensures.capacity, inv.4),
+    )

@@ -1,0 +1,47 @@
+//! Which fault of a race is told.
+ghost use Rattle.std.specs.Prelude.{◌≡◌, ◌⊎◌};
+
+use crate::RaceFault;
+use xa_xid::SessionNo;
+
+/// A fault, and whose run had it. Of several faults that of the lowest session is told.
+#[derive(Clone, Copy, Drop)]
+pub(crate) struct Blame {
+    /// The session's number; above all numbers where no run had the fault.
+    session: u64,
+    /// The fault.
+    pub(crate) fault: RaceFault,
+}
+
+impl Blame {
+    /// The fault of a session's run.
+    pub(crate) fn of(session: SessionNo, fault: RaceFault) -> Blame
+        ensures { result.fault ≡ fault }
+    {
+        Blame {
+            session: session.get(),
+            fault,
+        }
+    }
+
+    /// Want of memory outside the runs.
+    pub(crate) fn outside() -> Blame
+        ensures { result.fault ≡ RaceFault.NoMemory }
+    {
+        Blame {
+            session: u64::MAX,
+            fault: RaceFault::NoMemory,
+        }
+    }
+
+    /// Which of the two is told.
+    pub(crate) fn or(self, other: Blame) -> Blame
+        ensures { (result ≡ self) ⊎ (result ≡ other) }
+    {
+        if other.session < self.session {
+            other
+        } else {
+            self
+        }
+    }
+}

@@ -1,0 +1,153 @@
+//! Runs on threads of their own.
+ghost use Rattle.std.specs.Prelude.{◌≡◌, ◌⊎◌, ◌++◌, ℕ, [], ◌∷◌, length, map, slice_get, Some, Ok, Err, IfOk, IfErr, OnOk};
+ghost use Rattle.std.specs.List.{All};
+ghost use Rattle.xa_store.specs.Legal.{StopsBefore};
+ghost use Rattle.xa_store.specs.Spread.{HasAnswered, AllThree};
+
+use crate::answering::answer_all;
+use crate::blame::Blame;
+use crate::{Gate, RaceFault};
+use decision_log::DecisionLog;
+use std::alloc::Global;
+use std::snapshot::Snapshot;
+use std::sync::Wait;
+use std::thread;
+use std::thread::{Promise, Scope, Threads};
+use xa_session::{Answer, Session};
+use xa_xid::{NoMemory, SessionNo, Statement};
+
+/// A run whose session is connected.
+#[derive(Drop)]
+pub(crate) struct Started<'a, L: DecisionLog> {
+    pub(crate) session: Session<'a, L>,
+    pub(crate) lines: Vec<Statement>,
+}
+
+/// What a run's thread gives back: the session and its answers, or why it stopped.
+type RunEnded<'a, L> = Result<(Session<'a, L>, Vec<Answer>), RaceFault>;
+
+/// What all runs gave, in the order of the runs.
+#[derive(Drop)]
+pub(crate) struct AllEnded<'a, L: DecisionLog> {
+    pub(crate) sessions: Vec<Session<'a, L>>,
+    pub(crate) answers: Vec<Vec<Answer>>,
+}
+
+impl<'a, L: DecisionLog> AllEnded<'a, L> {
+    /// Puts what one more run gave behind the others.
+    fn push(&mut self, session: Session<'a, L>, answers: Vec<Answer>) -> Result<(), NoMemory>
+    where
+        L::Pass: Drop,
+        ensures sessions { OnOk result (self.new.sessions.items ≡ self.old.sessions.items ++ session.entry ∷ []) }
+        ensures answers { OnOk result (map (λ answered. answered.items) self.new.answers.items ≡ map (λ answered. answered.items) self.old.answers.items ++ answers.items ∷ []) }
+    {
+        self.sessions.push(session)?;
+        self.answers.push(answers)?;
+        Ok(())
+    }
+}
+
+/// What a run's thread promises of what it gives back.
+#[derive(Drop)]
+struct AnswersAll<'a, L: DecisionLog>(Snapshot<Started<'a, L>>);
+
+impl<'a, L: DecisionLog> Promise<RunEnded<'a, L>> for AnswersAll<'a, L> {
+    ghost kept_by = { λ promise ended. IfOk ended (λ done. (done.0.base.now ≡ promise.0.value.session.base.now) × (L.home done.0.pass ≡ L.home promise.0.value.session.pass) × HasAnswered promise.0.value.session.base.now (L.known promise.0.value.session.pass) (L.known done.0.pass) promise.0.value.lines.items done.1.items) × IfErr ended (λ fault. StopsBefore (L.known promise.0.value.session.pass).number (length promise.0.value.lines.items) fault) };
+}
+
+/// Answers all statements of a run.
+fn answer_run<'a, L: DecisionLog, G: Gate, R: Wait>(
+    rt: &R,
+    alloc: Global,
+    run: Started<'a, L>,
+    gate: &G,
+) -> RunEnded<'a, L>
+where
+    L::Pass: Drop,
+    ensures base { IfOk result (λ done. done.0.base.now ≡ run.entry.session.base.now) }
+    ensures home { IfOk result (λ done. L.home done.0.pass ≡ L.home run.entry.session.pass) }
+    ensures answered { IfOk result (λ done. HasAnswered run.entry.session.base.now (L.known run.entry.session.pass) (L.known done.0.pass) run.entry.lines.items done.1.items) }
+    ensures fault { IfErr result (λ fault. StopsBefore (L.known run.entry.session.pass).number (length run.entry.lines.items) fault) }
+{
+    let Started { session, lines } = run;
+    answer_all(rt, alloc, session, lines.as_slice(), gate)
+}
+
+/// Puts what one more run gave behind what all others gave.
+fn take_in<'a, L: DecisionLog>(
+    others: Result<AllEnded<'a, L>, Blame>,
+    number: SessionNo,
+    ended: RunEnded<'a, L>,
+) -> Result<AllEnded<'a, L>, Blame>
+where
+    L::Pass: Drop,
+    ensures ok { IfOk result (λ all. (before : _) × (done : _) × (others.entry ≡ Ok before) × (ended.entry ≡ Ok done) × (all.sessions.items ≡ before.sessions.items ++ done.0 ∷ []) × (map (λ answers. answers.items) all.answers.items ≡ map (λ answers. answers.items) before.answers.items ++ done.1.items ∷ [])) }
+    ensures err { IfErr result (λ blame. (others.entry ≡ Err blame) ⊎ (ended.entry ≡ Err blame.fault) ⊎ (blame.fault ≡ RaceFault.NoMemory)) }
+{
+    match (others, ended) {
+        (Ok(mut all), Ok((session, answers))) => match all.push(session, answers) {
+            Ok(()) => Ok(all),
+            Err(_) => Err(Blame::outside()),
+        },
+        (Ok(_), Err(fault)) => Err(Blame::of(number, fault)),
+        (Err(blame), Ok(_)) => Err(blame),
+        (Err(blame), Err(fault)) => Err(blame.or(Blame::of(number, fault))),
+    }
+}
+
+/// Gives each run a thread of its own, and waits for all of them. All are started before the first is waited for.
+///
+/// Errors: of all faults that of the lowest session. The sessions are then dropped.
+fn spread<'s, 'a: 's, E, L: DecisionLog + Sync, G: Gate + Sync, R: Threads + Wait + Sync>(
+    scope: &Scope<'s, E>,
+    rt: &'s R,
+    alloc: Global,
+    mut runs: Vec<Started<'a, L>>,
+    gate: &'s G,
+) -> Result<AllEnded<'a, L>, Blame>
+where
+    L::Pass: Send + Drop,
+    ensures ok { IfOk result (λ all. AllThree (λ run session answers. (session.base.now ≡ run.session.base.now) × (L.home session.pass ≡ L.home run.session.pass) × HasAnswered run.session.base.now (L.known run.session.pass) (L.known session.pass) run.lines.items answers) runs.entry.items all.sessions.items (map (λ answers. answers.items) all.answers.items)) }
+    ensures err { IfErr result (λ blame. (blame.fault ≡ RaceFault.NoMemory) ⊎ (blame.fault ≡ RaceFault.ThreadRefused) ⊎ ((index : ℕ) × (run : _) × (slice_get runs.entry.items index ≡ Some run) × StopsBefore (L.known run.session.pass).number (length run.lines.items) blame.fault)) }
+{
+    let Some(run) = runs.pop() else {
+        return Ok(AllEnded {
+            sessions: Vec::new(alloc),
+            answers: Vec::new(alloc),
+        });
+    };
+    let number = run.session.number();
+    let thread = scope.spawn_with(
+        AnswersAll(Snapshot::of(&run)),
+        move || answer_run(rt, alloc, run, gate),
+    );
+    let others = spread(scope, rt, alloc, runs, gate);
+    match thread {
+        Ok(thread) => take_in(others, number, thread.join(rt)),
+        Err(_) => take_in(others, number, Err(RaceFault::ThreadRefused)),
+    }
+}
+
+/// Gives each run a thread of its own, and waits for all of them.
+///
+/// Errors: of all faults that of the lowest session. The sessions are then dropped.
+pub(crate) fn run_all<'a, L: DecisionLog + Sync, G: Gate + Sync, R: Threads + Wait + Sync>(
+    rt: &R,
+    alloc: Global,
+    runs: Vec<Started<'a, L>>,
+    gate: &G,
+) -> Result<AllEnded<'a, L>, Blame>
+where
+    L::Pass: Send + Drop,
+    ensures ok { IfOk result (λ all. AllThree (λ run session answers. (session.base.now ≡ run.session.base.now) × (L.home session.pass ≡ L.home run.session.pass) × HasAnswered run.session.base.now (L.known run.session.pass) (L.known session.pass) run.lines.items answers) runs.entry.items all.sessions.items (map (λ answers. answers.items) all.answers.items)) }
+    ensures err { IfErr result (λ blame. (blame.fault ≡ RaceFault.NoMemory) ⊎ (blame.fault ≡ RaceFault.ThreadRefused) ⊎ ((index : ℕ) × (run : _) × (slice_get runs.entry.items index ≡ Some run) × StopsBefore (L.known run.session.pass).number (length run.lines.items) blame.fault)) }
+{
+    thread::scope(
+        thread::scope_env(),
+        rt,
+        |scope| -> Result<AllEnded<'_, L>, Blame>
+            ensures ok { IfOk result (λ all. AllThree (λ run session answers. (session.base.now ≡ run.session.base.now) × (L.home session.pass ≡ L.home run.session.pass) × HasAnswered run.session.base.now (L.known run.session.pass) (L.known session.pass) run.lines.items answers) runs.entry.items all.sessions.items (map (λ answers. answers.items) all.answers.items)) }
+            ensures err { IfErr result (λ blame. (blame.fault ≡ RaceFault.NoMemory) ⊎ (blame.fault ≡ RaceFault.ThreadRefused) ⊎ ((index : ℕ) × (run : _) × (slice_get runs.entry.items index ≡ Some run) × StopsBefore (L.known run.session.pass).number (length run.lines.items) blame.fault)) }
+        { spread(scope, rt, alloc, runs, gate) },
+    )
+}
