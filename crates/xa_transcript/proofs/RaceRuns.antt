@@ -4,7 +4,8 @@ use Rattle.std.specs.List.{All, AllZip}
 use Rattle.std.proofs.lemmas.List.Elements.{All-head, All-tail, All-cons, All-nil, All-take}
 use Rattle.std.proofs.lemmas.List.{length-take}
 use Rattle.xa_words.specs.Entry.{Entry}
-use Rattle.decision_log.specs.Known.{Place, AllOf}
+use Rattle.decision_log.specs.Known.{Place, newcomer, AllOf}
+use Rattle.decision_log.specs.declared.known.Known.{Known}
 use Rattle.chain_log.specs.declared.pass.ChainPass.{ChainPass}
 use Rattle.chain_log.specs.ChainPass.{home_of, known_of}
 use Rattle.xa_store.specs.Gathered.{last_known}
@@ -45,22 +46,23 @@ runs_count n passes taken runs count cut are =
     let all : length runs ≡ length (take n passes) = sym (length_mapped (λ run. run.pass) runs) ∙ ap length are ∙ ap length cut in
     omega (arith, all, length-take n passes, count)
 
--- the last pass knows of sessions of its log alone
-last_among : (place : Place) (history : List Entry) (runs : List Run) (passes : List ChainPass) → All (λ run. home_of run.pass ≡ place) runs → AllZip (IsReturned history) runs passes
-    → AllOf place.sessions (last_known (map known_of passes)).seen
-last_among place history [] [] homes zip = All-nil (λ entry. (1 ≤ entry.session) × (entry.session ≤ place.sessions))
-last_among place history [] (pass ∷ passes) homes zip = absurd zip
-last_among place history (run ∷ runs) [] homes zip = absurd zip
-last_among place history (run ∷ []) (pass ∷ []) homes zip =
-    let Home : Run → Type 0 = λ r. home_of r.pass ≡ place in
-    let home : home_of pass ≡ place = zip.0.home ∙ All-head Home run [] homes in
-    let P : Place → Type 0 = λ p. AllOf p.sessions (known_of pass).seen in
-    subst P home pass.state.among
-last_among place history (run ∷ []) (pass ∷ other ∷ passes) homes zip = absurd zip.1
-last_among place history (run ∷ other ∷ runs) (pass ∷ []) homes zip = absurd zip.1
-last_among place history (run ∷ other ∷ runs) (pass ∷ other' ∷ passes) homes zip =
-    let Home : Run → Type 0 = λ r. home_of r.pass ≡ place in
-    last_among place history (other ∷ runs) (other' ∷ passes) (All-tail Home run (other ∷ runs) homes) zip.1
+-- what each pass keeps of its log is true of what the last one knows
+module _ (P : Place → Known → Type 0) (kept : (pass : ChainPass) → P (home_of pass) (known_of pass)) where
+  last_keeps : (place : Place) (history : List Entry) (runs : List Run) (passes : List ChainPass) → P place (newcomer 0) → All (λ run. home_of run.pass ≡ place) runs → AllZip (IsReturned history) runs passes
+      → P place (last_known (map known_of passes))
+  last_keeps place history [] [] none homes zip = none
+  last_keeps place history [] (pass ∷ passes) none homes zip = absurd zip
+  last_keeps place history (run ∷ runs) [] none homes zip = absurd zip
+  last_keeps place history (run ∷ []) (pass ∷ []) none homes zip =
+      let Home : Run → Type 0 = λ r. home_of r.pass ≡ place in
+      let home : home_of pass ≡ place = zip.0.home ∙ All-head Home run [] homes in
+      let At : Place → Type 0 = λ p. P p (known_of pass) in
+      subst At home (kept pass)
+  last_keeps place history (run ∷ []) (pass ∷ other ∷ passes) none homes zip = absurd zip.1
+  last_keeps place history (run ∷ other ∷ runs) (pass ∷ []) none homes zip = absurd zip.1
+  last_keeps place history (run ∷ other ∷ runs) (pass ∷ other' ∷ passes) none homes zip =
+      let Home : Run → Type 0 = λ r. home_of r.pass ≡ place in
+      last_keeps place history (other ∷ runs) (other' ∷ passes) none (All-tail Home run (other ∷ runs) homes) zip.1
 
 -- the history has entries of the runs' sessions alone
 pub own_sessions : (place : Place) (history : List Entry) (runs : List Run) (passes : List ChainPass) → place.sessions ≡ max (length runs) 1 → All (λ run. home_of run.pass ≡ place) runs
@@ -71,4 +73,11 @@ own_sessions place history (run ∷ runs) passes sessions homes zip is =
     let count : place.sessions ≡ length (run ∷ runs) = omega (arith, sessions) in
     let P : List Entry → Type 0 = λ list. AllOf (length (run ∷ runs)) list in
     let Q : ℕ → Type 0 = λ n. AllOf n (last_known (map known_of passes)).seen in
-    subst P (sym is) (subst Q count (last_among place history (run ∷ runs) passes homes zip))
+    subst P (sym is) (subst Q count (last_keeps (λ p k. AllOf p.sessions k.seen) (λ pass. pass.state.among) place history (run ∷ runs) passes (All-nil (λ entry. (1 ≤ entry.session) × (entry.session ≤ place.sessions))) homes zip))
+
+-- the history has no more entries than the log has room for
+pub own_room : (place : Place) (history : List Entry) (runs : List Run) (passes : List ChainPass) → All (λ run. home_of run.pass ≡ place) runs → AllZip (IsReturned history) runs passes
+    → history ≡ (last_known (map known_of passes)).seen → length history ≤ place.capacity
+own_room place history runs passes homes zip is =
+    let P : List Entry → Type 0 = λ list. length list ≤ place.capacity in
+    subst P (sym is) (last_keeps (λ p k. length k.seen ≤ p.capacity) (λ pass. pass.state.within) place history runs passes (omega arith) homes zip)

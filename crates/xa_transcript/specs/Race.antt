@@ -9,7 +9,7 @@
 --     script_fault_of              how a race's fault is told
 --     IsReadable                   when a race is held
 --     AfterRaceFault               what a fault leaves in the writer
-use Rattle.std.specs.Prelude.{◌≡◌, ◌⊎◌, ℕ, ◌+◌, max, ◌==◌, cond, Option, Some, None, Result, Ok, Err, List, [], ◌∷◌, ◌++◌, length, map, codes, decimal, IfSome}
+use Rattle.std.specs.Prelude.{◌≡◌, ◌≤◌, ◌⊎◌, ℕ, ◌+◌, max, ◌==◌, cond, Option, Some, None, Result, Ok, Err, List, [], ◌∷◌, ◌++◌, length, map, codes, decimal, IfSome}
 use Rattle.std.specs.List.{filter_map}
 use Rattle.std.specs.Io.KnownBytes.{Keeps, Appends}
 use Rattle.xa_xid.specs.declared.statement.Statement.{Statement}
@@ -125,31 +125,33 @@ answers_text session lines (answers ∷ others) = session_text session (statemen
 abbrev pub outcome_text : List (List ℕ) → Outcome → List ℕ
 outcome_text lines outcome = history_text outcome.history.items ++ answers_text 1 lines (map (λ answers. answers.items) outcome.answers.items)
 
--- the text of what a race of the script's runs gave: one history, of these sessions alone and empty at first, explains all answers
-pub record IsRaced (lines : List (List ℕ)) (text : List ℕ) : Type 0 where
+-- the text of what a race of the script's runs gave: one history explains all answers, which was empty at first, has entries of
+-- these sessions alone, and no more than its log has room for
+pub record IsRaced (capacity : ℕ) (lines : List (List ℕ)) (text : List ℕ) : Type 0 where
   pub runs : List Run
   pub outcome : Outcome
   pub are_runs : AreRuns lines runs
   pub legal : IsOutcome no_state runs outcome
   pub own : AllOf (length runs) outcome.history.items
+  pub fits : length outcome.history.items ≤ capacity
   pub text_is : text ≡ outcome_text lines outcome
 
 -- with no faulty line a race is held; else the faulty lines are told, and nothing else
-abbrev pub IsTold : List ℕ → List (List ℕ) → List ℕ → Type 0
-IsTold [] lines text = IsRaced lines text
-IsTold (byte ∷ faults) lines text = text ≡ byte ∷ faults
+abbrev pub IsTold : List ℕ → ℕ → List (List ℕ) → List ℕ → Type 0
+IsTold [] capacity lines text = IsRaced capacity lines text
+IsTold (byte ∷ faults) capacity lines text = text ≡ byte ∷ faults
 
 -- what a race of a script writes (own rule)
-abbrev pub IsRaceText : List ℕ → List ℕ → Type 0
-IsRaceText script text = IsTold (faults_text 1 (lines_of script)) (lines_of script) text
+abbrev pub IsRaceText : ℕ → List ℕ → List ℕ → Type 0
+IsRaceText capacity script text = IsTold (faults_text 1 (lines_of script)) capacity (lines_of script) text
 
 -- the writer got what a race of the script writes
-abbrev pub AppendsRace : List ℕ → Option (List ℕ) → Option (List ℕ) → Type 0
-AppendsRace script old new = (text : List ℕ) × IsRaceText script text × Appends old new text
+abbrev pub AppendsRace : ℕ → List ℕ → Option (List ℕ) → Option (List ℕ) → Type 0
+AppendsRace capacity script old new = (text : List ℕ) × IsRaceText capacity script text × Appends old new text
 
 -- the writer got a prefix of that
-abbrev pub AppendsRacePrefix : List ℕ → Option (List ℕ) → Option (List ℕ) → Type 0
-AppendsRacePrefix script old new = (text : List ℕ) × IsRaceText script text × AppendsPrefix old new text
+abbrev pub AppendsRacePrefix : ℕ → List ℕ → Option (List ℕ) → Option (List ℕ) → Type 0
+AppendsRacePrefix capacity script old new = (text : List ℕ) × IsRaceText capacity script text × AppendsPrefix old new text
 
 -- one line a fault (own rule)
 abbrev pub script_fault_of : RaceFault → ScriptFault
@@ -173,14 +175,14 @@ IsOfText script GateShut = IsReadable script
 IsOfText script ThreadRefused = IsReadable script
 
 -- what a fault leaves in the writer: a prefix where a write failed, else nothing
-abbrev pub AfterRaceFault : ScriptFault → Option (List ℕ) → Option (List ℕ) → Option (List ℕ) → Type 0
-AfterRaceFault Read input old new = Keeps old new
-AfterRaceFault TooLong input old new = Keeps old new
-AfterRaceFault Write input old new = IfSome input (λ script. AppendsRacePrefix script old new)
-AfterRaceFault NoMemory input old new = Keeps old new
-AfterRaceFault Full input old new = Keeps old new × IfSome input IsReadable
-AfterRaceFault GateShut input old new = Keeps old new × IfSome input IsReadable
-AfterRaceFault ThreadRefused input old new = Keeps old new × IfSome input IsReadable
+abbrev pub AfterRaceFault : ℕ → ScriptFault → Option (List ℕ) → Option (List ℕ) → Option (List ℕ) → Type 0
+AfterRaceFault capacity Read input old new = Keeps old new
+AfterRaceFault capacity TooLong input old new = Keeps old new
+AfterRaceFault capacity Write input old new = IfSome input (λ script. AppendsRacePrefix capacity script old new)
+AfterRaceFault capacity NoMemory input old new = Keeps old new
+AfterRaceFault capacity Full input old new = Keeps old new × IfSome input IsReadable
+AfterRaceFault capacity GateShut input old new = Keeps old new × IfSome input IsReadable
+AfterRaceFault capacity ThreadRefused input old new = Keeps old new × IfSome input IsReadable
 
 -- a fault by which a race ends
 abbrev pub IsOfRace : ScriptFault → Type 0

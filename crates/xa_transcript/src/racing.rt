@@ -55,7 +55,7 @@ fn hold_race<G: Gate + Sync, R: Threads + Wait + Sync>(
     gate: &G,
 ) -> Result<Vec<u8>, ScriptFault>
     requires { IsCapacity capacity }
-    ensures raced { IfOk result (λ text. IsRaced (lines_of script.now) text.items) }
+    ensures raced { IfOk result (λ text. IsRaced capacity (lines_of script.now) text.items) }
     ensures fault { IfErr result IsOfRace }
 {
     let greatest = greatest_session(script);
@@ -85,7 +85,7 @@ fn text_of_race<G: Gate + Sync, R: Threads + Wait + Sync>(
 ) -> Result<Vec<u8>, ScriptFault>
     requires capacity { IsCapacity capacity }
     requires short { length script.now ≤ SCRIPT_BYTES }
-    ensures text { IfOk result (λ text. IsRaceText script.now text.items) }
+    ensures text { IfOk result (λ text. IsRaceText capacity script.now text.items) }
     ensures fault { IfErr result (IsOfText script.now) }
 {
     let Ok(faults) = tell_faults(alloc, script) else {
@@ -122,10 +122,10 @@ pub fn race_script<I: Read, O: Write, G: Gate + Sync, R: Threads + Wait + Sync>(
 
     // All was read, and what was written is the text of its faulty lines, or of an outcome of a race of its runs.
     ensures read { OnOk result (IsAtEnd (I.remaining reader.new)) }
-    ensures written { OnOk result (IfSome (I.remaining reader.old) (λ script. AppendsRace script (O.contents writer.old) (O.contents writer.new))) }
+    ensures written { OnOk result (IfSome (I.remaining reader.old) (λ script. AppendsRace capacity script (O.contents writer.old) (O.contents writer.new))) }
     ensures short { OnOk result (IfSome (I.remaining reader.old) (λ script. length script ≤ SCRIPT_BYTES)) }
 
-    ensures fault { IfErr result (λ fault. AfterRaceFault fault (I.remaining reader.old) (O.contents writer.old) (O.contents writer.new)) }
+    ensures fault { IfErr result (λ fault. AfterRaceFault capacity fault (I.remaining reader.old) (O.contents writer.old) (O.contents writer.new)) }
     ensures too_long { result ≡ Err ScriptFault.TooLong → ConsumesMoreThan SCRIPT_BYTES (I.remaining reader.old) (I.remaining reader.new) }
 {
     let script = read_all(alloc, reader)?;

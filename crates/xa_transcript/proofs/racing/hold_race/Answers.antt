@@ -3,7 +3,7 @@ use Rattle.std.specs.List.{All}
 use Rattle.chain_log.specs.ChainPass.{place_of, home_of, known_of}
 use Rattle.xa_server.specs.State.{State, no_state}
 use Rattle.xa_store.specs.Legal.{IsOutcome}
-use Rattle.xa_transcript.proofs.RaceRuns.{runs_home, runs_count, own_sessions}
+use Rattle.xa_transcript.proofs.RaceRuns.{runs_home, runs_count, own_sessions, own_room}
 use Rattle.xa_transcript.proofs.racing.hold_race.Goals as goal
 
 pub race-requires-after_bounds : goal.race-requires-after_bounds
@@ -31,5 +31,6 @@ returns-in-Ok-print_outcome-clause-raced g c =
       are_runs = record { count = count ∙ c.greatest_session-greatest.ensures.value; each = c.in-Ok-runs_of.ensures.runs };
       legal = subst P c.in-Ok.ensures.base raced;
       own = own_sessions place outcome.history.items runs outcome.passes.items sessions homes raced.passes raced.history;
+      fits = omega (arith, own_room place outcome.history.items runs outcome.passes.items homes raced.passes raced.history, opened.capacity_is);
       text_is = c.in-Ok-print_outcome.ensures;
     }
