@@ -125,6 +125,32 @@ mod tests {
     }
 
     #[test]
+    fn race_is_a_job_with_a_capacity(rt: HostRuntime) {
+        let words = ["xa_script", "race"];
+        assert_eq!(rt;
+            read_command(rt.alloc(), words.as_slice()).ok(),
+            Some(Job::Race(1024))
+        );
+        for (text, capacity) in [("7", 7), ("1", 1), ("1024", 1024)] {
+            let words = ["xa_script", "race", "--capacity", text];
+            assert_eq!(rt;
+                read_command(rt.alloc(), words.as_slice()).ok(),
+                Some(Job::Race(capacity))
+            );
+        }
+    }
+
+    #[test]
+    fn capacity_is_from_1_to_1024(rt: HostRuntime) {
+        for text in ["0", "1025", "-1", "many", ""] {
+            let words = ["xa_script", "race", "--capacity", text];
+            assert_eq!(rt; refusal(rt.alloc(), words.as_slice()), Some(2));
+        }
+        let words = ["xa_script", "run", "--capacity", "7"];
+        assert_eq!(rt; refusal(rt.alloc(), words.as_slice()), Some(2));
+    }
+
+    #[test]
     fn other_words_are_refused(rt: HostRuntime) {
         assert_eq!(rt; refusal(rt.alloc(), ["xa_script"].as_slice()), Some(2));
         assert_eq!(rt;
@@ -145,6 +171,10 @@ mod tests {
         );
         assert_eq!(rt;
             refusal(rt.alloc(), ["xa_script", "help"].as_slice()),
+            Some(0)
+        );
+        assert_eq!(rt;
+            refusal(rt.alloc(), ["xa_script", "race", "--help"].as_slice()),
             Some(0)
         );
     }

@@ -119,10 +119,8 @@ fn status_of(fault: ScriptFault) -> u8
 {
     match fault {
         ScriptFault::Read | ScriptFault::TooLong | ScriptFault::Write => STREAM_FAULT,
-        ScriptFault::NoMemory
-        | ScriptFault::Full
-        | ScriptFault::GateShut
-        | ScriptFault::ThreadRefused => GAVE_OUT,
+        ScriptFault::NoMemory => GAVE_OUT,
+        ScriptFault::Full | ScriptFault::GateShut | ScriptFault::ThreadRefused => GAVE_OUT,
     }
 }
 

@@ -1,16 +1,14 @@
 -- The lines of a race, its runs, and how its outcome is printed.
-use Rattle.std.proofs.Common.{◌≡◌, ◌⊎◌, inl, inr, ℕ, zero, suc, ◌+◌, ◌<◌, ◌≤◌, ◌==◌, max, Bool, true, Option, Some, None, List, [], ◌∷◌, ◌++◌, length, map, take, get_or, slice_get, min, refl, ap, sym, ◌∙◌, subst, arith, append_assoc, append-nil}
-use Rattle.std.specs.List.{All, AllZip, filter_map, cons_option}
+use Rattle.std.proofs.Common.{◌≡◌, ℕ, zero, suc, ◌+◌, ◌<◌, ◌≤◌, ◌==◌, max, true, Option, Some, None, List, [], ◌∷◌, ◌++◌, length, map, take, get_or, min, refl, ap, sym, ◌∙◌, arith, append_assoc, append-nil}
+use Rattle.std.specs.List.{filter_map, cons_option}
 use Rattle.std.specs.Option.{option_to_list}
 use Rattle.std.proofs.lemmas.List.{take_more}
-use Rattle.std.proofs.lemmas.List.Elements.{All-head, All-tail, All-cons, All-nil}
 use Rattle.std.proofs.lemmas.Grind.{common_steps}
 use Rattle.xa_xid.specs.declared.statement.Statement.{Statement}
 use Rattle.xa_words.specs.Entry.{Entry}
 use Rattle.xa_session.specs.declared.answer.Answer.{Answer}
 use Rattle.xa_transcript.specs.Script.{lines_of, line_of}
-use Rattle.xa_transcript.specs.Race.{fault_place, fault_text, faults_text, session_in, last_session, statement_by, statements_of, entry_text, entries_text, placed_text, session_text, answers_text, IsRun, AreRunsFrom}
-use Rattle.xa_store.specs.declared.run.Run.{Run}
+use Rattle.xa_transcript.specs.Race.{fault_place, fault_text, faults_text, session_in, last_session, statement_by, statements_of, entry_text, entries_text, placed_text, session_text, answers_text}
 
 -- what is told of the faults, when one more line was cut off
 pub faults_text-line : (number : ℕ) (text line rest : List ℕ) → lines_of text ≡ line ∷ lines_of rest

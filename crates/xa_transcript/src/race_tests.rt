@@ -1,4 +1,6 @@
 //! Races of scripts, and what is written where none is held.
+ghost use Rattle.decision_log.specs.Opens.{IsCapacity};
+
 use crate::{CutReader, CutWriter, ScriptFault, race_script};
 use std::alloc::Global;
 use std::sync::Wait;
@@ -57,8 +59,6 @@ fn raced<G: Gate + Sync, R: Threads + Wait + Sync>(
     Ok(output)
 }
 
-ghost use Rattle.decision_log.specs.Opens.{IsCapacity};
-
 /// Scripts with faulty lines, and what is told of these.
 const FAULTY: [(&[u8], &[u8]); 4] = [
     (
@@ -70,10 +70,7 @@ const FAULTY: [(&[u8], &[u8]); 4] = [
         b"LINE 4 ERROR 1064 (42000): syntax fault at byte 0\n\
 LINE 5 ERROR 1064 (42000): syntax fault at byte 11\n",
     ),
-    (
-        b"1",
-        b"LINE 1 ERROR 1064 (42000): syntax fault at byte 0\n",
-    ),
+    (b"1", b"LINE 1 ERROR 1064 (42000): syntax fault at byte 0\n"),
     (
         b"1 PUT '','v'\n0 XA RECOVER",
         b"LINE 1 ERROR 1064 (42000): syntax fault at byte 4\n\
@@ -187,8 +184,11 @@ fn shut_gate_writes_nothing(rt: HostRuntime) -> Result<(), Fail> {
 }
 
 /// What two sessions that start one branch side by side can get.
-const FIRST_WINS: &[u8] = b"HISTORY 1\n0 1 XA START 0x61,X'',1\n1 0 OK\n2 1 ERROR 1440 (XAE08): XAER_DUPID xid already exists\n";
-const SECOND_WINS: &[u8] = b"HISTORY 1\n0 2 XA START 0x61,X'',1\n1 1 ERROR 1440 (XAE08): XAER_DUPID xid already exists\n2 0 OK\n";
+const FIRST_WINS: &[u8] =
+    b"HISTORY 1\n0 1 XA START 0x61,X'',1\n1 0 OK\n2 1 ERROR 1440 (XAE08): XAER_DUPID xid already exists\n";
+
+const SECOND_WINS: &[u8] =
+    b"HISTORY 1\n0 2 XA START 0x61,X'',1\n1 1 ERROR 1440 (XAE08): XAER_DUPID xid already exists\n2 0 OK\n";
 
 #[test]
 fn sessions_run_side_by_side(rt: HostRuntime) -> Result<(), Fail> {

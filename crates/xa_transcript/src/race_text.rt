@@ -15,12 +15,7 @@ use xa_words::Entry;
 use xa_xid::{NoMemory, Statement};
 
 /// Appends the line of an entry.
-fn push_entry(
-    alloc: Global,
-    text: &mut Vec<u8>,
-    place: u64,
-    entry: &Entry,
-) -> Result<(), NoMemory>
+fn push_entry(alloc: Global, text: &mut Vec<u8>, place: u64, entry: &Entry) -> Result<(), NoMemory>
     ensures { OnOk result (text.new.items ≡ text.old.items ++ entry_text place entry.now) }
 {
     push_number(text, place)?;
@@ -98,17 +93,19 @@ fn push_answers(
     for index in 0..answers.len() {
         let session = index as u64 + 1;
         let statements = statements_given(alloc, script, session)?;
-        push_session(alloc, text, session, statements.as_slice(), answers[index].as_slice())?;
+        push_session(
+            alloc,
+            text,
+            session,
+            statements.as_slice(),
+            answers[index].as_slice(),
+        )?;
     }
     Ok(())
 }
 
 /// The text of what a race of the script's runs gave.
-pub fn print_outcome(
-    alloc: Global,
-    script: &[u8],
-    outcome: &Outcome,
-) -> Result<Vec<u8>, NoMemory>
+pub fn print_outcome(alloc: Global, script: &[u8], outcome: &Outcome) -> Result<Vec<u8>, NoMemory>
     ensures { IfOk result (λ text. text.items ≡ outcome_text (lines_of script.now) outcome.now) }
 {
     let mut text = Vec::new(alloc);

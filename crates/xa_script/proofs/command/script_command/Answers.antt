@@ -2,7 +2,7 @@ use Rattle.std.proofs.Common.{rules, ap, ap₂, codes, true, ◌≡◌, ◌∙�
 use Rattle.std.proofs.lemmas.Result.{IfOk-weaker}
 use Rattle.clap.specs.Words.{App, app_of, new_app, with_rule, with_subcommand}
 use Rattle.clap.specs.Simple.{on_top, shape_of}
-use Rattle.xa_script.specs.CommandLine.{race_app, script_app}
+use Rattle.xa_script.specs.CommandLine.{race_app}
 use Rattle.xa_script.proofs.command.script_command.Goals as goal
 
 pub returns : goal.returns

@@ -1,4 +1,4 @@
-use Rattle.std.proofs.Common.{◌≡◌, ◌++◌, ◌∙◌, ap, sym, append-nil}
+use Rattle.std.proofs.Common.{◌++◌, ◌∙◌, ap, sym, append-nil}
 use Rattle.xa_transcript.proofs.Race.{entries_text-more, entries_text-none, grown}
 use Rattle.xa_transcript.proofs.race_text.push_entries.Goals as goal
 

@@ -1,4 +1,4 @@
-use Rattle.std.proofs.Common.{arith, ◌≡◌, ◌++◌, ◌∙◌, ap, sym, append-nil}
+use Rattle.std.proofs.Common.{arith, ◌++◌, ◌∙◌, ap, sym, append-nil}
 use Rattle.xa_transcript.proofs.Race.{session_text-more, session_text-none, session_text-whole, grown}
 use Rattle.xa_transcript.proofs.race_text.push_session.Goals as goal
 
