@@ -1,5 +1,5 @@
 //! Gates that a run asks before each of its statements.
-ghost use Rattle.std.specs.Prelude.{◌≡◌, true};
+ghost use Rattle.std.specs.Prelude.{IsTrue};
 
 use xa_xid::SessionNo;
 
@@ -17,7 +17,7 @@ pub struct OpenGate;
 
 impl Gate for OpenGate {
     fn enter(&self, _session: SessionNo, _line: u64) -> bool
-        ensures { result ≡ true }
+        ensures { IsTrue result }
     {
         true
     }
