@@ -8,7 +8,8 @@ use Rattle.xa_xid.specs.declared.statement.Statement.{Statement}
 use Rattle.xa_words.specs.Entry.{Entry}
 use Rattle.xa_session.specs.declared.answer.Answer.{Answer}
 use Rattle.xa_transcript.specs.Script.{lines_of, line_of}
-use Rattle.xa_transcript.specs.Race.{fault_place, fault_text, faults_text, session_in, last_session, statement_by, statements_of, entry_text, entries_text, placed_text, session_text, answers_text}
+use Rattle.xa_transcript.specs.Race.{fault_place, fault_text, faults_text, session_in, last_session, statement_by, statements_of}
+use Rattle.xa_transcript.specs.Outcome.{entry_text, entries_text, placed_text, session_text, answers_text}
 
 -- what is told of the faults, when one more line was cut off
 pub faults_text-line : (number : ℕ) (text line rest : List ℕ) → lines_of text ≡ line ∷ lines_of rest

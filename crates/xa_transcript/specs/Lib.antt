@@ -2,4 +2,5 @@ pub mod Script
 pub mod Printed
 pub mod Transcript
 pub mod Race
+pub mod Outcome
 pub mod Cut

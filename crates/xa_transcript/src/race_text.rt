@@ -2,7 +2,8 @@
 ghost use Rattle.std.specs.Prelude.{◌≡◌, ◌++◌, OnOk, IfOk, length, map};
 ghost use Rattle.xa_transcript.specs.Printed.{converts as converts_of};
 ghost use Rattle.xa_transcript.specs.Script.{lines_of};
-ghost use Rattle.xa_transcript.specs.Race.{entry_text, entries_text, history_text, placed_text, session_text, statements_of, answers_text, outcome_text};
+ghost use Rattle.xa_transcript.specs.Race.{statements_of};
+ghost use Rattle.xa_transcript.specs.Outcome.{entry_text, entries_text, history_text, placed_text, session_text, answers_text, outcome_text};
 
 use crate::answer::converts;
 use crate::print::{push_number, push_reply};

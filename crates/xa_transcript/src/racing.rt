@@ -7,7 +7,8 @@ ghost use Rattle.chain_log.specs.ChainPass.{known_of};
 ghost use Rattle.chain_log.specs.declared.pass.ChainPass.{ChainPass};
 ghost use Rattle.xa_transcript.specs.Script.{lines_of};
 ghost use Rattle.xa_transcript.specs.Transcript.{ConsumesMoreThan};
-ghost use Rattle.xa_transcript.specs.Race.{AreRunsFrom, IsRaced, IsRaceText, AppendsRace, AfterRaceFault, IsOfRace, IsOfText, script_fault_of};
+ghost use Rattle.xa_transcript.specs.Race.{AreRunsFrom};
+ghost use Rattle.xa_transcript.specs.Outcome.{IsRaced, IsRaceText, AppendsRace, AfterRaceFault, IsOfRace, IsOfText, script_fault_of};
 
 use crate::ScriptFault;
 use crate::race_lines::{greatest_session, statements_given, tell_faults};
@@ -109,7 +110,7 @@ fn text_of_race<G: Gate + Sync, R: Threads + Wait + Sync>(
 /// growth was refused; `Full`, `GateShut` and `ThreadRefused` as the race tells them; `Write` where a write failed or took nothing.
 /// After `Write` a prefix of the text was written, after any other nothing.
 /// May answer `NoMemory`. Waits for its threads.
-/// Own rule: docs/BEHAVIOR.md, 'Scripts'.
+/// Own rule: docs/BEHAVIOR.md, 'A race of a script'.
 pub fn race_script<I: Read, O: Write, G: Gate + Sync, R: Threads + Wait + Sync>(
     rt: &R,
     alloc: Global,

@@ -1,6 +1,7 @@
 use Rattle.std.proofs.Common.{◌≡◌, ◌+◌, refl, ◌++◌, ◌∙◌, ap, sym, append-nil}
 use Rattle.xa_transcript.specs.Script.{lines_of}
-use Rattle.xa_transcript.specs.Race.{session_text, statements_of}
+use Rattle.xa_transcript.specs.Race.{statements_of}
+use Rattle.xa_transcript.specs.Outcome.{session_text}
 use Rattle.xa_transcript.proofs.Race.{answers_text-more, answers_text-none, grown}
 use Rattle.xa_transcript.proofs.race_text.push_answers.Goals as goal
 

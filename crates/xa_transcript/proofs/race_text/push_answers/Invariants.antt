@@ -1,6 +1,6 @@
 use Rattle.std.proofs.Common.{◌≡◌, ◌++◌, map, take}
 use Rattle.xa_transcript.specs.Script.{lines_of}
-use Rattle.xa_transcript.specs.Race.{answers_text}
+use Rattle.xa_transcript.specs.Outcome.{answers_text}
 use Rattle.xa_transcript.proofs.race_text.push_answers.Given as goal
 
 abbrev pub invariant-loop-index : goal.invariant-loop-index

@@ -1,5 +1,5 @@
 use Rattle.std.proofs.Common.{◌≡◌, ◌++◌, take}
-use Rattle.xa_transcript.specs.Race.{entries_text}
+use Rattle.xa_transcript.specs.Outcome.{entries_text}
 use Rattle.xa_transcript.proofs.race_text.push_entries.Given as goal
 
 abbrev pub invariant-loop-place : goal.invariant-loop-place

@@ -1,5 +1,5 @@
 use Rattle.std.proofs.Common.{◌≡◌, ◌++◌, take}
-use Rattle.xa_transcript.specs.Race.{session_text}
+use Rattle.xa_transcript.specs.Outcome.{session_text}
 use Rattle.xa_transcript.proofs.race_text.push_session.Given as goal
 
 abbrev pub invariant-loop-index : goal.invariant-loop-index
