@@ -1,21 +1,37 @@
 -- Which faults a command line has.
-use Rattle.std.proofs.Common.{◌≡◌, ◌∙◌, true, [], refl, sym, ap, subst, inl, List, Result, Err}
-use Rattle.clap.specs.Words.{App, Text, HasKind, fault_of, is_simple_and_free}
+use Rattle.std.proofs.Common.{◌≡◌, ◌∙◌, true, [], refl, sym, ap, subst, inl, List, Option, Result, Err}
+use Rattle.clap.specs.Words.{App, Text, HasKind, HasMatchesOf, Row, fault_of, is_simple, is_simple_and_free, subcommand_of, subcommand_rows_of}
 use Rattle.clap.specs.declared.error.Error.{Error}
 use Rattle.clap.proofs.OnLiterals.{clap_on_literals}
-use Rattle.xa_script.specs.CommandLine.{script_app, ReadsCommand}
+use Rattle.std.specs.Option.{IsSomeAnd}
+use Rattle.clap.specs.declared.parser.matches.ArgMatches.{ArgMatches}
+use Rattle.xa_script.specs.CommandLine.{script_app, IsJob, Names, ReadsCommand}
 use Rattle.xa_script.specs.declared.command.Job.{Job}
 
-is_simple : is_simple_and_free script_app ≡ true
+simple_and_free : is_simple_and_free script_app ≡ true
 unfolding clap_on_literals
-is_simple = refl
+simple_and_free = refl
+
+simple : is_simple script_app ≡ true
+unfolding clap_on_literals
+simple = refl
+
+-- the subcommand that was found is the one that the words name
+pub found_as_named : (app : App) (words : List Text) (m : ArgMatches) → app ≡ script_app → HasMatchesOf app words m → subcommand_rows_of m ≡ subcommand_of script_app words
+found_as_named app words m is has = (has (ap is_simple is ∙ simple)).1 ∙ ap (λ (a : App). subcommand_of a words) is
+
+pub named : (words : List Text) (m : ArgMatches) (job : Job) → subcommand_rows_of m ≡ subcommand_of script_app words → IsSomeAnd (subcommand_rows_of m) (IsJob job) → Names words job
+named words m job is found = let P : Option (Text × List Row) → Type 0 = λ s. IsSomeAnd s (IsJob job) in subst P is found
+
+pub found : (words : List Text) (m : ArgMatches) (job : Job) → subcommand_rows_of m ≡ subcommand_of script_app words → Names words job → IsSomeAnd (subcommand_rows_of m) (IsJob job)
+found words m job is names = let P : Option (Text × List Row) → Type 0 = λ s. IsSomeAnd s (IsJob job) in subst P (sym is) names
 
 -- the kinds of the faults are those of the program's own command
 pub kind_of_script : (app : App) (words : List Text) (error : Error) → app ≡ script_app → (is_simple_and_free app ≡ true → HasKind (fault_of app words) error) → HasKind (fault_of script_app words) error
-kind_of_script app words error is kinds = let P : App → Type 0 = λ a. HasKind (fault_of a words) error in subst P is (kinds (ap is_simple_and_free is ∙ is_simple))
+kind_of_script app words error is kinds = let P : App → Type 0 = λ a. HasKind (fault_of a words) error in subst P is (kinds (ap is_simple_and_free is ∙ simple_and_free))
 
 pub no_fault_of_script : (app : App) (words : List Text) → app ≡ script_app → (is_simple_and_free app ≡ true → fault_of app words ≡ []) → fault_of script_app words ≡ []
-no_fault_of_script app words is none = let P : App → Type 0 = λ a. fault_of a words ≡ [] in subst P is (none (ap is_simple_and_free is ∙ is_simple))
+no_fault_of_script app words is none = let P : App → Type 0 = λ a. fault_of a words ≡ [] in subst P is (none (ap is_simple_and_free is ∙ simple_and_free))
 
 -- an error that is passed on
 pub refused_as : (words : List Text) (answer : Result Job Error) (passed error : Error) → answer ≡ Err passed → passed ≡ error → HasKind (fault_of script_app words) error → ReadsCommand words answer

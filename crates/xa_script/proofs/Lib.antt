@@ -1,1 +1,2 @@
 pub mod CommandFaults
+pub mod Jobs

@@ -1,28 +1,55 @@
 -- The command line of the program.
 --     script_app      the command and its subcommands
---     job_of          the job that the words of a command line name
+--     IsJob           the job of a subcommand
+--     Names           the job that the words of a command line name
 --     ReadsCommand    when a command line is read, and why not
-use Rattle.std.specs.Prelude.{◌≡◌, ◌⊎◌, true, cond, Option, Some, None, Result, MatchResult, List, [], codes, option_and_then}
-use Rattle.std.specs.Str.{bytes_eq}
-use Rattle.clap.specs.Words.{App, Text, Row, new_app, subcommand_of, with_subcommand, fault_of, HasKind}
+use Rattle.std.specs.Prelude.{◌≡◌, ◌⊎◌, ℕ, true, Option, Some, Result, MatchResult, List, [], ◌∷◌, codes}
+use Rattle.std.specs.Option.{IsSomeAnd}
+use Rattle.std.specs.Str.Parse.{IsNumeral, digits_value, without_leading_plus}
+use Rattle.clap.specs.Words.{App, Text, Row, Rule, new_app, new_rule, one_of, subcommand_of, with_rule, with_subcommand, fault_of, HasKind}
 use Rattle.clap.specs.Simple.{on_top}
+use Rattle.clap.specs.declared.builder.value_parser.ValueParser.TheVariants as parser
 use Rattle.clap.specs.declared.error.Error.{Error}
+use Rattle.decision_log.specs.Opens.{IsCapacity}
 use Rattle.xa_script.specs.declared.command.Job.{Job}
-use Rattle.xa_script.specs.declared.command.Job.TheVariants.{Run}
+use Rattle.xa_script.specs.declared.command.Job.TheVariants.{Run, Race}
 
--- `xa_script run`: a subcommand is required
+-- `--capacity N`, a number from 1 to 1024, and 1024 where it isn't given
+abbrev pub capacity_rule : Rule
+capacity_rule = record (new_rule (codes "capacity")) { long = Some (codes "capacity"); value_names = 1; parser = Some (parser.Unsigned 1 1024); defaults = codes "1024" ∷ [] }
+
+-- `race [--capacity N]`
+abbrev pub race_app : App
+race_app = with_rule (new_app (codes "race")) capacity_rule
+
+-- `xa_script run` and `xa_script race`: a subcommand is required
 abbrev pub script_app : App
-script_app = on_top (λ shape. record shape { subcommand_required = true }) (with_subcommand (new_app (codes "xa_script")) (new_app (codes "run")).top)
+script_app = with_subcommand (on_top (λ shape. record shape { subcommand_required = true }) (with_subcommand (new_app (codes "xa_script")) (new_app (codes "run")).top)) race_app.top
 
--- the job of a subcommand
-abbrev pub job_named : Text × List Row → Option Job
-job_named found = cond (bytes_eq found.0 (codes "run")) (Some Run) None
+-- the text of a value is this number, which a log can have as its capacity
+abbrev pub IsCapacityText : ℕ → Text → Type 0
+IsCapacityText capacity text = IsNumeral 10 (without_leading_plus text) × (capacity ≡ digits_value 10 (without_leading_plus text)) × IsCapacity capacity
 
--- the job that the words name, as `clap` matches them
-abbrev pub job_of : List Text → Option Job
-job_of words = option_and_then job_named (subcommand_of script_app words)
+-- the job is a race of the capacity that a value's text is
+abbrev pub IsRaceOf : Option Text → Job → Type 0
+IsRaceOf text Run = ⊥
+IsRaceOf text (Race capacity) = IsSomeAnd text (IsCapacityText capacity)
+
+-- the job of a subcommand, with what `clap` found for its arguments
+abbrev pub IsJob : Job → Text × List Row → Type 0
+IsJob Run found = found.0 ≡ codes "run"
+IsJob (Race capacity) found = (found.0 ≡ codes "race") × IsSomeAnd (one_of (codes "capacity") found.1) (IsCapacityText capacity)
+
+-- the words name this job, as `clap` matches them
+abbrev pub Names : List Text → Job → Type 0
+Names words job = IsSomeAnd (subcommand_of script_app words) (IsJob job)
 
 -- a command line is read only where `clap` finds no fault in it; else the error has the kind of its fault, or memory ran
 -- out, or the words name no job
 abbrev pub ReadsCommand : List Text → Result Job Error → Type 0
-ReadsCommand words answer = MatchResult answer (λ job. fault_of script_app words ≡ []) (λ error. HasKind (fault_of script_app words) error ⊎ (job_of words ≡ None))
+ReadsCommand words answer = MatchResult answer (λ job. fault_of script_app words ≡ []) (λ error. HasKind (fault_of script_app words) error ⊎ ((job : Job) → Names words job → ⊥))
+
+-- a race has a capacity that a log can have
+abbrev pub CanBeDone : Job → Type 0
+CanBeDone Run = Unit {0}
+CanBeDone (Race capacity) = IsCapacity capacity

@@ -1,10 +1,11 @@
 //! The command line.
-ghost use Rattle.std.specs.Prelude.{◌≡◌, Some, IfOk, map};
-ghost use Rattle.xa_script.specs.CommandLine.{script_app, job_of, ReadsCommand};
-ghost use Rattle.clap.specs.Words.{app_of};
+ghost use Rattle.std.specs.Prelude.{◌≡◌, ◌≤◌, ℕ, Some, None, IfOk, IfSome, false, map, codes};
+ghost use Rattle.std.specs.Option.{IsSomeAnd};
+ghost use Rattle.clap.specs.Words.{app_of, found_of, one_text, rule_of, subcommand_rows_of};
+ghost use Rattle.xa_script.specs.CommandLine.{capacity_rule, script_app, IsCapacityText, IsRaceOf, IsJob, Names, CanBeDone, ReadsCommand};
 
 use clap::error::ErrorKind;
-use clap::{Command, Error};
+use clap::{Arg, ArgMatches, Command, Error, value_parser};
 use std::alloc::{AllocError, Global};
 use std::convert::AsStr;
 
@@ -13,6 +14,21 @@ use std::convert::AsStr;
 pub enum Job {
     /// Runs the script of the standard input on a sequential server.
     Run,
+    /// Races the script of the standard input, over a log with room for so many entries, in `[1, 1024]`.
+    Race(u64),
+}
+
+/// The option that says for how many entries a race's log has room.
+fn capacity_option<'a>(alloc: Global) -> Arg<'a>
+    ensures rule { rule_of result ≡ capacity_rule }
+    ensures global { result.global ≡ false }
+{
+    Arg::new(alloc, "capacity")
+        .long("capacity")
+        .value_name("N")
+        .help("How many entries the history has room for")
+        .value_parser(value_parser!(u64).range(1..=1024))
+        .default_value("1024")
 }
 
 /// The command and its subcommands.
@@ -20,26 +36,71 @@ fn script_command<'a>(alloc: Global) -> Result<Command<'a>, AllocError>
     ensures { IfOk result (λ command. app_of command ≡ script_app) }
 {
     let run = Command::new(alloc, "run").about("Runs the script of the standard input");
+    let race = Command::new(alloc, "race")
+        .about("Races the script of the standard input, each session on a thread of its own")
+        .arg(capacity_option(alloc))?;
     Command::new(alloc, "xa_script")
         .about("Runs scripts of XA statements")
         .subcommand_required(true)
-        .subcommand(run)
+        .subcommand(run)?
+        .subcommand(race)
+}
+
+/// The capacity that was found for a race.
+fn capacity_in(found: &ArgMatches<'_>) -> Option<u64>
+    ensures some { IfSome result (λ capacity. IsSomeAnd (one_text (found_of found.now) (codes "capacity")) (IsCapacityText capacity)) }
+    ensures none { result ≡ None → (capacity : ℕ) → IsSomeAnd (one_text (found_of found.now) (codes "capacity")) (IsCapacityText capacity) → ⊥ }
+{
+    match found.get_one::<u64>("capacity") {
+        Some(capacity) if 1 <= capacity && capacity <= 1024 => Some(capacity),
+        _ => None,
+    }
+}
+
+/// The race of the capacity that was found.
+fn race_in(found: &ArgMatches<'_>) -> Option<Job>
+    ensures some { IfSome result (λ job. IsRaceOf (one_text (found_of found.now) (codes "capacity")) job) }
+    ensures none { result ≡ None → (capacity : ℕ) → IsSomeAnd (one_text (found_of found.now) (codes "capacity")) (IsCapacityText capacity) → ⊥ }
+{
+    match capacity_in(found) {
+        Some(capacity) => Some(Job::Race(capacity)),
+        None => None,
+    }
+}
+
+/// The job of the subcommand that was found.
+fn job_in(matches: &ArgMatches<'_>) -> Option<Job>
+    ensures some { IfSome result (λ job. IsSomeAnd (subcommand_rows_of matches.now) (IsJob job)) }
+    ensures none { result ≡ None → (job : Job) → IsSomeAnd (subcommand_rows_of matches.now) (IsJob job) → ⊥ }
+{
+    let Some((name, found)) = matches.subcommand() else {
+        return None;
+    };
+    if name == "run" {
+        Some(Job::Run)
+    } else if name == "race" {
+        race_in(found)
+    } else {
+        None
+    }
 }
 
 /// The job that the words of a command line name. The first word is the program's own name.
 ///
+/// A race's capacity is in `[1, 1024]`, and 1024 where the words don't give it.
 /// Errors: what `clap` says of words that name no job, or that ask for help; want of memory is one of its kinds.
 /// May answer that memory ran out. Doesn't wait.
 /// Own rule: docs/BEHAVIOR.md, 'The program'.
 pub fn read_command<'a, S: AsStr>(alloc: Global, words: &'a [S]) -> Result<Job, Error>
-    ensures job { IfOk result (λ job. job_of (map S.text words.entry.now) ≡ Some job) }
+    ensures job { IfOk result (Names (map S.text words.entry.now)) }
+    ensures capacity { IfOk result CanBeDone }
     ensures fault { ReadsCommand (map S.text words.entry.now) result }
 {
     let mut command = script_command(alloc)?;
     let matches = command.try_get_matches_from_mut(words)?;
-    match matches.subcommand_name() {
-        Some(name) if name == "run" => Ok(Job::Run),
-        _ => Err(command.error(ErrorKind::InvalidSubcommand, "no such job")?),
+    match job_in(&matches) {
+        Some(job) => Ok(job),
+        None => Err(command.error(ErrorKind::InvalidSubcommand, "no such job")?),
     }
 }
 
@@ -64,6 +125,32 @@ mod tests {
     }
 
     #[test]
+    fn race_is_a_job_with_a_capacity(rt: HostRuntime) {
+        let words = ["xa_script", "race"];
+        assert_eq!(rt;
+            read_command(rt.alloc(), words.as_slice()).ok(),
+            Some(Job::Race(1024))
+        );
+        for (text, capacity) in [("7", 7), ("1", 1), ("1024", 1024)] {
+            let words = ["xa_script", "race", "--capacity", text];
+            assert_eq!(rt;
+                read_command(rt.alloc(), words.as_slice()).ok(),
+                Some(Job::Race(capacity))
+            );
+        }
+    }
+
+    #[test]
+    fn capacity_is_from_1_to_1024(rt: HostRuntime) {
+        for text in ["0", "1025", "-1", "many", ""] {
+            let words = ["xa_script", "race", "--capacity", text];
+            assert_eq!(rt; refusal(rt.alloc(), words.as_slice()), Some(2));
+        }
+        let words = ["xa_script", "run", "--capacity", "7"];
+        assert_eq!(rt; refusal(rt.alloc(), words.as_slice()), Some(2));
+    }
+
+    #[test]
     fn other_words_are_refused(rt: HostRuntime) {
         assert_eq!(rt; refusal(rt.alloc(), ["xa_script"].as_slice()), Some(2));
         assert_eq!(rt;
@@ -84,6 +171,10 @@ mod tests {
         );
         assert_eq!(rt;
             refusal(rt.alloc(), ["xa_script", "help"].as_slice()),
+            Some(0)
+        );
+        assert_eq!(rt;
+            refusal(rt.alloc(), ["xa_script", "race", "--help"].as_slice()),
             Some(0)
         );
     }

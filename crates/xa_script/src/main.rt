@@ -1,7 +1,9 @@
-//! Runs scripts of XA statements: `xa_script run` reads a script from the standard input, and writes what answers it.
+//! Runs scripts of XA statements: `xa_script run` reads a script from the standard input, and writes what answers it;
+//! `xa_script race` gives each session's statements to a thread of its own, and writes the history that explains the answers.
 #![tactic(auto)]
 
 ghost use Rattle.std.specs.Prelude.{◌≡◌};
+ghost use Rattle.xa_script.specs.CommandLine.{CanBeDone};
 ghost use Rattle.xa_script.specs.Status.{status_after};
 
 mod command;
@@ -13,8 +15,11 @@ use std::alloc::Global;
 use std::env::Env;
 use std::io::{BufWriter, Write};
 use std::process::ExitCode;
+use std::sync::Wait;
+use std::thread::Threads;
 use std::{env, io};
-pub use xa_transcript::{CutReader, CutWriter, ScriptFault, run_script};
+use xa_store::OpenGate;
+pub use xa_transcript::{CutReader, CutWriter, ScriptFault, race_script, run_script};
 
 /// The status of a run that was done, and of help.
 const DONE: u8 = 0;
@@ -25,21 +30,23 @@ const STREAM_FAULT: u8 = 1;
 /// The status of a command line that isn't read.
 const COMMAND_FAULT: u8 = 2;
 
-/// The status where memory ran out.
-const OUT_OF_MEMORY: u8 = 3;
+/// The status where memory, the log, the gate or a thread gave out.
+const GAVE_OUT: u8 = 3;
 
 fn main(rt: HostRuntime) -> ExitCode {
     ExitCode::from(status(&rt))
 }
 
 /// Does what the command line asks for, and says how it went.
-fn status<R: Env + Input + Print + Eprint + Alloc<A = Global>>(rt: &R) -> u8 {
+fn status<R: Env + Input + Print + Eprint + Alloc<A = Global> + Threads + Wait + Sync>(
+    rt: &R,
+) -> u8 {
     let words = match words(rt) {
         Ok(words) => words,
         Err(error) => return refuse_words(rt, &error),
     };
     match read_command(rt.alloc(), words.as_slice()) {
-        Ok(Job::Run) => match run(rt) {
+        Ok(job) => match carry_out(rt, job) {
             Ok(()) => DONE,
             Err(fault) => {
                 tell(rt, &fault);
@@ -59,19 +66,30 @@ fn words<R: Env + Alloc<A = Global>>(rt: &R) -> io::Result<Vec<String>> {
 fn refuse_words<R: Eprint>(rt: &R, error: &io::Error) -> u8 {
     if error.kind() == io::ErrorKind::OutOfMemory {
         tell(rt, &ScriptFault::NoMemory);
-        return OUT_OF_MEMORY;
+        return GAVE_OUT;
     }
     let _ = eprintln!(rt; "error: a word of the command line isn't UTF-8");
     COMMAND_FAULT
 }
 
-/// Runs the script of the standard input.
-fn run<R: Input + Print + Alloc<A = Global>>(rt: &R) -> Result<(), ScriptFault> {
+/// Runs or races the script of the standard input.
+fn carry_out<R: Input + Print + Alloc<A = Global> + Threads + Wait + Sync>(
+    rt: &R,
+    job: Job,
+) -> Result<(), ScriptFault>
+    requires { CanBeDone job }
+{
     let mut input = rt.reader();
     let Ok(mut output) = BufWriter::new(rt.alloc(), io::writer(rt)) else {
         return Err(ScriptFault::NoMemory);
     };
-    let result = run_script(rt.alloc(), &mut input, &mut output);
+    let result = match job {
+        Job::Run => run_script(rt.alloc(), &mut input, &mut output),
+        Job::Race(capacity) => {
+            let gate = OpenGate;
+            race_script(rt, rt.alloc(), &mut input, &mut output, capacity, &gate)
+        }
+    };
     if output.flush().is_err() {
         return Err(ScriptFault::Write);
     }
@@ -82,7 +100,7 @@ fn run<R: Input + Print + Alloc<A = Global>>(rt: &R) -> Result<(), ScriptFault> 
 fn refuse<R: Print + Eprint>(rt: &R, error: &Error) -> u8 {
     if error.kind() == ErrorKind::OutOfMemory {
         tell(rt, &ScriptFault::NoMemory);
-        return OUT_OF_MEMORY;
+        return GAVE_OUT;
     }
     let printed = error.print(rt);
     if error.use_stderr() {
@@ -95,13 +113,14 @@ fn refuse<R: Print + Eprint>(rt: &R, error: &Error) -> u8 {
     }
 }
 
-/// The status of a run that ended in this fault.
+/// The status of a run or a race that ended in this fault.
 fn status_of(fault: ScriptFault) -> u8
     ensures { result ≡ status_after fault }
 {
     match fault {
         ScriptFault::Read | ScriptFault::TooLong | ScriptFault::Write => STREAM_FAULT,
-        ScriptFault::NoMemory => OUT_OF_MEMORY,
+        ScriptFault::NoMemory => GAVE_OUT,
+        ScriptFault::Full | ScriptFault::GateShut | ScriptFault::ThreadRefused => GAVE_OUT,
     }
 }
 

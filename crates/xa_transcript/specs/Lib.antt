@@ -1,4 +1,6 @@
 pub mod Script
 pub mod Printed
 pub mod Transcript
+pub mod Race
+pub mod Outcome
 pub mod Cut

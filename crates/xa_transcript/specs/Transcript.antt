@@ -12,7 +12,7 @@ use Rattle.xa_server.specs.State.{State, no_state}
 use Rattle.xa_server.specs.Replies.{reply_to}
 use Rattle.xa_server.specs.Step.{after}
 use Rattle.xa_transcript.specs.declared.script_fault.ScriptFault.{ScriptFault}
-use Rattle.xa_transcript.specs.declared.script_fault.ScriptFault.TheVariants.{Read, TooLong, Write, NoMemory}
+use Rattle.xa_transcript.specs.declared.script_fault.ScriptFault.TheVariants.{Read, TooLong, Write, NoMemory, Full, GateShut, ThreadRefused}
 use Rattle.xa_transcript.specs.Script.{Line, Blank, Bad, Given, line_of, lines_of}
 use Rattle.xa_transcript.specs.Printed.{reply_text, syntax_text, converts, answer_text}
 use Rattle.xa_statement.specs.Reading.{read_of}
@@ -58,18 +58,22 @@ ConsumesMoreThan limit old new = (bytes : List ℕ) × Consumes old new bytes ×
 
 -- a fault by which a script isn't read
 abbrev pub IsOfReading : ScriptFault → Type 0
-IsOfReading fault = (fault ≡ Write) → ⊥
+IsOfReading fault = (fault ≡ Read) ⊎ (fault ≡ TooLong) ⊎ (fault ≡ NoMemory)
 
 -- a fault by which a script's run ends
 abbrev pub IsOfRun : ScriptFault → Type 0
 IsOfRun fault = (fault ≡ Write) ⊎ (fault ≡ NoMemory)
 
--- what a fault leaves in the writer, by the fault: nothing where the script wasn't read, else a prefix of its transcript
+-- what a fault leaves in the writer, by the fault: nothing where the script wasn't read, else a prefix of its transcript; a run
+-- has no fault of a race
 abbrev pub AfterFault : ScriptFault → Option (List ℕ) → Option (List ℕ) → Option (List ℕ) → Type 0
 AfterFault Read input old new = Keeps old new
 AfterFault TooLong input old new = Keeps old new
 AfterFault Write input old new = IfSome input (λ script. AppendsPrefix old new (transcript script))
 AfterFault NoMemory input old new = IfSome input (λ script. AppendsPrefix old new (transcript script))
+AfterFault Full input old new = ⊥
+AfterFault GateShut input old new = ⊥
+AfterFault ThreadRefused input old new = ⊥
 
 -- the writer got the whole but for what is left of it
 pub record IsWrittenUpTo (old new : Option (List ℕ)) (whole left : List ℕ) : Type 0 where

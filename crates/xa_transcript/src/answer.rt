@@ -13,7 +13,7 @@ use xa_statement::read_statement;
 use xa_xid::{NoMemory, SessionNo, Statement};
 
 /// Whether recovered identifiers are to be printed in digits.
-fn converts(statement: &Statement) -> bool
+pub(crate) fn converts(statement: &Statement) -> bool
     ensures { result ≡ converts_of statement.now }
 {
     match statement {

@@ -6,58 +6,10 @@ ghost use Rattle.xa_transcript.specs.Transcript.{AppendsPrefix, ConsumesMoreThan
 use crate::ScriptFault;
 use crate::answer::answer_line;
 use crate::lines::split_line;
+use crate::streams::{SCRIPT_BYTES, read_all, write_whole};
 use std::alloc::Global;
 use std::io::{Read, Write};
 use xa_server::Server;
-
-/// The greatest length of a script, in bytes.
-const SCRIPT_BYTES: usize = 1_048_576;
-
-/// The greatest number of reads that a script takes.
-const SCRIPT_READS: u64 = 2_097_152;
-
-/// Reads all that the reader gives.
-fn read_all<R: Read>(alloc: Global, reader: &mut R) -> Result<Vec<u8>, ScriptFault>
-    ensures all { IfOk result (λ script. Consumes (R.remaining reader.old) (R.remaining reader.new) script.items) }
-    ensures end { OnOk result (IsAtEnd (R.remaining reader.new)) }
-    ensures short { IfOk result (λ script. vec_len script ≤ SCRIPT_BYTES) }
-    ensures fault { IfErr result IsOfReading }
-    ensures too_long { result ≡ Err ScriptFault.TooLong → ConsumesMoreThan SCRIPT_BYTES (R.remaining reader.old) (R.remaining reader.new) }
-{
-    let mut script = Vec::new(alloc);
-    let mut piece = [0u8; 4096];
-    for _ in 0..SCRIPT_READS {
-        let Ok(count) = reader.read(&mut piece) else {
-            return Err(ScriptFault::Read);
-        };
-        if count == 0 {
-            return Ok(script);
-        }
-        if count > SCRIPT_BYTES - script.len() {
-            return Err(ScriptFault::TooLong);
-        }
-        if script.extend_from_slice(&piece[..count]).is_err() {
-            return Err(ScriptFault::NoMemory);
-        }
-    }
-    Err(ScriptFault::Read)
-}
-
-/// Writes all of the bytes, or as many as the writer takes until a write fails.
-fn write_whole<W: Write>(writer: &mut W, bytes: &[u8]) -> Result<(), ScriptFault>
-    ensures all { OnOk result (Appends (W.contents writer.old) (W.contents writer.new) bytes.now) }
-    ensures fault { IfErr result (λ fault. fault ≡ ScriptFault.Write) }
-    ensures prefix { OnErr result (AppendsPrefix (W.contents writer.old) (W.contents writer.new) bytes.now) }
-{
-    let mut written = 0;
-    while written < bytes.len() {
-        match writer.write(&bytes[written..]) {
-            Ok(count) if count > 0 => written += count,
-            _ => return Err(ScriptFault::Write),
-        }
-    }
-    Ok(())
-}
 
 /// Gives the script's lines to a server that holds nothing at first, and writes each answer as it is found.
 fn run_lines<W: Write>(alloc: Global, script: &[u8], writer: &mut W) -> Result<(), ScriptFault>

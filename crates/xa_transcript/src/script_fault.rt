@@ -12,10 +12,19 @@ pub enum ScriptFault {
     /// 2: the script is longer than 1,048,576 bytes. Nothing was written.
     #[error("script too long")]
     TooLong,
-    /// 3: a write failed. A prefix of the transcript was written.
+    /// 3: a write failed. A prefix of what was to be written was written.
     #[error("write fault")]
     Write,
-    /// 4: a growth was refused. A prefix of the transcript was written.
+    /// 4: a growth was refused. A run wrote a prefix of the transcript, a race nothing.
     #[error("out of memory")]
     NoMemory,
+    /// 5: a race's history has no more room. Nothing was written.
+    #[error("log full")]
+    Full,
+    /// 6: a gate shut a race's run. Nothing was written.
+    #[error("gate shut")]
+    GateShut,
+    /// 7: a race's thread couldn't be started. Nothing was written.
+    #[error("thread refused")]
+    ThreadRefused,
 }

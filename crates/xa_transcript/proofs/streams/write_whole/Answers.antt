@@ -1,7 +1,7 @@
 use Rattle.std.proofs.Common.{ℕ, arith}
 use Rattle.std.proofs.lemmas.List.{length-take, length-drop}
 use Rattle.xa_transcript.proofs.Written.{Appends-more}
-use Rattle.xa_transcript.proofs.run.write_whole.Goals as goal
+use Rattle.xa_transcript.proofs.streams.write_whole.Goals as goal
 
 pub loop-written-preserved : goal.loop-written-preserved
 loop-written-preserved g c = record {

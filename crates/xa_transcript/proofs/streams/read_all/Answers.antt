@@ -1,7 +1,7 @@
 use Rattle.std.proofs.Common.{◌++◌, take, arith}
 use Rattle.std.proofs.KnownBytes.{Consumes-trans}
 use Rattle.xa_transcript.proofs.Written.{length-piece}
-use Rattle.xa_transcript.proofs.run.read_all.Goals as goal
+use Rattle.xa_transcript.proofs.streams.read_all.Goals as goal
 
 pub returns-then-count-len-clause-too_long : goal.returns-then-count-len-clause-too_long
 returns-then-count-len-clause-too_long g c =

@@ -1,0 +1,15 @@
+use Rattle.std.proofs.Common.{rules, ap, ap₂, codes, true, ◌≡◌, ◌∙◌}
+use Rattle.std.proofs.lemmas.Result.{IfOk-weaker}
+use Rattle.clap.specs.Words.{App, app_of, new_app, with_rule, with_subcommand}
+use Rattle.clap.specs.Simple.{on_top, shape_of}
+use Rattle.xa_script.specs.CommandLine.{race_app}
+use Rattle.xa_script.proofs.command.script_command.Goals as goal
+
+pub returns : goal.returns
+returns c =
+    let race_base : app_of c.about.result ≡ new_app (codes "race") = search rules in
+    let race_is : app_of c.in_ok-race.race ≡ race_app = c.in_ok-race.ensures.shape c.capacity_option.ensures.global ∙ ap₂ with_rule race_base c.capacity_option.ensures.rule in
+    let run_is : shape_of c.about-run.result ≡ (new_app (codes "run")).top = search rules in
+    let top_is : app_of c.subcommand_required.result ≡ on_top (λ shape. record shape { subcommand_required = true }) (new_app (codes "xa_script")) = search rules in
+    let one = c.in_ok-subcommand.ensures.shape (search rules) ∙ ap₂ with_subcommand top_is run_is in
+    IfOk-weaker c.subcommand-2.result _ _ (λ command added. added.shape (search rules) ∙ ap₂ with_subcommand one (ap (λ (a : App). a.top) race_is)) c.subcommand-2.ensures

@@ -1,0 +1,83 @@
+-- The runs of a race, and the sessions of its history.
+use Rattle.std.proofs.Common.{◌≡◌, ℕ, suc, ◌+◌, ◌≤◌, max, List, [], ◌∷◌, ◌++◌, length, map, take, refl, ap, sym, ◌∙◌, subst, arith}
+use Rattle.std.specs.List.{All, AllZip}
+use Rattle.std.proofs.lemmas.List.Elements.{All-head, All-tail, All-cons, All-nil, All-take}
+use Rattle.std.proofs.lemmas.List.{length-take}
+use Rattle.xa_words.specs.Entry.{Entry}
+use Rattle.decision_log.specs.Known.{Place, newcomer, AllOf}
+use Rattle.decision_log.specs.declared.known.Known.{Known}
+use Rattle.chain_log.specs.declared.pass.ChainPass.{ChainPass}
+use Rattle.chain_log.specs.ChainPass.{home_of, known_of}
+use Rattle.xa_store.specs.Gathered.{last_known}
+use Rattle.xa_store.specs.Legal.{IsReturned}
+use Rattle.xa_store.specs.declared.run.Run.{Run}
+use Rattle.xa_transcript.specs.Race.{IsRun, AreRunsFrom}
+
+-- one run more
+pub runs_more : (session next : ℕ) (lines : List (List ℕ)) (runs : List Run) (run : Run) → AreRunsFrom session lines runs → next ≡ session + length runs → IsRun next lines run → AreRunsFrom session lines (runs ++ run ∷ [])
+runs_more session next lines [] run are number is = (let e : next ≡ session = omega (arith, number) in let P : ℕ → Type 0 = λ n. IsRun n lines run in subst P e is, tt)
+runs_more session next lines (one ∷ runs) run are number is =
+    let e : next ≡ session + 1 + length runs = omega (arith, number) in
+    (are.0, runs_more (session + 1) next lines runs run are.1 e is)
+
+pub map_push : {A B : Type 0} (f : A → B) (xs : List A) (x : A) → map f (xs ++ x ∷ []) ≡ map f xs ++ f x ∷ []
+map_push f [] x = refl
+map_push f (y ∷ xs) x = ap (λ l. f y ∷ l) (map_push f xs x)
+
+pub length_mapped : {A B : Type 0} (f : A → B) (xs : List A) → length (map f xs) ≡ length xs
+length_mapped f [] = refl
+length_mapped f (x ∷ xs) = ap suc (length_mapped f xs)
+
+all_of_mapped : {A B : Type 0} (P : B → Type 0) (f : A → B) (xs : List A) → All P (map f xs) → All (λ x. P (f x)) xs
+all_of_mapped P f [] all = All-nil (λ x. P (f x))
+all_of_mapped P f (x ∷ xs) all = All-cons (λ y. P (f y)) x xs (All-head P (f x) (map f xs) all) (all_of_mapped P f xs (All-tail P (f x) (map f xs) all))
+
+-- the runs are of the log that the passes are of
+pub runs_home : (place : Place) (n : ℕ) (passes taken : List ChainPass) (runs : List Run) → All (λ pass. home_of pass ≡ place) passes → taken ≡ take n passes → map (λ run. run.pass) runs ≡ taken
+    → All (λ run. home_of run.pass ≡ place) runs
+runs_home place n passes taken runs homes cut are =
+    let Home : ChainPass → Type 0 = λ pass. home_of pass ≡ place in
+    let Homes : List ChainPass → Type 0 = λ list. All Home list in
+    all_of_mapped Home (λ run. run.pass) runs (subst Homes (sym (are ∙ cut)) (All-take Home n passes homes))
+
+-- as many runs as passes were kept
+pub runs_count : (n : ℕ) (passes taken : List ChainPass) (runs : List Run) → length passes ≡ max n 1 → taken ≡ take n passes → map (λ run. run.pass) runs ≡ taken → length runs ≡ n
+runs_count n passes taken runs count cut are =
+    let all : length runs ≡ length (take n passes) = sym (length_mapped (λ run. run.pass) runs) ∙ ap length are ∙ ap length cut in
+    omega (arith, all, length-take n passes, count)
+
+-- what each pass keeps of its log is true of what the last one knows
+module _ (P : Place → Known → Type 0) (kept : (pass : ChainPass) → P (home_of pass) (known_of pass)) where
+  last_keeps : (place : Place) (history : List Entry) (runs : List Run) (passes : List ChainPass) → P place (newcomer 0) → All (λ run. home_of run.pass ≡ place) runs → AllZip (IsReturned history) runs passes
+      → P place (last_known (map known_of passes))
+  last_keeps place history [] [] none homes zip = none
+  last_keeps place history [] (pass ∷ passes) none homes zip = absurd zip
+  last_keeps place history (run ∷ runs) [] none homes zip = absurd zip
+  last_keeps place history (run ∷ []) (pass ∷ []) none homes zip =
+      let Home : Run → Type 0 = λ r. home_of r.pass ≡ place in
+      let home : home_of pass ≡ place = zip.0.home ∙ All-head Home run [] homes in
+      let At : Place → Type 0 = λ p. P p (known_of pass) in
+      subst At home (kept pass)
+  last_keeps place history (run ∷ []) (pass ∷ other ∷ passes) none homes zip = absurd zip.1
+  last_keeps place history (run ∷ other ∷ runs) (pass ∷ []) none homes zip = absurd zip.1
+  last_keeps place history (run ∷ other ∷ runs) (pass ∷ other' ∷ passes) none homes zip =
+      let Home : Run → Type 0 = λ r. home_of r.pass ≡ place in
+      last_keeps place history (other ∷ runs) (other' ∷ passes) none (All-tail Home run (other ∷ runs) homes) zip.1
+
+-- the history has entries of the runs' sessions alone
+pub own_sessions : (place : Place) (history : List Entry) (runs : List Run) (passes : List ChainPass) → place.sessions ≡ max (length runs) 1 → All (λ run. home_of run.pass ≡ place) runs
+    → AllZip (IsReturned history) runs passes → history ≡ (last_known (map known_of passes)).seen → AllOf (length runs) history
+own_sessions place history [] [] sessions homes zip is = let P : List Entry → Type 0 = λ list. AllOf 0 list in subst P (sym is) (All-nil (λ entry. (1 ≤ entry.session) × (entry.session ≤ 0)))
+own_sessions place history [] (pass ∷ passes) sessions homes zip is = absurd zip
+own_sessions place history (run ∷ runs) passes sessions homes zip is =
+    let count : place.sessions ≡ length (run ∷ runs) = omega (arith, sessions) in
+    let P : List Entry → Type 0 = λ list. AllOf (length (run ∷ runs)) list in
+    let Q : ℕ → Type 0 = λ n. AllOf n (last_known (map known_of passes)).seen in
+    subst P (sym is) (subst Q count (last_keeps (λ p k. AllOf p.sessions k.seen) (λ pass. pass.state.among) place history (run ∷ runs) passes (All-nil (λ entry. (1 ≤ entry.session) × (entry.session ≤ place.sessions))) homes zip))
+
+-- the history has no more entries than the log has room for
+pub own_room : (place : Place) (history : List Entry) (runs : List Run) (passes : List ChainPass) → All (λ run. home_of run.pass ≡ place) runs → AllZip (IsReturned history) runs passes
+    → history ≡ (last_known (map known_of passes)).seen → length history ≤ place.capacity
+own_room place history runs passes homes zip is =
+    let P : List Entry → Type 0 = λ list. length list ≤ place.capacity in
+    subst P (sym is) (last_keeps (λ p k. length k.seen ≤ p.capacity) (λ pass. pass.state.within) place history runs passes (omega arith) homes zip)
