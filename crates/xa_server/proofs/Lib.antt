@@ -5,6 +5,8 @@ pub mod Outcomes
 pub mod RowRecords
 pub mod Freeing
 pub mod Gathered
+pub mod Holders
+pub mod Sharing
 pub mod Seen
 pub mod Steps
 pub mod Ending

@@ -5,7 +5,8 @@ ghost use Rattle.std.specs.FinMap as map;
 use crate::branch::{self, Phase};
 use crate::branch_table::BranchTable;
 use crate::reply::XidList;
-use crate::row::{self, Change};
+use crate::lock::Change;
+use crate::row;
 use crate::row_table::RowTable;
 use crate::seat::Seat;
 use std::alloc::Global;
@@ -38,12 +39,11 @@ impl Model for Server {
 
 impl Server {
     ghost use Rattle.xa_server.specs.State.{no_state, is_known, is_prepared, seat_of, prepared_xids as prepared_xids_of, committed_value as committed_value_of, value_within as value_within_of};
-    ghost use Rattle.xa_server.specs.Locks.{LockLaw, holds as holds_of, is_held_against as is_held_against_of};
-    ghost use Rattle.xa_server.specs.Step.{started_by, with_branch, with_changed, with_write, without_branch, committed};
+    ghost use Rattle.xa_server.specs.Locks.{LockLaw, holds as holds_of, is_held_against as is_held_against_of, is_locked_against as is_locked_against_of};
+    ghost use Rattle.xa_server.specs.Step.{started_by, with_branch, with_changed, with_lock, with_write, without_branch, committed};
     ghost use Rattle.xa_server.specs.Rows.{with_change};
     ghost use Rattle.xa_server.specs.declared.branch.Phase.TheVariants.{Idle as PhaseIdle, Prepared as PhasePrepared};
     ghost use Rattle.xa_server.specs.declared.seat.Seat.TheVariants.{Free, Active};
-    ghost use Rattle.xa_server.specs.declared.row.Change.TheVariants.{Nothing};
 
     /// A server with no branches and no rows.
     ///
@@ -123,14 +123,21 @@ impl Server {
         row::value_within(own, self.rows.row(key))
     }
 
-    /// Whether a branch that isn't the session's own holds the row.
+    /// Whether a branch that isn't the session's own holds the row, in either way.
     pub(crate) fn is_held_against(&self, seat: &Seat, key: &Key) -> bool
         ensures { result ≡ is_held_against_of self.now seat.now key.now }
     {
         row::is_held_against(seat, self.rows.row(key))
     }
 
-    /// Whether the branch holds the row.
+    /// Whether a branch that isn't the session's own holds the row exclusively.
+    pub(crate) fn is_locked_against(&self, seat: &Seat, key: &Key) -> bool
+        ensures { result ≡ is_locked_against_of self.now seat.now key.now }
+    {
+        row::is_locked_against(seat, self.rows.row(key))
+    }
+
+    /// Whether the branch holds the row, in either way.
     pub(crate) fn holds(&self, own: &Xid, key: &Key) -> bool
         ensures { result ≡ holds_of self.now own.now key.now }
     {
@@ -169,11 +176,11 @@ impl Server {
         self.branches.detach(xid);
     }
 
-    /// Has a branch hold a row that no other branch holds, and do this to it. After `NoMemory` the server is as before.
+    /// Has a branch hold a row exclusively that no other branch holds, and do this to it. A share of its own is raised.
+    /// After `NoMemory` the server is as before.
     pub(crate) fn hold(&mut self, own: &Xid, key: &Key, change: Change) -> Result<(), NoMemory>
         requires known { is_known self.old own.now ≡ true }
         requires unheld { is_held_against_of self.old (Active own.now) key.now ≡ false }
-        requires new_lock { change ≡ Nothing → holds_of self.old own.now key.now ≡ false }
         ensures ok { OnOk result (self.new ≡ with_changed self.old own.now (with_change key.now change)) }
         ensures err { OnErr result (self.new ≡ self.old) }
     {
@@ -186,6 +193,23 @@ impl Server {
             self.branches.unlist(own);
         }
         held
+    }
+
+    /// Has a branch that doesn't hold a row share it, where no other branch holds it exclusively. After `NoMemory` the server
+    /// is as before.
+    pub(crate) fn share(&mut self, own: &Xid, key: &Key) -> Result<(), NoMemory>
+        requires known { is_known self.old own.now ≡ true }
+        requires unlocked { is_locked_against_of self.old (Active own.now) key.now ≡ false }
+        requires new_lock { holds_of self.old own.now key.now ≡ false }
+        ensures ok { OnOk result (self.new ≡ with_changed self.old own.now (with_lock key.now)) }
+        ensures err { OnErr result (self.new ≡ self.old) }
+    {
+        self.branches.list(own, key)?;
+        let shared = self.rows.share(key, own);
+        if shared.is_err() {
+            self.branches.unlist(own);
+        }
+        shared
     }
 
     /// Gives a row that nobody holds a value. After `NoMemory` the server is as before.
