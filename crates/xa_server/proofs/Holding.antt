@@ -22,7 +22,7 @@ use Rattle.xa_server.proofs.Maps.{same_or_apart, get_inserted, get_inserted_apar
 use Rattle.xa_server.proofs.Holders.{mode_of, itself, turned_apart, some_if}
 use Rattle.xa_server.proofs.Seen.{holds-seen, free_row, known_record, locked_against-seen}
 use Rattle.xa_server.proofs.Steps.{same_state, same_branches, seen_changed, seen_held, seen_shared, IsShareable, share_there, share_others}
-pub use Rattle.xa_server.proofs.Whole.{longer}
+unfoldable pub use Rattle.xa_server.proofs.Whole.{longer}
 use Rattle.xa_server.proofs.Whole.{whole_more, whole_row, changed_at}
 
 pub longer-is : (key : List ℕ) (branch : BranchRecord) → longer key branch ≡ record branch { held = branch.held ++ key ∷ [] }

@@ -90,6 +90,13 @@ fn free_in(
     }
 }
 
+/// Takes a row's record out, where there is one.
+fn take_out(by_key: &mut BTreeMap<Key, RowRecord>, key: &Key)
+    ensures { tree.Updates bytes_cmp by_key.old by_key.new key.now None }
+{
+    let _row = by_key.remove(key);
+}
+
 /// A copy of the records.
 fn copy_of_records(by_key: &BTreeMap<Key, RowRecord>) -> Result<BTreeMap<Key, RowRecord>, NoMemory>
     ensures { IfOk result (λ copy. copy.entries ≡ by_key.now.entries) }
@@ -180,7 +187,7 @@ impl RowTable {
     pub fn delete(&mut self, key: &Key)
         ensures { self.new ≡ map.remove self.old key.now }
     {
-        let _row = self.by_key.remove(key);
+        take_out(&mut self.by_key, key);
     }
 
     /// Ends a branch's hold of a row, where it holds it: what it does to the row is done if it commits.
@@ -188,7 +195,7 @@ impl RowTable {
         ensures { Frees commits xid.now (key.now ∷ []) self.old self.new }
     {
         if !free_in(&mut self.by_key, self.alloc, key, xid, commits) {
-            let _row = self.by_key.remove(key);
+            take_out(&mut self.by_key, key);
         }
     }
 
