@@ -20,4 +20,5 @@ pub mod Finishing
 pub mod Entering
 pub mod Others
 pub mod Listing
+pub mod Taking
 pub mod Keeping

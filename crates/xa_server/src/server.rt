@@ -1,6 +1,7 @@
 //! The server: its records, and what they say of its state.
 ghost use Rattle.std.specs.Prelude.{◌≡◌, true, false, cond, is_some, Some, None, OnOk, OnErr, IfOk};
 ghost use Rattle.std.specs.FinMap as map;
+ghost use Rattle.xa_server.specs.State.{seat_in as seat_in_phase};
 
 use crate::branch::{self, Phase};
 use crate::branch_table::BranchTable;
@@ -37,6 +38,18 @@ impl Model for Server {
     ghost invariant = { λ server. IsWhole server.branches server.rows };
 }
 
+/// What a session has open that owns a branch in this phase.
+fn seat_in(phase: Option<Phase>, own: &Xid) -> Seat
+    ensures { result ≡ seat_in_phase phase own.now }
+{
+    match phase {
+        Some(Phase::Active) => Seat::Active(own.copy()),
+        Some(Phase::Idle) => Seat::Idle(own.copy()),
+        Some(Phase::Prepared) => Seat::Free,
+        None => Seat::Free,
+    }
+}
+
 impl Server {
     ghost use Rattle.xa_server.specs.State.{no_state, is_known, is_prepared, seat_of, prepared_xids as prepared_xids_of, committed_value as committed_value_of, value_within as value_within_of};
     ghost use Rattle.xa_server.specs.Locks.{LockLaw, holds as holds_of, is_held_against as is_held_against_of, is_locked_against as is_locked_against_of};
@@ -51,10 +64,16 @@ impl Server {
     pub fn new(alloc: Global) -> Server
         ensures { result ≡ no_state }
     {
-        Server {
-            branches: BranchTable::new(alloc),
-            rows: RowTable::new(alloc),
-        }
+        Server::over_empty(BranchTable::new(alloc), RowTable::new(alloc))
+    }
+
+    /// The server over tables without records.
+    fn over_empty(branches: BranchTable, rows: RowTable) -> Server
+        requires no_branch { branches ≡ map.empty }
+        requires no_row { rows ≡ map.empty }
+        ensures { result ≡ no_state }
+    {
+        Server { branches, rows }
     }
 
     /// A server with the same branches and rows.
@@ -87,12 +106,7 @@ impl Server {
         let Some(own) = self.branches.owned_by(session) else {
             return Seat::Free;
         };
-        match self.branches.phase_of(own) {
-            Some(Phase::Active) => Seat::Active(own.copy()),
-            Some(Phase::Idle) => Seat::Idle(own.copy()),
-            Some(Phase::Prepared) => Seat::Free,
-            None => Seat::Free,
-        }
+        seat_in(self.branches.phase_of(own), own)
     }
 
     /// Whether a branch has this identifier.
