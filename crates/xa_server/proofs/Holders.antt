@@ -9,12 +9,11 @@ use mathlib.Core.Bool.{true≢false}
 use Rattle.xa_xid.specs.declared.xid.Xid.{Xid}
 use Rattle.xa_xid.specs.Xid.{xid_cmp, same_xid}
 use Rattle.xa_xid.proofs.Orders.{xids_total, exact_xids}
-use Rattle.xa_server.specs.declared.lock.Change.{Change}
 use Rattle.xa_server.specs.declared.lock.Lock.{Lock}
 use Rattle.xa_server.specs.declared.lock.Lock.TheVariants.{Exclusive as HeldBy, Shared as SharedBy}
 use Rattle.xa_server.specs.declared.row.RowRecord.{RowRecord}
 use Rattle.xa_server.specs.declared.seat.Seat.{Seat}
-use Rattle.xa_server.specs.declared.seat.Seat.TheVariants.{Free, Active, Idle}
+use Rattle.xa_server.specs.declared.seat.Seat.TheVariants.{Active}
 use Rattle.xa_server.specs.State.{Write, LockMode, Shared, Exclusive}
 use Rattle.xa_server.specs.Locks.{is_another, is_exclusive}
 use Rattle.xa_server.specs.Rows.{lock_of, write_of, write_in, write_by, mode_in, lock_by, held_beside, locked_beside, held_against, locked_against, with_sharer, freed_lock}

@@ -16,7 +16,7 @@ use Rattle.xa_server.specs.declared.branch.BranchRecord.{BranchRecord}
 use Rattle.xa_server.specs.declared.row.RowRecord.{RowRecord}
 use Rattle.xa_server.specs.declared.seat.Seat.{Seat}
 use Rattle.xa_server.specs.declared.seat.Seat.TheVariants.{Free, Active}
-use Rattle.xa_server.specs.State.{LockMode, Branch, State, is_known, phase_at, is_prepared_phase, is_prepared, owner_at, owns, own_xid, seat_in, seat_of, committed_value, write_at, value_within, prepared_xids}
+use Rattle.xa_server.specs.State.{LockMode, Branch, is_known, phase_at, is_prepared_phase, is_prepared, owner_at, owns, own_xid, seat_in, seat_of, committed_value, write_at, value_within, prepared_xids}
 use Rattle.xa_server.specs.Locks.{lock_at, holds, is_exclusive, is_another, is_held_against, is_locked_against}
 use Rattle.xa_server.specs.Tables.{BranchMap, owner_of, prepared_among}
 use Rattle.xa_server.specs.Rows.{RowMap, committed_of, lock_of, write_by, lock_by, held_against, locked_against, value_seen}

@@ -22,7 +22,7 @@ use Rattle.xa_server.specs.declared.seat.Seat.TheVariants.{Free, Active, Idle}
 abbrev pub Write : Type 0
 Write = Option Text
 
--- how a branch holds a row: in share, as others may too, or exclusively (the modes are the manual's, 'InnoDB Locking')
+-- how a branch holds a row: in share, as others may too, or exclusively (own rule)
 pub data LockMode : Type 0 where
   Shared : LockMode
   Exclusive : LockMode

@@ -15,6 +15,8 @@ mod seat;
 mod server;
 mod sharers;
 #[cfg(test)]
+mod sharing_tests;
+#[cfg(test)]
 mod tests;
 mod xa_error;
 

@@ -32,9 +32,9 @@ fn short(reply: &Reply) -> (u8, u64) {
     }
 }
 
-const OK: (u8, u64) = (0, 0);
+pub(crate) const OK: (u8, u64) = (0, 0);
 
-const NONE: (u8, u64) = (1, 0);
+pub(crate) const NONE: (u8, u64) = (1, 0);
 
 const NOTA: (u8, u64) = (4, 1397);
 
@@ -44,10 +44,10 @@ const RMFAIL: (u8, u64) = (4, 1399);
 
 const DUPID: (u8, u64) = (4, 1440);
 
-const ROW_LOCKED: (u8, u64) = (4, 3572);
+pub(crate) const ROW_LOCKED: (u8, u64) = (4, 3572);
 
 /// The value that begins with this byte.
-const fn value_of(byte: u8) -> (u8, u64) {
+pub(crate) const fn value_of(byte: u8) -> (u8, u64) {
     (2, byte as u64)
 }
 
@@ -57,7 +57,7 @@ const fn rows(count: u64) -> (u8, u64) {
 }
 
 /// Gives the statements in turn, and asks for these replies of `reply` and of `apply`.
-fn replies(
+pub(crate) fn replies(
     rt: &impl Abort,
     server: &mut Server,
     script: &[(u64, Option<Statement>, (u8, u64))],
@@ -73,26 +73,26 @@ fn replies(
     Ok(())
 }
 
-fn start(gtrid: &[u8]) -> Option<Statement> {
+pub(crate) fn start(gtrid: &[u8]) -> Option<Statement> {
     Some(Statement::Start(xid(gtrid)?))
 }
 
-fn end(gtrid: &[u8]) -> Option<Statement> {
+pub(crate) fn end(gtrid: &[u8]) -> Option<Statement> {
     Some(Statement::End(xid(gtrid)?))
 }
 
-fn prepare(gtrid: &[u8]) -> Option<Statement> {
+pub(crate) fn prepare(gtrid: &[u8]) -> Option<Statement> {
     Some(Statement::Prepare(xid(gtrid)?))
 }
 
-fn commit(gtrid: &[u8], one_phase: bool) -> Option<Statement> {
+pub(crate) fn commit(gtrid: &[u8], one_phase: bool) -> Option<Statement> {
     Some(Statement::Commit {
         xid: xid(gtrid)?,
         one_phase,
     })
 }
 
-fn rollback(gtrid: &[u8]) -> Option<Statement> {
+pub(crate) fn rollback(gtrid: &[u8]) -> Option<Statement> {
     Some(Statement::Rollback(xid(gtrid)?))
 }
 
@@ -100,15 +100,15 @@ fn recover() -> Option<Statement> {
     Some(Statement::Recover { convert: false })
 }
 
-fn get(name: &[u8]) -> Option<Statement> {
+pub(crate) fn get(name: &[u8]) -> Option<Statement> {
     Some(Statement::Get(key(name)?))
 }
 
-fn put(name: &[u8], value: &[u8]) -> Option<Statement> {
+pub(crate) fn put(name: &[u8], value: &[u8]) -> Option<Statement> {
     Some(Statement::Put(key(name)?, text(value)?))
 }
 
-fn del(name: &[u8]) -> Option<Statement> {
+pub(crate) fn del(name: &[u8]) -> Option<Statement> {
     Some(Statement::Del(key(name)?))
 }
 
@@ -348,125 +348,6 @@ fn copy_goes_its_own_way(rt: HostRuntime) -> Result<(), Fail> {
             (2, put(b"m", b"y"), ROW_LOCKED),
         ],
     )
-}
-
-#[test]
-fn readers_share_a_row_and_a_writer_is_told(rt: HostRuntime) -> Result<(), Fail> {
-    let mut server = Server::new(rt.alloc());
-    replies(
-        &rt,
-        &mut server,
-        &[
-            (1, start(b"a"), OK),
-            (1, get(b"k"), NONE),
-            (2, start(b"b"), OK),
-            (2, get(b"k"), NONE),
-            (1, put(b"k", b"v"), ROW_LOCKED),
-            (2, del(b"k"), ROW_LOCKED),
-            (3, put(b"k", b"x"), ROW_LOCKED),
-            (3, del(b"k"), ROW_LOCKED),
-            (3, get(b"k"), NONE),
-            (2, end(b"b"), OK),
-            (2, rollback(b"b"), OK),
-            (1, put(b"k", b"v"), OK),
-            (1, get(b"k"), value_of(b'v')),
-            (2, start(b"b"), OK),
-            (2, get(b"k"), ROW_LOCKED),
-            (1, end(b"a"), OK),
-            (1, commit(b"a", true), OK),
-            (2, get(b"k"), value_of(b'v')),
-        ],
-    )
-}
-
-#[test]
-fn prepared_branch_keeps_its_shares(rt: HostRuntime) -> Result<(), Fail> {
-    let mut server = Server::new(rt.alloc());
-    replies(
-        &rt,
-        &mut server,
-        &[
-            (1, put(b"k", b"o"), OK),
-            (1, start(b"a"), OK),
-            (1, get(b"k"), value_of(b'o')),
-            (1, end(b"a"), OK),
-            (1, prepare(b"a"), OK),
-            (2, start(b"b"), OK),
-            (2, get(b"k"), value_of(b'o')),
-            (2, put(b"k", b"x"), ROW_LOCKED),
-            (3, del(b"k"), ROW_LOCKED),
-            (3, commit(b"a", false), OK),
-            (3, del(b"k"), ROW_LOCKED),
-            (2, put(b"k", b"x"), OK),
-            (2, end(b"b"), OK),
-            (2, commit(b"b", true), OK),
-            (3, get(b"k"), value_of(b'x')),
-            (3, del(b"k"), OK),
-        ],
-    )
-}
-
-#[test]
-fn disconnect_frees_shares_and_raised_shares(rt: HostRuntime) -> Result<(), Fail> {
-    let mut server = Server::new(rt.alloc());
-    replies(
-        &rt,
-        &mut server,
-        &[
-            (1, start(b"a"), OK),
-            (1, get(b"k"), NONE),
-            (1, get(b"m"), NONE),
-            (1, put(b"m", b"v"), OK),
-            (2, put(b"k", b"x"), ROW_LOCKED),
-            (2, put(b"m", b"x"), ROW_LOCKED),
-            (1, Some(Statement::Disconnect), OK),
-            (2, put(b"k", b"x"), OK),
-            (2, get(b"m"), NONE),
-            (2, put(b"m", b"x"), OK),
-        ],
-    )
-}
-
-#[test]
-fn copy_shares_by_itself(rt: HostRuntime) -> Result<(), Fail> {
-    let mut server = Server::new(rt.alloc());
-    replies(
-        &rt,
-        &mut server,
-        &[(1, start(b"a"), OK), (1, get(b"k"), NONE)],
-    )?;
-    let mut copy = server.copy()?;
-    replies(
-        &rt,
-        &mut copy,
-        &[
-            (2, put(b"k", b"x"), ROW_LOCKED),
-            (1, Some(Statement::Disconnect), OK),
-            (2, put(b"k", b"x"), OK),
-        ],
-    )?;
-    replies(&rt, &mut server, &[(2, put(b"k", b"x"), ROW_LOCKED)])
-}
-
-#[test]
-fn only_the_first_get_of_a_row_enters(rt: HostRuntime) -> Result<(), Fail> {
-    let mut server = Server::new(rt.alloc());
-    let one = SessionNo::of(1).ok_or("a session number")?;
-    let cases = [
-        (start(b"a"), true),
-        (get(b"k"), true),
-        (get(b"k"), false),
-        (put(b"k", b"v"), true),
-        (get(b"k"), false),
-        (put(b"k", b"w"), true),
-    ];
-    for (statement, expected) in &cases {
-        let statement = statement.as_ref().ok_or("a statement")?;
-        let (_reply, enters) = server.reply(one, statement)?;
-        assert_eq!(rt; enters, *expected, "{statement:?}");
-        let _reply = server.apply(one, statement)?;
-    }
-    Ok(())
 }
 
 #[test]
