@@ -1,11 +1,11 @@
-//! What a commit costs.
+//! What a commit costs, and what a rollback costs beside branches that share the same rows.
 use anyhow::{Context, Result};
 use std::alloc::Global;
 use std::time::{Clock, Instant};
 use xa_server::Server;
 use xa_xid::{Bytes, Key, SessionNo, Statement, Xid};
 
-/// How many rows each writes.
+/// How many rows each writes, or shares.
 const WRITES: u32 = 10;
 
 /// The key of a number.
@@ -68,6 +68,41 @@ pub fn nanoseconds_a_commit<R: Clock + Alloc<A = Global>>(
         };
         let begun = Instant::now(rt)?;
         let _reply = server.apply(session, &commit)?;
+        let taken = begun.elapsed(rt)?.as_nanos();
+        total = total.saturating_add(u64::try_from(taken).unwrap_or(u64::MAX));
+    }
+    Ok(total.checked_div(u64::from(rounds)).unwrap_or(0))
+}
+
+/// Has a branch share the first rows of the store, and prepares it.
+fn share(server: &mut Server, session: SessionNo, round: u32) -> Result<()> {
+    let _reply = server.apply(session, &Statement::Start(xid(round)?))?;
+    for number in 0..WRITES {
+        let _reply = server.apply(session, &Statement::Get(key(number)?))?;
+    }
+    let _reply = server.apply(session, &Statement::End(xid(round)?))?;
+    let _reply = server.apply(session, &Statement::Prepare(xid(round)?))?;
+    Ok(())
+}
+
+/// The nanoseconds that the rollback of a branch takes that shares its rows with so many PREPARED branches, as a mean.
+pub fn nanoseconds_a_rollback<R: Clock + Alloc<A = Global>>(
+    rt: &R,
+    sharers: u32,
+    rounds: u32,
+) -> Result<u64> {
+    let session = SessionNo::of(1).context("a session")?;
+    let mut server = filled(rt.alloc(), session, WRITES)?;
+    for sharer in 0..sharers {
+        share(&mut server, session, sharer)?;
+    }
+    let mut total = 0u64;
+    for round in 0..rounds {
+        let name = sharers.saturating_add(round);
+        share(&mut server, session, name)?;
+        let rollback = Statement::Rollback(xid(name)?);
+        let begun = Instant::now(rt)?;
+        let _reply = server.apply(session, &rollback)?;
         let taken = begun.elapsed(rt)?.as_nanos();
         total = total.saturating_add(u64::try_from(taken).unwrap_or(u64::MAX));
     }

@@ -28,8 +28,10 @@ struct Extent {
     few_rows: u32,
     /// The rows of the larger store.
     many_rows: u32,
-    /// How many branches are committed in each.
+    /// How many branches are committed in each, and rolled back.
     rounds: u32,
+    /// How many other branches share the rows of one that is rolled back.
+    sharers: u32,
     /// How long the script is, in bytes.
     script_bytes: usize,
     /// How many entries the threads add in all.
@@ -47,6 +49,7 @@ const WHOLE: Extent = Extent {
     few_rows: 1_000,
     many_rows: 100_000,
     rounds: 1_000,
+    sharers: 1_000,
     script_bytes: 1_048_576,
     adds: 1_000,
     branches: 100,
@@ -59,6 +62,7 @@ const SAMPLE: Extent = Extent {
     few_rows: 10,
     many_rows: 100,
     rounds: 3,
+    sharers: 5,
     script_bytes: 1_000,
     adds: 16,
     branches: 4,
@@ -86,6 +90,7 @@ fn measure<R: Clock + Print + Eprint + Threads + Wait + Sync + Alloc<A = Global>
     extent: &Extent,
 ) -> Result<()> {
     commits_and_scripts(rt, extent)?;
+    rollbacks(rt, extent)?;
     for threads in [1, 2, 4] {
         side_by_side(rt, extent, threads)?;
     }
@@ -115,6 +120,19 @@ fn commits_and_scripts<R: Clock + Eprint + Alloc<A = Global>>(
     let speed = scripts::statements_a_second(rt, extent.script_bytes)?;
     let bytes = extent.script_bytes;
     eprintln!(rt; "script of {bytes} bytes: {speed} statements a second")?;
+    Ok(())
+}
+
+/// Measures rollbacks beside branches that share the same rows, and without them.
+fn rollbacks<R: Clock + Eprint + Alloc<A = Global>>(rt: &R, extent: &Extent) -> Result<()> {
+    let sharers = extent.sharers;
+    let alone = commits::nanoseconds_a_rollback(rt, 0, extent.rounds)?;
+    let beside = commits::nanoseconds_a_rollback(rt, sharers, extent.rounds)?;
+    let ratio = percent(beside, alone);
+    eprintln!(rt;
+        "rollback of a branch that shares 10 rows: {alone} ns alone, {beside} ns beside {sharers} others"
+    )?;
+    eprintln!(rt; "ratio: {ratio} percent")?;
     Ok(())
 }
 

@@ -261,3 +261,30 @@ pub(crate) fn spends_all<S: Speak>(
     }
     matches!(coordinator.begin(decisions), Err(BeginFault::NumbersSpent))
 }
+
+/// Two coordinators read a row of one store. Neither may write it until the other's transaction is abandoned.
+pub(crate) fn readers_share<S: Speak, R: Abort + Wait>(
+    rt: &R,
+    alloc: Global,
+    first: &mut Coordinator<S>,
+    second: &mut Coordinator<S>,
+)
+    requires first { vec_len first.old.stores ≡ 1 }
+    requires second { vec_len second.old.stores ≡ 1 }
+{
+    let mut decisions = Decisions::new(alloc);
+    let mut others = Decisions::new(alloc);
+    let mut reader = begun(rt, first, &mut decisions);
+    let mut other = begun(rt, second, &mut others);
+    let get_k = get(rt, b'k');
+    let read = works(rt, first, &mut reader, 0, &get_k);
+    assert!(rt; matches!(read, Ok(Reply::Value(None))));
+    let read = works(rt, second, &mut other, 0, &get_k);
+    assert!(rt; matches!(read, Ok(Reply::Value(None))));
+    let put_k = put(rt, b'k', b'v');
+    let written = works(rt, first, &mut reader, 0, &put_k);
+    assert!(rt; matches!(written, Ok(Reply::Refused(XaError::RowLocked))));
+    assert!(rt; matches!(second.abandon(rt, other), Ending::RolledBack));
+    let written = works(rt, first, &mut reader, 0, &put_k);
+    assert!(rt; matches!(written, Ok(Reply::Ok)));
+}

@@ -245,3 +245,29 @@ fn faults_have_their_numbers(rt: HostRuntime) {
     assert_eq!(rt; WorkFault::Refused(XaError::Nota).number(), 2);
     assert_eq!(rt; WorkFault::Lost.number(), 3);
 }
+
+/// A coordinator over a session of one store.
+fn over_one<'a>(
+    rt: &impl Abort,
+    alloc: Global,
+    name: u8,
+    session: Session<'a, Log>,
+) -> Coordinator<Session<'a, Log>>
+    ensures { vec_len result.stores ≡ 1 }
+{
+    let mut stores = Vec::new(alloc);
+    let Ok(()) = stores.push(session) else {
+        panic!(rt; "one session")
+    };
+    Coordinator::new(text(name), stores)
+}
+
+#[test]
+fn readers_of_two_coordinators_share_a_row(rt: HostRuntime) {
+    let (store, pass_0, pass_1) = opened(&rt, rt.alloc(), 16);
+    let one = connected(&rt, &store, pass_0);
+    let two = connected(&rt, &store, pass_1);
+    let mut first = over_one(&rt, rt.alloc(), b'c', one);
+    let mut second = over_one(&rt, rt.alloc(), b'd', two);
+    scenes::readers_share(&rt, rt.alloc(), &mut first, &mut second);
+}

@@ -1,13 +1,12 @@
 -- What follows for the state where a statement is accepted.
 use Rattle.std.proofs.Common.{◌≡◌, ℕ, List, refl, ap, sym, ◌∙◌, subst, Bool, true, false, inl, inr}
-use Rattle.std.specs.Prelude.{Option, Some, None, is_some, not, ◌&&◌, ◌||◌}
-use Rattle.std.specs.Option.{option_map, option_map_or}
+use Rattle.std.specs.Prelude.{Option, Some, None, cond, is_some, not, ◌&&◌, ◌||◌}
+use Rattle.std.specs.Option.{option_map, option_map_or, option_and_then}
 use Rattle.std.specs.FinMap as map
-use Rattle.std.specs.FinMap.{same_map}
 use mathlib.Core.Bool.{true≢false}
 use Rattle.xa_xid.specs.declared.xid.Xid.{Xid}
 use Rattle.xa_xid.specs.Xid.{Text, same_xid}
-use Rattle.xa_xid.proofs.Orders.{xids_total, exact_xids, bytes_total, exact_texts}
+use Rattle.xa_xid.proofs.Orders.{xids_total, exact_xids}
 use Rattle.xa_xid.specs.declared.statement.Statement.{Statement}
 use Rattle.xa_xid.specs.declared.statement.Statement.TheVariants.{Start, End, Commit, Rollback, Get, Put, Del}
 use Rattle.xa_server.specs.declared.branch.Phase.{Phase}
@@ -19,8 +18,8 @@ use Rattle.xa_server.specs.declared.xa_error.XaError.TheVariants.{Nota, Rmfail}
 use Rattle.xa_server.specs.declared.xa_error.BranchState.TheVariants.{Prepared as StatePrepared}
 use Rattle.xa_server.specs.declared.seat.Seat.{Seat}
 use Rattle.xa_server.specs.declared.seat.Seat.TheVariants.{Free, Active, Idle}
-use Rattle.xa_server.specs.State.{Branch, State, is_known, phase_at, is_prepared, is_prepared_phase, own_xid, seat_in, seat_of, IsOpen}
-use Rattle.xa_server.specs.Locks.{holds, is_held_against}
+use Rattle.xa_server.specs.State.{Shared, Branch, State, is_known, phase_at, is_prepared, is_prepared_phase, own_xid, seat_in, seat_of, IsOpen}
+use Rattle.xa_server.specs.Locks.{holds, is_held_against, is_locked_against}
 use Rattle.xa_server.specs.Replies.{ok_if, refused_if, table, reply_to}
 use Rattle.xa_server.specs.Step.{Step, after, effect, enters, may_enter, makes_record, may_take_memory, is_recover, is_refused, unless_refused, with_branch, with_changed, with_lock}
 use Rattle.xa_server.proofs.Maps.{same_is, same_or_apart, get_inserted, get_inserted_apart}
@@ -112,9 +111,9 @@ accepted_rollback state Free xid seated e = known_prepared state xid (passes (is
 accepted_rollback state (Active own) xid seated e = absurd (true≢false e)
 accepted_rollback state (Idle own) xid seated e = ap (is_known state) (own_is xid own _ e) ∙ known_in state own PhaseIdle seated
 
-pub accepted_get : (state : State) (own : Xid) (key : List ℕ) → is_refused (table state (Active own) (Get key)) ≡ false → is_held_against state (Active own) key ≡ false
+pub accepted_get : (state : State) (own : Xid) (key : List ℕ) → is_refused (table state (Active own) (Get key)) ≡ false → is_locked_against state (Active own) key ≡ false
 unfolding table
-accepted_get state own key e = let_through (is_held_against state (Active own) key) _ _ e
+accepted_get state own key e = let_through (is_locked_against state (Active own) key) _ _ e
 
 pub accepted_put : (state : State) (own : Xid) (key : List ℕ) (value : Text) → is_refused (table state (Active own) (Put key value)) ≡ false → is_held_against state (Active own) key ≡ false
 unfolding table
@@ -138,20 +137,10 @@ accepted_del_free state key e = let_through (is_held_against state Free key) _ _
 pub locked_again : (state : State) (own : Xid) (key : List ℕ) → holds state own key ≡ true → with_changed state own (with_lock key) ≡ state
 locked_again state own key held = by (map.get state.branches own) refl held
   where
-    unit_is : (found : Option (Unit {0})) → is_some found ≡ true → found ≡ Some tt
-    unit_is None e = absurd (true≢false (sym e))
-    unit_is (Some u) e = refl
-
     locks : (branch : Branch) → map.contains_key branch.locks key ≡ true → with_lock key branch ≡ branch
-    locks branch e = λ i. record { phase = branch.phase; owner = branch.owner; writes = branch.writes; locks = same i }
-      where
-        same : map.insert branch.locks key tt ≡ branch.locks
-        same = same_map bytes_total exact_texts _ _ (λ other. elim (same_or_apart bytes_total exact_texts other key) [
-          | inl is ↦ rw is (get_inserted bytes_total exact_texts branch.locks key tt ∙ sym (unit_is (map.get branch.locks key) e))
-          | inr apart ↦ get_inserted_apart bytes_total exact_texts branch.locks key tt other apart
-        ])
+    locks branch e = λ i. record { phase = branch.phase; owner = branch.owner; writes = branch.writes; locks = cond (e i) branch.locks (map.insert branch.locks key Shared) }
 
-    by : (found : Option Branch) → map.get state.branches own ≡ found → option_map_or (λ (branch : Branch). map.contains_key branch.locks key) found false ≡ true →
+    by : (found : Option Branch) → map.get state.branches own ≡ found → is_some (option_and_then (λ (branch : Branch). map.get branch.locks key) found) ≡ true →
         option_map_or (λ branch. with_branch state own (with_lock key branch)) found state ≡ state
     by None is e = absurd (true≢false (sym e))
     by (Some branch) is e = same_state _ _ (same_branches _ _ (λ other. elim (same_or_apart xids_total exact_xids other own) [

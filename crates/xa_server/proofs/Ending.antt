@@ -1,6 +1,6 @@
 -- What the end of a branch is in the state that the records stand for.
-use Rattle.std.proofs.Common.{◌≡◌, ℕ, List, [], ◌∷◌, refl, ap, sym, ◌∙◌, Bool, true, false, ◌⊎◌, inl, inr}
-use Rattle.std.specs.Prelude.{Option, Some, None, cond, is_some}
+use Rattle.std.proofs.Common.{◌≡◌, ℕ, List, [], ◌∷◌, refl, ap, sym, ◌∙◌, Bool, true, false, inl, inr}
+use Rattle.std.specs.Prelude.{Option, Some, None, cond, ◌||◌, is_some}
 use Rattle.std.specs.Option.{option_map, option_map_or, option_and_then, unwrap_or}
 use Rattle.std.specs.List.{list_any}
 use Rattle.std.specs.Ordering.{eq_by_cmp}
@@ -11,17 +11,18 @@ use Rattle.xa_xid.specs.declared.xid.Xid.{Xid}
 use Rattle.xa_xid.specs.Xid.{Text, bytes_cmp, same_xid}
 use Rattle.xa_xid.proofs.Orders.{xids_total, exact_xids, bytes_total, exact_texts}
 use Rattle.xa_server.specs.declared.branch.BranchRecord.{BranchRecord}
-use Rattle.xa_server.specs.declared.row.Lock.{Lock}
 use Rattle.xa_server.specs.declared.row.RowRecord.{RowRecord}
+use Rattle.xa_server.specs.declared.seat.Seat.TheVariants.{Free}
 use Rattle.xa_server.specs.State.{Write, Branch}
 use Rattle.xa_server.specs.Step.{without_branch, with_write, with_writes, committed}
 use Rattle.xa_server.specs.Tables.{BranchMap}
-use Rattle.xa_server.specs.Rows.{RowMap, committed_of, holder_of, write_of, write_by, lock_by, freed_row, kept, freed, Frees}
+use Rattle.xa_server.specs.Rows.{RowMap, committed_of, write_by, lock_by, held_beside, freed_row, is_needed, kept, freed, Frees}
 use Rattle.xa_server.specs.View.{gather, branch_seen, state_of}
 use Rattle.xa_server.proofs.Maps.{same_or_apart, same_itself, get_inserted, get_inserted_apart, get_removed, get_removed_apart}
 use Rattle.xa_server.proofs.Gathered.{get-gather}
-use Rattle.xa_server.proofs.Seen.{get-branches, unlocked, unwritten, lock_of_holder}
-use Rattle.xa_server.proofs.Steps.{same_state, same_branches, gather_same, lock_apart, write_apart, flipped_apart}
+use Rattle.xa_server.proofs.Holders.{mode_of, none_of, beside_there, unwritten, freed_own, freed_beside, freed_writes}
+use Rattle.xa_server.proofs.Seen.{get-branches}
+use Rattle.xa_server.proofs.Steps.{same_state, same_branches, gather_same}
 
 -- at each key the newest of the writes, else what stood there
 get-with_writes : (writes : List (List ℕ × Write)) (rows : map.FinMap bytes_cmp Text) (key : List ℕ) → map.get (with_writes writes rows) key ≡ unwrap_or (find bytes_cmp key writes) (map.get rows key)
@@ -43,66 +44,46 @@ get-with_writes (write ∷ writes) rows key =
     beside at None rest apart = get_removed_apart bytes_total exact_texts rest at key apart
     beside at (Some value) rest apart = get_inserted_apart bytes_total exact_texts rest at value key apart
 
--- a record that isn't needed says nothing
-kept_says : {W : Type 0} (says : RowRecord → Option W) → says (record { committed = None; lock = None }) ≡ None → (row : RowRecord) → option_and_then says (kept row) ≡ says row
-kept_says says nothing row = by row.committed row.lock
+-- a record that isn't needed has no value and no holders
+unneeded : (row : RowRecord) → is_needed row ≡ false → (row.committed ≡ None) × (held_beside Free row.lock ≡ false)
+unneeded row e = by row.committed e
   where
-    by : (value : Option Text) (lock : Option Lock) → option_and_then says (kept (record { committed = value; lock = lock })) ≡ says (record { committed = value; lock = lock })
-    by None None = sym nothing
-    by None (Some lock) = refl
-    by (Some text) None = refl
-    by (Some text) (Some lock) = refl
+    by : (value : Option Text) → (is_some value || held_beside Free row.lock) ≡ false → (value ≡ None) × (held_beside Free row.lock ≡ false)
+    by None e = (refl, e)
+    by (Some value) e = absurd (true≢false e)
 
--- what a freed record says is what the record said, where that is so of the row
-freed_says : {W : Type 0} (says : RowRecord → Option W) → says (record { committed = None; lock = None }) ≡ None → (commits : Bool) (xid : Xid) →
+unneeded_mode : (xid : Xid) (row : RowRecord) → is_needed row ≡ false → lock_by xid row ≡ None
+unneeded_mode xid row e = none_of (lock_by xid row) (by (is_some (lock_by xid row)) refl)
+  where
+    by : (b : Bool) → is_some (lock_by xid row) ≡ b → b ≡ false
+    by true held = absurd (true≢false (sym (beside_there Free row.lock xid held refl) ∙ (unneeded row e).1))
+    by false none = refl
+
+unneeded_write : (xid : Xid) (row : RowRecord) → is_needed row ≡ false → write_by xid row ≡ None
+unneeded_write xid row e = unwritten xid (Some row) (ap is_some (unneeded_mode xid row e))
+
+-- a record says what it said, kept or not, where one that isn't needed says nothing
+kept_says : {W : Type 0} (says : RowRecord → Option W) (row : RowRecord) → (is_needed row ≡ false → says row ≡ None) → option_and_then says (kept row) ≡ says row
+kept_says says row nothing = by (is_needed row) refl
+  where
+    by : (b : Bool) → is_needed row ≡ b → option_and_then says (cond b (Some row) None) ≡ says row
+    by true e = refl
+    by false e = sym (nothing e)
+
+-- what a freed record says of another branch is what the record said
+freed_says : {W : Type 0} (says : RowRecord → Option W) → ((row : RowRecord) → is_needed row ≡ false → says row ≡ None) → (commits : Bool) (xid : Xid) →
     ((row : RowRecord) → says (freed_row commits xid row) ≡ says row) → (found : Option RowRecord) → option_and_then says (freed commits xid found) ≡ option_and_then says found
 freed_says says nothing commits xid same None = refl
-freed_says says nothing commits xid same (Some row) = kept_says says nothing (freed_row commits xid row) ∙ same row
+freed_says says nothing commits xid same (Some row) = kept_says says (freed_row commits xid row) (nothing (freed_row commits xid row)) ∙ same row
 
--- another branch's lock and write stay
-freed_lock : (commits : Bool) (xid other : Xid) → same_xid xid other ≡ false → (row : RowRecord) → lock_by other (freed_row commits xid row) ≡ lock_by other row
-freed_lock commits xid other apart row = by row.committed row.lock
-  where
-    by : (value : Option Text) (lock : Option Lock) → lock_by other (freed_row commits xid (record { committed = value; lock = lock })) ≡ lock_by other (record { committed = value; lock = lock })
-    by value None = refl
-    by value (Some lock) = at (same_xid lock.holder xid) (same_or_apart xids_total exact_xids lock.holder xid) refl
-      where
-        at : (b : Bool) → (lock.holder ≡ xid) ⊎ (same_xid lock.holder xid ≡ false) → same_xid lock.holder xid ≡ b → lock_by other (freed_row commits xid (record { committed = value; lock = Some lock })) ≡ lock_by other (record { committed = value; lock = Some lock })
-        at true (inl is) e = rw e (sym (lock_apart (same_xid lock.holder other) (ap (λ x. same_xid x other) is ∙ apart)))
-        at true (inr not) e = absurd (true≢false (sym e ∙ not))
-        at false _ e = rw e refl
-
-freed_write : (commits : Bool) (xid other : Xid) → same_xid xid other ≡ false → (row : RowRecord) → write_by other (freed_row commits xid row) ≡ write_by other row
-freed_write commits xid other apart row = by row.committed row.lock
-  where
-    by : (value : Option Text) (lock : Option Lock) → write_by other (freed_row commits xid (record { committed = value; lock = lock })) ≡ write_by other (record { committed = value; lock = lock })
-    by value None = refl
-    by value (Some lock) = at (same_xid lock.holder xid) (same_or_apart xids_total exact_xids lock.holder xid) refl
-      where
-        at : (b : Bool) → (lock.holder ≡ xid) ⊎ (same_xid lock.holder xid ≡ false) → same_xid lock.holder xid ≡ b → write_by other (freed_row commits xid (record { committed = value; lock = Some lock })) ≡ write_by other (record { committed = value; lock = Some lock })
-        at true (inl is) e = rw e (sym (write_apart (same_xid lock.holder other) (write_of lock.change) (ap (λ x. same_xid x other) is ∙ apart)))
-        at true (inr not) e = absurd (true≢false (sym e ∙ not))
-        at false _ e = rw e refl
+-- of the branch that ended it says nothing
+freed_mode : (commits : Bool) (xid : Xid) (found : Option RowRecord) → mode_of xid (freed commits xid found) ≡ None
+freed_mode commits xid None = refl
+freed_mode commits xid (Some row) = kept_says (lock_by xid) (freed_row commits xid row) (unneeded_mode xid (freed_row commits xid row)) ∙ freed_own xid row.lock
 
 -- the committed value of a record that was freed
 value_after : Bool → Option Write → Option Text → Option Text
 value_after commits write value = cond commits (unwrap_or write value) value
-
-freed_committed : (commits : Bool) (xid : Xid) (row : RowRecord) → (freed_row commits xid row).committed ≡ value_after commits (write_by xid row) row.committed
-unfolding value_after
-freed_committed commits xid row = by row.committed row.lock
-  where
-    same : (b : Bool) (value : Option Text) → value ≡ cond b value value
-    same true value = refl
-    same false value = refl
-
-    by : (value : Option Text) (lock : Option Lock) → (freed_row commits xid (record { committed = value; lock = lock })).committed ≡ cond commits (unwrap_or (write_by xid (record { committed = value; lock = lock })) value) value
-    by value None = same commits value
-    by value (Some lock) = at (same_xid lock.holder xid) refl
-      where
-        at : (b : Bool) → same_xid lock.holder xid ≡ b → (freed_row commits xid (record { committed = value; lock = Some lock })).committed ≡ cond commits (unwrap_or (write_by xid (record { committed = value; lock = Some lock })) value) value
-        at true e = rw e refl
-        at false e = rw e (same commits value)
 
 never : (b : Bool) → ◌≡◌ {A = Option Text} None (cond b None None)
 never true = refl
@@ -112,10 +93,10 @@ never false = refl
 freed_value : (commits : Bool) (xid : Xid) (found : Option RowRecord) → committed_of (freed commits xid found) ≡ value_after commits (option_and_then (write_by xid) found) (committed_of found)
 unfolding value_after
 freed_value commits xid None = never commits
-freed_value commits xid (Some row) = kept_says (λ row. row.committed) refl (freed_row commits xid row) ∙ freed_committed commits xid row
+freed_value commits xid (Some row) = kept_says (λ row. row.committed) (freed_row commits xid row) (λ e. (unneeded (freed_row commits xid row) e).0)
 
 -- a row that the branch doesn't hold keeps its value
-unheld_value : (commits : Bool) (xid : Xid) (found : Option RowRecord) → is_some (option_and_then (lock_by xid) found) ≡ false → value_after commits (option_and_then (write_by xid) found) (committed_of found) ≡ committed_of found
+unheld_value : (commits : Bool) (xid : Xid) (found : Option RowRecord) → is_some (mode_of xid found) ≡ false → value_after commits (option_and_then (write_by xid) found) (committed_of found) ≡ committed_of found
 unfolding value_after
 unheld_value commits xid found none = ap (λ write. cond commits (unwrap_or write (committed_of found)) (committed_of found)) (unwritten xid found none) ∙ same commits
   where
@@ -125,41 +106,60 @@ unheld_value commits xid found none = ap (λ write. cond commits (unwrap_or writ
 
 -- the branch's rows stand in the list
 abbrev pub IsListedIn : Xid → List (List ℕ) → RowMap → Type 0
-IsListedIn xid keys rows = (key : List ℕ) → holder_of (map.get rows key) ≡ Some xid → list_any (eq_by_cmp bytes_cmp key) keys ≡ true
+IsListedIn xid keys rows = (key : List ℕ) → is_some (mode_of xid (map.get rows key)) ≡ true → list_any (eq_by_cmp bytes_cmp key) keys ≡ true
+
+-- how another branch holds each row
+pub beside_mode : (commits : Bool) (xid : Xid) (keys : List (List ℕ)) (old new : RowMap) → Frees commits xid keys old new → (other : Xid) → same_xid other xid ≡ false → (key : List ℕ) →
+    mode_of other (map.get new key) ≡ mode_of other (map.get old key)
+beside_mode commits xid keys old new frees other apart key = ap (mode_of other) (frees key) ∙ at (list_any (eq_by_cmp bytes_cmp key) keys)
+  where
+    at : (b : Bool) → mode_of other (cond b (freed commits xid (map.get old key)) (map.get old key)) ≡ mode_of other (map.get old key)
+    at true = freed_says (lock_by other) (unneeded_mode other) commits xid (λ row. freed_beside xid other row.lock apart) (map.get old key)
+    at false = refl
+
+-- what it writes
+beside_write : (commits : Bool) (xid : Xid) (keys : List (List ℕ)) (old new : RowMap) → Frees commits xid keys old new → (other : Xid) → same_xid other xid ≡ false → (key : List ℕ) →
+    option_and_then (write_by other) (map.get new key) ≡ option_and_then (write_by other) (map.get old key)
+beside_write commits xid keys old new frees other apart key = ap (option_and_then (write_by other)) (frees key) ∙ at (list_any (eq_by_cmp bytes_cmp key) keys)
+  where
+    at : (b : Bool) → option_and_then (write_by other) (cond b (freed commits xid (map.get old key)) (map.get old key)) ≡ option_and_then (write_by other) (map.get old key)
+    at true = freed_says (write_by other) (unneeded_write other) commits xid (λ row. freed_writes xid other row.lock apart) (map.get old key)
+    at false = refl
+
+-- a row that isn't listed isn't the branch's
+unlisted : (xid : Xid) (keys : List (List ℕ)) (rows : RowMap) → IsListedIn xid keys rows → (key : List ℕ) → list_any (eq_by_cmp bytes_cmp key) keys ≡ false → is_some (mode_of xid (map.get rows key)) ≡ false
+unlisted xid keys rows listed key none = by (is_some (mode_of xid (map.get rows key))) refl
+  where
+    by : (b : Bool) → is_some (mode_of xid (map.get rows key)) ≡ b → b ≡ false
+    by true held = absurd (true≢false (sym (listed key held) ∙ none))
+    by false e = refl
+
+-- the branch that ended holds no row
+pub own_mode : (commits : Bool) (xid : Xid) (keys : List (List ℕ)) (old new : RowMap) → Frees commits xid keys old new → IsListedIn xid keys old → (key : List ℕ) → is_some (mode_of xid (map.get new key)) ≡ false
+own_mode commits xid keys old new frees listed key = ap (λ found. is_some (mode_of xid found)) (frees key) ∙ at (list_any (eq_by_cmp bytes_cmp key) keys) refl
+  where
+    at : (b : Bool) → list_any (eq_by_cmp bytes_cmp key) keys ≡ b → is_some (mode_of xid (cond b (freed commits xid (map.get old key)) (map.get old key))) ≡ false
+    at true e = ap is_some (freed_mode commits xid (map.get old key))
+    at false e = unlisted xid keys old listed key e
 
 -- what the rows say of another branch
 ended_beside : (commits : Bool) (xid : Xid) (keys : List (List ℕ)) (old new : RowMap) → Frees commits xid keys old new → (other : Xid) → same_xid other xid ≡ false → branch_seen new other ≡ branch_seen old other
 ended_beside commits xid keys old new frees other apart = λ i branch. record { phase = branch.phase; owner = branch.owner; writes = writes i; locks = locks i }
   where
     writes : gather (write_by other) new ≡ gather (write_by other) old
-    writes = gather_same (write_by other) old new (λ key. ap (option_and_then (write_by other)) (frees key) ∙ at key (list_any (eq_by_cmp bytes_cmp key) keys))
-      where
-        at : (key : List ℕ) (b : Bool) → option_and_then (write_by other) (cond b (freed commits xid (map.get old key)) (map.get old key)) ≡ option_and_then (write_by other) (map.get old key)
-        at key true = freed_says (write_by other) refl commits xid (freed_write commits xid other (flipped_apart xid other apart)) (map.get old key)
-        at key false = refl
+    writes = gather_same (write_by other) old new (beside_write commits xid keys old new frees other apart)
 
     locks : gather (lock_by other) new ≡ gather (lock_by other) old
-    locks = gather_same (lock_by other) old new (λ key. ap (option_and_then (lock_by other)) (frees key) ∙ at key (list_any (eq_by_cmp bytes_cmp key) keys))
-      where
-        at : (key : List ℕ) (b : Bool) → option_and_then (lock_by other) (cond b (freed commits xid (map.get old key)) (map.get old key)) ≡ option_and_then (lock_by other) (map.get old key)
-        at key true = freed_says (lock_by other) refl commits xid (freed_lock commits xid other (flipped_apart xid other apart)) (map.get old key)
-        at key false = refl
+    locks = gather_same (lock_by other) old new (beside_mode commits xid keys old new frees other apart)
 
 -- the committed value of each row
 ended_value : (commits : Bool) (xid : Xid) (keys : List (List ℕ)) (old new : RowMap) → Frees commits xid keys old new → IsListedIn xid keys old → (key : List ℕ) →
     committed_of (map.get new key) ≡ value_after commits (option_and_then (write_by xid) (map.get old key)) (committed_of (map.get old key))
 ended_value commits xid keys old new frees listed key = ap committed_of (frees key) ∙ at (list_any (eq_by_cmp bytes_cmp key) keys) refl
   where
-    unheld : list_any (eq_by_cmp bytes_cmp key) keys ≡ false → (holder : Option Xid) → holder_of (map.get old key) ≡ holder → is_some (option_and_then (lock_by xid) (map.get old key)) ≡ false
-    unheld none None h = ap is_some (unlocked xid (map.get old key) h)
-    unheld none (Some holder) h = lock_of_holder holder xid (map.get old key) h ∙ elim (same_or_apart xids_total exact_xids holder xid) [
-      | inl is ↦ absurd (true≢false (sym (listed key (h ∙ ap Some is)) ∙ none))
-      | inr apart ↦ apart
-    ]
-
     at : (b : Bool) → list_any (eq_by_cmp bytes_cmp key) keys ≡ b → committed_of (cond b (freed commits xid (map.get old key)) (map.get old key)) ≡ value_after commits (option_and_then (write_by xid) (map.get old key)) (committed_of (map.get old key))
     at true e = freed_value commits xid (map.get old key)
-    at false e = sym (unheld_value commits xid (map.get old key) (unheld e (holder_of (map.get old key)) refl))
+    at false e = sym (unheld_value commits xid (map.get old key) (unlisted xid keys old listed key e))
 
 -- the branches without the one that ended
 ended_branches : (branches : BranchMap) (commits : Bool) (xid : Xid) (keys : List (List ℕ)) (old new : RowMap) → Frees commits xid keys old new →

@@ -1,37 +1,71 @@
 -- What ending a branch does to the records of rows.
 use Rattle.std.proofs.Common.{◌≡◌, ℕ, List, [], ◌∷◌, ◌++◌, refl, ap, sym, ◌∙◌, Bool, true, false, inl, inr}
-use Rattle.std.specs.Prelude.{Option, Some, None, cond, ◌||◌, MatchOption}
+use Rattle.std.specs.Prelude.{Option, Some, None, cond, not, ◌&&◌, ◌||◌, is_some, MatchOption}
+use Rattle.std.specs.Option.{unwrap_or}
 use Rattle.std.specs.List.{list_any}
 use Rattle.std.specs.Ordering.{eq_by_cmp}
 use Rattle.std.specs.BTreeMap as tree
 use Rattle.std.specs.BTreeMap.{BTreeMap, Updates}
 use Rattle.std.specs.FinMap as map
+use Rattle.std.specs.FinMap.{same_map}
+use Rattle.std.specs.FinSet as set
+use Rattle.std.specs.FinSet.{contains-empty, contains-remove, same_set}
 use Rattle.xa_xid.specs.declared.xid.Xid.{Xid}
-use Rattle.xa_xid.specs.Xid.{Text, bytes_cmp, same_xid}
-use Rattle.xa_xid.proofs.Orders.{bytes_total, exact_texts}
-use Rattle.xa_server.specs.declared.row.Change.{Change}
-use Rattle.xa_server.specs.declared.row.Lock.{Lock}
+use Rattle.xa_xid.specs.Xid.{Text, bytes_cmp, xid_cmp, same_xid}
+use Rattle.xa_xid.proofs.Orders.{xids_total, exact_xids, bytes_total, exact_texts}
+use Rattle.xa_server.specs.declared.lock.Change.{Change}
+use Rattle.xa_server.specs.declared.lock.Lock.{Lock}
+use Rattle.xa_server.specs.declared.lock.Lock.TheVariants.{Exclusive as HeldBy, Shared as SharedBy}
 use Rattle.xa_server.specs.declared.row.RowRecord.{RowRecord}
-use Rattle.xa_server.specs.Rows.{RowMap, held_row, freed_row, is_needed, kept, freed, Frees}
+use Rattle.xa_server.specs.Rows.{RowMap, Sharing, write_of, write_in, held_row, with_sharer, shared_row, freed_lock, freed_row, is_needed, kept, freed, Frees}
 use Rattle.xa_server.proofs.Maps.{get_view, same_or_apart, same_itself, get_inserted, get_inserted_apart, get_removed, get_removed_apart}
 use Rattle.xa_server.proofs.RowRecords.{rows_in, row_set, row_gone}
 use Rattle.xa_server.proofs.Index.{same_value, not_none}
+use Rattle.xa_server.proofs.Holders.{none_of, itself}
 use mathlib.Core.Bool.{true≢false}
 use Rattle.std.proofs.lemmas.List.Folds.{list_any-append}
 
+-- a branch that doesn't share a row isn't taken out
+not_there : (sharers : Sharing) (xid : Xid) → set.contains sharers xid ≡ false → set.remove sharers xid ≡ sharers
+not_there sharers xid none = same_set xids_total exact_xids _ _ (λ other. contains-remove xids_total sharers xid other ∙ (elim (same_or_apart xids_total exact_xids other xid) [
+  | inl is ↦ by (same_xid other xid) (set.contains sharers other) (ap (set.contains sharers) is ∙ none)
+  | inr apart ↦ ap (λ b. not b && set.contains sharers other) apart
+]))
+  where
+    by : (b c : Bool) → c ≡ false → (not b && c) ≡ c
+    by true c e = sym e
+    by false c e = refl
+
+-- a row that a branch let go is let go
+freed_lock_twice : (xid : Xid) (lock : Lock) → freed_lock xid (freed_lock xid lock) ≡ freed_lock xid lock
+freed_lock_twice xid (HeldBy holder change) = by (same_xid holder xid) refl
+  where
+    by : (b : Bool) → same_xid holder xid ≡ b → freed_lock xid (cond b (SharedBy set.empty) (HeldBy holder change)) ≡ cond b (SharedBy set.empty) (HeldBy holder change)
+    by true e = ap SharedBy (not_there set.empty xid (contains-empty xid_cmp xid))
+    by false e = ap (λ b. cond b (SharedBy set.empty) (HeldBy holder change)) e
+freed_lock_twice xid (SharedBy sharers) =
+    ap SharedBy (not_there (set.remove sharers xid) xid (contains-remove xids_total sharers xid xid ∙ ap (λ b. not b && set.contains sharers xid) (itself xid)))
+
+-- and has no write of the branch
+freed_unwritten : (xid : Xid) (lock : Lock) → write_in xid (freed_lock xid lock) ≡ None
+freed_unwritten xid (HeldBy holder change) = by (same_xid holder xid) refl
+  where
+    by : (b : Bool) → same_xid holder xid ≡ b → write_in xid (cond b (SharedBy set.empty) (HeldBy holder change)) ≡ None
+    by true e = refl
+    by false e = ap (λ b. cond b (Some (write_of change)) None) e
+freed_unwritten xid (SharedBy sharers) = refl
+
 -- a record that a branch let go is let go
 freed_row_twice : (commits : Bool) (xid : Xid) (row : RowRecord) → freed_row commits xid (freed_row commits xid row) ≡ freed_row commits xid row
-freed_row_twice commits xid row = by row.committed row.lock
+freed_row_twice commits xid row = λ i. record { committed = again i; lock = freed_lock_twice xid row.lock i }
   where
-    by : (committed : Option Text) (lock : Option Lock) →
-        freed_row commits xid (freed_row commits xid (record { committed = committed; lock = lock })) ≡ freed_row commits xid (record { committed = committed; lock = lock })
-    by committed None = refl
-    by committed (Some lock) = same (same_xid lock.holder xid) refl
-      where
-        same : (b : Bool) → same_xid lock.holder xid ≡ b →
-            freed_row commits xid (freed_row commits xid (record { committed = committed; lock = Some lock })) ≡ freed_row commits xid (record { committed = committed; lock = Some lock })
-        same true e = rw e refl
-        same false e = rw (e, e) refl
+    same : (b : Bool) (value : Option Text) → cond b value value ≡ value
+    same true value = refl
+    same false value = refl
+
+    again : cond commits (unwrap_or (write_in xid (freed_lock xid row.lock)) (freed_row commits xid row).committed) (freed_row commits xid row).committed ≡ (freed_row commits xid row).committed
+    again = ap (λ write. cond commits (unwrap_or write (freed_row commits xid row).committed) (freed_row commits xid row).committed) (freed_unwritten xid row.lock)
+        ∙ same commits (freed_row commits xid row).committed
 
 -- and so is none
 pub freed_twice : (commits : Bool) (xid : Xid) (found : Option RowRecord) → freed commits xid (freed commits xid found) ≡ freed commits xid found
@@ -127,36 +161,80 @@ freed_one_more commits xid all rest key old now next is frees = record {
 
 -- a branch comes to hold a row that has a record
 pub holds_known : (key : List ℕ) (xid : Xid) (change : Change) (old new : BTreeMap (List ℕ) RowRecord) (back : Option Lock) →
-    MatchOption (tree.get bytes_cmp old key) (new ≡ old) (λ row. Updates bytes_cmp old new key (Some (record row { lock = Some (record { holder = xid; change = change }) }))) →
-    MatchOption (tree.get bytes_cmp old key) (back ≡ Some (record { holder = xid; change = change })) (λ row. back ≡ None) →
+    MatchOption (tree.get bytes_cmp old key) (new ≡ old) (λ row. Updates bytes_cmp old new key (Some (record row { lock = HeldBy xid change }))) →
+    MatchOption (tree.get bytes_cmp old key) (back ≡ Some (HeldBy xid change)) (λ row. back ≡ None) →
     back ≡ None → rows_in new ≡ map.insert (rows_in old) key (held_row xid change (map.get (rows_in old) key))
 holds_known key xid change old new back changes told is = by (tree.get bytes_cmp old key) refl changes told
   where
     by : (found : Option RowRecord) → tree.get bytes_cmp old key ≡ found →
-        MatchOption found (new ≡ old) (λ row. Updates bytes_cmp old new key (Some (record row { lock = Some (record { holder = xid; change = change }) }))) →
-        MatchOption found (back ≡ Some (record { holder = xid; change = change })) (λ row. back ≡ None) →
+        MatchOption found (new ≡ old) (λ row. Updates bytes_cmp old new key (Some (record row { lock = HeldBy xid change }))) →
+        MatchOption found (back ≡ Some (HeldBy xid change)) (λ row. back ≡ None) →
         rows_in new ≡ map.insert (rows_in old) key (held_row xid change (map.get (rows_in old) key))
-    by None e same given = not_none (let lock : Lock = record { holder = xid; change = change } in lock) (sym is ∙ given)
+    by None e same given = not_none (HeldBy xid change) (sym is ∙ given)
     by (Some row) e updates given =
         row_set old new key _ updates
         ∙ ap (λ found. map.insert (rows_in old) key (held_row xid change found)) (sym (get_view bytes_total exact_texts old key ∙ e))
 
 -- a branch comes to hold a row that had no record
 pub holds_new : (key : List ℕ) (xid : Xid) (change : Change) (old mid new : BTreeMap (List ℕ) RowRecord) (back : Option Lock) (lock : Lock) →
-    MatchOption (tree.get bytes_cmp old key) (mid ≡ old) (λ row. Updates bytes_cmp old mid key (Some (record row { lock = Some (record { holder = xid; change = change }) }))) →
-    MatchOption (tree.get bytes_cmp old key) (back ≡ Some (record { holder = xid; change = change })) (λ row. back ≡ None) →
-    back ≡ Some lock → Updates bytes_cmp mid new key (Some (record { committed = None; lock = Some lock })) →
+    MatchOption (tree.get bytes_cmp old key) (mid ≡ old) (λ row. Updates bytes_cmp old mid key (Some (record row { lock = HeldBy xid change }))) →
+    MatchOption (tree.get bytes_cmp old key) (back ≡ Some (HeldBy xid change)) (λ row. back ≡ None) →
+    back ≡ Some lock → Updates bytes_cmp mid new key (Some (record { committed = None; lock = lock })) →
     rows_in new ≡ map.insert (rows_in old) key (held_row xid change (map.get (rows_in old) key))
 holds_new key xid change old mid new back lock changes told is updates = by (tree.get bytes_cmp old key) refl changes told
   where
     by : (found : Option RowRecord) → tree.get bytes_cmp old key ≡ found →
-        MatchOption found (mid ≡ old) (λ row. Updates bytes_cmp old mid key (Some (record row { lock = Some (record { holder = xid; change = change }) }))) →
-        MatchOption found (back ≡ Some (record { holder = xid; change = change })) (λ row. back ≡ None) →
+        MatchOption found (mid ≡ old) (λ row. Updates bytes_cmp old mid key (Some (record row { lock = HeldBy xid change }))) →
+        MatchOption found (back ≡ Some (HeldBy xid change)) (λ row. back ≡ None) →
         rows_in new ≡ map.insert (rows_in old) key (held_row xid change (map.get (rows_in old) key))
     by None e same given =
-        let lock_is : lock ≡ record { holder = xid; change = change } = same_value _ _ (sym is ∙ given) in
+        let lock_is : lock ≡ HeldBy xid change = same_value _ _ (sym is ∙ given) in
         row_set mid new key _ updates
-        ∙ ap (λ table. map.insert (rows_in table) key (record { committed = None; lock = Some lock })) same
-        ∙ ap (λ l. map.insert (rows_in old) key (record { committed = None; lock = Some l })) lock_is
+        ∙ ap (λ table. map.insert (rows_in table) key (record { committed = None; lock = lock })) same
+        ∙ ap (λ l. map.insert (rows_in old) key (record { committed = None; lock = l })) lock_is
         ∙ ap (λ found. map.insert (rows_in old) key (held_row xid change found)) (sym (get_view bytes_total exact_texts old key ∙ e))
     by (Some row) e updated given = not_none lock (sym given ∙ is)
+
+-- a row's record that is put back as it was changes nothing
+pub put_back : (key : List ℕ) (old new : BTreeMap (List ℕ) RowRecord) → MatchOption (tree.get bytes_cmp old key) (new ≡ old) (λ row. Updates bytes_cmp old new key (Some row)) → rows_in new ≡ rows_in old
+put_back key old new = by (tree.get bytes_cmp old key) refl
+  where
+    by : (found : Option RowRecord) → tree.get bytes_cmp old key ≡ found → MatchOption found (new ≡ old) (λ row. Updates bytes_cmp old new key (Some row)) → rows_in new ≡ rows_in old
+    by None e same = ap rows_in same
+    by (Some row) e updates = row_set old new key row updates ∙ same_map bytes_total exact_texts _ _ (λ other. elim (same_or_apart bytes_total exact_texts other key) [
+      | inl is ↦ rw is (get_inserted bytes_total exact_texts (rows_in old) key row ∙ sym (get_view bytes_total exact_texts old key ∙ e))
+      | inr apart ↦ get_inserted_apart bytes_total exact_texts (rows_in old) key row other apart
+    ])
+
+-- what `share_in` leaves: the record changed in place
+abbrev pub Shares : Xid → List ℕ → BTreeMap (List ℕ) RowRecord → BTreeMap (List ℕ) RowRecord → Type 0
+Shares xid key old new = MatchOption (tree.get bytes_cmp old key) (new ≡ old) (λ row. Updates bytes_cmp old new key (Some (record row { lock = with_sharer xid row.lock })))
+
+-- a row without a record has none after it
+pub nothing_shared : (xid : Xid) (key : List ℕ) (old new : BTreeMap (List ℕ) RowRecord) → Shares xid key old new → is_some (tree.get bytes_cmp old key) ≡ false → new ≡ old
+nothing_shared xid key old new shares none = by (tree.get bytes_cmp old key) none shares
+  where
+    by : (found : Option RowRecord) → is_some found ≡ false → MatchOption found (new ≡ old) (λ row. Updates bytes_cmp old new key (Some (record row { lock = with_sharer xid row.lock }))) → new ≡ old
+    by None e same = same
+    by (Some row) e updates = absurd (true≢false e)
+
+-- a branch comes to share a row that has a record
+pub shares_known : (xid : Xid) (key : List ℕ) (old new : BTreeMap (List ℕ) RowRecord) → Shares xid key old new → is_some (tree.get bytes_cmp old key) ≡ true →
+    rows_in new ≡ map.insert (rows_in old) key (shared_row xid (map.get (rows_in old) key))
+shares_known xid key old new shares there = by (tree.get bytes_cmp old key) refl there shares
+  where
+    by : (found : Option RowRecord) → tree.get bytes_cmp old key ≡ found → is_some found ≡ true →
+        MatchOption found (new ≡ old) (λ row. Updates bytes_cmp old new key (Some (record row { lock = with_sharer xid row.lock }))) →
+        rows_in new ≡ map.insert (rows_in old) key (shared_row xid (map.get (rows_in old) key))
+    by None e there same = absurd (true≢false (sym there))
+    by (Some row) e there updates = row_set old new key _ updates ∙ ap (λ found. map.insert (rows_in old) key (shared_row xid found)) (sym (get_view bytes_total exact_texts old key ∙ e))
+
+-- a branch comes to share a row that had no record
+pub shares_new : (xid : Xid) (key : List ℕ) (old mid new : BTreeMap (List ℕ) RowRecord) (lock : Lock) → Shares xid key old mid → is_some (tree.get bytes_cmp old key) ≡ false →
+    lock ≡ with_sharer xid (SharedBy set.empty) → Updates bytes_cmp mid new key (Some (record { committed = None; lock = lock })) →
+    rows_in new ≡ map.insert (rows_in old) key (shared_row xid (map.get (rows_in old) key))
+shares_new xid key old mid new lock shares none lock_is updates =
+    row_set mid new key _ updates
+    ∙ ap (λ table. map.insert (rows_in table) key (record { committed = None; lock = lock })) (nothing_shared xid key old mid shares none)
+    ∙ ap (λ l. map.insert (rows_in old) key (record { committed = None; lock = l })) lock_is
+    ∙ ap (λ found. map.insert (rows_in old) key (shared_row xid found)) (sym (get_view bytes_total exact_texts old key ∙ none_of (tree.get bytes_cmp old key) none))

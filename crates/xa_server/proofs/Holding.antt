@@ -1,37 +1,29 @@
 -- A branch comes to hold a row: it lists the row first, and the row then names it.
-use Rattle.std.proofs.Common.{◌≡◌, ℕ, List, [], ◌∷◌, ◌++◌, refl, ap, sym, ◌∙◌, Bool, true, false, inl, inr, length, arith}
-use Rattle.std.specs.Prelude.{Option, Some, None, ◌||◌, ◌-◌, is_some}
-use Rattle.std.specs.Option.{option_map_or, option_and_then}
-use Rattle.std.specs.List.{list_any}
-use Rattle.std.specs.Ordering.{eq_by_cmp}
+use Rattle.std.proofs.Common.{◌≡◌, ℕ, List, [], ◌∷◌, ◌++◌, refl, ap, sym, ◌∙◌, true, false, inl, inr, length, arith}
+use Rattle.std.specs.Prelude.{Option, Some, None, cond, ◌-◌, is_some}
+use Rattle.std.specs.Option.{option_map, option_map_or}
 use Rattle.std.specs.FinMap as map
 use Rattle.std.specs.FinMap.{same_map}
-use Rattle.std.proofs.lemmas.List.Folds.{list_any-append}
 use Rattle.std.proofs.Common.{length-append, ◌+◌}
 use Rattle.std.proofs.Math.Seq.{take-append_seam}
-use mathlib.Core.Bool.{true≢false}
 use Rattle.xa_xid.specs.declared.xid.Xid.{Xid}
-use Rattle.xa_xid.specs.Xid.{bytes_cmp}
-use Rattle.xa_xid.proofs.Orders.{xids_total, exact_xids, bytes_total, exact_texts}
+use Rattle.xa_xid.specs.Xid.{same_xid}
+use Rattle.xa_xid.proofs.Orders.{xids_total, exact_xids}
 use Rattle.xa_server.specs.declared.branch.BranchRecord.{BranchRecord}
-use Rattle.xa_server.specs.declared.row.Change.{Change}
-use Rattle.xa_server.specs.declared.row.Change.TheVariants.{Nothing}
-use Rattle.xa_server.specs.declared.row.RowRecord.{RowRecord}
+use Rattle.xa_server.specs.declared.lock.Change.{Change}
 use Rattle.xa_server.specs.declared.seat.Seat.TheVariants.{Active}
-use Rattle.xa_server.specs.State.{Branch, State, is_known}
-use Rattle.xa_server.specs.Locks.{holds, is_held_against}
-use Rattle.xa_server.specs.Step.{with_branch, with_changed}
+use Rattle.xa_server.specs.State.{Exclusive, Branch, State, is_known}
+use Rattle.xa_server.specs.Locks.{holds, is_held_against, is_locked_against}
+use Rattle.xa_server.specs.Step.{with_branch, with_changed, with_lock}
 use Rattle.xa_server.specs.Tables.{BranchMap, with_record, without_last}
-use Rattle.xa_server.specs.Rows.{RowMap, holder_of, lock_by, held_row, with_change}
-use Rattle.xa_server.specs.View.{state_of, is_listed, IsWhole}
-use Rattle.xa_server.proofs.Maps.{same_or_apart, same_itself, get_inserted, get_inserted_apart}
-use Rattle.xa_server.proofs.Seen.{holds-seen, free_row, known_record, lock_of_holder, unlocked}
-use Rattle.xa_server.proofs.Steps.{same_state, same_branches, seen_changed, seen_held}
-use Rattle.xa_server.proofs.Whole.{whole_changed, whole_held}
-
--- the record with one key more
-unfoldable pub longer : List ℕ → BranchRecord → BranchRecord
-longer key branch = record branch { held = branch.held ++ key ∷ [] }
+use Rattle.xa_server.specs.Rows.{RowMap, held_row, shared_row, with_change}
+use Rattle.xa_server.specs.View.{state_of, IsWhole}
+use Rattle.xa_server.proofs.Maps.{same_or_apart, get_inserted, get_inserted_apart}
+use Rattle.xa_server.proofs.Holders.{mode_of, itself, turned_apart, some_if}
+use Rattle.xa_server.proofs.Seen.{holds-seen, free_row, known_record, locked_against-seen}
+use Rattle.xa_server.proofs.Steps.{same_state, same_branches, seen_changed, seen_held, seen_shared, IsShareable, share_there, share_others}
+unfoldable pub use Rattle.xa_server.proofs.Whole.{longer}
+use Rattle.xa_server.proofs.Whole.{whole_more, whole_row, changed_at}
 
 pub longer-is : (key : List ℕ) (branch : BranchRecord) → longer key branch ≡ record branch { held = branch.held ++ key ∷ [] }
 unfolding longer
@@ -80,63 +72,68 @@ unlisted branches xid key = by (map.get branches xid) refl
           | inr apart ↦ get_inserted_apart xids_total exact_xids _ xid (shorter (longer key branch)) other apart ∙ get_inserted_apart xids_total exact_xids branches xid (longer key branch) other apart
         ])
 
-or_true : (b : Bool) → (b || true) ≡ true
-or_true true = refl
-or_true false = refl
+-- the branch that holds a row exclusively
+holder_there : (own : Xid) → is_some (cond (same_xid own own) (Some Exclusive) None) ≡ true
+holder_there own = some_if (same_xid own own) Exclusive ∙ itself own
 
-there : (key : List ℕ) (branch : BranchRecord) → list_any (eq_by_cmp bytes_cmp key) (longer key branch).held ≡ true
-unfolding longer
-there key branch = list_any-append (eq_by_cmp bytes_cmp key) branch.held (key ∷ []) ∙ ap (λ b. list_any (eq_by_cmp bytes_cmp key) branch.held || (b || false)) (same_itself bytes_total exact_texts key) ∙ or_true (list_any (eq_by_cmp bytes_cmp key) branch.held)
+holder_beside : (own other : Xid) → same_xid other own ≡ false → cond (same_xid own other) (Some Exclusive) None ≡ None
+holder_beside own other apart = ap (λ b. cond b (Some Exclusive) None) (turned_apart own other apart)
 
--- the branch is known, and lists the row
-known_listed : (branches : BranchMap) (xid : Xid) (key : List ℕ) → is_some (map.get branches xid) ≡ true →
-    (is_some (map.get (with_record branches xid (longer key)) xid) ≡ true) × (is_listed (with_record branches xid (longer key)) xid key ≡ true)
-known_listed branches xid key known = by (map.get branches xid) refl known
+-- the branch has a record still
+known_longer : (branches : BranchMap) (xid : Xid) (key : List ℕ) → is_some (map.get branches xid) ≡ true → is_some (map.get (with_record branches xid (longer key)) xid) ≡ true
+known_longer branches xid key known = ap is_some (changed_at branches xid (longer key)) ∙ by (map.get branches xid) known
   where
-    by : (found : Option BranchRecord) → map.get branches xid ≡ found → is_some found ≡ true →
-        (is_some (map.get (option_map_or (λ branch. map.insert branches xid (longer key branch)) found branches) xid) ≡ true)
-        × (is_listed (option_map_or (λ branch. map.insert branches xid (longer key branch)) found branches) xid key ≡ true)
-    by None e there_is = absurd (true≢false (sym there_is))
-    by (Some branch) e there_is = (
-      ap is_some (get_inserted xids_total exact_xids branches xid (longer key branch)),
-      ap (λ found. option_map_or (λ (b : BranchRecord). list_any (eq_by_cmp bytes_cmp key) b.held) found false) (get_inserted xids_total exact_xids branches xid (longer key branch)) ∙ there key branch,
-    )
+    by : (found : Option BranchRecord) → is_some found ≡ true → is_some (option_map (longer key) found) ≡ true
+    by None e = e
+    by (Some branch) e = refl
 
--- the records keep what they keep
-pub whole_listed : (branches : BranchMap) (rows : RowMap) (xid : Xid) (key : List ℕ) → IsWhole branches rows → IsWhole (with_record branches xid (longer key)) rows
-unfolding longer
-whole_listed branches rows xid key whole = whole_changed branches rows xid (longer key)
-    (λ branch is. whole.attached xid branch is) (λ branch session e. e)
-    (λ branch other e. list_any-append (eq_by_cmp bytes_cmp other) branch.held (key ∷ []) ∙ ap (λ b. b || list_any (eq_by_cmp bytes_cmp other) (key ∷ [])) e) whole
-
--- what holding a row that the branch didn't hold leaves
+-- what holding a row that the branch didn't hold leaves, where no other holds it
 pub held_anew : (branches : BranchMap) (rows : RowMap) (own : Xid) (key : List ℕ) (change : Change) → IsWhole branches rows → is_known (state_of branches rows) own ≡ true →
-    is_held_against (state_of branches rows) (Active own) key ≡ false → is_some (option_and_then (lock_by own) (map.get rows key)) ≡ false →
+    is_held_against (state_of branches rows) (Active own) key ≡ false → is_some (mode_of own (map.get rows key)) ≡ false →
     IsWhole (with_record branches own (longer key)) (map.insert rows key (held_row own change (map.get rows key)))
     × (state_of (with_record branches own (longer key)) (map.insert rows key (held_row own change (map.get rows key))) ≡ with_changed (state_of branches rows) own (with_change key change))
 held_anew branches rows own key change whole known unheld none =
-    let there = known_listed branches own key (known_record branches rows own known) in (
-      whole_held (with_record branches own (longer key)) rows own key change there.1 (whole_listed branches rows own key whole),
-      seen_held (with_record branches own (longer key)) rows own key change there.0 (free_row branches rows own key whole unheld) (λ e. none)
+    let free = free_row branches rows own key whole unheld in
+    (
+      whole_more branches rows own key (held_row own change (map.get rows key)) (known_record branches rows own known) none (holder_there own)
+      (λ other apart. ap is_some (holder_beside own other apart) ∙ sym (free other apart)) whole,
+      seen_held (with_record branches own (longer key)) rows own key change (known_longer branches own key (known_record branches rows own known)) free
           ∙ ap (λ s. with_changed s own (with_change key change)) (seen_listed branches rows own key),
     )
 
-pub holder_from_lock : (own : Xid) (row : Option RowRecord) → is_some (option_and_then (lock_by own) row) ≡ true → holder_of row ≡ Some own
-holder_from_lock own row e = by (holder_of row) refl
-  where
-    by : (holder : Option Xid) → holder_of row ≡ holder → holder_of row ≡ Some own
-    by None h = absurd (true≢false (sym e ∙ ap is_some (unlocked own row h)))
-    by (Some holder) h = elim (same_or_apart xids_total exact_xids holder own) [
-      | inl is ↦ h ∙ ap Some is
-      | inr apart ↦ absurd (true≢false (sym e ∙ lock_of_holder holder own row h ∙ apart))
-    ]
-
--- what a new change of a row that the branch holds leaves
+-- what a new change of a row that the branch holds, in either way, leaves
 pub held_again : (branches : BranchMap) (rows : RowMap) (own : Xid) (key : List ℕ) (change : Change) → IsWhole branches rows → is_known (state_of branches rows) own ≡ true →
-    is_held_against (state_of branches rows) (Active own) key ≡ false → (change ≡ Nothing → holds (state_of branches rows) own key ≡ false) → is_some (option_and_then (lock_by own) (map.get rows key)) ≡ true →
+    is_held_against (state_of branches rows) (Active own) key ≡ false → is_some (mode_of own (map.get rows key)) ≡ true →
     IsWhole branches (map.insert rows key (held_row own change (map.get rows key)))
     × (state_of branches (map.insert rows key (held_row own change (map.get rows key))) ≡ with_changed (state_of branches rows) own (with_change key change))
-held_again branches rows own key change whole known unheld new there = (
-  whole_held branches rows own key change (whole.listed key own (holder_from_lock own (map.get rows key) there)) whole,
-  seen_held branches rows own key change (known_record branches rows own known) (free_row branches rows own key whole unheld) (λ e. sym (holds-seen branches rows own key whole) ∙ new e),
-)
+held_again branches rows own key change whole known unheld there =
+    let free = free_row branches rows own key whole unheld in
+    (
+      whole_row branches rows key (held_row own change (map.get rows key)) (λ xid. elim (same_or_apart xids_total exact_xids xid own) [
+        | inl is ↦ rw is (holder_there own ∙ sym there)
+        | inr apart ↦ ap is_some (holder_beside own xid apart) ∙ sym (free xid apart)
+      ]) whole,
+      seen_held branches rows own key change (known_record branches rows own known) free,
+    )
+
+-- a row that may be shared
+shareable : (branches : BranchMap) (rows : RowMap) (own : Xid) (key : List ℕ) → IsWhole branches rows → is_locked_against (state_of branches rows) (Active own) key ≡ false → holds (state_of branches rows) own key ≡ false →
+    IsShareable own (map.get rows key)
+shareable branches rows own key whole unlocked unheld = record {
+  unheld = sym (holds-seen branches rows own key whole) ∙ unheld;
+  unlocked = sym (locked_against-seen branches rows (Active own) key whole) ∙ unlocked;
+}
+
+-- what sharing a row that the branch didn't hold leaves, where no other holds it exclusively
+pub shared_anew : (branches : BranchMap) (rows : RowMap) (own : Xid) (key : List ℕ) → IsWhole branches rows → is_known (state_of branches rows) own ≡ true →
+    is_locked_against (state_of branches rows) (Active own) key ≡ false → holds (state_of branches rows) own key ≡ false →
+    IsWhole (with_record branches own (longer key)) (map.insert rows key (shared_row own (map.get rows key)))
+    × (state_of (with_record branches own (longer key)) (map.insert rows key (shared_row own (map.get rows key))) ≡ with_changed (state_of branches rows) own (with_lock key))
+shared_anew branches rows own key whole known unlocked unheld =
+    let is = shareable branches rows own key whole unlocked unheld in
+    (
+      whole_more branches rows own key (shared_row own (map.get rows key)) (known_record branches rows own known) is.unheld (ap is_some (share_there own (map.get rows key) is))
+      (λ other apart. ap is_some (share_others own other (map.get rows key) apart)) whole,
+      seen_shared (with_record branches own (longer key)) rows own key (known_longer branches own key (known_record branches rows own known)) is
+          ∙ ap (λ s. with_changed s own (with_lock key)) (seen_listed branches rows own key),
+    )

@@ -1,9 +1,9 @@
 -- Each statement, and so each history, keeps the lock law.
 use Rattle.std.proofs.Common.{◌≡◌, ℕ, List, [], ◌∷◌, refl, ap, sym, ◌∙◌, subst, Bool, true, false, ◌⊎◌, inl, inr}
-use Rattle.std.specs.Prelude.{Option, Some, None, cond, not, ◌&&◌, is_some}
+use Rattle.std.specs.Prelude.{Option, Some, None, cond, is_some}
 use Rattle.std.specs.Option.{option_map, option_map_or, option_and_then}
 use Rattle.std.specs.FinMap as map
-use Rattle.std.specs.FinMap.{contains_key-keys, get-empty}
+use Rattle.std.specs.FinMap.{get-empty}
 use mathlib.Core.Bool.{true≢false}
 use Rattle.xa_xid.specs.declared.xid.Xid.{Xid}
 use Rattle.xa_xid.specs.Xid.{bytes_cmp, same_xid}
@@ -14,14 +14,14 @@ use Rattle.xa_server.specs.declared.branch.Phase.{Phase}
 use Rattle.xa_server.specs.declared.branch.Phase.TheVariants.{Active as PhaseActive, Idle as PhaseIdle, Prepared as PhasePrepared}
 use Rattle.xa_server.specs.declared.seat.Seat.{Seat}
 use Rattle.xa_server.specs.declared.seat.Seat.TheVariants.{Free, Active, Idle}
-use Rattle.xa_server.specs.State.{Write, Branch, State, no_state, is_prepared, is_prepared_phase, owns, phase_at, seat_in, seat_of, IsOpen}
-use Rattle.xa_server.specs.Locks.{LockLaw, holds, is_another, is_held_against}
+use Rattle.xa_server.specs.State.{Write, Exclusive, Branch, State, no_state, is_prepared, is_prepared_phase, owns, phase_at, seat_in, seat_of, IsOpen}
+use Rattle.xa_server.specs.Locks.{LockLaw, is_exclusive}
 use Rattle.xa_server.specs.Replies.{table}
 use Rattle.xa_server.specs.Step.{started_by, with_lock, with_own_write, effect, is_refused, after, after_all}
-use Rattle.xa_server.proofs.Maps.{same_or_apart, same_itself, get_inserted, get_inserted_apart}
+use Rattle.xa_server.proofs.Maps.{same_or_apart, get_inserted, get_inserted_apart}
 use Rattle.xa_server.proofs.Index.{not_none}
-use Rattle.xa_server.proofs.Seen.{any_some}
-use Rattle.xa_server.proofs.Accepted.{open_seat, accepted_start, accepted_end, accepted_get, accepted_put, accepted_del}
+use Rattle.xa_server.proofs.Taking.{mode_in, share_exclusive, Before, held_before, exclusive_before, one_holder}
+use Rattle.xa_server.proofs.Accepted.{open_seat, accepted_start, accepted_end}
 use Rattle.xa_server.proofs.Changes.{idle, detached, branch_after, effect-branch, outcome}
 use Rattle.xa_server.proofs.Others.{is_owned, IsStarted, owned_before, own_found, nobodys, known_owned}
 use Rattle.xa_server.proofs.Steps.{seen_empty}
@@ -36,28 +36,25 @@ is_ready found = option_map_or is_prepared_phase (option_map (λ (b : Branch). b
 owner_in : Option Branch → Option ℕ
 owner_in found = option_and_then (λ (b : Branch). b.owner) found
 
-is_holding : List ℕ → Option Branch → Bool
-is_holding key found = option_map_or (λ (b : Branch). map.contains_key b.locks key) found false
-
 is_writing : List ℕ → Option Branch → Bool
 is_writing key found = is_some (option_and_then (λ (b : Branch). map.get b.writes key) found)
 
--- PREPARED branches and no others are nobody's, and a branch holds what it writes
+-- PREPARED branches and no others are nobody's, and a branch holds exclusively what it writes
 record IsSound (found : Option Branch) : Type 0 where
   pub detached : is_ready found ≡ true → owner_in found ≡ None
   pub attached : is_some found ≡ true → is_ready found ≡ false → is_some (owner_in found) ≡ true
-  pub held : (key : List ℕ) → is_writing key found ≡ true → is_holding key found ≡ true
+  pub held : (key : List ℕ) → is_writing key found ≡ true → is_exclusive (mode_in key found) ≡ true
 
 sound_in : (state : State) → LockLaw state → (xid : Xid) → IsSound (map.get state.branches xid)
-unfolding is_ready owner_in is_holding is_writing
+unfolding is_ready owner_in mode_in is_writing
 sound_in state law xid = record { detached = law.detached xid; attached = law.attached xid; held = law.held_writes xid }
 
 sound_none : IsSound None
-unfolding is_ready owner_in is_holding is_writing
+unfolding is_ready owner_in mode_in is_writing
 sound_none = record { detached = λ e. refl; attached = λ e f. absurd (true≢false (sym e)); held = λ key e. absurd (true≢false (sym e)) }
 
 sound_started : (session : ℕ) → IsSound (Some (started_by session))
-unfolding is_ready owner_in is_holding is_writing
+unfolding is_ready owner_in mode_in is_writing
 sound_started session = record {
   detached = λ e. absurd (true≢false (sym e));
   attached = λ e f. refl;
@@ -65,36 +62,29 @@ sound_started session = record {
 }
 
 sound_idle : (found : Option Branch) → is_ready found ≡ false → IsSound found → IsSound (option_map idle found)
-unfolding is_ready owner_in is_holding is_writing idle
+unfolding is_ready owner_in mode_in is_writing idle
 sound_idle None e sound = sound_none
 sound_idle (Some branch) e sound = record { detached = λ f. absurd (true≢false (sym f)); attached = λ there f. sound.attached refl e; held = sound.held }
 
 sound_detached : (found : Option Branch) → IsSound found → IsSound (option_map detached found)
-unfolding is_ready owner_in is_holding is_writing detached
+unfolding is_ready owner_in mode_in is_writing detached
 sound_detached None sound = sound_none
 sound_detached (Some branch) sound = record { detached = λ e. refl; attached = λ there e. absurd (true≢false e); held = sound.held }
 
--- a row that is held stays so beside one that comes to be held
-still_held : (locks : map.FinMap bytes_cmp (Unit {0})) (key other : List ℕ) → map.contains_key locks other ≡ true → map.contains_key (map.insert locks key tt) other ≡ true
-still_held locks key other e = elim (same_or_apart bytes_total exact_texts other key) [
-  | inl is ↦ rw is (ap is_some (get_inserted bytes_total exact_texts locks key tt))
-  | inr apart ↦ ap is_some (get_inserted_apart bytes_total exact_texts locks key tt other apart) ∙ e
-]
-
 sound_locked : (key : List ℕ) (found : Option Branch) → IsSound found → IsSound (option_map (with_lock key) found)
-unfolding is_ready owner_in is_holding is_writing
+unfolding is_ready owner_in mode_in is_writing
 sound_locked key None sound = sound_none
-sound_locked key (Some branch) sound = record { detached = sound.detached; attached = sound.attached; held = λ other e. still_held branch.locks key other (sound.held other e) }
+sound_locked key (Some branch) sound = record { detached = sound.detached; attached = sound.attached; held = λ other e. share_exclusive branch.locks key other ∙ sound.held other e }
 
 sound_written : (key : List ℕ) (write : Write) (found : Option Branch) → IsSound found → IsSound (option_map (with_own_write key write) found)
-unfolding is_ready owner_in is_holding is_writing
+unfolding is_ready owner_in mode_in is_writing
 sound_written key write None sound = sound_none
 sound_written key write (Some branch) sound = record {
   detached = sound.detached;
   attached = sound.attached;
   held = λ other e. elim (same_or_apart bytes_total exact_texts other key) [
-    | inl is ↦ rw is (ap is_some (get_inserted bytes_total exact_texts branch.locks key tt))
-    | inr apart ↦ still_held branch.locks key other (sound.held other (sym (ap is_some (get_inserted_apart bytes_total exact_texts branch.writes key write other apart)) ∙ e))
+    | inl is ↦ rw is (ap is_exclusive (get_inserted bytes_total exact_texts branch.locks key Exclusive))
+    | inr apart ↦ ap is_exclusive (get_inserted_apart bytes_total exact_texts branch.locks key Exclusive other apart) ∙ sound.held other (sym (ap is_some (get_inserted_apart bytes_total exact_texts branch.writes key write other apart)) ∙ e)
   ];
 }
 
@@ -174,113 +164,14 @@ one_branch state session who statement law accepted xid other (inl e) (inr f) = 
 one_branch state session who statement law accepted xid other (inr e) (inl f) = starter_free state session who statement law accepted xid other e f
 one_branch state session who statement law accepted xid other (inr e) (inr f) = start_of xid other (sym e.0 ∙ f.0)
 
--- ---- one branch for a row
-
--- a branch that comes to hold a row is the session's, and no other holds it
-abbrev IsLocking : State → Seat → Xid → List ℕ → Type 0
-IsLocking state seat at key = (seat ≡ Active at) × (is_held_against state seat key ≡ false)
-
-Before : State → Seat → Xid → List ℕ → Type 0
-Before state seat at key = (holds state at key ≡ true) ⊎ IsLocking state seat at key
-
--- where the new branch holds no more than it did
-no_more : (key : List ℕ) (b : Bool) (new found : Option Branch) → (is_holding key new ≡ true → is_holding key found ≡ true) → is_holding key (cond b new found) ≡ true → is_holding key found ≡ true
-no_more key true new found from e = from e
-no_more key false new found from e = e
-
-same_locks : (key : List ℕ) (change : Branch → Branch) → ((branch : Branch) → (change branch).locks ≡ branch.locks) → (found : Option Branch) → is_holding key (option_map change found) ≡ true → is_holding key found ≡ true
-unfolding is_holding
-same_locks key change same None e = e
-same_locks key change same (Some branch) e = ap (λ locks. map.contains_key locks key) (sym (same branch)) ∙ e
-
-none_held : (key : List ℕ) (found : Option Branch) → is_holding key None ≡ true → is_holding key found ≡ true
-unfolding is_holding
-none_held key found e = absurd (true≢false (sym e))
-
-fresh_held : (key : List ℕ) (session : ℕ) (found : Option Branch) → is_holding key (Some (started_by session)) ≡ true → is_holding key found ≡ true
-unfolding is_holding
-fresh_held key session found e = absurd (true≢false (sym e ∙ ap is_some (get-empty bytes_cmp key)))
-
--- where it holds this row besides
-one_more : (key other : List ℕ) (change : Branch → Branch) → ((branch : Branch) → (change branch).locks ≡ map.insert branch.locks key tt) → (found : Option Branch) →
-    is_holding other (option_map change found) ≡ true → (is_holding other found ≡ true) ⊎ (other ≡ key)
-unfolding is_holding
-one_more key other change more None e = inl e
-one_more key other change more (Some branch) e = elim (same_or_apart bytes_total exact_texts other key) [
-  | inl is ↦ inr is
-  | inr apart ↦ inl (sym (ap is_some (get_inserted_apart bytes_total exact_texts branch.locks key tt other apart)) ∙ sym (ap (λ locks. map.contains_key locks other) (more branch)) ∙ e)
-]
-
-locking : (state : State) (own at : Xid) (key other : List ℕ) (change : Branch → Branch) → ((branch : Branch) → (change branch).locks ≡ map.insert branch.locks key tt) → is_held_against state (Active own) key ≡ false →
-    is_holding other (cond (same_xid at own) (option_map change (map.get state.branches at)) (map.get state.branches at)) ≡ true → Before state (Active own) at other
-unfolding is_holding Before
-locking state own at key other change more unheld e = elim (same_or_apart xids_total exact_xids at own) [
-  | inr apart ↦ inl (sym (ap (λ b. is_holding other (cond b (option_map change (map.get state.branches at)) (map.get state.branches at))) apart) ∙ e)
-  | inl is ↦ elim (one_more key other change more (map.get state.branches at) (sym (ap (λ b. is_holding other (cond b (option_map change (map.get state.branches at)) (map.get state.branches at))) (ap (λ x. same_xid x own) is ∙ same_itself xids_total exact_xids own)) ∙ e)) [
-    | inl before ↦ inl before
-    | inr same ↦ inr (ap Active (sym is), ap (is_held_against state (Active own)) same ∙ unheld)
-  ]
-]
-
-held_before : (state : State) (session : ℕ) (seat : Seat) (statement : Statement) → is_refused (table state seat statement) ≡ false → (at : Xid) (key : List ℕ) →
-    is_holding key (branch_after session seat statement at (map.get state.branches at)) ≡ true → Before state seat at key
-unfolding branch_after is_holding Before idle detached
-held_before state session seat (Start xid) accepted at key e = inl (no_more key (same_xid at xid) _ (map.get state.branches at) (fresh_held key session (map.get state.branches at)) e)
-held_before state session seat (End xid) accepted at key e = inl (no_more key (same_xid at xid) _ (map.get state.branches at) (same_locks key idle (λ b. refl) (map.get state.branches at)) e)
-held_before state session seat (Prepare xid) accepted at key e = inl (no_more key (same_xid at xid) _ (map.get state.branches at) (same_locks key detached (λ b. refl) (map.get state.branches at)) e)
-held_before state session seat (Commit xid one_phase) accepted at key e = inl (no_more key (same_xid at xid) _ (map.get state.branches at) (none_held key (map.get state.branches at)) e)
-held_before state session seat (Rollback xid) accepted at key e = inl (no_more key (same_xid at xid) _ (map.get state.branches at) (none_held key (map.get state.branches at)) e)
-held_before state session seat (Recover convert) accepted at key e = inl e
-held_before state session seat Unsupported accepted at key e = inl e
-held_before state session Free (Get row) accepted at key e = inl e
-held_before state session (Active own) (Get row) accepted at key e = locking state own at row key (with_lock row) (λ b. refl) (accepted_get state own row accepted) e
-held_before state session (Idle own) (Get row) accepted at key e = inl e
-held_before state session Free (Put row value) accepted at key e = inl e
-held_before state session (Active own) (Put row value) accepted at key e = locking state own at row key (with_own_write row (Some value)) (λ b. refl) (accepted_put state own row value accepted) e
-held_before state session (Idle own) (Put row value) accepted at key e = inl e
-held_before state session Free (Del row) accepted at key e = inl e
-held_before state session (Active own) (Del row) accepted at key e = locking state own at row key (with_own_write row None) (λ b. refl) (accepted_del state own row accepted) e
-held_before state session (Idle own) (Del row) accepted at key e = inl e
-held_before state session Free Disconnect accepted at key e = inl e
-held_before state session (Active own) Disconnect accepted at key e = inl (no_more key (same_xid at own) _ (map.get state.branches at) (none_held key (map.get state.branches at)) e)
-held_before state session (Idle own) Disconnect accepted at key e = inl (no_more key (same_xid at own) _ (map.get state.branches at) (none_held key (map.get state.branches at)) e)
-
-known_holder : (key : List ℕ) (found : Option Branch) → is_holding key found ≡ true → is_some found ≡ true
-unfolding is_holding
-known_holder key None e = absurd (true≢false (sym e))
-known_holder key (Some branch) e = refl
-
--- a row that another branch holds is held against the session
-held_against : (state : State) (own xid : Xid) (key : List ℕ) → holds state xid key ≡ true → same_xid xid own ≡ false → is_held_against state (Active own) key ≡ true
-unfolding is_held_against is_holding
-held_against state own xid key e apart = any_some (λ other. is_another (Active own) other && holds state other key) (map.keys state.branches) xid
-    (sym (contains_key-keys state.branches xid) ∙ known_holder key (map.get state.branches xid) e)
-    (ap (λ b. not b && holds state xid key) apart ∙ e)
-
-one_locker : (state : State) (seat : Seat) (xid own : Xid) (key : List ℕ) → holds state xid key ≡ true → IsLocking state seat own key → xid ≡ own
-one_locker state seat xid own key e locks = elim (same_or_apart xids_total exact_xids xid own) [
-  | inl is ↦ is
-  | inr apart ↦ absurd (true≢false (sym (held_against state own xid key e apart) ∙ ap (λ s. is_held_against state s key) (sym locks.0) ∙ locks.1))
-]
-
-active_of : (xid other : Xid) → Active xid ≡ Active other → xid ≡ other
-active_of xid other e = cc
-
-one_holder : (state : State) (seat : Seat) → LockLaw state → (xid other : Xid) (key : List ℕ) → Before state seat xid key → Before state seat other key → xid ≡ other
-unfolding Before
-one_holder state seat law xid other key (inl e) (inl f) = law.one_holder xid other key e f
-one_holder state seat law xid other key (inl e) (inr f) = one_locker state seat xid other key e f
-one_holder state seat law xid other key (inr e) (inl f) = sym (one_locker state seat other xid key f e)
-one_holder state seat law xid other key (inr e) (inr f) = active_of xid other (sym e.0 ∙ f.0)
-
 -- ---- the law
 
 carried_out : (state : State) (session : ℕ) (statement : Statement) → LockLaw state → is_refused (table state (seat_of state session) statement) ≡ false → LockLaw (effect state session (seat_of state session) statement)
-unfolding is_ready owner_in is_holding is_writing is_owned
+unfolding is_ready owner_in mode_in is_writing is_owned Before
 carried_out state session statement law accepted = record {
   one_holder = λ xid other key e f. one_holder state (seat_of state session) law xid other key
-      (held_before state session (seat_of state session) statement accepted xid key (sym (ap (is_holding key) (is xid)) ∙ e))
-      (held_before state session (seat_of state session) statement accepted other key (sym (ap (is_holding key) (is other)) ∙ f));
+      (exclusive_before state session (seat_of state session) statement accepted xid key (sym (ap (λ found. is_exclusive (mode_in key found)) (is xid)) ∙ e))
+      (held_before state session (seat_of state session) statement accepted other key (sym (ap (λ found. is_some (mode_in key found)) (is other)) ∙ f));
   one_branch = λ who xid other e f. one_branch state session who statement law accepted xid other
       (owned_before session who (seat_of state session) statement xid (map.get state.branches xid) (sym (ap (is_owned who) (is xid)) ∙ e))
       (owned_before session who (seat_of state session) statement other (map.get state.branches other) (sym (ap (is_owned who) (is other)) ∙ f));

@@ -5,6 +5,8 @@ pub mod Outcomes
 pub mod RowRecords
 pub mod Freeing
 pub mod Gathered
+pub mod Holders
+pub mod Sharing
 pub mod Seen
 pub mod Steps
 pub mod Ending
@@ -18,4 +20,5 @@ pub mod Finishing
 pub mod Entering
 pub mod Others
 pub mod Listing
+pub mod Taking
 pub mod Keeping

@@ -1,5 +1,5 @@
 -- The state that the records stand for keeps the lock law.
-use Rattle.std.proofs.Common.{◌≡◌, ℕ, List, refl, ap, sym, ◌∙◌, Bool, true, false}
+use Rattle.std.proofs.Common.{◌≡◌, ℕ, refl, ap, sym, ◌∙◌, Bool, true, false}
 use Rattle.std.specs.Prelude.{Option, Some, None, is_some, is_none}
 use Rattle.std.specs.Option.{option_map, option_map_or, option_and_then}
 use Rattle.std.specs.FinMap as map
@@ -8,17 +8,12 @@ use Rattle.xa_xid.specs.declared.xid.Xid.{Xid}
 use Rattle.xa_server.specs.declared.branch.BranchRecord.{BranchRecord}
 use Rattle.xa_server.specs.declared.row.RowRecord.{RowRecord}
 use Rattle.xa_server.specs.State.{is_known, is_prepared, is_prepared_phase, owner_at}
-use Rattle.xa_server.specs.Locks.{LockLaw, holds}
+use Rattle.xa_server.specs.Locks.{LockLaw, is_exclusive}
 use Rattle.xa_server.specs.Tables.{BranchMap}
-use Rattle.xa_server.specs.Rows.{RowMap, holder_of, lock_by, write_by}
+use Rattle.xa_server.specs.Rows.{RowMap, lock_of, write_by}
 use Rattle.xa_server.specs.View.{state_of, IsWhole}
-use Rattle.xa_server.proofs.Index.{same_value}
-use Rattle.xa_server.proofs.Seen.{holds-seen, is_known-seen, is_prepared-seen, owner_at-seen, owns_owner, unwritten, write_at-seen}
-use Rattle.xa_server.proofs.Holding.{holder_from_lock}
-
--- the branch that holds a row in the state is the one that the row's record names
-holder_is : (branches : BranchMap) (rows : RowMap) → IsWhole branches rows → (xid : Xid) (key : List ℕ) → holds (state_of branches rows) xid key ≡ true → holder_of (map.get rows key) ≡ Some xid
-holder_is branches rows whole xid key e = holder_from_lock xid (map.get rows key) (sym (holds-seen branches rows xid key whole) ∙ e)
+use Rattle.xa_server.proofs.Holders.{mode_of, mode_of-lock, alone_in, writes_in}
+use Rattle.xa_server.proofs.Seen.{lock_at-seen, holds-seen, is_known-seen, is_prepared-seen, owner_at-seen, owns_owner, write_at-seen}
 
 is_prepared_in : Option BranchRecord → Bool
 is_prepared_in found = option_map_or is_prepared_phase (option_map (λ (b : BranchRecord). b.phase) found) false
@@ -51,19 +46,21 @@ attached branches rows whole xid known e =
     by None is there e = absurd (true≢false (sym there))
     by (Some branch) is there e = somebody branch.owner (whole.attached xid branch is ∙ e)
 
--- what writes a row holds it
-written_held : (xid : Xid) (row : Option RowRecord) → is_some (option_and_then (write_by xid) row) ≡ true → is_some (option_and_then (lock_by xid) row) ≡ true
-written_held xid row e = by (is_some (option_and_then (lock_by xid) row)) refl
-  where
-    by : (b : Bool) → is_some (option_and_then (lock_by xid) row) ≡ b → b ≡ true
-    by true is = refl
-    by false is = absurd (true≢false (sym e ∙ ap is_some (unwritten xid row is)))
+-- who holds a row exclusively holds it alone
+alone : (xid other : Xid) (found : Option RowRecord) → is_exclusive (mode_of xid found) ≡ true → is_some (mode_of other found) ≡ true → xid ≡ other
+alone xid other found e f = alone_in xid other (lock_of found) (sym (ap is_exclusive (mode_of-lock xid found)) ∙ e) (sym (ap is_some (mode_of-lock other found)) ∙ f)
+
+-- who writes a row holds it exclusively
+writes : (xid : Xid) (found : Option RowRecord) → is_some (option_and_then (write_by xid) found) ≡ true → is_exclusive (mode_of xid found) ≡ true
+writes xid None e = absurd (true≢false (sym e))
+writes xid (Some row) e = writes_in xid row.lock e
 
 pub lock_law : (branches : BranchMap) (rows : RowMap) → IsWhole branches rows → LockLaw (state_of branches rows)
 lock_law branches rows whole = record {
-  one_holder = λ xid other key e f. same_value xid other (sym (holder_is branches rows whole xid key e) ∙ holder_is branches rows whole other key f);
+  one_holder = λ xid other key e f. alone xid other (map.get rows key)
+      (sym (ap is_exclusive (lock_at-seen branches rows xid key whole)) ∙ e) (sym (holds-seen branches rows other key whole) ∙ f);
   one_branch = λ session xid other e f. whole.one_owned session xid other (owns_owner branches rows session xid e) (owns_owner branches rows session other f);
   detached = detached branches rows whole;
   attached = attached branches rows whole;
-  held_writes = λ xid key e. holds-seen branches rows xid key whole ∙ written_held xid (map.get rows key) (sym (ap is_some (write_at-seen branches rows xid key whole)) ∙ e);
+  held_writes = λ xid key e. ap is_exclusive (lock_at-seen branches rows xid key whole) ∙ writes xid (map.get rows key) (sym (ap is_some (write_at-seen branches rows xid key whole)) ∙ e);
 }

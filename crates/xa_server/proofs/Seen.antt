@@ -3,29 +3,28 @@ use Rattle.std.proofs.Common.{◌≡◌, ◌≢◌, ℕ, List, [], ◌∷◌, re
 use Rattle.std.specs.Prelude.{Option, Some, None, cond, ◌&&◌, ◌||◌, ◌==◌, is_some, find, filter, not}
 use Rattle.std.specs.Option.{option_map, option_map_or, option_and_then, unwrap_or}
 use Rattle.std.specs.List.{list_any}
-use Rattle.std.specs.Ordering.{eq_by_cmp}
 use Rattle.std.specs.FinMap as map
 use Rattle.std.specs.FinMap.{contains_key-keys}
 use mathlib.Core.Bool.{true≢false}
 use Rattle.std.proofs.Common.{eq-eqb}
 use borrow.Author.Tests.{eqb-true}
 use Rattle.xa_xid.specs.declared.xid.Xid.{Xid}
-use Rattle.xa_xid.specs.Xid.{bytes_cmp, same_xid}
+use Rattle.xa_xid.specs.Xid.{same_xid}
 use Rattle.xa_xid.proofs.Orders.{xids_total, exact_xids, bytes_total, exact_texts}
 use Rattle.xa_server.specs.declared.branch.Phase.{Phase}
 use Rattle.xa_server.specs.declared.branch.BranchRecord.{BranchRecord}
-use Rattle.xa_server.specs.declared.row.Lock.{Lock}
 use Rattle.xa_server.specs.declared.row.RowRecord.{RowRecord}
 use Rattle.xa_server.specs.declared.seat.Seat.{Seat}
 use Rattle.xa_server.specs.declared.seat.Seat.TheVariants.{Free, Active}
-use Rattle.xa_server.specs.State.{Write, Branch, State, is_known, phase_at, is_prepared_phase, is_prepared, owner_at, owns, own_xid, seat_in, seat_of, committed_value, write_at, value_within, prepared_xids}
-use Rattle.xa_server.specs.Locks.{holds, is_another, is_held_against}
+use Rattle.xa_server.specs.State.{LockMode, Branch, is_known, phase_at, is_prepared_phase, is_prepared, owner_at, owns, own_xid, seat_in, seat_of, committed_value, write_at, value_within, prepared_xids}
+use Rattle.xa_server.specs.Locks.{lock_at, holds, is_exclusive, is_another, is_held_against, is_locked_against}
 use Rattle.xa_server.specs.Tables.{BranchMap, owner_of, prepared_among}
-use Rattle.xa_server.specs.Rows.{RowMap, committed_of, holder_of, write_of, write_by, lock_by, held_against, value_seen}
-use Rattle.xa_server.specs.View.{gather, branch_seen, state_of, IsWhole}
-use Rattle.xa_server.proofs.Maps.{same_or_apart, same_itself}
+use Rattle.xa_server.specs.Rows.{RowMap, committed_of, lock_of, write_by, lock_by, held_against, locked_against, value_seen}
+use Rattle.xa_server.specs.View.{gather, branch_seen, state_of, times_in, times_listed, IsWhole}
+use Rattle.xa_server.proofs.Maps.{same_or_apart}
 use Rattle.xa_server.proofs.Gathered.{get-gather, keys-mapped, get-mapped}
-use Rattle.xa_server.proofs.Index.{same_value, not_none}
+use Rattle.xa_server.proofs.Index.{not_none}
+use Rattle.xa_server.proofs.Holders.{zero_or_one, mode_of, mode_of-lock, none_of, same_truth, both, any_witness, any_some, held_against-lock, locked_against-lock, beside_there, beside_witness, locked_there, locked_witness, unwritten}
 
 -- the branch at an identifier
 pub get-branches : (branches : BranchMap) (rows : RowMap) (xid : Xid) → map.get (state_of branches rows).branches xid ≡ option_map (branch_seen rows xid) (map.get branches xid)
@@ -148,110 +147,91 @@ seat-free branches rows session free = ap (λ own. option_map_or (λ xid. seat_i
 
 -- ---- who holds a row
 
-holds_in : (rows : RowMap) (xid : Xid) (key : List ℕ) (found : Option BranchRecord) → is_some found ≡ true →
-    option_map_or (λ (branch : Branch). map.contains_key branch.locks key) (option_map (branch_seen rows xid) found) false ≡ is_some (option_and_then (lock_by xid) (map.get rows key))
-holds_in rows xid key None there = absurd (true≢false (sym there))
-holds_in rows xid key (Some branch) there = ap is_some (locks-seen rows xid key)
+zero_only : (b : Bool) (n : ℕ) → n ≡ 0 → n ≡ cond b 1 0 → b ≡ false
+zero_only true n z e = absurd (zero_or_one n z e)
+zero_only false n z e = refl
 
--- a branch with a record holds the rows whose records say so
-pub holds-known : (branches : BranchMap) (rows : RowMap) (xid : Xid) (key : List ℕ) → is_some (map.get branches xid) ≡ true → holds (state_of branches rows) xid key ≡ is_some (option_and_then (lock_by xid) (map.get rows key))
-holds-known branches rows xid key there = ap (λ found. option_map_or (λ (branch : Branch). map.contains_key branch.locks key) found false) (get-branches branches rows xid) ∙ holds_in rows xid key (map.get branches xid) there
+-- a branch without a record holds nothing
+pub unknown_holds : (branches : BranchMap) (rows : RowMap) (xid : Xid) (key : List ℕ) → IsWhole branches rows → map.get branches xid ≡ None → is_some (mode_of xid (map.get rows key)) ≡ false
+unknown_holds branches rows xid key whole none = zero_only _ (times_listed branches xid key)
+    (ap (λ (found : Option BranchRecord). option_map_or (λ (branch : BranchRecord). times_in key branch.held) found 0) none) (whole.listed_once xid key)
 
--- the row's lock, as each branch sees it
-pub lock_of_holder : (xid other : Xid) (row : Option RowRecord) → holder_of row ≡ Some xid → is_some (option_and_then (lock_by other) row) ≡ same_xid xid other
-lock_of_holder xid other None e = not_none xid e
-lock_of_holder xid other (Some row) e = by row.lock e
+-- a branch that holds a row has a record
+pub holder_known : (branches : BranchMap) (rows : RowMap) (xid : Xid) (key : List ℕ) → IsWhole branches rows → is_some (mode_of xid (map.get rows key)) ≡ true → is_some (map.get branches xid) ≡ true
+holder_known branches rows xid key whole e = by (map.get branches xid) refl
   where
-    decides : (b : Bool) → is_some (cond b (Some (tt {0})) None) ≡ b
-    decides true = refl
-    decides false = refl
+    by : (found : Option BranchRecord) → map.get branches xid ≡ found → is_some found ≡ true
+    by None is = absurd (true≢false (sym e ∙ unknown_holds branches rows xid key whole is))
+    by (Some branch) is = refl
 
-    by : (lock : Option Lock) → option_map (λ l. l.holder) lock ≡ Some xid → is_some (option_and_then (λ (l : Lock). cond (same_xid l.holder other) (Some (tt {0})) None) lock) ≡ same_xid xid other
-    by None e = not_none xid e
-    by (Some lock) e = decides (same_xid lock.holder other) ∙ ap (λ x. same_xid x other) (same_value lock.holder xid e)
+mode_within : (rows : RowMap) (xid : Xid) (key : List ℕ) (found : Option BranchRecord) → is_some found ≡ true →
+    option_and_then (λ (branch : Branch). map.get branch.locks key) (option_map (branch_seen rows xid) found) ≡ mode_of xid (map.get rows key)
+mode_within rows xid key None there = absurd (true≢false (sym there))
+mode_within rows xid key (Some branch) there = locks-seen rows xid key
 
-pub unlocked : (other : Xid) (row : Option RowRecord) → holder_of row ≡ None → option_and_then (lock_by other) row ≡ None
-unlocked other None e = refl
-unlocked other (Some row) e = by row.lock e
+-- a branch holds a row as the row's record says
+pub lock_at-seen : (branches : BranchMap) (rows : RowMap) (xid : Xid) (key : List ℕ) → IsWhole branches rows → lock_at (state_of branches rows) xid key ≡ mode_of xid (map.get rows key)
+lock_at-seen branches rows xid key whole = ap (option_and_then (λ (branch : Branch). map.get branch.locks key)) (get-branches branches rows xid) ∙ by (map.get branches xid) refl
   where
-    by : (lock : Option Lock) → option_map (λ l. l.holder) lock ≡ None → option_and_then (λ (l : Lock). cond (same_xid l.holder other) (Some (tt {0})) None) lock ≡ None
-    by None e = refl
-    by (Some lock) e = not_none lock.holder (sym e)
+    by : (found : Option BranchRecord) → map.get branches xid ≡ found → option_and_then (λ (branch : Branch). map.get branch.locks key) (option_map (branch_seen rows xid) found) ≡ mode_of xid (map.get rows key)
+    by (Some branch) e = mode_within rows xid key (Some branch) refl
+    by None e = sym (none_of (mode_of xid (map.get rows key)) (unknown_holds branches rows xid key whole e))
 
-listed_known : (key : List ℕ) (found : Option BranchRecord) → option_map_or (λ (b : BranchRecord). list_any (eq_by_cmp bytes_cmp key) b.held) found false ≡ true → is_some found ≡ true
-listed_known key None e = absurd (true≢false (sym e))
-listed_known key (Some branch) e = refl
+pub holds-seen : (branches : BranchMap) (rows : RowMap) (xid : Xid) (key : List ℕ) → IsWhole branches rows → holds (state_of branches rows) xid key ≡ is_some (mode_of xid (map.get rows key))
+holds-seen branches rows xid key whole = ap is_some (lock_at-seen branches rows xid key whole)
 
--- the branch that holds a row has a record
-pub holder_known : (branches : BranchMap) (rows : RowMap) (xid : Xid) (key : List ℕ) → IsWhole branches rows → holder_of (map.get rows key) ≡ Some xid → is_some (map.get branches xid) ≡ true
-holder_known branches rows xid key whole e = listed_known key (map.get branches xid) (whole.listed key xid e)
-
--- at every branch, whether it has a record or not
-pub holds-seen : (branches : BranchMap) (rows : RowMap) (xid : Xid) (key : List ℕ) → IsWhole branches rows → holds (state_of branches rows) xid key ≡ is_some (option_and_then (lock_by xid) (map.get rows key))
-holds-seen branches rows xid key whole = by (is_some (map.get branches xid)) refl
+-- a test of how the branches of others hold a row, by the row's record
+against : (branches : BranchMap) (rows : RowMap) (seat : Seat) (key : List ℕ) (passes : Option LockMode → Bool) (b : Bool) → IsWhole branches rows → passes None ≡ false →
+    (b ≡ true → (xid : Xid) × (passes (mode_of xid (map.get rows key)) ≡ true) × (is_another seat xid ≡ true)) →
+    ((xid : Xid) → passes (mode_of xid (map.get rows key)) ≡ true → is_another seat xid ≡ true → b ≡ true) →
+    list_any (λ xid. is_another seat xid && passes (lock_at (state_of branches rows) xid key)) (map.keys (state_of branches rows).branches) ≡ b
+against branches rows seat key passes b whole nothing witness there = same_truth _ b
+    (λ e.
+    let found = any_witness (λ xid. is_another seat xid && passes (lock_at (state_of branches rows) xid key)) (map.keys (state_of branches rows).branches) e in
+    let parts = both (is_another seat found.0) (passes (lock_at (state_of branches rows) found.0 key)) found.2 in
+    there found.0 (ap passes (sym (lock_at-seen branches rows found.0 key whole)) ∙ parts.1) parts.0)
+    (λ e.
+    let found = witness e in
+    any_some (λ xid. is_another seat xid && passes (lock_at (state_of branches rows) xid key)) (map.keys (state_of branches rows).branches) found.0
+    (key_there branches rows found.0 (holder_known branches rows found.0 key whole (something (mode_of found.0 (map.get rows key)) found.1)))
+    (ap (λ a. a && passes (lock_at (state_of branches rows) found.0 key)) found.2 ∙ ap passes (lock_at-seen branches rows found.0 key whole) ∙ found.1))
   where
-    unknown : (found : Option BranchRecord) → is_some found ≡ false → option_map_or (λ (branch : Branch). map.contains_key branch.locks key) (option_map (branch_seen rows xid) found) false ≡ false
-    unknown None e = refl
-    unknown (Some branch) e = absurd (true≢false e)
-
-    -- it can't be its lock
-    nobodys : (holder : Option Xid) → holder_of (map.get rows key) ≡ holder → is_some (map.get branches xid) ≡ false → is_some (option_and_then (lock_by xid) (map.get rows key)) ≡ false
-    nobodys None h e = ap is_some (unlocked xid (map.get rows key) h)
-    nobodys (Some holder) h e = lock_of_holder holder xid (map.get rows key) h ∙ elim (same_or_apart xids_total exact_xids holder xid) [
-      | inl is ↦ absurd (true≢false (sym (holder_known branches rows xid key whole (h ∙ ap Some is)) ∙ e))
-      | inr apart ↦ apart
-    ]
-
-    by : (b : Bool) → is_some (map.get branches xid) ≡ b → holds (state_of branches rows) xid key ≡ is_some (option_and_then (lock_by xid) (map.get rows key))
-    by true there = holds-known branches rows xid key there
-    by false none =
-        ap (λ found. option_map_or (λ (branch : Branch). map.contains_key branch.locks key) found false) (get-branches branches rows xid)
-        ∙ unknown (map.get branches xid) none ∙ sym (nobodys (holder_of (map.get rows key)) refl none)
-
-any_none : (p : Xid → Bool) (xs : List Xid) → ((x : Xid) → p x ≡ false) → list_any p xs ≡ false
-any_none p [] none = refl
-any_none p (x ∷ xs) none = ap (λ b. b || list_any p xs) (none x) ∙ any_none p xs none
-
-pub any_some : (p : Xid → Bool) (xs : List Xid) (xid : Xid) → list_any (same_xid xid) xs ≡ true → p xid ≡ true → list_any p xs ≡ true
-any_some p [] xid there here = there
-any_some p (x ∷ xs) xid there here = elim (same_or_apart xids_total exact_xids xid x) [
-  | inl is ↦ ap (λ b. b || list_any p xs) (ap p (sym is) ∙ here)
-  | inr apart ↦ later (p x) (any_some p xs xid (sym (ap (λ b. b || list_any (same_xid xid) xs) apart) ∙ there) here)
-]
-  where
-    later : (b : Bool) → list_any p xs ≡ true → (b || list_any p xs) ≡ true
-    later true e = refl
-    later false e = e
+    something : (mode : Option LockMode) → passes mode ≡ true → is_some mode ≡ true
+    something None e = absurd (true≢false (sym e ∙ nothing))
+    something (Some mode) e = refl
 
 -- a row is held against a session where its record says that another branch holds it
 pub held_against-seen : (branches : BranchMap) (rows : RowMap) (seat : Seat) (key : List ℕ) → IsWhole branches rows → is_held_against (state_of branches rows) seat key ≡ held_against seat (map.get rows key)
 unfolding is_held_against
-held_against-seen branches rows seat key whole = by (holder_of (map.get rows key)) refl
+held_against-seen branches rows seat key whole = against branches rows seat key is_some (held_against seat (map.get rows key)) whole refl
+    (λ e. let found = beside_witness seat (lock_of (map.get rows key)) (sym (held_against-lock seat (map.get rows key)) ∙ e) in
+    (found.0, ap is_some (mode_of-lock found.0 (map.get rows key)) ∙ found.1, found.2))
+    (λ xid e f. held_against-lock seat (map.get rows key) ∙ beside_there seat (lock_of (map.get rows key)) xid (sym (ap is_some (mode_of-lock xid (map.get rows key))) ∙ e) f)
+
+-- and locked against it where the record says that another branch holds it exclusively
+pub locked_against-seen : (branches : BranchMap) (rows : RowMap) (seat : Seat) (key : List ℕ) → IsWhole branches rows → is_locked_against (state_of branches rows) seat key ≡ locked_against seat (map.get rows key)
+unfolding is_locked_against
+locked_against-seen branches rows seat key whole = against branches rows seat key is_exclusive (locked_against seat (map.get rows key)) whole refl
+    (λ e. let found = locked_witness seat (lock_of (map.get rows key)) (sym (locked_against-lock seat (map.get rows key)) ∙ e) in
+    (found.0, ap is_exclusive (mode_of-lock found.0 (map.get rows key)) ∙ found.1, found.2))
+    (λ xid e f. locked_against-lock seat (map.get rows key) ∙ locked_there seat (lock_of (map.get rows key)) xid (sym (ap is_exclusive (mode_of-lock xid (map.get rows key))) ∙ e) f)
+
+-- a row that isn't held against a session is held by no other branch
+not_beside : (seat : Seat) (found : Option RowRecord) (xid : Xid) → held_against seat found ≡ false → is_another seat xid ≡ true → is_some (mode_of xid found) ≡ false
+not_beside seat found xid e another = by (is_some (mode_of xid found)) refl
   where
-    state : State
-    state = state_of branches rows
+    by : (b : Bool) → is_some (mode_of xid found) ≡ b → b ≡ false
+    by true held = absurd (true≢false (sym (held_against-lock seat found ∙ beside_there seat (lock_of found) xid (sym (ap is_some (mode_of-lock xid found)) ∙ held) another) ∙ e))
+    by false none = refl
 
-    and_false : (b : Bool) → (b && false) ≡ false
-    and_false true = refl
-    and_false false = refl
+-- not by any, where the session is free
+pub unheld_row : (branches : BranchMap) (rows : RowMap) (key : List ℕ) → IsWhole branches rows → is_held_against (state_of branches rows) Free key ≡ false → (xid : Xid) → mode_of xid (map.get rows key) ≡ None
+unheld_row branches rows key whole e xid = none_of (mode_of xid (map.get rows key)) (not_beside Free (map.get rows key) xid (sym (held_against-seen branches rows Free key whole) ∙ e) refl)
 
-    and_true : (b : Bool) → (b && true) ≡ b
-    and_true true = refl
-    and_true false = refl
-
-    against : (holder : Xid) → holder_of (map.get rows key) ≡ Some holder → (b : Bool) → is_another seat holder ≡ b →
-        list_any (λ xid. is_another seat xid && holds (state_of branches rows) xid key) (map.keys (state_of branches rows).branches) ≡ b
-    against holder h true e = any_some _ _ holder (key_there branches rows holder (holder_known branches rows holder key whole h))
-        (ap (λ b. is_another seat holder && b) (holds-seen branches rows holder key whole ∙ lock_of_holder holder holder (map.get rows key) h ∙ same_itself xids_total exact_xids holder) ∙ and_true _ ∙ e)
-    against holder h false e = any_none _ _ (λ xid. elim (same_or_apart xids_total exact_xids holder xid) [
-      | inl is ↦ ap (λ b. b && holds (state_of branches rows) xid key) (ap (is_another seat) (sym is) ∙ e)
-      | inr apart ↦ ap (λ b. is_another seat xid && b) (holds-seen branches rows xid key whole ∙ lock_of_holder holder xid (map.get rows key) h ∙ apart) ∙ and_false _
-    ])
-
-    by : (holder : Option Xid) → holder_of (map.get rows key) ≡ holder →
-        list_any (λ xid. is_another seat xid && holds (state_of branches rows) xid key) (map.keys (state_of branches rows).branches) ≡ option_map_or (is_another seat) holder false
-    by None h = any_none _ _ (λ xid. ap (λ b. is_another seat xid && b) (holds-seen branches rows xid key whole ∙ ap is_some (unlocked xid (map.get rows key) h)) ∙ and_false _)
-    by (Some holder) h = against holder h (is_another seat holder) refl
+-- by none but the session's own, where it has an ACTIVE branch
+pub free_row : (branches : BranchMap) (rows : RowMap) (own : Xid) (key : List ℕ) → IsWhole branches rows → is_held_against (state_of branches rows) (Active own) key ≡ false →
+    (other : Xid) → same_xid other own ≡ false → is_some (mode_of other (map.get rows key)) ≡ false
+free_row branches rows own key whole e other apart = not_beside (Active own) (map.get rows key) other (sym (held_against-seen branches rows (Active own) key whole) ∙ e) (ap not apart)
 
 -- ---- what a branch sees
 
@@ -263,19 +243,6 @@ write_in rows xid key (Some branch) there = writes-seen rows xid key
 pub write_at-known : (branches : BranchMap) (rows : RowMap) (xid : Xid) (key : List ℕ) → is_some (map.get branches xid) ≡ true → write_at (state_of branches rows) xid key ≡ option_and_then (write_by xid) (map.get rows key)
 write_at-known branches rows xid key there = ap (option_and_then (λ (branch : Branch). map.get branch.writes key)) (get-branches branches rows xid) ∙ write_in rows xid key (map.get branches xid) there
 
--- what doesn't hold a row doesn't write it
-pub unwritten : (xid : Xid) (row : Option RowRecord) → is_some (option_and_then (lock_by xid) row) ≡ false → option_and_then (write_by xid) row ≡ None
-unwritten xid None e = refl
-unwritten xid (Some row) e = by row.lock e
-  where
-    at : (b : Bool) (write : Option Write) → is_some (cond b (Some (tt {0})) None) ≡ false → cond b write None ≡ None
-    at true write e = absurd (true≢false e)
-    at false write e = refl
-
-    by : (lock : Option Lock) → is_some (option_and_then (λ (l : Lock). cond (same_xid l.holder xid) (Some (tt {0})) None) lock) ≡ false → option_and_then (λ (l : Lock). cond (same_xid l.holder xid) (write_of l.change) None) lock ≡ None
-    by None e = refl
-    by (Some lock) e = at (same_xid lock.holder xid) (write_of lock.change) e
-
 pub write_at-seen : (branches : BranchMap) (rows : RowMap) (xid : Xid) (key : List ℕ) → IsWhole branches rows → write_at (state_of branches rows) xid key ≡ option_and_then (write_by xid) (map.get rows key)
 write_at-seen branches rows xid key whole = by (map.get branches xid) refl
   where
@@ -283,27 +250,10 @@ write_at-seen branches rows xid key whole = by (map.get branches xid) refl
     by (Some branch) e = write_at-known branches rows xid key (ap is_some e)
     by None e =
         ap (option_and_then (λ (branch : Branch). map.get branch.writes key)) (get-branches branches rows xid ∙ ap (option_map (branch_seen rows xid)) e)
-        ∙ sym (unwritten xid (map.get rows key) (sym (holds-seen branches rows xid key whole)
-        ∙ ap (λ found. option_map_or (λ (branch : Branch). map.contains_key branch.locks key) found false) (get-branches branches rows xid ∙ ap (option_map (branch_seen rows xid)) e)))
+        ∙ sym (unwritten xid (map.get rows key) (unknown_holds branches rows xid key whole e))
 
 pub value_within-seen : (branches : BranchMap) (rows : RowMap) (xid : Xid) (key : List ℕ) → IsWhole branches rows → value_within (state_of branches rows) xid key ≡ value_seen xid (map.get rows key)
 value_within-seen branches rows xid key whole = λ i. unwrap_or (write_at-seen branches rows xid key whole i) (committed-seen branches rows key i)
-
--- a row that isn't held against a free session has no holder
-pub unheld_row : (branches : BranchMap) (rows : RowMap) (key : List ℕ) → IsWhole branches rows → is_held_against (state_of branches rows) Free key ≡ false → holder_of (map.get rows key) ≡ None
-unheld_row branches rows key whole e = by (holder_of (map.get rows key)) (sym (held_against-seen branches rows Free key whole) ∙ e)
-  where
-    by : (holder : Option Xid) → option_map_or (is_another Free) holder false ≡ false → holder ≡ None
-    by None e = refl
-    by (Some holder) e = absurd (true≢false e)
-
--- a row that isn't held against a session with an ACTIVE branch has no other holder than that branch
-pub free_row : (branches : BranchMap) (rows : RowMap) (own : Xid) (key : List ℕ) → IsWhole branches rows → is_held_against (state_of branches rows) (Active own) key ≡ false →
-    (other : Xid) → holder_of (map.get rows key) ≡ Some other → other ≡ own
-free_row branches rows own key whole e other holder = elim (same_or_apart xids_total exact_xids other own) [
-  | inl is ↦ is
-  | inr apart ↦ absurd (true≢false (sym (ap not apart) ∙ sym (ap (λ h. option_map_or (is_another (Active own)) h false) holder) ∙ sym (held_against-seen branches rows (Active own) key whole) ∙ e))
-]
 
 -- the PREPARED branches
 pub prepared-seen : (branches : BranchMap) (rows : RowMap) → prepared_xids (state_of branches rows) ≡ prepared_among branches

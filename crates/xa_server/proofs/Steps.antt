@@ -1,27 +1,31 @@
 -- What a change of the records is in the state that they stand for.
-use Rattle.std.proofs.Common.{◌≡◌, ◌≢◌, ℕ, List, [], refl, ap, sym, ◌∙◌, Bool, true, false, inl, inr}
+use Rattle.std.proofs.Common.{◌≡◌, ℕ, List, [], refl, ap, sym, ◌∙◌, Bool, true, false, inl, inr}
 use Rattle.std.specs.Prelude.{Option, Some, None, cond, is_some}
 use Rattle.std.specs.Option.{option_map, option_map_or, option_and_then}
 use Rattle.std.specs.FinMap as map
 use Rattle.std.specs.FinMap.{get-empty, same_map}
+use Rattle.std.specs.FinSet as set
+use Rattle.std.specs.FinSet.{contains-empty}
 use mathlib.Core.Bool.{true≢false}
 use Rattle.xa_xid.specs.declared.xid.Xid.{Xid}
 use Rattle.xa_xid.specs.Xid.{Text, bytes_cmp, xid_cmp, same_xid}
 use Rattle.xa_xid.proofs.Orders.{xids_total, exact_xids, bytes_total, exact_texts}
 use Rattle.xa_server.specs.declared.branch.Phase.TheVariants.{Active as PhaseActive}
 use Rattle.xa_server.specs.declared.branch.BranchRecord.{BranchRecord}
-use Rattle.xa_server.specs.declared.row.Change.{Change}
-use Rattle.xa_server.specs.declared.row.Change.TheVariants.{Nothing, Put, Delete}
-use Rattle.xa_server.specs.declared.row.Lock.{Lock}
+use Rattle.xa_server.specs.declared.lock.Change.{Change}
+use Rattle.xa_server.specs.declared.lock.Lock.TheVariants.{Shared as SharedBy}
 use Rattle.xa_server.specs.declared.row.RowRecord.{RowRecord}
-use Rattle.xa_server.specs.State.{Write, Branch, State, no_state}
-use Rattle.xa_server.specs.Step.{started_by, with_branch, with_changed, with_write}
+use Rattle.xa_server.specs.declared.seat.Seat.TheVariants.{Active}
+use Rattle.xa_server.specs.State.{LockMode, Shared, Exclusive, Branch, State, no_state}
+use Rattle.xa_server.specs.Locks.{is_exclusive}
+use Rattle.xa_server.specs.Step.{started_by, with_branch, with_changed, with_lock, with_write}
 use Rattle.xa_server.specs.Tables.{BranchMap, with_record}
-use Rattle.xa_server.specs.Rows.{RowMap, holder_of, write_of, write_by, lock_by, held_row, with_change}
+use Rattle.xa_server.specs.Rows.{RowMap, committed_of, lock_of, write_of, write_by, mode_in, lock_by, locked_against, held_row, shared_row, with_change}
 use Rattle.xa_server.specs.View.{gather, branch_seen, state_of}
-use Rattle.xa_server.proofs.Maps.{same_or_apart, same_itself, same_is, get_inserted, get_inserted_apart, get_removed, get_removed_apart}
+use Rattle.xa_server.proofs.Maps.{same_or_apart, get_inserted, get_inserted_apart, get_removed, get_removed_apart}
 use Rattle.xa_server.proofs.Gathered.{get-gather}
-use Rattle.xa_server.proofs.Seen.{get-branches, unlocked, unwritten, lock_of_holder}
+use Rattle.xa_server.proofs.Holders.{mode_of, mode_of-lock, none_of, itself, turned_apart, unwritten, locked_against-lock, sharer_there, sharer_beside, sharer_writes}
+use Rattle.xa_server.proofs.Seen.{get-branches}
 
 -- states with the same branches and rows are one
 pub same_state : (s t : State) → s.branches ≡ t.branches → s.rows ≡ t.rows → s ≡ t
@@ -114,134 +118,147 @@ seen_changed branches rows xid change seen is =
     by None = refl
     by (Some branch) = seen_inserted branches rows xid (change branch) ∙ ap (with_branch (state_of branches rows) xid) (is branch)
 
+-- a row without sharers is held by no branch
+pub nobodys : (xid : Xid) → mode_in xid (SharedBy set.empty) ≡ None
+nobodys xid = ap (λ b. cond b (Some Shared) None) (contains-empty xid_cmp xid)
+
 -- a branch that holds no row has no writes and no locks
-pub seen_fresh : (rows : RowMap) (xid : Xid) (session : ℕ) → ((key : List ℕ) → holder_of (map.get rows key) ≢ Some xid) →
+pub seen_fresh : (rows : RowMap) (xid : Xid) (session : ℕ) → ((key : List ℕ) → is_some (mode_of xid (map.get rows key)) ≡ false) →
     branch_seen rows xid (record { phase = PhaseActive; owner = Some session; held = [] }) ≡ started_by session
 seen_fresh rows xid session free = same_branch _ _ refl refl
-    (gather_none (write_by xid) rows (λ key. unwritten xid (map.get rows key) (unheld key (holder_of (map.get rows key)) refl)))
-    (gather_none (lock_by xid) rows (λ key. none_of (option_and_then (lock_by xid) (map.get rows key)) (unheld key (holder_of (map.get rows key)) refl)))
-  where
-    none_of : (found : Option (Unit {0})) → is_some found ≡ false → found ≡ None
-    none_of None e = refl
-    none_of (Some u) e = absurd (true≢false e)
-
-    unheld : (key : List ℕ) (holder : Option Xid) → holder_of (map.get rows key) ≡ holder → is_some (option_and_then (lock_by xid) (map.get rows key)) ≡ false
-    unheld key None h = ap is_some (unlocked xid (map.get rows key) h)
-    unheld key (Some holder) h = lock_of_holder holder xid (map.get rows key) h ∙ elim (same_or_apart xids_total exact_xids holder xid) [
-      | inl is ↦ absurd (free key (h ∙ ap Some is))
-      | inr apart ↦ apart
-    ]
+    (gather_none (write_by xid) rows (λ key. unwritten xid (map.get rows key) (free key)))
+    (gather_none (lock_by xid) rows (λ key. none_of (mode_of xid (map.get rows key)) (free key)))
 
 -- ---- rows that nobody holds
 
--- the record of a row without a holder says nothing of any branch
-unheld_writes : (xid : Xid) (found : Option RowRecord) → holder_of found ≡ None → option_and_then (write_by xid) found ≡ None
-unheld_writes xid found h = unwritten xid found (ap is_some (unlocked xid found h))
+-- the record of a row that no branch holds says nothing of any
+unheld_writes : (xid : Xid) (found : Option RowRecord) → mode_of xid found ≡ None → option_and_then (write_by xid) found ≡ None
+unheld_writes xid found none = unwritten xid found (ap is_some none)
 
-pub seen_put : (branches : BranchMap) (rows : RowMap) (key : List ℕ) (value : Text) → holder_of (map.get rows key) ≡ None →
-    state_of branches (map.insert rows key (record { committed = Some value; lock = None })) ≡ record (state_of branches rows) { rows = with_write key (Some value) (state_of branches rows).rows }
+pub seen_put : (branches : BranchMap) (rows : RowMap) (key : List ℕ) (value : Text) → ((xid : Xid) → mode_of xid (map.get rows key) ≡ None) →
+    state_of branches (map.insert rows key (record { committed = Some value; lock = SharedBy set.empty })) ≡ record (state_of branches rows) { rows = with_write key (Some value) (state_of branches rows).rows }
 unfolding state_of
 seen_put branches rows key value free = same_state _ _
     (seen_same_rows branches rows _
-    (λ xid. gather_insert_same (write_by xid) rows key _ (sym (unheld_writes xid (map.get rows key) free)))
-    (λ xid. gather_insert_same (lock_by xid) rows key _ (sym (unlocked xid (map.get rows key) free))))
+    (λ xid. gather_insert_same (write_by xid) rows key _ (sym (unheld_writes xid (map.get rows key) (free xid))))
+    (λ xid. gather_insert_same (lock_by xid) rows key _ (nobodys xid ∙ sym (free xid))))
     (gather_insert (λ row. row.committed) rows key _ value refl)
 
-pub seen_deleted : (branches : BranchMap) (rows : RowMap) (key : List ℕ) → holder_of (map.get rows key) ≡ None →
+pub seen_deleted : (branches : BranchMap) (rows : RowMap) (key : List ℕ) → ((xid : Xid) → mode_of xid (map.get rows key) ≡ None) →
     state_of branches (map.remove rows key) ≡ record (state_of branches rows) { rows = with_write key None (state_of branches rows).rows }
 unfolding state_of
 seen_deleted branches rows key free = same_state _ _
     (seen_same_rows branches rows _
-    (λ xid. gather_remove_same (write_by xid) rows key (unheld_writes xid (map.get rows key) free))
-    (λ xid. gather_remove_same (lock_by xid) rows key (unlocked xid (map.get rows key) free)))
+    (λ xid. gather_remove_same (write_by xid) rows key (unheld_writes xid (map.get rows key) (free xid)))
+    (λ xid. gather_remove_same (lock_by xid) rows key (free xid)))
     (gather_remove (λ row. row.committed) rows key)
 
 -- ---- a row that a branch comes to hold
 
--- nobody, or this branch
-abbrev pub IsFreeFor : Xid → Option Xid → Type 0
-IsFreeFor xid holder = (other : Xid) → holder ≡ Some other → other ≡ xid
-
-lock_there : (b : Bool) → b ≡ true → cond b (Some (tt {0})) None ≡ Some tt
-lock_there true e = refl
-lock_there false e = absurd (true≢false (sym e))
-
-pub lock_apart : (b : Bool) → b ≡ false → cond b (Some (tt {0})) None ≡ None
-lock_apart true e = absurd (true≢false e)
-lock_apart false e = refl
-
-write_there : (b : Bool) (write : Option Write) → b ≡ true → cond b write None ≡ write
-write_there true write e = refl
-write_there false write e = absurd (true≢false (sym e))
-
-pub write_apart : (b : Bool) (write : Option Write) → b ≡ false → cond b write None ≡ None
-write_apart true write e = absurd (true≢false e)
-write_apart false write e = refl
-
-pub flipped_apart : (xid other : Xid) → same_xid other xid ≡ false → same_xid xid other ≡ false
-flipped_apart xid other apart = by (same_xid xid other) refl
-  where
-    by : (b : Bool) → same_xid xid other ≡ b → b ≡ false
-    by true e = absurd (true≢false (sym (ap (λ x. same_xid x xid) (sym (same_is xids_total exact_xids xid other e)) ∙ same_itself xids_total exact_xids xid) ∙ apart))
-    by false e = refl
-
--- another branch's view of the row
-others_lock : (xid other : Xid) (found : Option RowRecord) → IsFreeFor xid (holder_of found) → same_xid other xid ≡ false → option_and_then (lock_by other) found ≡ None
-others_lock xid other None free apart = refl
-others_lock xid other (Some row) free apart = by row.lock free
-  where
-    by : (lock : Option Lock) → ((holder : Xid) → option_map (λ (l : Lock). l.holder) lock ≡ Some holder → holder ≡ xid) → option_and_then (λ (l : Lock). cond (same_xid l.holder other) (Some (tt {0})) None) lock ≡ None
-    by None free = refl
-    by (Some lock) free = lock_apart (same_xid lock.holder other) (ap (λ x. same_xid x other) (free lock.holder refl) ∙ flipped_apart xid other apart)
-
-others_write : (xid other : Xid) (found : Option RowRecord) → IsFreeFor xid (holder_of found) → same_xid other xid ≡ false → option_and_then (write_by other) found ≡ None
-others_write xid other found free apart = unwritten other found (ap is_some (others_lock xid other found free apart))
-
--- the branch that comes to hold the row
-own_lock : (rows : RowMap) (xid : Xid) (key : List ℕ) (change : Change) → gather (lock_by xid) (map.insert rows key (held_row xid change (map.get rows key))) ≡ map.insert (gather (lock_by xid) rows) key tt
-own_lock rows xid key change = gather_insert (lock_by xid) rows key _ tt (lock_there (same_xid xid xid) (same_itself xids_total exact_xids xid))
-
-pub held_branch : (rows : RowMap) (xid : Xid) (key : List ℕ) (change : Change) (branch : BranchRecord) →
-    (change ≡ Nothing → is_some (option_and_then (lock_by xid) (map.get rows key)) ≡ false) →
-    branch_seen (map.insert rows key (held_row xid change (map.get rows key))) xid branch ≡ with_change key change (branch_seen rows xid branch)
-held_branch rows xid key Nothing branch new = same_branch _ _ refl refl
-    (gather_insert_same (write_by xid) rows key _ (write_there (same_xid xid xid) None (same_itself xids_total exact_xids xid) ∙ sym (unwritten xid (map.get rows key) (new refl))))
-    (own_lock rows xid key Nothing)
-held_branch rows xid key (Put value) branch new = same_branch _ _ refl refl
-    (gather_insert (write_by xid) rows key _ (Some value) (write_there (same_xid xid xid) (Some (Some value)) (same_itself xids_total exact_xids xid)))
-    (own_lock rows xid key (Put value))
-held_branch rows xid key Delete branch new = same_branch _ _ refl refl
-    (gather_insert (write_by xid) rows key _ None (write_there (same_xid xid xid) (Some None) (same_itself xids_total exact_xids xid)))
-    (own_lock rows xid key Delete)
-
--- the others
-held_beside : (rows : RowMap) (xid : Xid) (key : List ℕ) (change : Change) (other : Xid) → IsFreeFor xid (holder_of (map.get rows key)) → same_xid other xid ≡ false →
-    branch_seen (map.insert rows key (held_row xid change (map.get rows key))) other ≡ branch_seen rows other
-held_beside rows xid key change other free apart = λ i branch. record { phase = branch.phase; owner = branch.owner; writes = writes i; locks = locks i }
-  where
-    writes : gather (write_by other) (map.insert rows key (held_row xid change (map.get rows key))) ≡ gather (write_by other) rows
-    writes = gather_insert_same (write_by other) rows key _ (write_apart (same_xid xid other) (write_of change) (flipped_apart xid other apart) ∙ sym (others_write xid other (map.get rows key) free apart))
-
-    locks : gather (lock_by other) (map.insert rows key (held_row xid change (map.get rows key))) ≡ gather (lock_by other) rows
-    locks = gather_insert_same (lock_by other) rows key _ (lock_apart (same_xid xid other) (flipped_apart xid other apart) ∙ sym (others_lock xid other (map.get rows key) free apart))
-
-pub seen_held : (branches : BranchMap) (rows : RowMap) (xid : Xid) (key : List ℕ) (change : Change) →
-    is_some (map.get branches xid) ≡ true → IsFreeFor xid (holder_of (map.get rows key)) → (change ≡ Nothing → is_some (option_and_then (lock_by xid) (map.get rows key)) ≡ false) →
-    state_of branches (map.insert rows key (held_row xid change (map.get rows key))) ≡ with_changed (state_of branches rows) xid (with_change key change)
+-- a record that differs for one branch alone is that branch changed
+seen_row : (branches : BranchMap) (rows : RowMap) (xid : Xid) (key : List ℕ) (row : RowRecord) (change : Branch → Branch) →
+    is_some (map.get branches xid) ≡ true → row.committed ≡ committed_of (map.get rows key) →
+    ((branch : BranchRecord) → branch_seen (map.insert rows key row) xid branch ≡ change (branch_seen rows xid branch)) →
+    ((other : Xid) → same_xid other xid ≡ false → branch_seen (map.insert rows key row) other ≡ branch_seen rows other) →
+    state_of branches (map.insert rows key row) ≡ with_changed (state_of branches rows) xid change
 unfolding state_of
-seen_held branches rows xid key change known free new =
+seen_row branches rows xid key row change known value own others =
     by (map.get branches xid) refl known
-    ∙ ap (λ found. option_map_or (λ branch. with_branch (state_of branches rows) xid (with_change key change branch)) found (state_of branches rows)) (sym (get-branches branches rows xid))
+    ∙ ap (λ found. option_map_or (λ branch. with_branch (state_of branches rows) xid (change branch)) found (state_of branches rows)) (sym (get-branches branches rows xid))
   where
     by : (found : Option BranchRecord) → map.get branches xid ≡ found → is_some found ≡ true →
-        state_of branches (map.insert rows key (held_row xid change (map.get rows key)))
-        ≡ option_map_or (λ branch. with_branch (state_of branches rows) xid (with_change key change branch)) (option_map (branch_seen rows xid) found) (state_of branches rows)
+        state_of branches (map.insert rows key row)
+        ≡ option_map_or (λ branch. with_branch (state_of branches rows) xid (change branch)) (option_map (branch_seen rows xid) found) (state_of branches rows)
     by None e there = absurd (true≢false (sym there))
     by (Some branch) e there = same_state _ _
         (same_branches _ _ (λ other. get-branches branches _ other ∙ (elim (same_or_apart xids_total exact_xids other xid) [
-          | inl is ↦ rw is (ap (option_map (branch_seen (map.insert rows key (held_row xid change (map.get rows key))) xid)) e ∙ ap Some (held_branch rows xid key change branch new)
-              ∙ sym (get_inserted xids_total exact_xids (state_of branches rows).branches xid (with_change key change (branch_seen rows xid branch))))
-          | inr apart ↦ ap (λ (f : BranchRecord → Branch). option_map f (map.get branches other)) (held_beside rows xid key change other free apart)
-              ∙ sym (get_inserted_apart xids_total exact_xids (state_of branches rows).branches xid (with_change key change (branch_seen rows xid branch)) other apart ∙ get-branches branches rows other)
+          | inl is ↦ rw is (ap (option_map (branch_seen (map.insert rows key row) xid)) e ∙ ap Some (own branch)
+              ∙ sym (get_inserted xids_total exact_xids (state_of branches rows).branches xid (change (branch_seen rows xid branch))))
+          | inr apart ↦ ap (λ (f : BranchRecord → Branch). option_map f (map.get branches other)) (others other apart)
+              ∙ sym (get_inserted_apart xids_total exact_xids (state_of branches rows).branches xid (change (branch_seen rows xid branch)) other apart ∙ get-branches branches rows other)
         ])))
-        (gather_insert_same (λ row. row.committed) rows key _ refl)
+        (gather_insert_same (λ row. row.committed) rows key _ value)
+
+-- held by no other branch
+abbrev pub IsFreeFor : Xid → Option RowRecord → Type 0
+IsFreeFor xid found = (other : Xid) → same_xid other xid ≡ false → is_some (mode_of other found) ≡ false
+
+if_there : {A : Type 0} (b : Bool) (x : A) → b ≡ true → cond b (Some x) None ≡ Some x
+if_there true x e = refl
+if_there false x e = absurd (true≢false (sym e))
+
+if_apart : {A : Type 0} (b : Bool) (x : A) → b ≡ false → cond b (Some x) None ≡ None
+if_apart true x e = absurd (true≢false e)
+if_apart false x e = refl
+
+-- the branch that comes to hold the row exclusively
+held_branch : (rows : RowMap) (xid : Xid) (key : List ℕ) (change : Change) (branch : BranchRecord) →
+    branch_seen (map.insert rows key (held_row xid change (map.get rows key))) xid branch ≡ with_change key change (branch_seen rows xid branch)
+held_branch rows xid key change branch = same_branch _ _ refl refl
+    (gather_insert (write_by xid) rows key _ (write_of change) (if_there (same_xid xid xid) (write_of change) (itself xid)))
+    (gather_insert (lock_by xid) rows key _ Exclusive (if_there (same_xid xid xid) Exclusive (itself xid)))
+
+-- the others
+held_others : (rows : RowMap) (xid : Xid) (key : List ℕ) (change : Change) (other : Xid) → IsFreeFor xid (map.get rows key) → same_xid other xid ≡ false →
+    branch_seen (map.insert rows key (held_row xid change (map.get rows key))) other ≡ branch_seen rows other
+held_others rows xid key change other free apart = λ i branch. record { phase = branch.phase; owner = branch.owner; writes = writes i; locks = locks i }
+  where
+    writes : gather (write_by other) (map.insert rows key (held_row xid change (map.get rows key))) ≡ gather (write_by other) rows
+    writes = gather_insert_same (write_by other) rows key _ (if_apart (same_xid xid other) (write_of change) (turned_apart xid other apart) ∙ sym (unwritten other (map.get rows key) (free other apart)))
+
+    locks : gather (lock_by other) (map.insert rows key (held_row xid change (map.get rows key))) ≡ gather (lock_by other) rows
+    locks = gather_insert_same (lock_by other) rows key _ (if_apart (same_xid xid other) Exclusive (turned_apart xid other apart) ∙ sym (none_of (mode_of other (map.get rows key)) (free other apart)))
+
+pub seen_held : (branches : BranchMap) (rows : RowMap) (xid : Xid) (key : List ℕ) (change : Change) →
+    is_some (map.get branches xid) ≡ true → IsFreeFor xid (map.get rows key) →
+    state_of branches (map.insert rows key (held_row xid change (map.get rows key))) ≡ with_changed (state_of branches rows) xid (with_change key change)
+seen_held branches rows xid key change known free =
+    seen_row branches rows xid key (held_row xid change (map.get rows key)) (with_change key change) known refl (held_branch rows xid key change) (λ other. held_others rows xid key change other free)
+
+-- ---- a row that a branch comes to share
+
+-- it holds it in neither way, and none of the others holds it exclusively
+pub record IsShareable (xid : Xid) (found : Option RowRecord) : Type 0 where
+  pub unheld : is_some (mode_of xid found) ≡ false
+  pub unlocked : locked_against (Active xid) found ≡ false
+
+-- the branch that comes to share it
+pub share_there : (xid : Xid) (found : Option RowRecord) → IsShareable xid found → lock_by xid (shared_row xid found) ≡ Some Shared
+share_there xid found is = sharer_there xid (lock_of found) (by (mode_in xid (lock_of found)) (sym (ap is_some (mode_of-lock xid found)) ∙ is.unheld)) (sym (locked_against-lock (Active xid) found) ∙ is.unlocked)
+  where
+    by : (mode : Option LockMode) → is_some mode ≡ false → is_exclusive mode ≡ false
+    by None e = refl
+    by (Some mode) e = absurd (true≢false e)
+
+-- the others
+pub share_others : (xid other : Xid) (found : Option RowRecord) → same_xid other xid ≡ false → lock_by other (shared_row xid found) ≡ mode_of other found
+share_others xid other found apart = sharer_beside xid other (lock_of found) apart ∙ sym (mode_of-lock other found)
+
+-- nobody's write
+share_writes : (xid other : Xid) (found : Option RowRecord) → write_by other (shared_row xid found) ≡ option_and_then (write_by other) found
+share_writes xid other None = refl
+share_writes xid other (Some row) = sharer_writes xid other row.lock
+
+shared_branch : (rows : RowMap) (xid : Xid) (key : List ℕ) (branch : BranchRecord) → IsShareable xid (map.get rows key) →
+    branch_seen (map.insert rows key (shared_row xid (map.get rows key))) xid branch ≡ with_lock key (branch_seen rows xid branch)
+shared_branch rows xid key branch is = same_branch _ _ refl refl
+    (gather_insert_same (write_by xid) rows key _ (share_writes xid xid (map.get rows key)))
+    (gather_insert (lock_by xid) rows key _ Shared (share_there xid (map.get rows key) is)
+    ∙ sym (ap (λ b. cond b (gather (lock_by xid) rows) (map.insert (gather (lock_by xid) rows) key Shared))
+    (ap is_some (get-gather bytes_total exact_texts (lock_by xid) rows key) ∙ is.unheld)))
+
+shared_others : (rows : RowMap) (xid : Xid) (key : List ℕ) (other : Xid) → same_xid other xid ≡ false →
+    branch_seen (map.insert rows key (shared_row xid (map.get rows key))) other ≡ branch_seen rows other
+shared_others rows xid key other apart = λ i branch. record { phase = branch.phase; owner = branch.owner; writes = writes i; locks = locks i }
+  where
+    writes : gather (write_by other) (map.insert rows key (shared_row xid (map.get rows key))) ≡ gather (write_by other) rows
+    writes = gather_insert_same (write_by other) rows key _ (share_writes xid other (map.get rows key))
+
+    locks : gather (lock_by other) (map.insert rows key (shared_row xid (map.get rows key))) ≡ gather (lock_by other) rows
+    locks = gather_insert_same (lock_by other) rows key _ (share_others xid other (map.get rows key) apart)
+
+pub seen_shared : (branches : BranchMap) (rows : RowMap) (xid : Xid) (key : List ℕ) →
+    is_some (map.get branches xid) ≡ true → IsShareable xid (map.get rows key) →
+    state_of branches (map.insert rows key (shared_row xid (map.get rows key))) ≡ with_changed (state_of branches rows) xid (with_lock key)
+seen_shared branches rows xid key known is =
+    seen_row branches rows xid key (shared_row xid (map.get rows key)) (with_lock key) known refl (λ branch. shared_branch rows xid key branch is) (λ other. shared_others rows xid key other)

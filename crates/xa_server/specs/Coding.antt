@@ -2,19 +2,20 @@
 use Rattle.std.specs.Prelude.{◌≡◌, ℕ, Option, Some, None, List, zero, suc, refl}
 use Rattle.std.specs.FinMap as map
 use Rattle.std.specs.Coded.{Coded, code_by, coded×, coded_option, coded_ℕ}
-use base.Stored.{coded_unit}
+use Rattle.std.specs.FinSet as set
 use Rattle.xa_xid.specs.declared.xid.Xid.{Xid}
 use Rattle.xa_xid.specs.Xid.{Text, bytes_cmp, xid_cmp, coded_text, coded_xid}
 use Rattle.std.specs.Coded.{coded_list}
 use Rattle.xa_server.specs.declared.branch.Phase.{Phase}
 use Rattle.xa_server.specs.declared.branch.Phase.TheVariants.{Active, Idle, Prepared}
 use Rattle.xa_server.specs.declared.branch.BranchRecord.{BranchRecord}
-use Rattle.xa_server.specs.declared.row.Change.{Change}
-use Rattle.xa_server.specs.declared.row.Change.TheVariants.{Nothing, Put, Delete}
-use Rattle.xa_server.specs.declared.row.Lock.{Lock}
+use Rattle.xa_server.specs.declared.lock.Change.{Change}
+use Rattle.xa_server.specs.declared.lock.Change.TheVariants.{Put, Delete}
+use Rattle.xa_server.specs.declared.lock.Lock.{Lock}
+use Rattle.xa_server.specs.declared.lock.Lock.TheVariants.{Exclusive as HeldBy, Shared as SharedBy}
 use Rattle.xa_server.specs.declared.row.RowRecord.{RowRecord}
-use Rattle.xa_server.specs.Rows.{write_of}
-use Rattle.xa_server.specs.State.{Write, RowSet, Branch, State}
+use Rattle.xa_server.specs.Rows.{Sharing, write_of}
+use Rattle.xa_server.specs.State.{Write, LockMode, Shared, Exclusive, RowLocks, Branch, State}
 
 -- a phase is stored as a number
 abbrev pub number_of_phase : Phase → ℕ
@@ -38,10 +39,26 @@ coded_phase = code_by ℕ coded_ℕ number_of_phase phase_of_number phase_back
 abbrev pub coded_key : Coded (List ℕ)
 coded_key = coded_list coded_ℕ
 
+-- a lock mode is stored as a number
+abbrev pub number_of_mode : LockMode → ℕ
+number_of_mode Shared = 0
+number_of_mode Exclusive = 1
+
+abbrev pub mode_of_number : ℕ → LockMode
+mode_of_number zero = Shared
+mode_of_number (suc n) = Exclusive
+
+abbrev pub mode_back : (mode : LockMode) → mode_of_number (number_of_mode mode) ≡ mode
+mode_back Shared = refl
+mode_back Exclusive = refl
+
+abbrev pub coded_mode : Coded LockMode
+coded_mode = code_by ℕ coded_ℕ number_of_mode mode_of_number mode_back
+
 abbrev pub coded_branch : Coded Branch
 coded_branch =
-    code_by (Phase × (Option ℕ × (map.FinMap bytes_cmp Write × RowSet)))
-    (coded× coded_phase (coded× (coded_option coded_ℕ) (coded× (map.code coded_key (coded_option coded_text)) (map.code coded_key coded_unit))))
+    code_by (Phase × (Option ℕ × (map.FinMap bytes_cmp Write × RowLocks)))
+    (coded× coded_phase (coded× (coded_option coded_ℕ) (coded× (map.code coded_key (coded_option coded_text)) (map.code coded_key coded_mode))))
     (λ b. (b.phase, (b.owner, (b.writes, b.locks))))
     (λ p. record { phase = p.0; owner = p.1.0; writes = p.1.1.0; locks = p.1.1.1 }) (λ _. refl)
 
@@ -64,25 +81,38 @@ abbrev pub coded_branches : Coded (map.FinMap xid_cmp BranchRecord)
 coded_branches = map.code coded_xid coded_branch_record
 
 -- a change is stored as what it writes
-abbrev pub change_of : Option Write → Change
-change_of None = Nothing
-change_of (Some (Some value)) = Put value
-change_of (Some None) = Delete
+abbrev pub change_of : Write → Change
+change_of (Some value) = Put value
+change_of None = Delete
 
 abbrev pub change_back : (change : Change) → change_of (write_of change) ≡ change
-change_back Nothing = refl
 change_back (Put value) = refl
 change_back Delete = refl
 
 abbrev pub coded_change : Coded Change
-coded_change = code_by (Option Write) (coded_option (coded_option coded_text)) write_of change_of change_back
+coded_change = code_by Write (coded_option coded_text) write_of change_of change_back
+
+-- a lock is stored as its one holder, if it has one, and its sharers
+abbrev pub holder_and_sharers : Lock → Option (Xid × Change) × Sharing
+holder_and_sharers (HeldBy holder change) = (Some (holder, change), set.empty)
+holder_and_sharers (SharedBy sharers) = (None, sharers)
+
+abbrev pub lock_of_parts : Option (Xid × Change) × Sharing → Lock
+lock_of_parts (Some held, sharers) = HeldBy held.0 held.1
+lock_of_parts (None, sharers) = SharedBy sharers
+
+abbrev pub lock_back : (lock : Lock) → lock_of_parts (holder_and_sharers lock) ≡ lock
+lock_back (HeldBy holder change) = refl
+lock_back (SharedBy sharers) = refl
 
 abbrev pub coded_lock : Coded Lock
-coded_lock = code_by (Xid × Change) (coded× coded_xid coded_change) (λ l. (l.holder, l.change)) (λ p. record { holder = p.0; change = p.1 }) (λ _. refl)
+coded_lock =
+    code_by (Option (Xid × Change) × Sharing) (coded× (coded_option (coded× coded_xid coded_change)) (set.code coded_xid))
+    holder_and_sharers lock_of_parts lock_back
 
 abbrev pub coded_row_record : Coded RowRecord
 coded_row_record =
-    code_by (Option Text × Option Lock) (coded× (coded_option coded_text) (coded_option coded_lock))
+    code_by (Option Text × Lock) (coded× (coded_option coded_text) coded_lock)
     (λ r. (r.committed, r.lock)) (λ p. record { committed = p.0; lock = p.1 }) (λ _. refl)
 
 abbrev pub coded_rows : Coded (map.FinMap bytes_cmp RowRecord)

@@ -1,20 +1,35 @@
 -- Who holds a row against whom, and what every state of a server keeps.
---     holds                whether the branch holds the row
---     is_held_against      whether a branch that isn't the session's own holds the row
+--     lock_at              how the branch holds the row, where it does
+--     holds, holds_exclusively      whether the branch holds the row, in either way;  exclusively
+--     is_held_against      whether a branch that isn't the session's own holds the row, in either way
+--     is_locked_against    whether such a branch holds it exclusively
 --     LockLaw              what every state of a server keeps
-use Rattle.std.specs.Prelude.{◌≡◌, ℕ, Bool, true, false, not, ◌&&◌, None, List, is_some}
+use Rattle.std.specs.Prelude.{◌≡◌, ℕ, Bool, true, false, not, ◌&&◌, Option, Some, None, List, is_some}
 use Rattle.std.specs.List.{list_any}
-use Rattle.std.specs.Option.{option_map_or}
+use Rattle.std.specs.Option.{option_and_then}
 use Rattle.std.specs.FinMap as map
 use Rattle.xa_xid.specs.declared.xid.Xid.{Xid}
 use Rattle.xa_xid.specs.Xid.{same_xid}
 use Rattle.xa_server.specs.declared.seat.Seat.{Seat}
 use Rattle.xa_server.specs.declared.seat.Seat.TheVariants.{Free, Active, Idle}
-use Rattle.xa_server.specs.State.{State, is_known, is_prepared, owner_at, owns, write_at}
+use Rattle.xa_server.specs.State.{State, LockMode, Shared, Exclusive, is_known, is_prepared, owner_at, owns, write_at}
 
--- the branch holds the row, until it ends (own rule)
+-- how the branch holds the row until it ends, where it does (own rule)
+abbrev pub lock_at : State → Xid → List ℕ → Option LockMode
+lock_at state xid key = option_and_then (λ branch. map.get branch.locks key) (map.get state.branches xid)
+
+-- the branch holds the row, in either way
 abbrev pub holds : State → Xid → List ℕ → Bool
-holds state xid key = option_map_or (λ branch. map.contains_key branch.locks key) (map.get state.branches xid) false
+holds state xid key = is_some (lock_at state xid key)
+
+abbrev pub is_exclusive : Option LockMode → Bool
+is_exclusive None = false
+is_exclusive (Some Shared) = false
+is_exclusive (Some Exclusive) = true
+
+-- the branch holds the row exclusively
+abbrev pub holds_exclusively : State → Xid → List ℕ → Bool
+holds_exclusively state xid key = is_exclusive (lock_at state xid key)
 
 -- the branch isn't the session's own
 abbrev pub is_another : Seat → Xid → Bool
@@ -22,19 +37,23 @@ is_another Free xid = true
 is_another (Active own) xid = not (same_xid xid own)
 is_another (Idle own) xid = not (same_xid xid own)
 
--- a branch that isn't the session's own holds the row
+-- a branch that isn't the session's own holds the row, in either way
 unfoldable pub is_held_against : State → Seat → List ℕ → Bool
 is_held_against state seat key = list_any (λ xid. is_another seat xid && holds state xid key) (map.keys state.branches)
 
+-- a branch that isn't the session's own holds the row exclusively
+unfoldable pub is_locked_against : State → Seat → List ℕ → Bool
+is_locked_against state seat key = list_any (λ xid. is_another seat xid && holds_exclusively state xid key) (map.keys state.branches)
+
 -- what every state of a server keeps
 pub record LockLaw (state : State) : Type 0 where
-  -- no two branches hold one row
-  pub one_holder : (xid other : Xid) (key : List ℕ) → holds state xid key ≡ true → holds state other key ≡ true → xid ≡ other
+  -- a row that one branch holds exclusively is held by no other, in either way
+  pub one_holder : (xid other : Xid) (key : List ℕ) → holds_exclusively state xid key ≡ true → holds state other key ≡ true → xid ≡ other
   -- a session owns at most one branch
   pub one_branch : (session : ℕ) (xid other : Xid) → owns state session xid ≡ true → owns state session other ≡ true → xid ≡ other
   -- a PREPARED branch has no owner
   pub detached : (xid : Xid) → is_prepared state xid ≡ true → owner_at state xid ≡ None
   -- an ACTIVE or IDLE branch has one
   pub attached : (xid : Xid) → is_known state xid ≡ true → is_prepared state xid ≡ false → is_some (owner_at state xid) ≡ true
-  -- a branch writes only rows that it holds
-  pub held_writes : (xid : Xid) (key : List ℕ) → is_some (write_at state xid key) ≡ true → holds state xid key ≡ true
+  -- a branch writes only rows that it holds exclusively
+  pub held_writes : (xid : Xid) (key : List ℕ) → is_some (write_at state xid key) ≡ true → holds_exclusively state xid key ≡ true

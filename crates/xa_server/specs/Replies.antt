@@ -13,7 +13,7 @@ use Rattle.xa_server.specs.declared.xa_error.BranchState.TheVariants.{NonExistin
 use Rattle.xa_server.specs.declared.seat.Seat.{Seat}
 use Rattle.xa_server.specs.declared.seat.Seat.TheVariants.{Free, Active, Idle}
 use Rattle.xa_server.specs.State.{State, is_known, is_prepared, seat_of, committed_value, value_within, prepared_xids}
-use Rattle.xa_server.specs.Locks.{is_held_against}
+use Rattle.xa_server.specs.Locks.{is_held_against, is_locked_against}
 
 -- the statement is carried out where the test holds, and else refused
 abbrev pub ok_if : Bool → XaError → Reply
@@ -50,7 +50,7 @@ table state (Idle own) (Rollback xid) = ok_if (same_xid xid own) (Rmfail StateId
 table state seat (Recover convert) = Recovered (prepared_xids state)
 table state seat Unsupported = Refused Inval
 table state Free (Get key) = Value (committed_value state key)
-table state (Active own) (Get key) = refused_if (is_held_against state (Active own) key) RowLocked (Value (value_within state own key))
+table state (Active own) (Get key) = refused_if (is_locked_against state (Active own) key) RowLocked (Value (value_within state own key))
 table state (Idle own) (Get key) = Refused (Rmfail StateIdle)
 table state Free (Put key value) = refused_if (is_held_against state Free key) RowLocked Accepted
 table state (Active own) (Put key value) = refused_if (is_held_against state (Active own) key) RowLocked Accepted

@@ -1,82 +1,120 @@
 -- The record of a row, and what the server does to it.
---     RowMap                 the records by key
---     committed_of, holder_of      its committed value;  the branch that holds the row
+--     RowMap, Sharing        the records by key;  the branches that share a row
+--     committed_of, lock_of        its committed value;  who holds it
 --     write_by, lock_by      the newest write, the lock, that this branch has on the row
---     held_against           a branch that isn't the session's own holds the row
+--     held_against           a branch that isn't the session's own holds the row, in either way
+--     locked_against         such a branch holds it exclusively
 --     value_seen             the value that the branch sees
---     held_row               the record once the branch holds the row, and does this to it
---     with_change            the branch once it holds the row, and does this to it
+--     held_row, shared_row   the record once the branch holds the row exclusively, and does this to it;  once it shares the row
+--     with_change            the branch once it holds the row exclusively, and does this to it
 --     freed_row, freed       the record once the branch has ended
 --     Frees                  all records once the branch has ended
 use Rattle.std.specs.Prelude.{◌≡◌, ℕ, Bool, false, cond, ◌||◌, is_some, Option, Some, None, List}
 use Rattle.std.specs.List.{list_any}
 use Rattle.std.specs.Ordering.{eq_by_cmp}
-use Rattle.std.specs.Option.{option_and_then, option_map, option_map_or, unwrap_or}
+use Rattle.std.specs.Option.{option_and_then, option_map_or, unwrap_or}
 use Rattle.std.specs.FinMap as map
+use Rattle.std.specs.FinSet as set
 use Rattle.xa_xid.specs.declared.xid.Xid.{Xid}
-use Rattle.xa_xid.specs.Xid.{Text, bytes_cmp, same_xid}
-use Rattle.xa_server.specs.declared.row.Change.{Change}
-use Rattle.xa_server.specs.declared.row.Change.TheVariants.{Nothing, Put, Delete}
+use Rattle.xa_xid.specs.Xid.{Text, bytes_cmp, xid_cmp, same_xid}
+use Rattle.xa_server.specs.declared.lock.Change.{Change}
+use Rattle.xa_server.specs.declared.lock.Change.TheVariants.{Put, Delete}
+use Rattle.xa_server.specs.declared.lock.Lock.{Lock}
+use Rattle.xa_server.specs.declared.lock.Lock.TheVariants.{Exclusive as HeldBy, Shared as SharedBy}
 use Rattle.xa_server.specs.declared.row.RowRecord.{RowRecord}
 use Rattle.xa_server.specs.declared.seat.Seat.{Seat}
-use Rattle.xa_server.specs.State.{Write, Branch}
-use Rattle.xa_server.specs.Step.{with_lock, with_own_write}
+use Rattle.xa_server.specs.declared.seat.Seat.TheVariants.{Free}
+use Rattle.xa_server.specs.State.{Write, LockMode, Shared, Exclusive, Branch}
+use Rattle.xa_server.specs.Step.{with_own_write}
 use Rattle.xa_server.specs.Locks.{is_another}
 
 abbrev pub RowMap : Type 0
 RowMap = map.FinMap bytes_cmp RowRecord
 
+-- the branches that share a row; none, where nobody holds it
+abbrev pub Sharing : Type 0
+Sharing = set.FinSet xid_cmp
+
 abbrev pub committed_of : Option RowRecord → Option Text
 committed_of found = option_and_then (λ row. row.committed) found
 
-abbrev pub holder_of : Option RowRecord → Option Xid
-holder_of found = option_and_then (λ row. option_map (λ lock. lock.holder) row.lock) found
+-- who holds a row: nobody, where it has no record
+abbrev pub lock_of : Option RowRecord → Lock
+lock_of None = SharedBy set.empty
+lock_of (Some row) = row.lock
 
--- what the change writes, if it writes
-abbrev pub write_of : Change → Option Write
-write_of Nothing = None
-write_of (Put value) = Some (Some value)
-write_of Delete = Some None
+-- what the change writes
+abbrev pub write_of : Change → Write
+write_of (Put value) = Some value
+write_of Delete = None
 
 -- the newest write of the row by this branch
+abbrev pub write_in : Xid → Lock → Option Write
+write_in xid (HeldBy holder change) = cond (same_xid holder xid) (Some (write_of change)) None
+write_in xid (SharedBy sharers) = None
+
 abbrev pub write_by : Xid → RowRecord → Option Write
-write_by xid row = option_and_then (λ lock. cond (same_xid lock.holder xid) (write_of lock.change) None) row.lock
+write_by xid row = write_in xid row.lock
 
--- whether this branch holds the row
-abbrev pub lock_by : Xid → RowRecord → Option (Unit {0})
-lock_by xid row = option_and_then (λ lock. cond (same_xid lock.holder xid) (Some tt) None) row.lock
+-- how this branch holds the row, where it does
+abbrev pub mode_in : Xid → Lock → Option LockMode
+mode_in xid (HeldBy holder change) = cond (same_xid holder xid) (Some Exclusive) None
+mode_in xid (SharedBy sharers) = cond (set.contains sharers xid) (Some Shared) None
 
--- a branch that isn't the session's own holds the row
+abbrev pub lock_by : Xid → RowRecord → Option LockMode
+lock_by xid row = mode_in xid row.lock
+
+-- a branch that isn't the session's own is among those that hold the row
+abbrev pub held_beside : Seat → Lock → Bool
+held_beside seat (HeldBy holder change) = is_another seat holder
+held_beside seat (SharedBy sharers) = list_any (is_another seat) (set.items sharers)
+
+-- such a branch holds the row exclusively
+abbrev pub locked_beside : Seat → Lock → Bool
+locked_beside seat (HeldBy holder change) = is_another seat holder
+locked_beside seat (SharedBy sharers) = false
+
+-- a branch that isn't the session's own holds the row, in either way
 abbrev pub held_against : Seat → Option RowRecord → Bool
-held_against seat found = option_map_or (is_another seat) (holder_of found) false
+held_against seat found = option_map_or (λ row. held_beside seat row.lock) found false
+
+-- such a branch holds it exclusively
+abbrev pub locked_against : Seat → Option RowRecord → Bool
+locked_against seat found = option_map_or (λ row. locked_beside seat row.lock) found false
 
 -- the value that the branch sees
 abbrev pub value_seen : Xid → Option RowRecord → Option Text
 value_seen xid found = unwrap_or (option_and_then (write_by xid) found) (committed_of found)
 
--- the record once the branch holds the row, and does this to it
+-- the record once the branch holds the row exclusively, and does this to it
 abbrev pub held_row : Xid → Change → Option RowRecord → RowRecord
-held_row xid change found = record { committed = committed_of found; lock = Some (record { holder = xid; change = change }) }
+held_row xid change found = record { committed = committed_of found; lock = HeldBy xid change }
 
--- the committed value after the change
-abbrev pub changed_value : Change → Option Text → Option Text
-changed_value change value = unwrap_or (write_of change) value
+-- the holders once the branch is one of the sharers; where a branch holds the row exclusively, nobody comes to share it
+abbrev pub with_sharer : Xid → Lock → Lock
+with_sharer xid (HeldBy holder change) = HeldBy holder change
+with_sharer xid (SharedBy sharers) = SharedBy (set.insert sharers xid)
 
--- what it is for a branch to hold the row and do this to it
+-- the record once the branch shares the row
+abbrev pub shared_row : Xid → Option RowRecord → RowRecord
+shared_row xid found = record { committed = committed_of found; lock = with_sharer xid (lock_of found) }
+
+-- what it is for a branch to hold the row exclusively and do this to it
 abbrev pub with_change : List ℕ → Change → Branch → Branch
-with_change key Nothing branch = with_lock key branch
-with_change key (Put value) branch = with_own_write key (Some value) branch
-with_change key Delete branch = with_own_write key None branch
+with_change key change branch = with_own_write key (write_of change) branch
 
--- the record once the branch has ended: its write is the committed value if it commits, and its lock is gone
+-- the holders once the branch has ended
+abbrev pub freed_lock : Xid → Lock → Lock
+freed_lock xid (HeldBy holder change) = cond (same_xid holder xid) (SharedBy set.empty) (HeldBy holder change)
+freed_lock xid (SharedBy sharers) = SharedBy (set.remove sharers xid)
+
+-- the record once the branch has ended: its write is the committed value if it commits, and it holds the row no more
 abbrev pub freed_row : Bool → Xid → RowRecord → RowRecord
-freed_row commits xid row =
-    option_map_or (λ lock. cond (same_xid lock.holder xid) (record { committed = cond commits (changed_value lock.change row.committed) row.committed; lock = None }) row)
-    row.lock row
+freed_row commits xid row = record { committed = cond commits (unwrap_or (write_by xid row) row.committed) row.committed; lock = freed_lock xid row.lock }
 
 -- the record of a row that has a value or is held
 abbrev pub is_needed : RowRecord → Bool
-is_needed row = is_some row.committed || is_some row.lock
+is_needed row = is_some row.committed || held_beside Free row.lock
 
 -- the record that a row keeps, which has none where it has no value and nobody holds it
 abbrev pub kept : RowRecord → Option RowRecord

@@ -1,5 +1,5 @@
 -- What a resource manager holds: transaction branches and rows.
---     Write, RowSet        what a branch does to a row at its commit;  a set of rows
+--     Write, LockMode, RowLocks     what a branch does to a row at its commit;  how it holds a row;  the rows that it holds
 --     Branch, State        a transaction branch;  all branches, and the committed values of all rows
 --     no_state             no branch, no row
 --     is_known, is_prepared      whether a branch has this identifier;  and is PREPARED
@@ -22,9 +22,14 @@ use Rattle.xa_server.specs.declared.seat.Seat.TheVariants.{Free, Active, Idle}
 abbrev pub Write : Type 0
 Write = Option Text
 
--- rows, by their keys
-abbrev pub RowSet : Type 0
-RowSet = map.FinMap bytes_cmp (Unit {0})
+-- how a branch holds a row: in share, as others may too, or exclusively (own rule)
+pub data LockMode : Type 0 where
+  Shared : LockMode
+  Exclusive : LockMode
+
+-- rows, by their keys, each with how it is held: so none is held in both ways
+abbrev pub RowLocks : Type 0
+RowLocks = map.FinMap bytes_cmp LockMode
 
 -- a transaction branch (C193's branch table; the writes and locks are our own)
 pub record Branch : Type 0 where
@@ -33,8 +38,8 @@ pub record Branch : Type 0 where
   pub owner : Option ℕ
   -- its newest write of each row that it wrote
   pub writes : map.FinMap bytes_cmp Write
-  -- the rows that it holds until it ends
-  pub locks : RowSet
+  -- the rows that it holds until it ends, each in share or exclusively
+  pub locks : RowLocks
 
 -- a resource manager
 pub record State : Type 0 where

@@ -5,7 +5,7 @@
 --     enters          whether the statement enters the history
 --     after_all       the state after a history
 --     may_take_memory     carrying the statement out may take memory
-use Rattle.std.specs.Prelude.{◌≡◌, ℕ, Bool, true, false, not, ◌&&◌, ◌||◌, Some, None, List, [], ◌∷◌}
+use Rattle.std.specs.Prelude.{◌≡◌, ℕ, Bool, true, false, cond, not, ◌&&◌, ◌||◌, Some, None, List, [], ◌∷◌}
 use Rattle.std.specs.Option.{option_map_or}
 use Rattle.std.specs.FinMap as map
 use Rattle.xa_xid.specs.declared.xid.Xid.{Xid}
@@ -17,7 +17,7 @@ use Rattle.xa_server.specs.declared.reply.Reply.{Reply}
 use Rattle.xa_server.specs.declared.reply.Reply.TheVariants.{Ok as Accepted, Value, Recovered, Refused}
 use Rattle.xa_server.specs.declared.seat.Seat.{Seat}
 use Rattle.xa_server.specs.declared.seat.Seat.TheVariants.{Free, Active, Idle}
-use Rattle.xa_server.specs.State.{Write, Branch, State, seat_of}
+use Rattle.xa_server.specs.State.{Write, Shared, Exclusive, RowLocks, Branch, State, seat_of}
 use Rattle.xa_server.specs.Locks.{holds}
 use Rattle.xa_server.specs.Replies.{reply_to}
 
@@ -33,7 +33,7 @@ with_branch state xid branch = record state { branches = map.insert state.branch
 abbrev pub with_changed : State → Xid → (Branch → Branch) → State
 with_changed state xid change = option_map_or (λ branch. with_branch state xid (change branch)) (map.get state.branches xid) state
 
--- the state without the branch: its writes are dropped and its rows are free
+-- the state without the branch: its writes are dropped, and it holds no row any more
 abbrev pub without_branch : State → Xid → State
 without_branch state xid = record state { branches = map.remove state.branches xid }
 
@@ -53,15 +53,19 @@ committed state xid =
     option_map_or (λ branch. record (without_branch state xid) { rows = with_writes (map.entries branch.writes) state.rows })
     (map.get state.branches xid) state
 
--- the branch holds the row
+-- the rows once this one is held: in share, where it wasn't held in either way
+abbrev pub with_share : List ℕ → RowLocks → RowLocks
+with_share key locks = cond (map.contains_key locks key) locks (map.insert locks key Shared)
+
+-- the branch holds the row, at least in share
 abbrev pub with_lock : List ℕ → Branch → Branch
-with_lock key branch = record branch { locks = map.insert branch.locks key tt }
+with_lock key branch = record branch { locks = with_share key branch.locks }
 
--- the branch holds the row, and writes it
+-- the branch holds the row exclusively, also where it shared it, and writes it
 abbrev pub with_own_write : List ℕ → Write → Branch → Branch
-with_own_write key write branch = record branch { locks = map.insert branch.locks key tt; writes = map.insert branch.writes key write }
+with_own_write key write branch = record branch { locks = map.insert branch.locks key Exclusive; writes = map.insert branch.writes key write }
 
--- a row is written: by a free session at once, in a branch under its lock
+-- a row is written: by a free session at once, in a branch under its exclusive lock
 abbrev pub row_written : State → Seat → List ℕ → Write → State
 row_written state Free key write = record state { rows = with_write key write state.rows }
 row_written state (Active own) key write = with_changed state own (with_own_write key write)

@@ -4,9 +4,8 @@
 --     branch_seen          a branch's record, with what the rows say of it
 --     state_of             the state that the records stand for
 --     IsWhole              what the records keep
-use Rattle.std.specs.Prelude.{◌≡◌, ℕ, Bool, true, false, Option, Some, List, [], ◌∷◌, is_none}
+use Rattle.std.specs.Prelude.{◌≡◌, ℕ, Bool, cond, Option, Some, List, [], ◌∷◌, filter, length, is_none, is_some}
 use Rattle.std.specs.Option.{option_map_or, option_and_then}
-use Rattle.std.specs.List.{list_any}
 use Rattle.std.specs.declared.cmp.Ordering.{Ordering}
 use Rattle.std.specs.Ordering.{eq_by_cmp}
 use Rattle.std.specs.FinMap as map
@@ -15,7 +14,7 @@ use Rattle.xa_xid.specs.Xid.{bytes_cmp}
 use Rattle.xa_server.specs.declared.branch.BranchRecord.{BranchRecord}
 use Rattle.xa_server.specs.State.{Branch, State, is_prepared_phase}
 use Rattle.xa_server.specs.Tables.{BranchMap, owner_of}
-use Rattle.xa_server.specs.Rows.{RowMap, holder_of, write_by, lock_by}
+use Rattle.xa_server.specs.Rows.{RowMap, write_by, lock_by}
 
 -- the entries with each value changed
 abbrev pub map_values : {K V W : Type 0} → (K → V → W) → List (K × V) → List (K × W)
@@ -45,9 +44,17 @@ branch_seen rows xid branch = record { phase = branch.phase; owner = branch.owne
 unfoldable pub state_of : BranchMap → RowMap → State
 state_of branches rows = record { branches = mapped (branch_seen rows) branches; rows = gather (λ row. row.committed) rows }
 
--- the branch's record lists the row
-abbrev pub is_listed : BranchMap → Xid → List ℕ → Bool
-is_listed branches xid key = option_map_or (λ branch. list_any (eq_by_cmp bytes_cmp key) branch.held) (map.get branches xid) false
+-- how often a list names the row
+abbrev pub times_in : List ℕ → List (List ℕ) → ℕ
+times_in key keys = length (filter (eq_by_cmp bytes_cmp key) keys)
+
+-- how often the branch's record lists the row
+abbrev pub times_listed : BranchMap → Xid → List ℕ → ℕ
+times_listed branches xid key = option_map_or (λ branch. times_in key branch.held) (map.get branches xid) 0
+
+-- the row's record says that the branch holds the row, in either way
+abbrev pub is_holder : RowMap → Xid → List ℕ → Bool
+is_holder rows xid key = is_some (option_and_then (lock_by xid) (map.get rows key))
 
 -- what the records keep
 pub record IsWhole (branches : BranchMap) (rows : RowMap) : Type 0 where
@@ -55,5 +62,5 @@ pub record IsWhole (branches : BranchMap) (rows : RowMap) : Type 0 where
   pub attached : (xid : Xid) (branch : BranchRecord) → map.get branches xid ≡ Some branch → is_none branch.owner ≡ is_prepared_phase branch.phase
   -- a session owns at most one branch
   pub one_owned : (session : ℕ) (xid other : Xid) → owner_of branches xid ≡ Some session → owner_of branches other ≡ Some session → xid ≡ other
-  -- a row that is held stands in the list of the branch that holds it
-  pub listed : (key : List ℕ) (xid : Xid) → holder_of (map.get rows key) ≡ Some xid → is_listed branches xid key ≡ true
+  -- a branch lists exactly the rows that it holds in either way, each once
+  pub listed_once : (xid : Xid) (key : List ℕ) → times_listed branches xid key ≡ cond (is_holder rows xid key) 1 0

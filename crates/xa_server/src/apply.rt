@@ -5,13 +5,13 @@ ghost use Rattle.xa_server.specs.State.{seat_of, IsOpen};
 ghost use Rattle.xa_server.specs.Step.{Step, effect, is_refused, makes_record, may_enter, may_take_memory, row_written};
 ghost use Rattle.xa_xid.specs.declared.statement.Statement.TheVariants.{Get, Put, Del, Disconnect};
 
-use crate::row::Change;
+use crate::lock::Change;
 use crate::seat::Seat;
 use crate::{Reply, Server};
 use xa_xid::{Bytes, Key, NoMemory, SessionNo, Statement, copy_of};
 
 impl Server {
-    /// Has the session's branch hold a row that it reads. After `NoMemory` the server is as before.
+    /// Has the session's branch share a row that it reads, where it doesn't hold it yet. After `NoMemory` the server is as before.
     #[tactic(auto, unfolding(crate::specs::Step::effect, crate::specs::Step::may_enter))]
     fn lock_row(&mut self, seat: &Seat, key: &Key) -> Result<(), NoMemory>
         requires accepted { is_refused (table self.old seat.now (Get key.now)) ≡ false }
@@ -26,7 +26,7 @@ impl Server {
         if self.holds(own, key) {
             return Ok(());
         }
-        self.hold(own, key, Change::Nothing)
+        self.share(own, key)
     }
 
     /// Gives a row a value: at once, or in the session's branch. After `NoMemory` the server is as before.

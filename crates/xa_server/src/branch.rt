@@ -27,7 +27,7 @@ pub struct BranchRecord {
     pub phase: Phase,
     /// The session that started it, until it is prepared.
     pub owner: Option<SessionNo>,
-    /// At least the rows that it holds, so that its end visits no others.
+    /// The rows that it holds, in share or exclusively, each once: so its end visits no others.
     pub held: Keys,
 }
 

@@ -6,8 +6,7 @@ ghost use Rattle.xa_server.specs.Step.{may_enter as may_enter_in, enters, is_rec
 ghost use Rattle.xa_xid.specs.declared.statement.Statement.TheVariants.{Start, End, Prepare, Commit, Rollback, Get, Put, Del};
 ghost use Rattle.xa_xid.specs.Xid.{Text};
 
-use crate::row::is_same;
-use crate::seat::Seat;
+use crate::seat::{Seat, is_same};
 use crate::{BranchState, Reply, Server, XaError};
 use xa_xid::{Key, NoMemory, SessionNo, Statement, Xid};
 
@@ -118,7 +117,7 @@ impl Server {
         match seat {
             Seat::Free => Reply::Value(self.committed_value(key)),
             Seat::Active(own) => {
-                if self.is_held_against(seat, key) {
+                if self.is_locked_against(seat, key) {
                     Reply::Refused(XaError::RowLocked)
                 } else {
                     Reply::Value(self.value_within(own, key))

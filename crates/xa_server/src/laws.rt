@@ -50,8 +50,9 @@ pub fn recovered_list_is_exact()
     ensures exact { (state : State) (xid : Xid) → list_any (same_xid xid) (prepared_xids state) ≡ is_prepared state xid }
 {}
 
-/// The state with no branches keeps the lock law, and each statement and each history keeps it: no two branches hold one row,
-/// a session owns at most one branch, exactly the PREPARED branches are nobody's, and a branch writes only rows that it holds.
+/// The state with no branches keeps the lock law, and each statement and each history keeps it: a row that one branch holds
+/// exclusively is held by no other, a session owns at most one branch, exactly the PREPARED branches are nobody's, and a branch
+/// writes only rows that it holds exclusively.
 ///
 /// Takes no memory. Doesn't wait. Own rule: docs/BEHAVIOR.md, 'Rows'.
 pub fn lock_law_is_kept()

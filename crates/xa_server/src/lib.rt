@@ -7,11 +7,15 @@ mod branch_table;
 mod decide;
 mod keys;
 pub mod laws;
+mod lock;
 mod reply;
 mod row;
 mod row_table;
 mod seat;
 mod server;
+mod sharers;
+#[cfg(test)]
+mod sharing_tests;
 #[cfg(test)]
 mod tests;
 mod xa_error;

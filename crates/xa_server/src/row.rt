@@ -1,66 +1,20 @@
 //! The record of a row.
 ghost use Rattle.std.specs.Prelude.{◌≡◌, is_some};
 ghost use Rattle.std.specs.Option.{option_copied, option_and_then};
-ghost use Rattle.xa_xid.specs.Xid.{same_xid};
-ghost use Rattle.xa_server.specs.Rows.{committed_of, held_against, value_seen, lock_by, freed_row, is_needed};
+ghost use Rattle.xa_server.specs.Rows.{committed_of, held_against, locked_against, value_seen, lock_by, freed_row, is_needed};
 
-use crate::seat::Seat;
-use std::alloc::AllocError;
+use crate::lock::{Change, Lock};
+use crate::seat::{Seat, is_same};
+use std::alloc::{AllocError, Global};
 use xa_xid::{Bytes, Xid, copy_of};
-
-/// What a branch that holds a row does to it at its commit.
-#[derive(Drop)]
-pub enum Change {
-    /// Nothing: the row was only read.
-    Nothing,
-    /// The row gets this value.
-    Put(Bytes),
-    /// The row loses its value.
-    Delete,
-}
-
-/// The branch that holds a row, and what it does to it.
-#[derive(Drop)]
-pub struct Lock {
-    /// The branch.
-    pub holder: Xid,
-    /// Its newest write of the row.
-    pub change: Change,
-}
 
 /// What the server keeps of a row. A row without a value that nobody holds has no record.
 #[derive(Drop)]
 pub struct RowRecord {
     /// The value that all sessions see.
     pub committed: Option<Bytes>,
-    /// The branch that holds the row, if one does.
-    pub lock: Option<Lock>,
-}
-
-impl Change {
-    /// A copy of the change.
-    fn copy(&self) -> Change
-        ensures { result ≡ self.now }
-    {
-        match self {
-            Change::Nothing => Change::Nothing,
-            Change::Put(value) => Change::Put(copy_of(value)),
-            Change::Delete => Change::Delete,
-        }
-    }
-}
-
-/// A copy of a lock, where there is one.
-fn copy_of_lock(lock: &Option<Lock>) -> Option<Lock>
-    ensures { result ≡ lock.now }
-{
-    match lock {
-        None => None,
-        Some(lock) => Some(Lock {
-            holder: lock.holder.copy(),
-            change: lock.change.copy(),
-        }),
-    }
+    /// Who holds the row.
+    pub lock: Lock,
 }
 
 impl Clone for RowRecord {
@@ -69,7 +23,7 @@ impl Clone for RowRecord {
     fn clone(&self) -> Result<RowRecord, AllocError> {
         Ok(RowRecord {
             committed: copy_of_value(&self.committed),
-            lock: copy_of_lock(&self.lock),
+            lock: self.lock.copy()?,
         })
     }
 }
@@ -94,62 +48,50 @@ pub fn committed_value(row: Option<&RowRecord>) -> Option<Bytes>
     }
 }
 
-/// Whether two identifiers are one.
-pub fn is_same(left: &Xid, right: &Xid) -> bool
-    ensures { result ≡ same_xid left.now right.now }
-{
-    left.cmp(right).is_eq()
-}
-
-/// Whether a branch that isn't the session's own holds the row.
+/// Whether a branch that isn't the session's own holds the row, in either way.
 pub fn is_held_against(seat: &Seat, row: Option<&RowRecord>) -> bool
     ensures { result ≡ held_against seat.now (option_copied row.entry) }
 {
-    let Some(record) = row else {
-        return false;
-    };
-    let Some(lock) = &record.lock else {
-        return false;
-    };
-    match seat {
-        Seat::Free => true,
-        Seat::Active(own) => !is_same(&lock.holder, own),
-        Seat::Idle(own) => !is_same(&lock.holder, own),
+    match row {
+        None => false,
+        Some(record) => record.lock.is_held_beside(seat),
     }
 }
 
-/// Ends a branch's hold of a row, where it holds it: what it does to the row is done if it commits, and its lock goes.
+/// Whether a branch that isn't the session's own holds the row exclusively.
+pub fn is_locked_against(seat: &Seat, row: Option<&RowRecord>) -> bool
+    ensures { result ≡ locked_against seat.now (option_copied row.entry) }
+{
+    match row {
+        None => false,
+        Some(record) => record.lock.is_locked_beside(seat),
+    }
+}
+
+/// Ends a branch's hold of a row, where it holds it: what it does to the row is done if it commits.
 /// Answers whether the record is still needed.
-pub fn free(row: &mut RowRecord, xid: &Xid, commits: bool) -> bool
+pub fn free(row: &mut RowRecord, alloc: Global, xid: &Xid, commits: bool) -> bool
     ensures row { row.new ≡ freed_row commits xid.now row.old }
     ensures needed { result ≡ is_needed row.new }
 {
-    if let Some(lock) = row.lock.take() {
-        if !is_same(&lock.holder, xid) {
-            row.lock = Some(lock);
-            return true;
-        }
+    let held = std::mem::replace(&mut row.lock, Lock::nobodys(alloc));
+    let (lock, change) = held.without(alloc, xid);
+    row.lock = lock;
+    if let Some(change) = change {
         if commits {
-            match lock.change {
-                Change::Nothing => {}
-                Change::Put(value) => row.committed = Some(value),
-                Change::Delete => row.committed = None,
-            }
+            row.committed = change.into_value();
         }
     }
-    row.committed.is_some()
+    row.committed.is_some() || row.lock.is_held_beside(&Seat::Free)
 }
 
-/// Whether this branch holds the row.
+/// Whether this branch holds the row, in either way.
 pub fn is_held_by(own: &Xid, row: Option<&RowRecord>) -> bool
     ensures { result ≡ is_some (option_and_then (lock_by own.now) (option_copied row.entry)) }
 {
-    let Some(record) = row else {
-        return false;
-    };
-    match &record.lock {
+    match row {
         None => false,
-        Some(lock) => is_same(&lock.holder, own),
+        Some(record) => record.lock.is_held_by(own),
     }
 }
 
@@ -158,14 +100,13 @@ pub fn value_within(own: &Xid, row: Option<&RowRecord>) -> Option<Bytes>
     ensures { result ≡ value_seen own.now (option_copied row.entry) }
 {
     let record = row?;
-    let Some(lock) = &record.lock else {
+    let Lock::Exclusive { holder, change } = &record.lock else {
         return copy_of_value(&record.committed);
     };
-    if !is_same(&lock.holder, own) {
+    if !is_same(holder, own) {
         return copy_of_value(&record.committed);
     }
-    match &lock.change {
-        Change::Nothing => copy_of_value(&record.committed),
+    match change {
         Change::Put(value) => Some(copy_of(value)),
         Change::Delete => None,
     }

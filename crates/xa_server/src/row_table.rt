@@ -1,13 +1,15 @@
 //! The records of all rows, found by key.
-ghost use Rattle.std.specs.Prelude.{◌≡◌, true, [], ◌∷◌, IfOk, OnOk, OnErr, MatchOption};
+ghost use Rattle.std.specs.Prelude.{◌≡◌, true, [], ◌∷◌, is_some, IfOk, OnOk, OnErr, MatchOption};
 ghost use Rattle.std.specs.Option.{option_copied};
 ghost use Rattle.std.specs.BTreeMap as tree;
 ghost use Rattle.std.specs.FinMap as map;
+ghost use Rattle.std.specs.FinSet as set;
 ghost use Rattle.xa_xid.specs.Xid.{bytes_cmp};
-ghost use Rattle.xa_server.specs.Rows.{held_row, freed_row, is_needed, Frees};
+ghost use Rattle.xa_server.specs.Rows.{held_row, shared_row, with_sharer, freed_row, is_needed, Frees};
 
 use crate::keys::Keys;
-use crate::row::{Change, Lock, RowRecord, free};
+use crate::lock::{Change, Lock};
+use crate::row::{RowRecord, free};
 use std::alloc::Global;
 use std::collections::BTreeMap;
 use std::marker::Model;
@@ -17,6 +19,7 @@ use xa_xid::{Bytes, Key, NoMemory, Xid, copy_of};
 #[derive(Drop)]
 pub struct RowTable {
     by_key: BTreeMap<Key, RowRecord>,
+    alloc: Global,
 }
 
 impl Model for RowTable {
@@ -35,20 +38,47 @@ impl Model for RowTable {
 /// Has a row's record held by a lock, or gives the lock back where the row has no record.
 fn set_lock(by_key: &mut BTreeMap<Key, RowRecord>, key: &Key, lock: Lock) -> Option<Lock>
     ensures changed { MatchOption (tree.get bytes_cmp by_key.old key.now) (by_key.new ≡ by_key.old)
-        (λ row. tree.Updates bytes_cmp by_key.old by_key.new key.now (Some (record row { lock = Some lock }))) }
+        (λ row. tree.Updates bytes_cmp by_key.old by_key.new key.now (Some (record row { lock = lock }))) }
     ensures back { MatchOption (tree.get bytes_cmp by_key.old key.now) (result ≡ Some lock) (λ row. result ≡ None) }
 {
     match by_key.get_mut(key) {
         None => Some(lock),
         Some(row) => {
-            row.lock = Some(lock);
+            row.lock = lock;
             None
         }
     }
 }
 
+/// Has a branch share a row's record, where there is one, and answers whether there is.
+fn share_in(
+    by_key: &mut BTreeMap<Key, RowRecord>,
+    key: &Key,
+    xid: &Xid,
+) -> Result<bool, NoMemory>
+    ensures ok { OnOk result (MatchOption (tree.get bytes_cmp by_key.old key.now) (by_key.new ≡ by_key.old)
+        (λ row. tree.Updates bytes_cmp by_key.old by_key.new key.now (Some (record row { lock = with_sharer xid.now row.lock })))) }
+    ensures found { IfOk result (λ found. found ≡ is_some (tree.get bytes_cmp by_key.old key.now)) }
+    ensures err { OnErr result (MatchOption (tree.get bytes_cmp by_key.old key.now) (by_key.new ≡ by_key.old)
+        (λ row. tree.Updates bytes_cmp by_key.old by_key.new key.now (Some row))) }
+{
+    match by_key.get_mut(key) {
+        None => Ok(false),
+        Some(row) => {
+            row.lock.share(xid)?;
+            Ok(true)
+        }
+    }
+}
+
 /// Ends a branch's hold of a row's record, where there is one, and answers whether the record is still needed.
-fn free_in(by_key: &mut BTreeMap<Key, RowRecord>, key: &Key, xid: &Xid, commits: bool) -> bool
+fn free_in(
+    by_key: &mut BTreeMap<Key, RowRecord>,
+    alloc: Global,
+    key: &Key,
+    xid: &Xid,
+    commits: bool,
+) -> bool
     ensures changed { MatchOption (tree.get bytes_cmp by_key.old key.now) (by_key.new ≡ by_key.old)
         (λ row. tree.Updates bytes_cmp by_key.old by_key.new key.now (Some (freed_row commits xid.now row))) }
     ensures needed { MatchOption (tree.get bytes_cmp by_key.old key.now) (result ≡ true)
@@ -56,8 +86,15 @@ fn free_in(by_key: &mut BTreeMap<Key, RowRecord>, key: &Key, xid: &Xid, commits:
 {
     match by_key.get_mut(key) {
         None => true,
-        Some(row) => free(row, xid, commits),
+        Some(row) => free(row, alloc, xid, commits),
     }
+}
+
+/// Takes a row's record out, where there is one.
+fn take_out(by_key: &mut BTreeMap<Key, RowRecord>, key: &Key)
+    ensures { tree.Updates bytes_cmp by_key.old by_key.new key.now None }
+{
+    let _row = by_key.remove(key);
 }
 
 /// A copy of the records.
@@ -74,6 +111,7 @@ impl RowTable {
     {
         RowTable {
             by_key: BTreeMap::new(alloc),
+            alloc,
         }
     }
 
@@ -83,6 +121,7 @@ impl RowTable {
     {
         Ok(RowTable {
             by_key: copy_of_records(&self.by_key)?,
+            alloc: self.alloc,
         })
     }
 
@@ -93,12 +132,12 @@ impl RowTable {
         self.by_key.get(key)
     }
 
-    /// Has a branch hold a row, and do this to it. After `NoMemory` the records are as before.
+    /// Has a branch hold a row exclusively, and do this to it. After `NoMemory` the records are as before.
     pub fn hold(&mut self, key: &Key, xid: &Xid, change: Change) -> Result<(), NoMemory>
         ensures ok { OnOk result (self.new ≡ map.insert self.old key.now (held_row xid.now change (map.get self.old key.now))) }
         ensures err { OnErr result (self.new ≡ self.old) }
     {
-        let lock = Lock {
+        let lock = Lock::Exclusive {
             holder: xid.copy(),
             change,
         };
@@ -107,7 +146,25 @@ impl RowTable {
         };
         let row = RowRecord {
             committed: None,
-            lock: Some(lock),
+            lock,
+        };
+        self.by_key.insert(key.copy(), row)?;
+        Ok(())
+    }
+
+    /// Has a branch share a row that no branch holds exclusively. After `NoMemory` the records are as before.
+    pub fn share(&mut self, key: &Key, xid: &Xid) -> Result<(), NoMemory>
+        ensures ok { OnOk result (self.new ≡ map.insert self.old key.now (shared_row xid.now (map.get self.old key.now))) }
+        ensures err { OnErr result (self.new ≡ self.old) }
+    {
+        if share_in(&mut self.by_key, key, xid)? {
+            return Ok(());
+        }
+        let mut lock = Lock::nobodys(self.alloc);
+        lock.share(xid)?;
+        let row = RowRecord {
+            committed: None,
+            lock,
         };
         self.by_key.insert(key.copy(), row)?;
         Ok(())
@@ -115,12 +172,12 @@ impl RowTable {
 
     /// Gives a row that nobody holds a value. After `NoMemory` the records are as before.
     pub fn put(&mut self, key: &Key, value: &Bytes) -> Result<(), NoMemory>
-        ensures ok { OnOk result (self.new ≡ map.insert self.old key.now (record { committed = Some value.now; lock = None })) }
+        ensures ok { OnOk result (self.new ≡ map.insert self.old key.now (record { committed = Some value.now; lock = Lock.Shared set.empty })) }
         ensures err { OnErr result (self.new ≡ self.old) }
     {
         let row = RowRecord {
             committed: Some(copy_of(value)),
-            lock: None,
+            lock: Lock::nobodys(self.alloc),
         };
         self.by_key.insert(key.copy(), row)?;
         Ok(())
@@ -130,15 +187,15 @@ impl RowTable {
     pub fn delete(&mut self, key: &Key)
         ensures { self.new ≡ map.remove self.old key.now }
     {
-        let _row = self.by_key.remove(key);
+        take_out(&mut self.by_key, key);
     }
 
     /// Ends a branch's hold of a row, where it holds it: what it does to the row is done if it commits.
     pub fn free(&mut self, key: &Key, xid: &Xid, commits: bool)
         ensures { Frees commits xid.now (key.now ∷ []) self.old self.new }
     {
-        if !free_in(&mut self.by_key, key, xid, commits) {
-            let _row = self.by_key.remove(key);
+        if !free_in(&mut self.by_key, self.alloc, key, xid, commits) {
+            take_out(&mut self.by_key, key);
         }
     }
 

@@ -1,4 +1,7 @@
 //! What a session has open.
+ghost use Rattle.std.specs.Prelude.{◌≡◌};
+ghost use Rattle.xa_xid.specs.Xid.{same_xid};
+
 use xa_xid::Xid;
 
 /// What a session has open. A session that owns no branch is free.
@@ -12,4 +15,26 @@ pub enum Seat {
     Active(Xid),
     /// The IDLE branch of this identifier.
     Idle(Xid),
+}
+
+/// Whether two identifiers are one.
+pub fn is_same(left: &Xid, right: &Xid) -> bool
+    ensures { result ≡ same_xid left.now right.now }
+{
+    left.cmp(right).is_eq()
+}
+
+impl Seat {
+    ghost use Rattle.xa_server.specs.Locks.{is_another as is_another_of};
+
+    /// Whether the branch isn't the session's own.
+    pub fn is_another(&self, xid: &Xid) -> bool
+        ensures { result ≡ is_another_of self.now xid.now }
+    {
+        match self {
+            Seat::Free => true,
+            Seat::Active(own) => !is_same(xid, own),
+            Seat::Idle(own) => !is_same(xid, own),
+        }
+    }
 }

@@ -1,11 +1,13 @@
 //! The server: its records, and what they say of its state.
 ghost use Rattle.std.specs.Prelude.{◌≡◌, true, false, cond, is_some, Some, None, OnOk, OnErr, IfOk};
 ghost use Rattle.std.specs.FinMap as map;
+ghost use Rattle.xa_server.specs.State.{seat_in as seat_in_phase};
 
 use crate::branch::{self, Phase};
 use crate::branch_table::BranchTable;
 use crate::reply::XidList;
-use crate::row::{self, Change};
+use crate::lock::Change;
+use crate::row;
 use crate::row_table::RowTable;
 use crate::seat::Seat;
 use std::alloc::Global;
@@ -36,14 +38,25 @@ impl Model for Server {
     ghost invariant = { λ server. IsWhole server.branches server.rows };
 }
 
+/// What a session has open that owns a branch in this phase.
+fn seat_in(phase: Option<Phase>, own: &Xid) -> Seat
+    ensures { result ≡ seat_in_phase phase own.now }
+{
+    match phase {
+        Some(Phase::Active) => Seat::Active(own.copy()),
+        Some(Phase::Idle) => Seat::Idle(own.copy()),
+        Some(Phase::Prepared) => Seat::Free,
+        None => Seat::Free,
+    }
+}
+
 impl Server {
     ghost use Rattle.xa_server.specs.State.{no_state, is_known, is_prepared, seat_of, prepared_xids as prepared_xids_of, committed_value as committed_value_of, value_within as value_within_of};
-    ghost use Rattle.xa_server.specs.Locks.{LockLaw, holds as holds_of, is_held_against as is_held_against_of};
-    ghost use Rattle.xa_server.specs.Step.{started_by, with_branch, with_changed, with_write, without_branch, committed};
+    ghost use Rattle.xa_server.specs.Locks.{LockLaw, holds as holds_of, is_held_against as is_held_against_of, is_locked_against as is_locked_against_of};
+    ghost use Rattle.xa_server.specs.Step.{started_by, with_branch, with_changed, with_lock, with_write, without_branch, committed};
     ghost use Rattle.xa_server.specs.Rows.{with_change};
     ghost use Rattle.xa_server.specs.declared.branch.Phase.TheVariants.{Idle as PhaseIdle, Prepared as PhasePrepared};
     ghost use Rattle.xa_server.specs.declared.seat.Seat.TheVariants.{Free, Active};
-    ghost use Rattle.xa_server.specs.declared.row.Change.TheVariants.{Nothing};
 
     /// A server with no branches and no rows.
     ///
@@ -51,10 +64,16 @@ impl Server {
     pub fn new(alloc: Global) -> Server
         ensures { result ≡ no_state }
     {
-        Server {
-            branches: BranchTable::new(alloc),
-            rows: RowTable::new(alloc),
-        }
+        Server::over_empty(BranchTable::new(alloc), RowTable::new(alloc))
+    }
+
+    /// The server over tables without records.
+    fn over_empty(branches: BranchTable, rows: RowTable) -> Server
+        requires no_branch { branches ≡ map.empty }
+        requires no_row { rows ≡ map.empty }
+        ensures { result ≡ no_state }
+    {
+        Server { branches, rows }
     }
 
     /// A server with the same branches and rows.
@@ -69,8 +88,8 @@ impl Server {
         })
     }
 
-    /// Every server keeps the lock law: no two branches hold one row, a session owns at most one branch, exactly the PREPARED
-    /// branches are nobody's, and a branch writes only rows that it holds.
+    /// Every server keeps the lock law: a row that one branch holds exclusively is held by no other, a session owns at most one
+    /// branch, exactly the PREPARED branches are nobody's, and a branch writes only rows that it holds exclusively.
     ///
     /// Takes no memory. Doesn't wait. Own rule: docs/BEHAVIOR.md, 'Rows'.
     pub fn keeps_lock_law(&self)
@@ -87,12 +106,7 @@ impl Server {
         let Some(own) = self.branches.owned_by(session) else {
             return Seat::Free;
         };
-        match self.branches.phase_of(own) {
-            Some(Phase::Active) => Seat::Active(own.copy()),
-            Some(Phase::Idle) => Seat::Idle(own.copy()),
-            Some(Phase::Prepared) => Seat::Free,
-            None => Seat::Free,
-        }
+        seat_in(self.branches.phase_of(own), own)
     }
 
     /// Whether a branch has this identifier.
@@ -123,14 +137,21 @@ impl Server {
         row::value_within(own, self.rows.row(key))
     }
 
-    /// Whether a branch that isn't the session's own holds the row.
+    /// Whether a branch that isn't the session's own holds the row, in either way.
     pub(crate) fn is_held_against(&self, seat: &Seat, key: &Key) -> bool
         ensures { result ≡ is_held_against_of self.now seat.now key.now }
     {
         row::is_held_against(seat, self.rows.row(key))
     }
 
-    /// Whether the branch holds the row.
+    /// Whether a branch that isn't the session's own holds the row exclusively.
+    pub(crate) fn is_locked_against(&self, seat: &Seat, key: &Key) -> bool
+        ensures { result ≡ is_locked_against_of self.now seat.now key.now }
+    {
+        row::is_locked_against(seat, self.rows.row(key))
+    }
+
+    /// Whether the branch holds the row, in either way.
     pub(crate) fn holds(&self, own: &Xid, key: &Key) -> bool
         ensures { result ≡ holds_of self.now own.now key.now }
     {
@@ -169,11 +190,11 @@ impl Server {
         self.branches.detach(xid);
     }
 
-    /// Has a branch hold a row that no other branch holds, and do this to it. After `NoMemory` the server is as before.
+    /// Has a branch hold a row exclusively that no other branch holds, and do this to it. A share of its own is raised.
+    /// After `NoMemory` the server is as before.
     pub(crate) fn hold(&mut self, own: &Xid, key: &Key, change: Change) -> Result<(), NoMemory>
         requires known { is_known self.old own.now ≡ true }
         requires unheld { is_held_against_of self.old (Active own.now) key.now ≡ false }
-        requires new_lock { change ≡ Nothing → holds_of self.old own.now key.now ≡ false }
         ensures ok { OnOk result (self.new ≡ with_changed self.old own.now (with_change key.now change)) }
         ensures err { OnErr result (self.new ≡ self.old) }
     {
@@ -186,6 +207,23 @@ impl Server {
             self.branches.unlist(own);
         }
         held
+    }
+
+    /// Has a branch that doesn't hold a row share it, where no other branch holds it exclusively. After `NoMemory` the server
+    /// is as before.
+    pub(crate) fn share(&mut self, own: &Xid, key: &Key) -> Result<(), NoMemory>
+        requires known { is_known self.old own.now ≡ true }
+        requires unlocked { is_locked_against_of self.old (Active own.now) key.now ≡ false }
+        requires new_lock { holds_of self.old own.now key.now ≡ false }
+        ensures ok { OnOk result (self.new ≡ with_changed self.old own.now (with_lock key.now)) }
+        ensures err { OnErr result (self.new ≡ self.old) }
+    {
+        self.branches.list(own, key)?;
+        let shared = self.rows.share(key, own);
+        if shared.is_err() {
+            self.branches.unlist(own);
+        }
+        shared
     }
 
     /// Gives a row that nobody holds a value. After `NoMemory` the server is as before.

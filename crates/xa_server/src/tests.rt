@@ -32,9 +32,9 @@ fn short(reply: &Reply) -> (u8, u64) {
     }
 }
 
-const OK: (u8, u64) = (0, 0);
+pub(crate) const OK: (u8, u64) = (0, 0);
 
-const NONE: (u8, u64) = (1, 0);
+pub(crate) const NONE: (u8, u64) = (1, 0);
 
 const NOTA: (u8, u64) = (4, 1397);
 
@@ -44,10 +44,10 @@ const RMFAIL: (u8, u64) = (4, 1399);
 
 const DUPID: (u8, u64) = (4, 1440);
 
-const ROW_LOCKED: (u8, u64) = (4, 3572);
+pub(crate) const ROW_LOCKED: (u8, u64) = (4, 3572);
 
 /// The value that begins with this byte.
-const fn value_of(byte: u8) -> (u8, u64) {
+pub(crate) const fn value_of(byte: u8) -> (u8, u64) {
     (2, byte as u64)
 }
 
@@ -57,7 +57,7 @@ const fn rows(count: u64) -> (u8, u64) {
 }
 
 /// Gives the statements in turn, and asks for these replies of `reply` and of `apply`.
-fn replies(
+pub(crate) fn replies(
     rt: &impl Abort,
     server: &mut Server,
     script: &[(u64, Option<Statement>, (u8, u64))],
@@ -73,26 +73,26 @@ fn replies(
     Ok(())
 }
 
-fn start(gtrid: &[u8]) -> Option<Statement> {
+pub(crate) fn start(gtrid: &[u8]) -> Option<Statement> {
     Some(Statement::Start(xid(gtrid)?))
 }
 
-fn end(gtrid: &[u8]) -> Option<Statement> {
+pub(crate) fn end(gtrid: &[u8]) -> Option<Statement> {
     Some(Statement::End(xid(gtrid)?))
 }
 
-fn prepare(gtrid: &[u8]) -> Option<Statement> {
+pub(crate) fn prepare(gtrid: &[u8]) -> Option<Statement> {
     Some(Statement::Prepare(xid(gtrid)?))
 }
 
-fn commit(gtrid: &[u8], one_phase: bool) -> Option<Statement> {
+pub(crate) fn commit(gtrid: &[u8], one_phase: bool) -> Option<Statement> {
     Some(Statement::Commit {
         xid: xid(gtrid)?,
         one_phase,
     })
 }
 
-fn rollback(gtrid: &[u8]) -> Option<Statement> {
+pub(crate) fn rollback(gtrid: &[u8]) -> Option<Statement> {
     Some(Statement::Rollback(xid(gtrid)?))
 }
 
@@ -100,15 +100,15 @@ fn recover() -> Option<Statement> {
     Some(Statement::Recover { convert: false })
 }
 
-fn get(name: &[u8]) -> Option<Statement> {
+pub(crate) fn get(name: &[u8]) -> Option<Statement> {
     Some(Statement::Get(key(name)?))
 }
 
-fn put(name: &[u8], value: &[u8]) -> Option<Statement> {
+pub(crate) fn put(name: &[u8], value: &[u8]) -> Option<Statement> {
     Some(Statement::Put(key(name)?, text(value)?))
 }
 
-fn del(name: &[u8]) -> Option<Statement> {
+pub(crate) fn del(name: &[u8]) -> Option<Statement> {
     Some(Statement::Del(key(name)?))
 }
 

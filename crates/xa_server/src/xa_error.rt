@@ -30,7 +30,7 @@ pub enum XaError {
     Rmfail(BranchState),
     /// 1440 XAER_DUPID: the identifier is that of a branch already.
     Dupid,
-    /// 3572: another branch holds the row, and nobody waits for it.
+    /// 3572: another branch holds the row exclusively, or at `PUT` and `DEL` in either way, and nobody waits for it.
     RowLocked,
 }
 

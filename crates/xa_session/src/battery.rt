@@ -14,7 +14,7 @@ use std::snapshot::Snapshot;
 use std::sync::Wait;
 use std::thread;
 use std::thread::{Promise, Threads};
-use xa_server::Reply;
+use xa_server::{Reply, XaError};
 use xa_xid::{Bytes, Key, Statement, Xid};
 
 fn name(letter: u8) -> Bytes {
@@ -318,5 +318,49 @@ where
             first.meet(&mut second);
             second.seen() >= first.seen() && is_list_at(&second.attempt(&RECOVER), 6, b"ab")
         },
+    )
+}
+
+/// A branch reads a row twice, of which only the first enters, and then writes the row that it shares.
+///
+/// May take memory. Doesn't wait.
+pub fn share_is_raised<L: DecisionLog>(session: &mut Session<'_, L>) -> bool {
+    let (Some(put_k), Some(get_k)) = (put(b'k', b'v'), get(b'k')) else {
+        return false;
+    };
+    is_ok_at(&session.attempt(&Statement::Start(xid(b'a'))), 0)
+        && is_value_at(&session.attempt(&get_k), 1, None)
+        && is_value_at(&session.attempt(&get_k), 2, None)
+        && is_ok_at(&session.attempt(&put_k), 2)
+        && is_value_at(&session.attempt(&get_k), 3, Some(b'v'))
+}
+
+/// A prepared branch keeps the row that it shares: a branch of another session reads the row, and can't write it.
+///
+/// May take memory. Doesn't wait.
+pub fn prepared_share_stays<L: DecisionLog>(
+    first: &mut Session<'_, L>,
+    second: &mut Session<'_, L>,
+) -> bool {
+    let (Some(put_k), Some(get_k)) = (put(b'k', b'x'), get(b'k')) else {
+        return false;
+    };
+    is_ok_at(&first.attempt(&Statement::Start(xid(b'a'))), 0)
+        && is_value_at(&first.attempt(&get_k), 1, None)
+        && is_ok_at(&first.attempt(&Statement::End(xid(b'a'))), 2)
+        && is_ok_at(&first.attempt(&Statement::Prepare(xid(b'a'))), 3)
+        && is_ok_at(&second.attempt(&Statement::Start(xid(b'b'))), 4)
+        && is_value_at(&second.attempt(&get_k), 5, None)
+        && is_locked(&second.attempt(&put_k))
+}
+
+/// Whether another branch holds the row.
+fn is_locked(answer: &Result<Answer, Fault>) -> bool {
+    matches!(
+        answer,
+        Ok(Answer {
+            reply: Reply::Refused(XaError::RowLocked),
+            ..
+        })
     )
 }

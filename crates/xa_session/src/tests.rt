@@ -180,3 +180,51 @@ fn faults_have_their_numbers(rt: HostRuntime) {
     assert_eq!(rt; Fault::NoMemory.number(), 3);
     assert_eq!(rt; Fault::Busy.number(), 4);
 }
+
+#[test]
+fn share_is_raised_over_a_turn(rt: HostRuntime) {
+    let Ok((log, passes)) = TurnLog::open(rt.alloc(), 8, 2) else {
+        panic!(rt; "not opened")
+    };
+    let base = Server::new(rt.alloc());
+    let Some((mut first, _)) = connected(&log, &base, passes) else {
+        panic!(rt; "not connected")
+    };
+    assert!(rt; battery::share_is_raised(&mut first));
+}
+
+#[test]
+fn prepared_share_stays_over_a_turn(rt: HostRuntime) {
+    let Ok((log, passes)) = TurnLog::open(rt.alloc(), 8, 2) else {
+        panic!(rt; "not opened")
+    };
+    let base = Server::new(rt.alloc());
+    let Some((mut first, mut second)) = connected(&log, &base, passes) else {
+        panic!(rt; "not connected")
+    };
+    assert!(rt; battery::prepared_share_stays(&mut first, &mut second));
+}
+
+#[test]
+fn share_is_raised_over_a_chain(rt: HostRuntime) {
+    let Ok((log, passes)) = ChainLog::open(rt.alloc(), 8, 2) else {
+        panic!(rt; "not opened")
+    };
+    let base = Server::new(rt.alloc());
+    let Some((mut first, _)) = connected(&log, &base, passes) else {
+        panic!(rt; "not connected")
+    };
+    assert!(rt; battery::share_is_raised(&mut first));
+}
+
+#[test]
+fn prepared_share_stays_over_a_chain(rt: HostRuntime) {
+    let Ok((log, passes)) = ChainLog::open(rt.alloc(), 8, 2) else {
+        panic!(rt; "not opened")
+    };
+    let base = Server::new(rt.alloc());
+    let Some((mut first, mut second)) = connected(&log, &base, passes) else {
+        panic!(rt; "not connected")
+    };
+    assert!(rt; battery::prepared_share_stays(&mut first, &mut second));
+}

@@ -90,7 +90,7 @@ fn statement_is_read_in_any_spacing_and_case(rt: HostRuntime) -> Result<(), Fail
 const WORKED: [(&[u8], &[u8]); 14] = [
     (
         b"1 XA START 'a'\n1 GET 'k'\n2 XA START 'b'\n2 GET 'k'\n",
-        b"1 OK\n1 NONE\n2 OK\n2 ERROR 3572 (HY000): row locked by another branch\n",
+        b"1 OK\n1 NONE\n2 OK\n2 NONE\n",
     ),
     (
         b"1 XA START 'abc','def',7\n1 XA END 'abc','def',7\n1 XA PREPARE 'abc','def',7\n1 XA RECOVER\n",
@@ -277,5 +277,16 @@ fn script_takes_at_most_2097152_reads(rt: HostRuntime) -> Result<(), Fail> {
     run_script(rt.alloc(), &mut input, &mut output)?;
     assert!(rt; output.is_empty());
     assert_eq!(rt; input.reads_left(), 2_097_152 - 1_048_577);
+    Ok(())
+}
+
+#[test]
+fn readers_share_a_row_until_one_of_them_may_write(rt: HostRuntime) -> Result<(), Fail> {
+    let script = b"1 XA START 'a'\n1 GET 'k'\n2 XA START 'b'\n2 GET 'k'\n1 PUT 'k','v'\n3 PUT 'k','x'\n3 GET 'k'\n\
+2 XA END 'b'\n2 XA ROLLBACK 'b'\n1 PUT 'k','v'\n1 GET 'k'\n";
+    let wanted = b"1 OK\n1 NONE\n2 OK\n2 NONE\n1 ERROR 3572 (HY000): row locked by another branch\n\
+3 ERROR 3572 (HY000): row locked by another branch\n3 NONE\n2 OK\n2 OK\n1 OK\n1 VALUE 0x76\n";
+    let output = written(rt.alloc(), script)?;
+    assert_eq!(rt; output.as_slice(), wanted.as_slice());
     Ok(())
 }

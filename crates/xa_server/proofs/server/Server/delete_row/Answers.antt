@@ -10,7 +10,8 @@ use Rattle.xa_server.proofs.Whole
 use Rattle.xa_server.proofs.server.Server.delete_row.Goals as goal
 
 pub invariant_of-self : goal.invariant_of-self
-invariant_of-self c = rw c.delete.ensures (Whole.whole_deleted c.self.inside.branches c.self.inside.rows c.args.key.now c.self.invariant)
+invariant_of-self c = rw c.delete.ensures (Whole.whole_deleted c.self.inside.branches c.self.inside.rows c.args.key.now
+    (Seen.unheld_row c.self.inside.branches c.self.inside.rows c.args.key.now c.self.invariant (ap (λ s. is_held_against s Free c.args.key.now) c.self.view_is ∙ c.requires)) c.self.invariant)
 
 pub returns : goal.returns
 returns c =

@@ -22,7 +22,7 @@ unfolding detached
 invariant_of-self c =
     rw c.detach.ensures
     (Whole.whole_changed c.self.inside.branches c.self.inside.rows c.args.xid.now detached
-    (λ branch is. refl) (λ branch session e. not_none session e) (λ branch key e. e) c.self.invariant)
+    (λ branch is. refl) (λ branch session e. not_none session e) (λ branch. refl) c.self.invariant)
 
 pub returns : goal.returns
 unfolding detached detached_branch

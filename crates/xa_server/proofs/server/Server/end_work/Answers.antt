@@ -34,7 +34,7 @@ invariant_of-self c =
     rw c.end_work.ensures
     (Whole.whole_changed c.self.inside.branches c.self.inside.rows c.args.xid.now idle
     (λ branch is. owned c.self.inside.branches c.self.inside.rows c.args.xid.now branch c.self.invariant (ap (λ s. is_prepared s c.args.xid.now) c.self.view_is ∙ c.requires) is)
-    (λ branch session e. e) (λ branch key e. e) c.self.invariant)
+    (λ branch session e. e) (λ branch. refl) c.self.invariant)
 
 pub returns : goal.returns
 unfolding idle idle_branch

@@ -4,11 +4,10 @@ use Rattle.std.specs.Option.{option_and_then}
 use Rattle.std.specs.FinMap as map
 use Rattle.xa_xid.specs.declared.xid.Xid.{Xid}
 use Rattle.xa_server.specs.declared.seat.Seat.TheVariants.{Active}
-use Rattle.xa_server.specs.declared.row.Change.{Change}
-use Rattle.xa_server.specs.declared.row.Change.TheVariants.{Nothing}
+use Rattle.xa_server.specs.declared.lock.Change.{Change}
 use Rattle.xa_server.specs.declared.row.RowRecord.{RowRecord}
 use Rattle.xa_server.specs.State.{State, is_known}
-use Rattle.xa_server.specs.Locks.{holds, is_held_against}
+use Rattle.xa_server.specs.Locks.{is_held_against}
 use Rattle.xa_server.specs.Step.{with_changed}
 use Rattle.xa_server.specs.Tables.{BranchMap, with_record}
 use Rattle.xa_server.specs.Rows.{RowMap, held_row, with_change, lock_by}
@@ -22,11 +21,11 @@ lock_in : (branches : BranchMap) (rows : RowMap) (own : Xid) (key : List ℕ) (f
 lock_in branches rows own key found b is told = ap (λ row. is_some (option_and_then (lock_by own) row)) (sym is) ∙ sym told
 
 again : (branches : BranchMap) (rows : RowMap) (state : State) (own : Xid) (key : List ℕ) (change : Change) → state_of branches rows ≡ state → IsWhole branches rows → is_known state own ≡ true →
-    is_held_against state (Active own) key ≡ false → (change ≡ Nothing → holds state own key ≡ false) → is_some (option_and_then (lock_by own) (map.get rows key)) ≡ true →
+    is_held_against state (Active own) key ≡ false → is_some (option_and_then (lock_by own) (map.get rows key)) ≡ true →
     IsWhole branches (map.insert rows key (held_row own change (map.get rows key)))
     × (state_of branches (map.insert rows key (held_row own change (map.get rows key))) ≡ with_changed state own (with_change key change))
-again branches rows state own key change is whole known unheld new there =
-    let result = Holding.held_again branches rows own key change whole (ap (λ s. is_known s own) is ∙ known) (ap (λ s. is_held_against s (Active own) key) is ∙ unheld) (λ e. ap (λ s. holds s own key) is ∙ new e) there in
+again branches rows state own key change is whole known unheld there =
+    let result = Holding.held_again branches rows own key change whole (ap (λ s. is_known s own) is ∙ known) (ap (λ s. is_held_against s (Active own) key) is ∙ unheld) there in
     (result.0, result.1 ∙ ap (λ s. with_changed s own (with_change key change)) is)
 
 anew : (branches : BranchMap) (rows : RowMap) (state : State) (own : Xid) (key : List ℕ) (change : Change) → state_of branches rows ≡ state → IsWhole branches rows → is_known state own ≡ true →
@@ -40,14 +39,14 @@ anew branches rows state own key change is whole known unheld none =
 pub invariant_of-self : goal.invariant_of-self
 invariant_of-self c =
     either_way c.hold.result c.hold.ensures.ok c.hold.ensures.err
-    (λ ok. rw ok (again c.self.inside.branches c.self.inside.rows c.args.self.now c.args.own.now c.args.key.now c.args.change c.self.view_is c.self.invariant c.requires.known c.requires.unheld c.requires.new_lock
+    (λ ok. rw ok (again c.self.inside.branches c.self.inside.rows c.args.self.now c.args.own.now c.args.key.now c.args.change c.self.view_is c.self.invariant c.requires.known c.requires.unheld
     (lock_in c.self.inside.branches c.self.inside.rows c.args.own.now c.args.key.now _ _ c.row.ensures c.if-is_held_by.ensures)).0)
     (λ err. rw err c.self.invariant)
 
 pub returns-then-is_held_by-clause-ok : goal.returns-then-is_held_by-clause-ok
 returns-then-is_held_by-clause-ok c = on_ok c.hold.result c.hold.ensures.ok (λ ok.
     ap (state_of c.self.inside.branches) ok
-    ∙ (again c.self.inside.branches c.self.inside.rows c.args.self.now c.args.own.now c.args.key.now c.args.change c.self.view_is c.self.invariant c.requires.known c.requires.unheld c.requires.new_lock
+    ∙ (again c.self.inside.branches c.self.inside.rows c.args.self.now c.args.own.now c.args.key.now c.args.change c.self.view_is c.self.invariant c.requires.known c.requires.unheld
     (lock_in c.self.inside.branches c.self.inside.rows c.args.own.now c.args.key.now _ _ c.row.ensures c.if-is_held_by.ensures)).1)
 
 -- the records once the key was taken out again

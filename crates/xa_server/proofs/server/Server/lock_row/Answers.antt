@@ -7,5 +7,5 @@ pub returns-then-holds-clause-ok : goal.returns-then-holds-clause-ok
 unfolding effect
 returns-then-holds-clause-ok c = rw c.in-Active.is (λ session. sym (Accepted.locked_again c.args.self.now c.in-Active.own c.args.key.now (sym c.if-holds.ensures)))
 
-pub hold-requires-clause-unheld : goal.hold-requires-clause-unheld
-hold-requires-clause-unheld c = Accepted.accepted_get c.args.self.now c.in-Active.own c.args.key.now (rw c.in-Active.is at c.requires.accepted)
+pub share-requires-clause-unlocked : goal.share-requires-clause-unlocked
+share-requires-clause-unlocked c = Accepted.accepted_get c.args.self.now c.in-Active.own c.args.key.now (rw c.in-Active.is at c.requires.accepted)

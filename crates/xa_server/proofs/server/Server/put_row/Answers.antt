@@ -1,4 +1,4 @@
-use Rattle.std.proofs.Common.{refl, ap, ◌∙◌, Some}
+use Rattle.std.proofs.Common.{ap, ◌∙◌, Some}
 use Rattle.xa_server.specs.declared.seat.Seat.TheVariants.{Free}
 use Rattle.xa_server.specs.State.{State}
 use Rattle.xa_server.specs.Locks.{is_held_against}
@@ -13,7 +13,8 @@ use Rattle.xa_server.proofs.server.Server.put_row.Goals as goal
 pub invariant_of-self : goal.invariant_of-self
 invariant_of-self c =
     either_way c.put.result c.put.ensures.ok c.put.ensures.err
-    (λ ok. rw ok (Whole.whole_put c.self.inside.branches c.self.inside.rows c.args.key.now _ refl c.self.invariant))
+    (λ ok. rw ok (Whole.whole_put c.self.inside.branches c.self.inside.rows c.args.key.now _ Steps.nobodys
+    (Seen.unheld_row c.self.inside.branches c.self.inside.rows c.args.key.now c.self.invariant (ap (λ s. is_held_against s Free c.args.key.now) c.self.view_is ∙ c.requires)) c.self.invariant))
     (λ err. rw err c.self.invariant)
 
 pub returns-clause-ok : goal.returns-clause-ok

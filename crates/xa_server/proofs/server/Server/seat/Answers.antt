@@ -4,8 +4,6 @@ use Rattle.std.specs.FinMap as map
 use Rattle.xa_xid.specs.declared.xid.Xid.{Xid}
 use Rattle.xa_server.specs.declared.branch.BranchRecord.{BranchRecord}
 use Rattle.xa_server.specs.declared.branch.Phase.{Phase}
-use Rattle.xa_server.specs.declared.branch.Phase.TheVariants.{Active as PhaseActive, Idle as PhaseIdle, Prepared as PhasePrepared}
-use Rattle.xa_server.specs.declared.seat.Seat.TheVariants.{Active, Idle}
 use Rattle.xa_server.specs.State.{State, seat_in, seat_of}
 use Rattle.xa_server.specs.Locks.{LockLaw}
 use Rattle.xa_server.specs.Tables.{BranchMap, owner_of}
@@ -27,23 +25,11 @@ owned branches rows session xid phase state is whole owner in_phase = sym (Seen.
 pub returns-in_default-clause-seat : goal.returns-in_default-clause-seat
 returns-in_default-clause-seat c = sym (Seen.seat-free c.self.inside.branches c.self.inside.rows c.args.session c.in_default.ensures.none) ∙ ap (λ s. seat_of s c.args.session) c.self.view_is
 
-pub returns-in-Some-Active-clause-seat : goal.returns-in-Some-Active-clause-seat
-returns-in-Some-Active-clause-seat c = ap Active c.copy.ensures ∙ owned c.self.inside.branches c.self.inside.rows c.args.session c.in-Some.own.now (Some PhaseActive) c.args.self.now c.self.view_is c.self.invariant c.in-Some.ensures.owner (ap Some (sym c.in-Some-Active.field-0-is) ∙ c.in-Some-Active.ensures)
-
-pub returns-in-Some-Idle-clause-seat : goal.returns-in-Some-Idle-clause-seat
-returns-in-Some-Idle-clause-seat c = ap Idle c.copy-in-Some-Idle.ensures ∙ owned c.self.inside.branches c.self.inside.rows c.args.session c.in-Some.own.now (Some PhaseIdle) c.args.self.now c.self.view_is c.self.invariant c.in-Some.ensures.owner (ap Some (sym c.in-Some-Idle.field-0-is) ∙ c.in-Some-Idle.ensures)
-
-pub returns-in-Some-Prepared-clause-seat : goal.returns-in-Some-Prepared-clause-seat
-returns-in-Some-Prepared-clause-seat c = owned c.self.inside.branches c.self.inside.rows c.args.session c.in-Some.own.now (Some PhasePrepared) c.args.self.now c.self.view_is c.self.invariant c.in-Some.ensures.owner (ap Some (sym c.in-Some-Prepared.field-0-is) ∙ c.in-Some-Prepared.ensures)
+pub returns-clause-seat : goal.returns-clause-seat
+returns-clause-seat c = c.seat_in.ensures ∙ owned c.self.inside.branches c.self.inside.rows c.args.session c.in-Some.own.now c.phase_of.result c.args.self.now c.self.view_is c.self.invariant c.in-Some.ensures.owner c.phase_of.ensures
 
 pub returns-in_default-clause-lock_law : goal.returns-in_default-clause-lock_law
 returns-in_default-clause-lock_law c = kept c.self.inside.branches c.self.inside.rows c.args.self.now c.self.view_is c.self.invariant
 
-pub returns-in-Some-Active-clause-lock_law : goal.returns-in-Some-Active-clause-lock_law
-returns-in-Some-Active-clause-lock_law c = kept c.self.inside.branches c.self.inside.rows c.args.self.now c.self.view_is c.self.invariant
-
-pub returns-in-Some-Idle-clause-lock_law : goal.returns-in-Some-Idle-clause-lock_law
-returns-in-Some-Idle-clause-lock_law c = kept c.self.inside.branches c.self.inside.rows c.args.self.now c.self.view_is c.self.invariant
-
-pub returns-in-Some-Prepared-clause-lock_law : goal.returns-in-Some-Prepared-clause-lock_law
-returns-in-Some-Prepared-clause-lock_law c = kept c.self.inside.branches c.self.inside.rows c.args.self.now c.self.view_is c.self.invariant
+pub returns-clause-lock_law : goal.returns-clause-lock_law
+returns-clause-lock_law c = kept c.self.inside.branches c.self.inside.rows c.args.self.now c.self.view_is c.self.invariant

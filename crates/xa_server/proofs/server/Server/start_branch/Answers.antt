@@ -1,4 +1,4 @@
-use Rattle.std.proofs.Common.{◌≡◌, ◌≢◌, ℕ, List, refl, ap, sym, ◌∙◌, false, Some, None, Option}
+use Rattle.std.proofs.Common.{◌≡◌, ◌≢◌, ℕ, refl, ap, sym, ◌∙◌, false, Some, None, Option}
 use Rattle.std.specs.Prelude.{is_some, is_none}
 use Rattle.std.specs.Option.{option_map, option_and_then}
 use Rattle.std.specs.FinMap as map
@@ -11,7 +11,7 @@ use Rattle.xa_server.specs.declared.seat.Seat.TheVariants.{Free, Active, Idle}
 use Rattle.xa_server.specs.State.{is_known, is_prepared_phase, seat_of}
 use Rattle.xa_server.specs.Step.{started_by, with_branch}
 use Rattle.xa_server.specs.Tables.{BranchMap, owner_of}
-use Rattle.xa_server.specs.Rows.{RowMap, holder_of}
+use Rattle.xa_server.specs.Rows.{RowMap}
 use Rattle.xa_server.specs.View.{state_of, IsWhole}
 use Rattle.xa_server.proofs.Outcomes.{either_way, on_ok}
 use Rattle.xa_server.proofs.Index.{not_none}
@@ -40,10 +40,6 @@ free branches rows session whole seat other owner = by (map.get branches other) 
     by None is = not_none session (sym (ap (option_and_then (λ (b : BranchRecord). b.owner)) is) ∙ owner)
     by (Some branch) is = at branch branch.phase refl is
 
--- nobody holds a row under an identifier that no branch has
-unheld : (branches : BranchMap) (rows : RowMap) (xid : Xid) → IsWhole branches rows → map.get branches xid ≡ None → (key : List ℕ) → holder_of (map.get rows key) ≢ Some xid
-unheld branches rows xid whole none key e = true≢false (sym (Seen.holder_known branches rows xid key whole e) ∙ ap is_some none)
-
 pub start-requires-clause-unknown : goal.start-requires-clause-unknown
 start-requires-clause-unknown c = unknown c.self.inside.branches c.self.inside.rows c.args.xid.now (ap (λ s. is_known s c.args.xid.now) c.self.view_is ∙ c.requires.unknown)
 
@@ -54,7 +50,7 @@ pub invariant_of-self : goal.invariant_of-self
 invariant_of-self c =
     either_way c.start.result c.start.ensures.ok c.start.ensures.err
     (λ ok. rw ok (Whole.whole_started c.self.inside.branches c.self.inside.rows c.args.xid.now _ c.args.session
-    (unknown c.self.inside.branches c.self.inside.rows c.args.xid.now (ap (λ s. is_known s c.args.xid.now) c.self.view_is ∙ c.requires.unknown)) refl refl
+    (unknown c.self.inside.branches c.self.inside.rows c.args.xid.now (ap (λ s. is_known s c.args.xid.now) c.self.view_is ∙ c.requires.unknown)) refl refl refl
     (free c.self.inside.branches c.self.inside.rows c.args.session c.self.invariant (ap (λ s. seat_of s c.args.session) c.self.view_is ∙ c.requires.free)) c.self.invariant))
     (λ err. rw err c.self.invariant)
 
@@ -63,6 +59,6 @@ returns-clause-ok c = on_ok c.start.result c.start.ensures.ok (λ ok.
     ap (λ b. state_of b c.self.inside.rows) ok
     ∙ Steps.seen_inserted c.self.inside.branches c.self.inside.rows c.args.xid.now _
     ∙ ap (with_branch (state_of c.self.inside.branches c.self.inside.rows) c.args.xid.now)
-    (Steps.seen_fresh c.self.inside.rows c.args.xid.now c.args.session (unheld c.self.inside.branches c.self.inside.rows c.args.xid.now c.self.invariant
+    (Steps.seen_fresh c.self.inside.rows c.args.xid.now c.args.session (λ key. Seen.unknown_holds c.self.inside.branches c.self.inside.rows c.args.xid.now key c.self.invariant
     (unknown c.self.inside.branches c.self.inside.rows c.args.xid.now (ap (λ s. is_known s c.args.xid.now) c.self.view_is ∙ c.requires.unknown))))
     ∙ ap (λ s. with_branch s c.args.xid.now (started_by c.args.session)) c.self.view_is)

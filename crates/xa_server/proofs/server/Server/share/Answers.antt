@@ -1,0 +1,50 @@
+use Rattle.std.proofs.Common.{◌≡◌, ℕ, List, ap, ◌∙◌, true, false}
+use Rattle.std.specs.FinMap as map
+use Rattle.xa_xid.specs.declared.xid.Xid.{Xid}
+use Rattle.xa_server.specs.declared.seat.Seat.TheVariants.{Active}
+use Rattle.xa_server.specs.State.{State, is_known}
+use Rattle.xa_server.specs.Locks.{holds, is_locked_against}
+use Rattle.xa_server.specs.Step.{with_changed, with_lock}
+use Rattle.xa_server.specs.Tables.{BranchMap, with_record}
+use Rattle.xa_server.specs.Rows.{RowMap, shared_row}
+use Rattle.xa_server.specs.View.{state_of, IsWhole}
+use Rattle.xa_server.proofs.Outcomes.{on_ok, on_err, at_ok, at_err}
+use Rattle.xa_server.proofs.Holding
+use Rattle.xa_server.proofs.server.Server.share.Goals as goal
+
+anew : (branches : BranchMap) (rows : RowMap) (state : State) (own : Xid) (key : List ℕ) → state_of branches rows ≡ state → IsWhole branches rows → is_known state own ≡ true →
+    is_locked_against state (Active own) key ≡ false → holds state own key ≡ false →
+    IsWhole (with_record branches own (Holding.longer key)) (map.insert rows key (shared_row own (map.get rows key)))
+    × (state_of (with_record branches own (Holding.longer key)) (map.insert rows key (shared_row own (map.get rows key))) ≡ with_changed state own (with_lock key))
+anew branches rows state own key is whole known unlocked unheld =
+    let result = Holding.shared_anew branches rows own key whole (ap (λ s. is_known s own) is ∙ known) (ap (λ s. is_locked_against s (Active own) key) is ∙ unlocked) (ap (λ s. holds s own key) is ∙ unheld) in
+    (result.0, result.1 ∙ ap (λ s. with_changed s own (with_lock key)) is)
+
+-- the records once the key was taken out again
+back : (branches listed taken : BranchMap) (own : Xid) (key : List ℕ) → listed ≡ with_record branches own (Holding.longer key) → taken ≡ with_record listed own Holding.shorter → taken ≡ branches
+back branches listed taken own key l t = t ∙ ap (λ b. with_record b own Holding.shorter) l ∙ Holding.unlisted branches own key
+
+pub invariant_of-self-then-is_err : goal.invariant_of-self-then-is_err
+unfolding Holding.longer Holding.shorter
+invariant_of-self-then-is_err c =
+    rw (back c.self.inside.branches c.list.new.self c.unlist.new.self c.args.own.now c.args.key.now c.in_ok-list.ensures.ok c.unlist.ensures, at_err c.share-shared.result c.if-is_err.ensures.value c.share-shared.ensures.err)
+    c.self.invariant
+
+pub invariant_of-self-else-is_err : goal.invariant_of-self-else-is_err
+unfolding Holding.longer
+invariant_of-self-else-is_err c =
+    rw (c.in_ok-list.ensures.ok, at_ok c.share-shared.result c.if-is_err.ensures.value c.share-shared.ensures.ok)
+    (anew c.self.inside.branches c.self.inside.rows c.args.self.now c.args.own.now c.args.key.now c.self.view_is c.self.invariant c.requires.known c.requires.unlocked c.requires.new_lock).0
+
+pub returns-then-is_err-clause-err : goal.returns-then-is_err-clause-err
+unfolding Holding.longer Holding.shorter
+returns-then-is_err-clause-err c = on_err c.share-shared.result c.share-shared.ensures.err (λ err.
+    ap (λ b. state_of b c.share-shared.new.self) (back c.self.inside.branches c.list.new.self c.unlist.new.self c.args.own.now c.args.key.now c.in_ok-list.ensures.ok c.unlist.ensures)
+    ∙ ap (state_of c.self.inside.branches) err ∙ c.self.view_is)
+
+pub returns-else-is_err-clause-ok : goal.returns-else-is_err-clause-ok
+unfolding Holding.longer
+returns-else-is_err-clause-ok c = on_ok c.share-shared.result c.share-shared.ensures.ok (λ ok.
+    ap (λ b. state_of b c.share-shared.new.self) c.in_ok-list.ensures.ok
+    ∙ ap (state_of (with_record c.self.inside.branches c.args.own.now (Holding.longer c.args.key.now))) ok
+    ∙ (anew c.self.inside.branches c.self.inside.rows c.args.self.now c.args.own.now c.args.key.now c.self.view_is c.self.invariant c.requires.known c.requires.unlocked c.requires.new_lock).1)

@@ -1,0 +1,141 @@
+//! Who holds a row.
+ghost use Rattle.std.specs.Prelude.{◌≡◌, is_some, IfOk, OnOk, OnErr};
+ghost use Rattle.std.specs.FinSet as set;
+ghost use Rattle.std.specs.Option.{option_map};
+ghost use Rattle.xa_server.specs.Rows.{write_of, write_in, mode_in, held_beside, locked_beside, with_sharer, freed_lock};
+
+use crate::seat::{Seat, is_same};
+use crate::sharers::Sharers;
+use std::alloc::Global;
+use xa_xid::{Bytes, NoMemory, Xid, copy_of};
+
+/// What a branch that holds a row exclusively does to it at its commit.
+#[derive(Drop)]
+pub enum Change {
+    /// The row gets this value.
+    Put(Bytes),
+    /// The row loses its value.
+    Delete,
+}
+
+/// Who holds a row.
+#[derive(Drop)]
+pub enum Lock {
+    /// One branch holds it exclusively.
+    Exclusive {
+        /// The branch.
+        holder: Xid,
+        /// Its newest write of the row.
+        change: Change,
+    },
+    /// These branches share it. Where there are none, nobody holds it.
+    Shared(Sharers),
+}
+
+impl Change {
+    /// A copy of the change.
+    fn copy(&self) -> Change
+        ensures { result ≡ self.now }
+    {
+        match self {
+            Change::Put(value) => Change::Put(copy_of(value)),
+            Change::Delete => Change::Delete,
+        }
+    }
+
+    /// The value that the row has after it.
+    pub fn into_value(self) -> Option<Bytes>
+        ensures { result ≡ write_of self }
+    {
+        match self {
+            Change::Put(value) => Some(value),
+            Change::Delete => None,
+        }
+    }
+}
+
+impl Lock {
+    /// Nobody holds the row.
+    pub fn nobodys(alloc: Global) -> Lock
+        ensures { result ≡ Lock.Shared set.empty }
+    {
+        Lock::Shared(Sharers::new(alloc))
+    }
+
+    /// A copy of the lock.
+    pub fn copy(&self) -> Result<Lock, NoMemory>
+        ensures { IfOk result (λ copy. copy ≡ self.now) }
+    {
+        match self {
+            Lock::Exclusive { holder, change } => Ok(Lock::Exclusive {
+                holder: holder.copy(),
+                change: change.copy(),
+            }),
+            Lock::Shared(sharers) => Ok(Lock::Shared(sharers.copy()?)),
+        }
+    }
+
+    /// Whether a branch that isn't the session's own holds the row, in either way.
+    pub fn is_held_beside(&self, seat: &Seat) -> bool
+        ensures { result ≡ held_beside seat.now self.now }
+    {
+        match self {
+            Lock::Exclusive { holder, change: _ } => seat.is_another(holder),
+            Lock::Shared(sharers) => sharers.has_another(seat),
+        }
+    }
+
+    /// Whether a branch that isn't the session's own holds the row exclusively.
+    pub fn is_locked_beside(&self, seat: &Seat) -> bool
+        ensures { result ≡ locked_beside seat.now self.now }
+    {
+        match self {
+            Lock::Exclusive { holder, change: _ } => seat.is_another(holder),
+            Lock::Shared(_) => false,
+        }
+    }
+
+    /// Whether this branch holds the row, in either way.
+    pub fn is_held_by(&self, xid: &Xid) -> bool
+        ensures { result ≡ is_some (mode_in xid.now self.now) }
+    {
+        match self {
+            Lock::Exclusive { holder, change: _ } => is_same(holder, xid),
+            Lock::Shared(sharers) => sharers.contains(xid),
+        }
+    }
+
+    /// Has this branch share a row that no branch holds exclusively. After `NoMemory` the lock is as before.
+    pub fn share(&mut self, xid: &Xid) -> Result<(), NoMemory>
+        ensures ok { OnOk result (self.new ≡ with_sharer xid.now self.old) }
+        ensures err { OnErr result (self.new ≡ self.old) }
+    {
+        match self {
+            Lock::Exclusive {
+                holder: _,
+                change: _,
+            } => Ok(()),
+            Lock::Shared(sharers) => sharers.add(xid),
+        }
+    }
+
+    /// The lock without this branch, and what the branch does to the row, where it holds it exclusively.
+    pub fn without(self, alloc: Global, xid: &Xid) -> (Lock, Option<Change>)
+        ensures lock { result.0 ≡ freed_lock xid.now self }
+        ensures change { option_map write_of result.1 ≡ write_in xid.now self }
+    {
+        match self {
+            Lock::Exclusive { holder, change } => {
+                if is_same(&holder, xid) {
+                    (Lock::nobodys(alloc), Some(change))
+                } else {
+                    (Lock::Exclusive { holder, change }, None)
+                }
+            }
+            Lock::Shared(mut sharers) => {
+                sharers.remove(xid);
+                (Lock::Shared(sharers), None)
+            }
+        }
+    }
+}
