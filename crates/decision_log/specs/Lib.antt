@@ -7,8 +7,10 @@ pub mod Seats
 pub mod Passes
 pub mod Draft
 pub mod Observed
+pub mod Atomic
 pub mod TurnRule
 pub mod TurnPlays
+pub mod TurnCounts
 pub mod TurnSeat
 pub mod TurnPass
 pub mod Opens
