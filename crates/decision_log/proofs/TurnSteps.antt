@@ -29,7 +29,13 @@ module _ (sizes : Sizes) (words : List ℕ) (views : List View) (r : TurnRule si
   pub known : (id : ℕ) (h : Hand) → get_elem? views id ≡ some (One h) → Placed (Knows sizes words r.log) r.home r.next id h
   known id h here = r.seats id (One h) here
 
-  -- all that was seen is of sessions of the log
+  -- all entries are of sessions of the log
+  pub all_of : AllOf sizes.sessions r.log
+  all_of =
+      all_from_places (λ entry. (1 ≤ entry.session) × (entry.session ≤ sizes.sessions)) r.log
+      (λ place entry is. let e = r.entries place entry is in (e.0.first_session, omega (arith, e.1, r.within)))
+
+  -- and so is all that was seen
   pub among : (h : Hand) (seen : List Entry) → h.sessions ≡ sizes.sessions → Begins seen r.log → AllOf h.sessions seen
   among h seen sessions begins =
       all_from_places (λ entry. (1 ≤ entry.session) × (entry.session ≤ h.sessions)) seen

@@ -1,5 +1,6 @@
 pub mod History
 pub mod Machine
+pub mod Reached
 pub mod Faults
 pub mod Known
 pub mod Calls
