@@ -25,8 +25,9 @@ use Rattle.decision_log.proofs.Histories.{begins_itself, begins_append, begins_m
 use Rattle.decision_log.proofs.SeatLemmas.{step_seat}
 use Rattle.decision_log.proofs.TurnStores.{holds_nothing, holds_beside, holds_one_more}
 use Rattle.chain_log.specs.Cells.{name_at, cell_at, name_before, newest_of}
-use Rattle.chain_log.specs.ChainRule.{own_cell, Knows, ChainRule}
-use Rattle.decision_log.specs.Atomic.{Store, Exchange, Tells}
+use Rattle.chain_log.specs.ChainRule.{own_cell, try_word, newest_for, Knows, ChainRule}
+use Rattle.decision_log.specs.Atomic.{Atomic, Store, Exchange, Tells, Does, Counts}
+use Rattle.decision_log.proofs.Counting.{look_is}
 use Rattle.chain_log.specs.ChainPlays.{won, lost, Drafts, Exchanges}
 use Rattle.chain_log.proofs.Chains.{chain_of, one_chain}
 use Rattle.chain_log.proofs.ChainSteps.{Rules, known, ranged, history, newest_by, seen_keeps, loaded}
@@ -289,3 +290,14 @@ exchange_step sizes slots id old own h entry last name is mine whole room state 
         ),
       ),
     ))
+
+-- who looks has seen the whole history, which stays
+pub looked_log : (sizes : Sizes) (words words' : List ℕ) (views views' : List View) (r : ChainRule sizes words views) (after : ChainRule sizes words' views') (step : Atomic) (found id : ℕ) (old new : Hand) → Does step words found words'
+    → Counts newest_for try_word step found old new → new.known.looks ≢ old.known.looks → get_elem? views' id ≡ some (One new) → (new.known.seen ≡ after.log) × (after.log ≡ r.log)
+looked_log sizes words words' views views' r after step found id old new does counts rose here =
+    let look = look_is newest_for try_word step found old new words words' does counts rose in
+    subst (λ ws. (after : ChainRule sizes ws views') → (new.known.seen ≡ after.log) × (after.log ≡ r.log)) (sym look.1)
+    (λ after. (
+      all_seen sizes words views' after new (known sizes words views' after id new here).fact_is (sym look.0),
+      one_log sizes words views r words views' views after r,
+    )) after
