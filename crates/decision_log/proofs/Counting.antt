@@ -1,5 +1,5 @@
 -- What the counts of a pass say of the step by which they rose.
-use Rattle.std.proofs.Common.{◌≡◌, ◌≢◌, ◌⊎◌, ℕ, ap, sym, ◌∙◌, ⊎_elim, List}
+use Rattle.std.proofs.Common.{◌≡◌, ◌≢◌, ℕ, ap, sym, ◌∙◌, ⊎_elim, List}
 use Rattle.std.specs.Prelude.{slice_index}
 use mathlib.Core.Option.{Option}
 use Rattle.xa_words.specs.Entry.{Entry}

@@ -1,5 +1,5 @@
 -- Each state of the machine is reached: the entries are added in their order, and after each add those look who have still more to see.
-use Rattle.std.proofs.Common.{◌≡◌, ◌≢◌, ℕ, zero, suc, ◌<◌, ◌≤◌, Bool, true, false, cond, nat_eq, List, [], ◌∷◌, ◌++◌, length, take, drop, get_or, refl, ap, sym, ◌∙◌, subst, Some, arith, eq-eqb, ne_eqb}
+use Rattle.std.proofs.Common.{◌≡◌, ◌≢◌, ℕ, zero, suc, ◌<◌, ◌≤◌, Bool, true, false, cond, nat_eq, List, [], ◌∷◌, ◌++◌, length, take, drop, refl, ap, sym, ◌∙◌, subst, Some, arith, eq-eqb, ne_eqb}
 use Rattle.std.specs.Prelude.{slice_get}
 use Rattle.std.proofs.lemmas.List.{take_all, length-take, length-take-le, take-append-le}
 use native.Mathlib.Decide.{ℕ_discrete, dec_le}
@@ -7,8 +7,8 @@ use mathlib.Core.Logic.{dite}
 use Rattle.xa_words.specs.Entry.{Entry}
 use Rattle.decision_log.specs.History.{Begins, entries_of}
 use Rattle.decision_log.specs.Known.{AllOf}
-use Rattle.decision_log.specs.Machine.{Seen, Machine, Event, Look, Add, Looks, Appends, Happens, Runs, opening, IsState}
-use Rattle.decision_log.specs.Reached.{session_of, EventsOf, IsReached}
+use Rattle.decision_log.specs.Machine.{Machine, Event, Look, Add, Looks, Appends, Runs, opening, IsState}
+use Rattle.decision_log.specs.Reached.{EventsOf, IsReached}
 use Rattle.decision_log.proofs.Histories.{behind, length_begins, own_last, own_other, take_next, entry_at, entry_is, later_other}
 
 -- events one after another
@@ -178,7 +178,7 @@ module _ (sessions : ℕ) (target : Machine) (is : IsState target) (all : AllOf 
       let who = entry.session in
       let more = has_seen count entry here in
       let whole : (r.machine.knows who).seen ≡ r.machine.history =
-          r.at.seen who low high ∙ take_begins count (target.knows who).seen target.history (is.seen who) (omega (arith, more)) ∙ sym r.at.history in
+      r.at.seen who low high ∙ take_begins count (target.knows who).seen target.history (is.seen who) (omega (arith, more)) ∙ sym r.at.history in
       let size : length r.machine.history ≡ count = ap length r.at.history ∙ length-take-le count target.history (omega (arith, within)) in
       let add = add_happens who entry r.machine refl whole (omega (arith, size, r.at.capacity, is.room, within)) in
       let added = after_add who entry r.machine in

@@ -1,7 +1,7 @@
 -- Each step of a log with a turn raises the counts of its pass as it should.
 --     see_counts, read_counts, take_counts, draft_counts, publish_counts, release_counts     the laws of the plays
-use Rattle.std.specs.Prelude.{◌≡◌, ◌+◌, ℕ}
-use Rattle.std.proofs.Common.{ap, ◌∙◌, sym, inl, inr, refl}
+use Rattle.std.specs.Prelude.{◌≡◌, ℕ}
+use Rattle.std.proofs.Common.{ap, ◌∙◌, sym, inl, inr}
 use mathlib.Core.Logic.{dite}
 use native.Mathlib.Decide.{ℕ_discrete}
 use Rattle.decision_log.specs.declared.view.Hand.{Hand}
