@@ -17,8 +17,8 @@ use Rattle.decision_log.specs.Observed.{met}
 use Rattle.decision_log.proofs.Histories.{begins_itself, begins_between, begins_nothing, own_between, own_none, length_begins}
 use Rattle.decision_log.proofs.SeatLemmas.{step_two, join_seats, split_two, split_one, deal_seat, moved}
 use Rattle.chain_log.specs.Cells.{word_count}
-use Rattle.chain_log.specs.ChainRule.{Knows, ChainRule}
-use Rattle.chain_log.specs.ChainPlays.{Meets}
+use Rattle.chain_log.specs.ChainRule.{newest_for, Knows, ChainRule}
+use Rattle.decision_log.specs.Atomic.{Meets}
 use Rattle.chain_log.proofs.ChainSteps.{Rules, with_seats, loaded, among, history, knows_seen, newest_by}
 use Rattle.chain_log.proofs.Names.{name_zero}
 
@@ -46,7 +46,7 @@ module _ (sizes : Sizes) (words : List ℕ) (views : List View) (r : ChainRule s
       (step_two (Knows sizes words r.log) r.home r.next views id g h g (met h seen) r.seats here refl refl p.0.fact_is
       (knows_seen sizes words views r h (met h seen) p.1.fact_is refl refl refl refl refl begins part))
 
-pub meet_step : (sizes : Sizes) (slots id : ℕ) (g h : Hand) → Allows (Rules sizes) slots id (seated_two g h) 0 (λ n. n) (Meets (seated_two g h))
+pub meet_step : (sizes : Sizes) (slots id : ℕ) (g h : Hand) → Allows (Rules sizes) slots id (seated_two g h) 0 (λ n. n) (Meets newest_for g h)
 meet_step sizes slots id g h state r homes here small =
     let p = r.seats id (Two g h) here in
     let kg = p.0.fact_is in

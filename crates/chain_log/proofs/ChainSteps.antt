@@ -1,5 +1,5 @@
 -- The loads of a chain keep the rule, and tell what their plays say.
-use Rattle.std.proofs.Common.{◌≡◌, ℕ, ◌+◌, ◌<◌, ◌≤◌, List, [], ◌∷◌, length, set, get_or, refl, ap, sym, ◌∙◌, subst, Some, arith}
+use Rattle.std.proofs.Common.{◌≡◌, ◌≢◌, ℕ, ◌+◌, ◌<◌, ◌≤◌, List, [], ◌∷◌, length, set, get_or, refl, ap, sym, ◌∙◌, subst, Some, arith}
 use Rattle.std.specs.Prelude.{slice_get}
 use mathlib.Core.Option.{some}
 use lib.ListN.{get_elem?}
@@ -22,6 +22,7 @@ use Rattle.decision_log.proofs.SeatLemmas.{step_seat}
 use Rattle.decision_log.proofs.TurnStores.{holds_nothing}
 use Rattle.chain_log.specs.Cells.{name_at, cell_at, name_before, newest_of}
 use Rattle.chain_log.specs.ChainRule.{own_cell, Knows, ChainRule}
+use Rattle.decision_log.specs.Atomic.{Load, Tells}
 use Rattle.chain_log.specs.ChainPlays.{looked, Sees, Reads}
 use Rattle.chain_log.proofs.Names.{Ranged, name_begins}
 
@@ -38,7 +39,10 @@ module _ (sizes : Sizes) (words : List ℕ) (views : List View) (r : ChainRule s
       let e = r.entries row entry is in
       (e.0.first_session, omega (arith, e.1, r.within))
 
-  -- all that was seen is of sessions of the log
+  pub all_of : AllOf sizes.sessions r.log
+  all_of = all_from_places (λ entry. (1 ≤ entry.session) × (entry.session ≤ sizes.sessions)) r.log ranged
+
+  -- and so is all that was seen
   pub among : (h : Hand) (seen : List Entry) → h.sessions ≡ sizes.sessions → Begins seen r.log → AllOf h.sessions seen
   among h seen sessions begins =
       all_from_places (λ entry. (1 ≤ entry.session) × (entry.session ≤ h.sessions)) seen
@@ -105,18 +109,18 @@ module _ (sizes : Sizes) (words : List ℕ) (views : List View) (r : ChainRule s
 pub loaded : (sizes : Sizes) (words : List ℕ) (i : ℕ) (views : List View) → ChainRule sizes words views → ChainRule sizes (set words i (get_or words i 0)) views
 loaded sizes words i views r = subst (λ ws. ChainRule sizes ws views) (sym (set-get_or words i 0)) r
 
-pub look_step : (sizes : Sizes) (slots id : ℕ) (h : Hand) → Allows (Rules sizes) slots id (seated h) 0 (λ n. n) (Sees (seated h))
+pub look_step : (sizes : Sizes) (slots id : ℕ) (h : Hand) → Allows (Rules sizes) slots id (seated h) 0 (λ n. n) (Tells (Sees (Load 0) h))
 look_step sizes slots id h state r homes here small =
     let k = (known sizes state.words state.views r id h here).fact_is in (
       One (looked h r.log),
       keeps,
       tt,
       loaded sizes state.words 0 (set state.views id (One (looked h r.log))) (seen_keeps sizes state.words state.views r id h (looked h r.log) here refl refl refl refl refl refl),
-      (r.log, refl, newest_by sizes state.words state.views r h k.sessions, history sizes state.words state.views r h k),
+      (looked h r.log, refl, (refl, r.log, refl, newest_by sizes state.words state.views r h k.sessions, history sizes state.words state.views r h k)),
     )
 
-pub read_step : (sizes : Sizes) (slots id word : ℕ) (h : Hand) → Allows (Rules sizes) slots id (seated h) word (λ n. n) (Reads word (seated h))
-read_step sizes slots id word h state r homes here small =
+pub read_step : (sizes : Sizes) (slots id word : ℕ) (h : Hand) → word ≢ 0 → Allows (Rules sizes) slots id (seated h) word (λ n. n) (Tells (Reads (Load word) h))
+read_step sizes slots id word h behind state r homes here small =
     let p = known sizes state.words state.views r id h here in (
       One h,
       keeps,
@@ -125,10 +129,15 @@ read_step sizes slots id word h state r homes here small =
           (with_seats sizes state.words state.views r (set state.views id (One h))
           (step_seat (Knows sizes state.words r.log) (Knows sizes state.words r.log) r.home r.next state.views id h h r.seats here refl p.fact_is (λ g apart low k. k))),
       (
+        h,
         refl,
-        (λ row index entry at below is. (
-          (r.entries row entry (get_begins h.known.seen r.log row entry p.fact_is.seen is)).0,
-          ap (λ n. get_or state.words n 0) at ∙ read_there sizes state.words state.views r h row index entry p.fact_is below is,
-        )),
+        (
+          behind,
+          refl,
+          (λ row index entry at below is. (
+            (r.entries row entry (get_begins h.known.seen r.log row entry p.fact_is.seen is)).0,
+            ap (λ n. get_or state.words n 0) at ∙ read_there sizes state.words state.views r h row index entry p.fact_is below is,
+          )),
+        ),
       ),
     )

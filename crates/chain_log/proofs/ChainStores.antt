@@ -21,13 +21,15 @@ use Rattle.decision_log.specs.History.{Begins}
 use Rattle.decision_log.specs.Seats.{seated}
 use Rattle.decision_log.specs.Draft.{Holds}
 use Rattle.decision_log.specs.Draft.{drafted}
-use Rattle.decision_log.proofs.Histories.{begins_itself, begins_append, begins_more, begins_same, get_last, length_begins, own_last, own_other}
+use Rattle.decision_log.proofs.Histories.{begins_itself, begins_append, begins_more, begins_same, get_last, later_other, length_begins, own_last, own_other}
 use Rattle.decision_log.proofs.SeatLemmas.{step_seat}
 use Rattle.decision_log.proofs.TurnStores.{holds_nothing, holds_beside, holds_one_more}
 use Rattle.chain_log.specs.Cells.{name_at, cell_at, name_before, newest_of}
-use Rattle.chain_log.specs.ChainRule.{own_cell, Knows, ChainRule}
+use Rattle.chain_log.specs.ChainRule.{own_cell, try_word, newest_for, Knows, ChainRule}
+use Rattle.decision_log.specs.Atomic.{Atomic, Store, Exchange, Tells, Does, Counts}
+use Rattle.decision_log.proofs.Counting.{look_is}
 use Rattle.chain_log.specs.ChainPlays.{won, lost, Drafts, Exchanges}
-use Rattle.chain_log.proofs.Chains.{chain_of, one_chain, later_other}
+use Rattle.chain_log.proofs.Chains.{chain_of, one_chain}
 use Rattle.chain_log.proofs.ChainSteps.{Rules, known, ranged, history, newest_by, seen_keeps, loaded}
 use Rattle.chain_log.proofs.Names.{name_begins, name_low, newest_added, one_cell, one_length, within_words, words_apart}
 
@@ -229,7 +231,7 @@ module _ (sizes : Sizes) (words : List ℕ) (views : List View) (r : ChainRule s
       (λ longer. omega arith)
 
 pub draft_step : (sizes : Sizes) (slots id word index new : ℕ) (h : Hand) → word ≡ own_cell h + index → index ≤ length h.draft → index < 22 → length h.known.seen < h.capacity
-    → Allows (Rules sizes) slots id (seated h) word (λ n. new) (λ n. Drafts word new (seated h))
+    → Allows (Rules sizes) slots id (seated h) word (λ n. new) (λ n. Tells (Drafts (Store word new) h) new)
 draft_step sizes slots id word index new h at along below room state r homes here small =
     let back : word - own_cell h ≡ index = omega arith in (
       One (drafted h (word - own_cell h) new),
@@ -238,12 +240,12 @@ draft_step sizes slots id word index new h at along below room state r homes her
       subst (λ i. ChainRule sizes (set state.words word new) (set state.views id (One (drafted h i new)))) (sym back)
           (subst (λ w. ChainRule sizes (set state.words w new) (set state.views id (One (drafted h index new)))) (sym at)
           (draft_keeps sizes state.words state.views r id h index new here along below room)),
-      refl,
+      (drafted h (word - own_cell h) new, refl, refl),
     )
 
 pub exchange_step : (sizes : Sizes) (slots id old own : ℕ) (h : Hand) (entry : Entry) → old ≡ newest_of h.sessions h.known.seen → own ≡ name_at h.sessions (length h.known.seen) h.known.number
     → IsEntry entry → entry.session ≡ h.known.number → h.draft ≡ old ∷ words_of entry → length h.known.seen < h.capacity
-    → Allows (Rules sizes) slots id (seated h) 0 (λ n. either (eqb n old) own n) (Exchanges old (some entry) (seated h))
+    → Allows (Rules sizes) slots id (seated h) 0 (λ n. either (eqb n old) own n) (Tells (Exchanges (Exchange 0 old own (some entry)) h))
 exchange_step sizes slots id old own h entry last name is mine whole room state r homes here small =
     let n = get_or state.words 0 0 in
     let k = (known sizes state.words state.views r id h here).fact_is in
@@ -262,7 +264,7 @@ exchange_step sizes slots id old own h entry last name is mine whole room state 
           (λ f. subst (λ w. ChainRule sizes (set state.words 0 w) (set state.views id (One (won h entry)))) own_is
           (win_keeps sizes state.words state.views r id h entry here all is mine (whole ∙ ap (λ name. name ∷ words_of entry) link) (omega arith)))
           (λ ne. absurd (ne e)),
-      ((λ other said f. ap (λ x. seated (won h x)) (some-injective entry other said)), (λ ne. absurd (ne e))),
+      (won h entry, refl, (refl, last, name, (λ f. refl), (λ ne. absurd (ne e)))),
     ))
     (λ ne. (
       One (lost h r.log),
@@ -271,13 +273,31 @@ exchange_step sizes slots id old own h entry last name is mine whole room state 
       exchanged n old own (λ w. ChainRule sizes (set state.words 0 w) (set state.views id (One (lost h r.log)))) (λ f. absurd (ne f))
           (λ f. loaded sizes state.words 0 (set state.views id (One (lost h r.log))) (seen_keeps sizes state.words state.views r id h (lost h r.log) here refl refl refl refl refl refl)),
       (
-        (λ other said f. absurd (ne f)),
-        (λ f. (
-          r.log,
+        lost h r.log,
+        refl,
+        (
           refl,
-          newest_by sizes state.words state.views r h k.sessions,
-          history sizes state.words state.views r h k,
-          more_there sizes state.words state.views r h k (λ same. ne (sym same ∙ sym last)),
-        )),
+          last,
+          name,
+          (λ f. absurd (ne f)),
+          (λ f. (
+            r.log,
+            refl,
+            newest_by sizes state.words state.views r h k.sessions,
+            history sizes state.words state.views r h k,
+            more_there sizes state.words state.views r h k (λ same. ne (sym same ∙ sym last)),
+          )),
+        ),
       ),
     ))
+
+-- who looks has seen the whole history, which stays
+pub looked_log : (sizes : Sizes) (words words' : List ℕ) (views views' : List View) (r : ChainRule sizes words views) (after : ChainRule sizes words' views') (step : Atomic) (found id : ℕ) (old new : Hand) → Does step words found words'
+    → Counts newest_for try_word step found old new → new.known.looks ≢ old.known.looks → get_elem? views' id ≡ some (One new) → (new.known.seen ≡ after.log) × (after.log ≡ r.log)
+looked_log sizes words words' views views' r after step found id old new does counts rose here =
+    let look = look_is newest_for try_word step found old new words words' does counts rose in
+    subst (λ ws. (after : ChainRule sizes ws views') → (new.known.seen ≡ after.log) × (after.log ≡ r.log)) (sym look.1)
+    (λ after. (
+      all_seen sizes words views' after new (known sizes words views' after id new here).fact_is (sym look.0),
+      one_log sizes words views r words views' views after r,
+    )) after

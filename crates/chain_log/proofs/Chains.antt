@@ -11,7 +11,7 @@ use Rattle.decision_log.specs.declared.sizes.Sizes.{Sizes}
 use Rattle.decision_log.specs.declared.view.View.{View}
 use Rattle.decision_log.specs.History.{Begins, entries_of}
 use Rattle.decision_log.specs.Draft.{Holds}
-use Rattle.decision_log.proofs.Histories.{behind, own_append, nothing_left, some_injective}
+use Rattle.decision_log.proofs.Histories.{some_injective, take_next}
 use Rattle.chain_log.specs.Cells.{name_at, cell_at, name_before, newest_of}
 use Rattle.chain_log.specs.Chain.{Walk, Chain}
 use Rattle.chain_log.specs.ChainRule.{ChainRule}
@@ -27,11 +27,6 @@ holds_rest : (words : List ℕ) (at word : ℕ) (rest : List ℕ) → Holds word
 holds_rest words at word rest holds i below =
     let here : at + 1 + i ≡ at + suc i = omega arith in
     ap (λ n. get_or words n 0) here ∙ holds (suc i) (omega arith)
-
-take_next : (xs : List Entry) (row : ℕ) (entry : Entry) → slice_get xs row ≡ Some entry → take (suc row) xs ≡ take row xs ++ entry ∷ []
-take_next [] row entry is = cc
-take_next (x ∷ xs) zero entry is = ap (λ e. e ∷ []) (some_injective x entry is)
-take_next (x ∷ xs) (suc row) entry is = ap (λ rest. x ∷ rest) (take_next xs row entry is)
 
 module _ (sizes : Sizes) (words : List ℕ) (views : List View) (r : ChainRule sizes words views) where
   -- from the cell of each row the walk meets the entries up to that row
@@ -74,40 +69,3 @@ one_walk words name (x ∷ xs) (y ∷ ys) w v =
 
 pub one_chain : (words : List ℕ) (one other : List Entry) → Chain words one → Chain words other → one ≡ other
 one_chain words one other c d = sym (reverse-reverse one) ∙ ap reverse (one_walk words (slice_index words 0) (reverse one) (reverse other) c d) ∙ reverse-reverse other
-
--- entries of a session behind a prefix that has all of them
-
-first_own : (number : ℕ) (x : Entry) (xs : List Entry) → x.session ≡ number → entries_of number (x ∷ xs) ≡ [] → ⊥
-first_own number x xs mine none =
-    let head : entries_of number (x ∷ xs) ≡ x ∷ entries_of number xs = rw (eq-eqb x.session number mine) refl in
-    omega (arith, ap length head, ap length none)
-
-first_other : (number : ℕ) (x : Entry) (xs : List Entry) → x.session ≢ number → entries_of number (x ∷ xs) ≡ [] → entries_of number xs ≡ []
-first_other number x xs other none =
-    let same : entries_of number (x ∷ xs) ≡ entries_of number xs = rw (ne_eqb x.session number other) refl in
-    sym same ∙ none
-
-no_own : (number : ℕ) (xs : List Entry) (row : ℕ) (entry : Entry) → entries_of number xs ≡ [] → slice_get xs row ≡ Some entry → entry.session ≢ number
-no_own number [] row entry none is own = absurd (never entry is)
-  where
-    never : (entry : Entry) → None ≡ Some entry → ⊥
-    never entry is = cc
-no_own number (x ∷ xs) zero entry none is own = first_own number x xs (ap (λ e. e.session) (some_injective x entry is) ∙ own) none
-no_own number (x ∷ xs) (suc row) entry none is own =
-    dite (ℕ_discrete x.session number) (λ mine. first_own number x xs mine none) (λ other. no_own number xs row entry (first_other number x xs other none) is own)
-
-get_behind : (xs ys : List Entry) (row : ℕ) (entry : Entry) → length xs ≤ row → slice_get (xs ++ ys) row ≡ Some entry → (k : ℕ) × (slice_get ys k ≡ Some entry)
-get_behind [] ys row entry long is = (row, is)
-get_behind (x ∷ xs) ys zero entry long is = absurd (omega arith)
-get_behind (x ∷ xs) ys (suc row) entry long is = get_behind xs ys row entry (omega arith) is
-
--- of a session whose entries were all seen, none stands behind what was seen
-pub later_other : (number : ℕ) (seen log mine : List Entry) (row : ℕ) (entry : Entry) → Begins seen log → entries_of number log ≡ mine → entries_of number seen ≡ mine
-    → length seen ≤ row → slice_get log row ≡ Some entry → entry.session ≢ number
-later_other number seen log mine row entry begins own part long is =
-    let rest = drop (length seen) log in
-    let whole = behind seen log begins in
-    let parts : entries_of number log ≡ entries_of number seen ++ entries_of number rest = ap (entries_of number) (sym whole) ∙ own_append number seen rest in
-    let none : entries_of number rest ≡ [] = nothing_left (entries_of number seen) (entries_of number rest) (omega (arith, ap length parts, ap length own, ap length part)) in
-    let t = get_behind seen rest row entry long (subst (λ list. slice_get list row ≡ Some entry) (sym whole) is) in
-    no_own number rest t.0 entry none t.1

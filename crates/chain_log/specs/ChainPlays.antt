@@ -1,18 +1,16 @@
 -- What each step of a chain does to the pass that takes it, and what it tells.
 --     looked, won, lost       the pass after a step
---     Sees, Reads, Drafts, Exchanges, Meets       the steps
+--     Sees, Reads, Drafts, Exchanges      the steps, each with its word and its kind
 use Rattle.std.specs.Prelude.{◌≡◌, ◌≢◌, ◌<◌, ◌+◌, ◌-◌, ℕ, List, [], ◌∷◌, ◌++◌, length, slice_get, slice_index, Some}
-use mathlib.Core.Option.{Option, some}
-use Rattle.atomic_table.specs.Table.{Me}
+use mathlib.Core.Option.{none, some}
 use Rattle.xa_words.specs.Entry.{Entry, IsEntry}
 use Rattle.xa_words.specs.Words.{words_of}
 use Rattle.decision_log.specs.declared.view.Hand.{Hand}
-use Rattle.decision_log.specs.declared.view.View.{View}
-use Rattle.decision_log.specs.Seats.{hand_of, second_of, seated, seated_two}
 use Rattle.decision_log.specs.Draft.{drafted}
-use Rattle.decision_log.specs.Observed.{met, HistoryIs, MetAt}
+use Rattle.decision_log.specs.Observed.{HistoryIs}
+use Rattle.decision_log.specs.Atomic.{Atomic, Load, Store, Exchange}
 use Rattle.chain_log.specs.Cells.{name_at, cell_at, name_before, newest_of}
-use Rattle.chain_log.specs.ChainRule.{own_cell}
+use Rattle.chain_log.specs.ChainRule.{own_cell, try_word, newest_for}
 
 -- after a look that saw this history: the own cell is another now, and its draft is empty
 abbrev pub looked : Hand → List Entry → Hand
@@ -44,32 +42,33 @@ lost h seen = record {
   turn = h.turn;
 }
 
--- a load of the newest cell's name
-abbrev pub Sees : Me Entry View → ℕ → Me Entry View → Type 0
-Sees me found me' =
-    (seen : List Entry) × (me' ≡ seated (looked (hand_of me.0) seen)) × (found ≡ newest_of (hand_of me.0).sessions seen) × HistoryIs (hand_of me.0) seen
+-- a load of word 0, the newest cell's name
+abbrev pub Sees : Atomic → Hand → ℕ → Hand → Type 0
+Sees (Load word) old found new =
+    (word ≡ 0) × (seen : List Entry) × (new ≡ looked old seen) × (found ≡ newest_of old.sessions seen) × HistoryIs old seen
+Sees (Store word value) old found new = ⊥
+Sees (Exchange word from to said) old found new = ⊥
 
--- a load of a word; one of the cell of an entry that was seen is its link or one of the entry's words
-abbrev pub Reads : ℕ → Me Entry View → ℕ → Me Entry View → Type 0
-Reads word me found me' =
-    (me' ≡ me)
-    × ((row index : ℕ) (entry : Entry) → word ≡ cell_at (name_at (hand_of me.0).sessions row entry.session) + index → index < 22 → slice_get (hand_of me.0).known.seen row ≡ Some entry
-    → IsEntry entry × (found ≡ slice_index (name_before (hand_of me.0).sessions (hand_of me.0).known.seen row ∷ words_of entry) index))
+-- a load of a word of a cell; one of the cell of an entry that was seen is its link or one of the entry's words
+abbrev pub Reads : Atomic → Hand → ℕ → Hand → Type 0
+Reads (Load word) old found new =
+    (word ≢ 0) × (new ≡ old)
+    × ((row index : ℕ) (entry : Entry) → word ≡ cell_at (name_at old.sessions row entry.session) + index → index < 22 → slice_get old.known.seen row ≡ Some entry
+    → IsEntry entry × (found ≡ slice_index (name_before old.sessions old.known.seen row ∷ words_of entry) index))
+Reads (Store word value) old found new = ⊥
+Reads (Exchange word from to said) old found new = ⊥
 
 -- a store of a word into the own cell
-abbrev pub Drafts : ℕ → ℕ → Me Entry View → Me Entry View → Type 0
-Drafts word new me me' = me' ≡ seated (drafted (hand_of me.0) (word - own_cell (hand_of me.0)) new)
+abbrev pub Drafts : Atomic → Hand → ℕ → Hand → Type 0
+Drafts (Load word) old found new = ⊥
+Drafts (Store word value) old found new = new ≡ drafted old (word - own_cell old) value
+Drafts (Exchange word from to said) old found new = ⊥
 
--- an exchange of the newest cell's name from the last one seen: the announced entry is added only where that was found, and else more was seen
-abbrev pub Exchanges : ℕ → Option Entry → Me Entry View → ℕ → Me Entry View → Type 0
-Exchanges old said me found me' =
-    ((entry : Entry) → said ≡ some entry → found ≡ old → me' ≡ seated (won (hand_of me.0) entry))
-    × (found ≢ old → (seen : List Entry) × (me' ≡ seated (lost (hand_of me.0) seen)) × (found ≡ newest_of (hand_of me.0).sessions seen) × HistoryIs (hand_of me.0) seen
-    × (length (hand_of me.0).known.seen < length seen))
-
--- a load of the newest cell's name at a seat with two passes
-abbrev pub Meets : Me Entry View → ℕ → Me Entry View → Type 0
-Meets me found me' =
-    (seen : List Entry) × (me' ≡ seated_two (hand_of me.0) (met (second_of me.0) seen))
-    × (length (second_of me.0).known.seen < length (hand_of me.0).known.seen → found ≡ newest_of (second_of me.0).sessions seen)
-    × MetAt (hand_of me.0) (second_of me.0) seen
+-- an exchange of word 0 from the last name that was seen to the own cell's, which is a try: the announced entry is added only where that name was found, and else more was seen
+abbrev pub Exchanges : Atomic → Hand → ℕ → Hand → Type 0
+Exchanges (Load word) old found new = ⊥
+Exchanges (Store word value) old found new = ⊥
+Exchanges (Exchange word from to none) old found new = ⊥
+Exchanges (Exchange word from to (some entry)) old found new =
+    (word ≡ try_word) × (from ≡ newest_for old) × (to ≡ name_at old.sessions (length old.known.seen) old.known.number) × (found ≡ from → new ≡ won old entry)
+    × (found ≢ from → (seen : List Entry) × (new ≡ lost old seen) × (found ≡ newest_of old.sessions seen) × HistoryIs old seen × (length old.known.seen < length seen))

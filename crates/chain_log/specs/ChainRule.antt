@@ -1,5 +1,7 @@
 -- The rule of a chain, which holds between any two steps.
 --     own_cell        where the pass's own cell begins, in the row behind all that it has seen
+--     try_word        which word passes exchange where they try to add
+--     newest_for      what that word is where a pass has seen the whole history
 --     Knows           what a pass knows of the log is so
 --     ChainRule       the rule
 use Rattle.std.specs.Prelude.{◌≡◌, ◌<◌, ◌≤◌, ◌+◌, ℕ, List, ◌∷◌, length, slice_get, slice_index, Some}
@@ -16,6 +18,14 @@ use Rattle.chain_log.specs.Cells.{word_count, name_at, cell_at, name_before, new
 -- in the pass's own column, in the row behind all that it has seen
 abbrev pub own_cell : Hand → ℕ
 own_cell hand = cell_at (name_at hand.sessions (length hand.known.seen) hand.known.number)
+
+-- the word of the newest cell's name, at which passes also look
+abbrev pub try_word : ℕ
+try_word = 0
+
+-- the name of the last cell that the pass has seen
+abbrev pub newest_for : Hand → ℕ
+newest_for hand = newest_of hand.sessions hand.known.seen
 
 -- what a pass knows is so; its draft is what its own cell begins with
 pub record Knows (sizes : Sizes) (words : List ℕ) (log : List Entry) (hand : Hand) : Type 0 where

@@ -13,17 +13,17 @@ use Rattle.chain_log.specs.declared.chain.ChainLog.{ChainLog}
 
 -- it is a seat of this log, and knows one pass
 pub record IsSeat (log : ChainLog) (seat : Seat Entry View) : Type 0 where
-  pub table : seat.table_id ≡ log.table.shared.table_id
+  pub table : seat.table_id ≡ log.table.inner.shared.table_id
   pub held : seat.me ≡ seated (hand_of seat.me.0)
 
 -- it is a seat of this log, and knows two passes
 pub record IsTwo (log : ChainLog) (seat : Seat Entry View) : Type 0 where
-  pub table : seat.table_id ≡ log.table.shared.table_id
+  pub table : seat.table_id ≡ log.table.inner.shared.table_id
   pub held : seat.me ≡ seated_two (hand_of seat.me.0) (second_of seat.me.0)
 
 -- it is a seat of this log, and knows the passes that weren't given out
 pub record IsRest (log : ChainLog) (seat : Seat Entry View) : Type 0 where
-  pub table : seat.table_id ≡ log.table.shared.table_id
+  pub table : seat.table_id ≡ log.table.inner.shared.table_id
   pub held : seat.me ≡ seated_rest (hand_of seat.me.0)
 
 -- what is so of each of the log's passes, also within a call

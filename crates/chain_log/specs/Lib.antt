@@ -3,6 +3,7 @@ pub mod Chain
 pub mod Columns
 pub mod ChainRule
 pub mod ChainPlays
+pub mod ChainCounts
 pub mod ChainSeat
 pub mod ChainPass
 pub mod Tries

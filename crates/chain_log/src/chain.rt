@@ -3,21 +3,18 @@ ghost use Rattle.std.specs.Prelude.{◌≡◌, ◌≤◌};
 ghost use Rattle.chain_log.specs.Cells.{word_count};
 
 use crate::Links;
-use atomic_table::Table;
-use decision_log::{Sizes, View};
-use std::alloc::Global;
-use xa_words::Entry;
+use decision_log::LogTable;
 
 /// A log without a turn. Who adds writes a cell of its own, which links to the newest cell it has seen, and then makes it the newest by one exchange.
 ///
 /// A pass that stops keeps no other from adding: a lost exchange means that the history grew.
 #[derive(Drop)]
 pub struct ChainLog {
-    pub(crate) table: Table<Entry, View, Sizes, Links, Global>,
+    pub(crate) table: LogTable<Links>,
     pub(crate) sessions: u64,
     pub(crate) capacity: u64,
-    ghost wide: { table.shared.table_id.words ≡ word_count sessions capacity },
-    ghost sizes: { table.shared.key ≡ record { sessions = sessions; capacity = capacity } },
+    ghost wide: { table.inner.shared.table_id.words ≡ word_count sessions capacity },
+    ghost sizes: { table.inner.shared.key ≡ record { sessions = sessions; capacity = capacity } },
     ghost low: { (1 ≤ sessions) × (1 ≤ capacity) },
     ghost high: { (sessions ≤ 16) × (capacity ≤ 1024) },
 }

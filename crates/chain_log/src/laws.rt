@@ -1,6 +1,6 @@
 //! What holds of the words of a chain at any moment, as contracts over its rule alone.
 ghost use Rattle.std.specs.Prelude.{◌≡◌, ◌≢◌, ◌<◌, ◌≤◌, ◌+◌, ℕ, List, [], ◌∷◌, ◌++◌, length, set, slice_get, slice_index, Some};
-ghost use mathlib.Core.Option.{some};
+ghost use mathlib.Core.Option.{Option, some};
 ghost use lib.ListN.{get_elem?};
 ghost use Rattle.xa_words.specs.Entry.{Entry, IsEntry};
 ghost use Rattle.xa_words.specs.Words.{words_of};
@@ -10,9 +10,10 @@ ghost use Rattle.decision_log.specs.declared.view.View.{View};
 ghost use Rattle.decision_log.specs.declared.view.View.TheVariants.{One};
 ghost use Rattle.decision_log.specs.Machine.{Machine};
 ghost use Rattle.decision_log.specs.Passes.{HasPasses};
+ghost use Rattle.decision_log.specs.Atomic.{Atomic, Exchange, Does, Counts};
 ghost use Rattle.chain_log.specs.Cells.{name_at, newest_of};
 ghost use Rattle.chain_log.specs.Chain.{Chain};
-ghost use Rattle.chain_log.specs.ChainRule.{own_cell, Knows, ChainRule};
+ghost use Rattle.chain_log.specs.ChainRule.{own_cell, try_word, newest_for, Knows, ChainRule};
 
 /// Whatever words and seats keep the rule, the walk from the newest cell along the links spells the rule's history.
 ///
@@ -46,7 +47,7 @@ pub fn later_entries_are_of_others()
 ///
 /// Takes no memory. Doesn't wait. Own rule: docs/LOG.md, 'A chain'.
 pub fn passes_are_sessions_of_the_machine()
-    ensures { (sizes : Sizes) (words : List ℕ) (views : List View) (rule : ChainRule sizes words views) → (machine : Machine) × HasPasses sizes.capacity rule.log views machine }
+    ensures { (sizes : Sizes) (words : List ℕ) (views : List View) (rule : ChainRule sizes words views) → (machine : Machine) × HasPasses sizes.sessions sizes.capacity rule.log views machine }
 {}
 
 /// A word that a pass stores into its own cell leaves the history as it was.
@@ -62,4 +63,19 @@ pub fn store_keeps_the_history()
 /// Takes no memory. Doesn't wait. Own rule: docs/LOG.md, 'A chain'.
 pub fn won_exchange_adds_its_entry()
     ensures { (sizes : Sizes) (words : List ℕ) (views views' : List View) (rule : ChainRule sizes words views) (id : ℕ) (pass : Hand) (entry : Entry) → get_elem? views id ≡ some (One pass) → slice_index words 0 ≡ newest_of pass.sessions pass.known.seen → IsEntry entry → entry.session ≡ pass.known.number → pass.draft ≡ newest_of pass.sessions pass.known.seen ∷ words_of entry → length pass.known.seen < pass.capacity → (after : ChainRule sizes (set words 0 (name_at pass.sessions (length pass.known.seen) pass.known.number)) views') → after.log ≡ rule.log ++ entry ∷ [] }
+{}
+
+/// A step by which a pass's `looks` rise loads the newest cell's name and leaves the history as it was, and all of that is what the pass
+/// has seen after it.
+///
+/// Takes no memory. Doesn't wait. Own rule: docs/LOG.md, 'A chain'.
+pub fn each_look_sees_the_history()
+    ensures { (sizes : Sizes) (words words' : List ℕ) (views views' : List View) (before : ChainRule sizes words views) (after : ChainRule sizes words' views') (step : Atomic) (found id : ℕ) (old new : Hand) → Does step words found words' → Counts newest_for try_word step found old new → new.known.looks ≢ old.known.looks → get_elem? views' id ≡ some (One new) → (new.known.seen ≡ after.log) × (after.log ≡ before.log) }
+{}
+
+/// A step by which a pass's `tries` rise exchanges the newest cell's name.
+///
+/// Takes no memory. Doesn't wait. Own rule: docs/LOG.md, 'A chain'.
+pub fn each_try_exchanges_the_newest_cell()
+    ensures { (step : Atomic) (found : ℕ) (old new : Hand) → Counts newest_for try_word step found old new → new.known.tries ≢ old.known.tries → (from to : ℕ) × (said : Option Entry) × (step ≡ Exchange try_word from to said) }
 {}

@@ -7,8 +7,8 @@ ghost use Rattle.chain_log.specs.ChainSeat.{IsRest};
 
 use crate::layout::count_words;
 use crate::{ChainLog, ChainPass};
-use atomic_table::{Seat, Table};
-use decision_log::{MOST_ENTRIES, OpenFault, Sizes, View};
+use atomic_table::Seat;
+use decision_log::{LogTable, MOST_ENTRIES, OpenFault, Sizes, View};
 use std::alloc::{AllocError, Global};
 use xa_words::Entry;
 use xa_xid::SessionNo;
@@ -56,7 +56,7 @@ impl ChainLog {
     {
         let words: Vec<u64> = vec![in alloc; 0; count_words(sessions, capacity)]?;
         let sizes = Sizes { sessions, capacity };
-        let (table, rest) = Table::of_words(alloc, &words, &sizes)?;
+        let (table, rest) = LogTable::of_words(alloc, &words, &sizes)?;
         let log = ChainLog {
             table,
             sessions,

@@ -1,41 +1,42 @@
 //! What each step tells. These types are for the proofs alone.
-ghost use Rattle.chain_log.specs.ChainPlays.{Sees, Reads, Drafts, Exchanges, Meets};
+ghost use Rattle.chain_log.specs.ChainPlays.{Sees, Reads, Drafts, Exchanges};
+ghost use Rattle.chain_log.specs.ChainCounts.{see_counts, read_counts, draft_counts, exchange_counts};
 
-use atomic_table::Play;
-use decision_log::View;
-use xa_words::Entry;
+use crate::Links;
+use decision_log::LogPlay;
 
 /// A load of the newest cell's name.
 pub(crate) struct SeeAll;
 
-impl Play<Entry, View> for SeeAll {
-    ghost then = { λ step me found after. Sees me found after };
+impl LogPlay<Links> for SeeAll {
+    ghost then = { Sees };
+
+    ghost counts = { see_counts };
 }
 
 /// A load of a word of a cell.
 pub(crate) struct ReadWord;
 
-impl Play<Entry, View> for ReadWord {
-    ghost then = { λ step me found after. Reads step.word me found after };
+impl LogPlay<Links> for ReadWord {
+    ghost then = { Reads };
+
+    ghost counts = { read_counts };
 }
 
 /// A store into the own cell.
 pub(crate) struct DraftWord;
 
-impl Play<Entry, View> for DraftWord {
-    ghost then = { λ step me found after. Drafts step.word step.first me after };
+impl LogPlay<Links> for DraftWord {
+    ghost then = { Drafts };
+
+    ghost counts = { draft_counts };
 }
 
 /// An exchange of the newest cell's name, told the entry that the own cell has.
 pub(crate) struct Publish;
 
-impl Play<Entry, View> for Publish {
-    ghost then = { λ step me found after. Exchanges step.first step.said me found after };
-}
+impl LogPlay<Links> for Publish {
+    ghost then = { Exchanges };
 
-/// A load of the newest cell's name at a seat with two passes.
-pub(crate) struct MeetAll;
-
-impl Play<Entry, View> for MeetAll {
-    ghost then = { λ step me found after. Meets me found after };
+    ghost counts = { exchange_counts };
 }

@@ -1,7 +1,7 @@
 //! The rule of the log.
 
 use atomic_table::TableRule;
-use decision_log::{Sizes, View};
+use decision_log::{LogWords, Sizes, View};
 use xa_words::Entry;
 
 /// The rule of a chain. It holds between any two steps.
@@ -15,4 +15,12 @@ impl TableRule<Entry, View, Sizes> for Links {
     ghost holds = { λ sizes state. ChainRule sizes state.words state.views };
 
     ghost first = { λ sizes. Rest (newcomer_hand sizes.sessions sizes.capacity 1) };
+}
+
+impl LogWords for Links {
+    ghost use Rattle.chain_log.specs.ChainRule.{try_word, newest_for};
+
+    ghost newest = { newest_for };
+
+    ghost tried = { try_word };
 }

@@ -7,10 +7,8 @@ ghost use Rattle.chain_log.specs.Cells.{newest_of};
 ghost use Rattle.chain_log.specs.ChainSeat.{IsSeat, IsTwo, IsRest};
 
 use crate::ChainLog;
-use crate::layout::NEWEST;
-use crate::plays::MeetAll;
 use atomic_table::Seat;
-use decision_log::{Seating, View};
+use decision_log::View;
 use xa_words::Entry;
 
 impl ChainLog {
@@ -20,7 +18,7 @@ impl ChainLog {
         ensures seat { IsSeat self.now seat.new }
         ensures same { hand seat.new ≡ hand seat.old }
     {
-        self.table.shared.split_seat::<Seating>(seat)
+        self.table.split_seat(seat)
     }
 
     /// Takes in the pass of another seat.
@@ -31,7 +29,7 @@ impl ChainLog {
         ensures first { hand seat.new ≡ hand seat.old }
         ensures second { second seat.new ≡ hand other }
     {
-        self.table.shared.join_seat::<Seating>(seat, other);
+        self.table.join_seat(seat, other);
     }
 
     /// Loads the newest cell's name: the second pass has then seen all that the first has.
@@ -41,7 +39,7 @@ impl ChainLog {
         ensures first { hand seat.new ≡ hand seat.old }
         ensures met { (seen : List Entry) × (second seat.new ≡ met (second seat.old) seen) × (length (second seat.old).known.seen < length (hand seat.old).known.seen → result ≡ newest_of (second seat.old).sessions seen) × MetAt (hand seat.old) (second seat.old) seen }
     {
-        self.table.shared.load::<MeetAll>(seat, NEWEST)
+        self.table.load_both(seat)
     }
 
     /// Splits a seat with two passes; the new seat has the second.
@@ -52,7 +50,7 @@ impl ChainLog {
         ensures other { IsSeat self.now result }
         ensures second { hand result ≡ second seat.old }
     {
-        self.table.shared.split_seat::<Seating>(seat)
+        self.table.split_seat(seat)
     }
 
     /// Gives out the next pass.
@@ -64,6 +62,6 @@ impl ChainLog {
         ensures pass { IsSeat self.now result }
         ensures given { hand result ≡ hand seat.old }
     {
-        self.table.shared.split_seat::<Seating>(seat)
+        self.table.split_seat(seat)
     }
 }

@@ -23,7 +23,7 @@ impl ChainLog {
         ensures seat { IsSeat self.now seat.new }
         ensures seen { (seen : List Entry) × (hand seat.new ≡ looked (hand seat.old) seen) × (result ≡ newest_of (hand seat.old).sessions seen) × HistoryIs (hand seat.old) seen }
     {
-        self.table.shared.load::<SeeAll>(seat, NEWEST)
+        self.table.load::<SeeAll>(seat, NEWEST)
     }
 
     /// Loads a word of the cell of an entry that was seen: its link at 0, and the entry's words behind it.
@@ -37,7 +37,7 @@ impl ChainLog {
         ensures read { (row : ℕ) (entry : Entry) → name ≡ name_before (hand seat.old).sessions (hand seat.old).known.seen (row + 1) → slice_get (hand seat.old).known.seen row ≡ Some entry → IsEntry entry × (result ≡ slice_index (name_before (hand seat.old).sessions (hand seat.old).known.seen row ∷ words_of entry) index) }
     {
         let word = cell_start(name) + index;
-        self.table.shared.load::<ReadWord>(seat, word)
+        self.table.load::<ReadWord>(seat, word)
     }
 
     /// Stores a word into the own cell.
@@ -52,7 +52,7 @@ impl ChainLog {
         ensures stored { hand seat.new ≡ drafted (hand seat.old) index new }
     {
         let word = cell_start(name) + index;
-        self.table.shared.store::<DraftWord>(seat, word, new)
+        self.table.store::<DraftWord>(seat, word, new)
     }
 
     /// Makes the own cell the newest, if the one that was seen last still is. The answer is the newest before.
@@ -76,7 +76,6 @@ impl ChainLog {
     {
         let _session = entry.session();
         self.table
-            .shared
             .compare_exchange_with::<Publish>(seat, NEWEST, old, own, entry)
     }
 }

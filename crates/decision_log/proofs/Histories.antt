@@ -1,9 +1,11 @@
 -- Lists of entries: the ring of lemmas on prefixes, and that on the entries of a session.
-use Rattle.std.proofs.Common.{◌≡◌, ◌≢◌, ◌⊎◌, ℕ, zero, suc, ◌≤◌, List, [], ◌∷◌, ◌++◌, length, take, drop, get_or, refl, ap, sym, ◌∙◌, subst, inl, inr, ⊎_elim, Some, None, arith, eq-eqb, ne_eqb, length-append, append-nil}
+use Rattle.std.proofs.Common.{◌≡◌, ◌≢◌, ◌⊎◌, ℕ, zero, suc, ◌<◌, ◌≤◌, List, [], ◌∷◌, ◌++◌, length, take, drop, get_or, refl, ap, sym, ◌∙◌, subst, inl, inr, ⊎_elim, Some, None, arith, eq-eqb, ne_eqb, length-append, append-nil}
 use Rattle.std.specs.Prelude.{slice_get, All}
 use Rattle.std.proofs.lemmas.List.{take_all, take-append-le, take-append-drop, length-take}
 use Rattle.std.proofs.lemmas.List.Elements.{filter-append}
-use Rattle.std.proofs.lemmas.Option.{slice_get-get_or}
+use Rattle.std.proofs.lemmas.Option.{slice_get-get_or, get_or_from_slice_get}
+use mathlib.Core.Logic.{dite}
+use native.Mathlib.Decide.{ℕ_discrete}
 use Rattle.std.proofs.Math.Seq.{take-append_seam}
 use Rattle.xa_words.specs.Entry.{Entry}
 use Rattle.decision_log.specs.History.{Begins, is_of, entries_of}
@@ -102,3 +104,55 @@ own_between number xs ys zs mine xy yz own_x own_z =
 pub own_none : (number : ℕ) (xs : List Entry) → ((place : ℕ) (entry : Entry) → slice_get xs place ≡ Some entry → entry.session ≢ number) → entries_of number xs ≡ []
 own_none number [] none = refl
 own_none number (x ∷ xs) none = rw (ne_eqb x.session number (none 0 x refl)) (own_none number xs (λ place entry is. none (suc place) entry is))
+
+-- the entries at places
+
+pub take_next : (xs : List Entry) (row : ℕ) (entry : Entry) → slice_get xs row ≡ Some entry → take (suc row) xs ≡ take row xs ++ entry ∷ []
+take_next [] row entry is = cc
+take_next (x ∷ xs) zero entry is = ap (λ e. e ∷ []) (some_injective x entry is)
+take_next (x ∷ xs) (suc row) entry is = ap (λ rest. x ∷ rest) (take_next xs row entry is)
+
+pub entry_at : (xs : List Entry) (place : ℕ) → place < length xs → (entry : Entry) × (slice_get xs place ≡ Some entry)
+entry_at [] place below = absurd (omega arith)
+entry_at (x ∷ xs) zero below = (x, refl)
+entry_at (x ∷ xs) (suc place) below = entry_at xs place (omega (arith, below))
+
+pub entry_is : (xs : List Entry) (place : ℕ) (entry : Entry) → slice_get xs place ≡ Some entry → get_or xs place entry ≡ entry
+entry_is xs place entry is = get_or_from_slice_get xs place entry entry is
+
+-- entries of a session behind a prefix that has all of them
+
+first_own : (number : ℕ) (x : Entry) (xs : List Entry) → x.session ≡ number → entries_of number (x ∷ xs) ≡ [] → ⊥
+first_own number x xs mine none =
+    let head : entries_of number (x ∷ xs) ≡ x ∷ entries_of number xs = rw (eq-eqb x.session number mine) refl in
+    omega (arith, ap length head, ap length none)
+
+first_other : (number : ℕ) (x : Entry) (xs : List Entry) → x.session ≢ number → entries_of number (x ∷ xs) ≡ [] → entries_of number xs ≡ []
+first_other number x xs other none =
+    let same : entries_of number (x ∷ xs) ≡ entries_of number xs = rw (ne_eqb x.session number other) refl in
+    sym same ∙ none
+
+no_own : (number : ℕ) (xs : List Entry) (row : ℕ) (entry : Entry) → entries_of number xs ≡ [] → slice_get xs row ≡ Some entry → entry.session ≢ number
+no_own number [] row entry none is own = absurd (never entry is)
+  where
+    never : (entry : Entry) → None ≡ Some entry → ⊥
+    never entry is = cc
+no_own number (x ∷ xs) zero entry none is own = first_own number x xs (ap (λ e. e.session) (some_injective x entry is) ∙ own) none
+no_own number (x ∷ xs) (suc row) entry none is own =
+    dite (ℕ_discrete x.session number) (λ mine. first_own number x xs mine none) (λ other. no_own number xs row entry (first_other number x xs other none) is own)
+
+get_behind : (xs ys : List Entry) (row : ℕ) (entry : Entry) → length xs ≤ row → slice_get (xs ++ ys) row ≡ Some entry → (k : ℕ) × (slice_get ys k ≡ Some entry)
+get_behind [] ys row entry long is = (row, is)
+get_behind (x ∷ xs) ys zero entry long is = absurd (omega arith)
+get_behind (x ∷ xs) ys (suc row) entry long is = get_behind xs ys row entry (omega arith) is
+
+-- of a session whose entries were all seen, none stands behind what was seen
+pub later_other : (number : ℕ) (seen log mine : List Entry) (row : ℕ) (entry : Entry) → Begins seen log → entries_of number log ≡ mine → entries_of number seen ≡ mine
+    → length seen ≤ row → slice_get log row ≡ Some entry → entry.session ≢ number
+later_other number seen log mine row entry begins own part long is =
+    let rest = drop (length seen) log in
+    let whole = behind seen log begins in
+    let parts : entries_of number log ≡ entries_of number seen ++ entries_of number rest = ap (entries_of number) (sym whole) ∙ own_append number seen rest in
+    let none : entries_of number rest ≡ [] = nothing_left (entries_of number seen) (entries_of number rest) (omega (arith, ap length parts, ap length own, ap length part)) in
+    let t = get_behind seen rest row entry long (subst (λ list. slice_get list row ≡ Some entry) (sym whole) is) in
+    no_own number rest t.0 entry none t.1

@@ -1,7 +1,9 @@
 pub mod Histories
 pub mod SeatLemmas
 pub mod MachineLaw
+pub mod MachineReach
 pub mod MachineSeats
+pub mod Counting
 pub mod TurnSteps
 pub mod TurnStores
 pub mod TurnSeats

@@ -9,11 +9,13 @@ use Rattle.decision_log.specs.declared.view.Hand.{Hand}
 use Rattle.decision_log.specs.declared.view.View.{View}
 use Rattle.decision_log.specs.declared.view.View.TheVariants.{Spent, One, Two, Rest}
 use Rattle.decision_log.specs.History.{entries_of}
+use Rattle.decision_log.specs.Known.{AllOf}
 use Rattle.decision_log.specs.Machine.{Seen, Machine}
 use Rattle.decision_log.specs.Passes.{KnownTo, SeatKnownTo, HasPasses}
 use Rattle.decision_log.specs.Seats.{Fits, Seats}
 use Rattle.decision_log.proofs.Histories.{begins_itself}
 use Rattle.decision_log.proofs.MachineLaw.{Knows, Sound, state_of}
+use Rattle.decision_log.proofs.MachineReach.{reached}
 
 -- what the machine's session of a pass's number knows
 abbrev pub seen_by : Hand → Seen
@@ -87,6 +89,8 @@ module _ (log : List Entry) where
           )
       passes id (Rest hand) here = tt
 
-      pub has_passes : length log ≤ capacity → (m : Machine) × HasPasses capacity log views m
+      pub has_passes : (sessions : ℕ) → length log ≤ capacity → AllOf sessions log → (m : Machine) × HasPasses sessions capacity log views m
       unfolding machine
-      has_passes room = (machine, record { state = state_of machine room sound; capacity_is = refl; history = refl; passes = passes })
+      has_passes sessions room all =
+          let state = state_of machine room sound in
+          (machine, record { state = state; reached = reached sessions machine state all; capacity_is = refl; history = refl; passes = passes })

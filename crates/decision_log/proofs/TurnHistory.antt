@@ -1,5 +1,5 @@
 -- The words of a log with a turn spell one history: what stores a word keeps it, and what stores the count puts one entry behind it.
-use Rattle.std.proofs.Common.{◌≡◌, ℕ, suc, ◌+◌, ◌<◌, ◌≤◌, List, [], ◌∷◌, ◌++◌, length, set, ap, sym, ◌∙◌, subst, refl, arith, Some}
+use Rattle.std.proofs.Common.{◌≡◌, ◌≢◌, ℕ, suc, ◌+◌, ◌<◌, ◌≤◌, List, [], ◌∷◌, ◌++◌, length, set, ap, sym, ◌∙◌, subst, refl, arith, Some}
 use Rattle.std.specs.Prelude.{slice_get}
 use mathlib.Core.Option.{some}
 use lib.ListN.{get_elem?}
@@ -14,7 +14,10 @@ use Rattle.decision_log.specs.declared.view.Turn.TheVariants.{Fresh}
 use Rattle.decision_log.specs.declared.sizes.Sizes.{Sizes}
 use Rattle.decision_log.specs.Draft.{Holds, drafted}
 use Rattle.decision_log.specs.TurnPlays.{published}
-use Rattle.decision_log.specs.TurnRule.{row_at, TurnRule}
+use Rattle.decision_log.specs.Atomic.{Atomic, Does, Counts}
+use Rattle.decision_log.specs.TurnRule.{row_at, turn_word, count_for, TurnRule}
+use Rattle.decision_log.proofs.Histories.{begins_same}
+use Rattle.decision_log.proofs.Counting.{look_is}
 use Rattle.decision_log.proofs.TurnSteps.{known}
 use Rattle.decision_log.proofs.TurnStores.{holds_beside, drafted_rule, published_rule, fresh_has}
 
@@ -90,3 +93,13 @@ module _ (sizes : Sizes) (words : List ℕ) (views views' : List View) (r : Turn
       (λ after.
       let t = published_rule sizes words views r id h entry here f.0 f.1 is own whole (omega (arith, ap length f.0, room, k.capacity)) in
       one_log sizes (set words 0 (length r.log + 1)) views' (set views id (One (published h entry))) after t.0 ∙ t.1) after
+
+  pub looked_log : (words' : List ℕ) (after : TurnRule sizes words' views') (step : Atomic) (found id : ℕ) (old new : Hand) → Does step words found words' → Counts count_for turn_word step found old new → new.known.looks ≢ old.known.looks
+      → get_elem? views' id ≡ some (One new) → (new.known.seen ≡ after.log) × (after.log ≡ r.log)
+  looked_log words' after step found id old new does counts rose here =
+      let look = look_is count_for turn_word step found old new words words' does counts rose in
+      subst (λ ws. (after : TurnRule sizes ws views') → (new.known.seen ≡ after.log) × (after.log ≡ r.log)) (sym look.1)
+      (λ after. (
+        begins_same new.known.seen after.log (known sizes words views' after id new here).fact_is.seen (omega (arith, after.count, look.0)),
+        one_log sizes words views' views after r,
+      )) after

@@ -13,9 +13,9 @@ use Rattle.decision_log.specs.declared.view.View.TheVariants.{Spent, One, Two, R
 use Rattle.decision_log.specs.declared.sizes.Sizes.{Sizes}
 use Rattle.decision_log.specs.History.{Begins, entries_of}
 use Rattle.decision_log.specs.Seats.{Fits, Seats, newcomer_hand, following, seated_two}
-use Rattle.decision_log.specs.TurnRule.{row_at, Knows, TurnRule}
+use Rattle.decision_log.specs.TurnRule.{row_at, count_for, Knows, TurnRule}
 use Rattle.decision_log.specs.Observed.{met}
-use Rattle.decision_log.specs.TurnPlays.{Meets}
+use Rattle.decision_log.specs.Atomic.{Meets}
 use Rattle.decision_log.proofs.Histories.{begins_itself, begins_between, begins_nothing, own_between, own_none, length_begins}
 use Rattle.decision_log.proofs.SeatLemmas.{step_two, join_seats, split_two, split_one, deal_seat, moved}
 use Rattle.decision_log.proofs.TurnSteps.{Rules, with_seats, loaded, among, history}
@@ -47,7 +47,7 @@ module _ (sizes : Sizes) (words : List ℕ) (views : List View) (r : TurnRule si
       with_seats sizes words views r (set views id (Two g (met h seen)))
       (step_two (Knows sizes words r.log) r.home r.next views id g h g (met h seen) r.seats here refl refl p.0.fact_is (knows_met h seen p.1.fact_is begins part))
 
-pub meet_step : (sizes : Sizes) (slots id : ℕ) (g h : Hand) → Allows (Rules sizes) slots id (seated_two g h) 0 (λ n. n) (Meets (seated_two g h))
+pub meet_step : (sizes : Sizes) (slots id : ℕ) (g h : Hand) → Allows (Rules sizes) slots id (seated_two g h) 0 (λ n. n) (Meets count_for g h)
 meet_step sizes slots id g h state r homes here small =
     let p = r.seats id (Two g h) here in
     let kg = p.0.fact_is in

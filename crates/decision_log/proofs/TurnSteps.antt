@@ -1,5 +1,5 @@
 -- Each step of a log with a turn keeps the rule, and tells what its play says.
-use Rattle.std.proofs.Common.{◌≡◌, ℕ, ◌≤◌, List, set, get_or, refl, ap, sym, ◌∙◌, subst, arith}
+use Rattle.std.proofs.Common.{◌≡◌, ◌≢◌, ℕ, ◌≤◌, List, set, get_or, refl, ap, sym, ◌∙◌, subst, arith}
 use mathlib.Core.Option.{some}
 use lib.ListN.{get_elem?}
 use Rattle.std.proofs.lemmas.List.{set-get_or}
@@ -17,6 +17,7 @@ use Rattle.decision_log.specs.Known.{AllOf}
 use Rattle.decision_log.specs.Seats.{Placed, Seats, seated}
 use Rattle.decision_log.specs.TurnRule.{HasTurn, Knows, TurnRule}
 use Rattle.decision_log.specs.Observed.{HistoryIs}
+use Rattle.decision_log.specs.Atomic.{Load, Tells}
 use Rattle.decision_log.specs.TurnPlays.{looked_turn, looked, Sees, Reads}
 use Rattle.decision_log.proofs.Histories.{begins_itself, get_begins, all_from_places}
 use Rattle.decision_log.proofs.SeatLemmas.{step_seat}
@@ -28,7 +29,13 @@ module _ (sizes : Sizes) (words : List ℕ) (views : List View) (r : TurnRule si
   pub known : (id : ℕ) (h : Hand) → get_elem? views id ≡ some (One h) → Placed (Knows sizes words r.log) r.home r.next id h
   known id h here = r.seats id (One h) here
 
-  -- all that was seen is of sessions of the log
+  -- all entries are of sessions of the log
+  pub all_of : AllOf sizes.sessions r.log
+  all_of =
+      all_from_places (λ entry. (1 ≤ entry.session) × (entry.session ≤ sizes.sessions)) r.log
+      (λ place entry is. let e = r.entries place entry is in (e.0.first_session, omega (arith, e.1, r.within)))
+
+  -- and so is all that was seen
   pub among : (h : Hand) (seen : List Entry) → h.sessions ≡ sizes.sessions → Begins seen r.log → AllOf h.sessions seen
   among h seen sessions begins =
       all_from_places (λ entry. (1 ≤ entry.session) × (entry.session ≤ h.sessions)) seen
@@ -78,17 +85,17 @@ module _ (sizes : Sizes) (words : List ℕ) (views : List View) (r : TurnRule si
 pub loaded : (sizes : Sizes) (words : List ℕ) (i : ℕ) (views : List View) → TurnRule sizes words views → TurnRule sizes (set words i (get_or words i 0)) views
 loaded sizes words i views r = subst (λ ws. TurnRule sizes ws views) (sym (set-get_or words i 0)) r
 
-pub look_step : (sizes : Sizes) (slots id : ℕ) (h : Hand) → Allows (Rules sizes) slots id (seated h) 0 (λ n. n) (Sees (seated h))
+pub look_step : (sizes : Sizes) (slots id : ℕ) (h : Hand) → Allows (Rules sizes) slots id (seated h) 0 (λ n. n) (Tells (Sees (Load 0) h))
 look_step sizes slots id h state r homes here small = (
   One (looked h r.log),
   keeps,
   tt,
   loaded sizes state.words 0 (set state.views id (One (looked h r.log))) (look_keeps sizes state.words state.views r id h here),
-  (r.log, refl, r.count, history sizes state.words state.views r h (known sizes state.words state.views r id h here).fact_is),
+  (looked h r.log, refl, (refl, r.log, refl, r.count, history sizes state.words state.views r h (known sizes state.words state.views r id h here).fact_is)),
 )
 
-pub read_step : (sizes : Sizes) (slots id word : ℕ) (h : Hand) → Allows (Rules sizes) slots id (seated h) word (λ n. n) (Reads word (seated h))
-read_step sizes slots id word h state r homes here small =
+pub read_step : (sizes : Sizes) (slots id word : ℕ) (h : Hand) → word ≢ 0 → Allows (Rules sizes) slots id (seated h) word (λ n. n) (Tells (Reads (Load word) h))
+read_step sizes slots id word h behind state r homes here small =
     let p = known sizes state.words state.views r id h here in (
       One h,
       keeps,
@@ -97,11 +104,16 @@ read_step sizes slots id word h state r homes here small =
           (with_seats sizes state.words state.views r (set state.views id (One h))
           (step_seat (Knows sizes state.words r.log) (Knows sizes state.words r.log) r.home r.next state.views id h h r.seats here refl p.fact_is (λ g apart low k. k))),
       (
+        h,
         refl,
-        (λ place index entry at below is.
-            let there = get_begins h.known.seen r.log place entry p.fact_is.seen is in (
-              (r.entries place entry there).0,
-              ap (λ n. get_or state.words n 0) at ∙ r.rows place entry there index (omega (arith, length-words_of entry)),
-            )),
+        (
+          behind,
+          refl,
+          (λ place index entry at below is.
+              let there = get_begins h.known.seen r.log place entry p.fact_is.seen is in (
+                (r.entries place entry there).0,
+                ap (λ n. get_or state.words n 0) at ∙ r.rows place entry there index (omega (arith, length-words_of entry)),
+              )),
+        ),
       ),
     )

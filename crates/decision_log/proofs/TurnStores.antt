@@ -1,7 +1,7 @@
 -- The steps of a log with a turn that change a word keep the rule.
 use Rattle.std.proofs.Common.{◌≡◌, ◌≢◌, ℕ, zero, suc, ◌+◌, ◌-◌, ◌<◌, ◌≤◌, List, [], ◌∷◌, ◌++◌, length, take, set, get_or, refl, ap, sym, ◌∙◌, subst, ⊎_elim, arith, eqb, length-append}
 use Rattle.std.specs.Prelude.{slice_index}
-use mathlib.Core.Option.{some}
+use mathlib.Core.Option.{none, some}
 use mathlib.Core.Logic.{dite}
 use native.Mathlib.Decide.{ℕ_discrete}
 use lib.ListN.{get_elem?}
@@ -24,6 +24,7 @@ use Rattle.decision_log.specs.Seats.{Seats, seated}
 use Rattle.decision_log.specs.Draft.{Holds}
 use Rattle.decision_log.specs.TurnRule.{row_at, HasTurn, Knows, TurnRule}
 use Rattle.decision_log.specs.Draft.{drafted}
+use Rattle.decision_log.specs.Atomic.{Store, Exchange, Tells}
 use Rattle.decision_log.specs.TurnPlays.{tried, published, released, Takes, Drafts, Publishes, Releases}
 use Rattle.decision_log.proofs.Histories.{begins_itself, begins_more, get_last, own_last, own_other}
 use Rattle.decision_log.proofs.SeatLemmas.{step_seat}
@@ -237,7 +238,7 @@ module _ (sizes : Sizes) (words : List ℕ) (views : List View) (r : TurnRule si
 pub fresh_has : (words : List ℕ) (log : List Entry) (h : Hand) → h.turn ≡ Fresh → HasTurn words log h h.turn → (h.known.seen ≡ log) × (slice_index words 1 ≡ h.known.number)
 fresh_has words log h fresh has = subst (λ t. HasTurn words log h t) fresh has
 
-pub take_step : (sizes : Sizes) (slots id : ℕ) (h : Hand) → Allows (Rules sizes) slots id (seated h) 1 (λ n. either (eqb n 0) h.known.number n) (Takes (seated h))
+pub take_step : (sizes : Sizes) (slots id : ℕ) (h : Hand) → Allows (Rules sizes) slots id (seated h) 1 (λ n. either (eqb n 0) h.known.number n) (Tells (Takes (Exchange 1 0 h.known.number none) h))
 take_step sizes slots id h state r homes here small =
     let n = get_or state.words 1 0 in
     dite (ℕ_discrete n 0)
@@ -246,7 +247,7 @@ take_step sizes slots id h state r homes here small =
       keeps,
       tt,
       exchanged n 0 h.known.number (λ w. TurnRule sizes (set state.words 1 w) (set state.views id (One (tried h Won)))) (λ f. take_keeps sizes state.words state.views r id h here e) (λ ne. absurd (ne e)),
-      ((λ f. refl), (λ ne. absurd (ne e))),
+      (tried h Won, refl, (refl, refl, refl, (λ f. refl), (λ ne. absurd (ne e)))),
     ))
     (λ ne. (
       One (tried h Without),
@@ -254,16 +255,16 @@ take_step sizes slots id h state r homes here small =
       tt,
       exchanged n 0 h.known.number (λ w. TurnRule sizes (set state.words 1 w) (set state.views id (One (tried h Without)))) (λ f. absurd (ne f))
           (λ f. loaded sizes state.words 1 (set state.views id (One (tried h Without))) (miss_keeps sizes state.words state.views r id h here)),
-      ((λ f. absurd (ne f)), (λ f. refl)),
+      (tried h Without, refl, (refl, refl, refl, (λ f. absurd (ne f)), (λ f. refl))),
     ))
 
-pub release_step : (sizes : Sizes) (slots id : ℕ) (h : Hand) → h.turn ≡ Fresh → Allows (Rules sizes) slots id (seated h) 1 (λ n. 0) (λ n. Releases (seated h))
+pub release_step : (sizes : Sizes) (slots id : ℕ) (h : Hand) → h.turn ≡ Fresh → Allows (Rules sizes) slots id (seated h) 1 (λ n. 0) (λ n. Tells (Releases (Store 1 0) h) 0)
 release_step sizes slots id h fresh state r homes here small =
     let f = fresh_has state.words r.log h fresh (known sizes state.words state.views r id h here).fact_is.turn in
-    (One (released h), keeps, tt, release_keeps sizes state.words state.views r id h here f.1, refl)
+    (One (released h), keeps, tt, release_keeps sizes state.words state.views r id h here f.1, (released h, refl, (refl, refl, refl)))
 
 pub draft_step : (sizes : Sizes) (slots id word index new : ℕ) (h : Hand) → word ≡ row_at (length h.known.seen) + index → h.turn ≡ Fresh → index ≤ length h.draft → index < 21 → length h.known.seen < h.capacity
-    → Allows (Rules sizes) slots id (seated h) word (λ n. new) (λ n. Drafts word new (seated h))
+    → Allows (Rules sizes) slots id (seated h) word (λ n. new) (λ n. Tells (Drafts (Store word new) h) new)
 draft_step sizes slots id word index new h at fresh along below room state r homes here small =
     let k = (known sizes state.words state.views r id h here).fact_is in
     let f = fresh_has state.words r.log h fresh k.turn in
@@ -277,11 +278,11 @@ draft_step sizes slots id word index new h at fresh along below room state r hom
       subst (λ i. TurnRule sizes (set state.words word new) (set state.views id (One (drafted h i new)))) (sym back)
           (subst (λ w. TurnRule sizes (set state.words w new) (set state.views id (One (drafted h index new)))) where_it_is
           (draft_keeps sizes state.words state.views r id h index new here f.0 f.1 fresh along below (omega arith))),
-      refl,
+      (drafted h (word - row_at (length h.known.seen)) new, refl, refl),
     )
 
 pub publish_step : (sizes : Sizes) (slots id new : ℕ) (h : Hand) (entry : Entry) → new ≡ length h.known.seen + 1 → h.turn ≡ Fresh → IsEntry entry → entry.session ≡ h.known.number → h.draft ≡ words_of entry → length h.known.seen < h.capacity
-    → Allows (Rules sizes) slots id (seated h) 0 (λ n. new) (λ n. Publishes (seated h))
+    → Allows (Rules sizes) slots id (seated h) 0 (λ n. new) (λ n. Tells (Publishes (Store 0 new) h) new)
 publish_step sizes slots id new h entry next fresh is own whole room state r homes here small =
     let k = (known sizes state.words state.views r id h here).fact_is in
     let f = fresh_has state.words r.log h fresh k.turn in
@@ -292,5 +293,5 @@ publish_step sizes slots id new h entry next fresh is own whole room state r hom
       tt,
       subst (λ n. TurnRule sizes (set state.words 0 n) (set state.views id (One (published h entry)))) (sym (next ∙ ap (λ n. n + 1) lengths))
           (publish_keeps sizes state.words state.views r id h entry here f.0 f.1 is own whole (omega arith)),
-      (entry, is, whole, refl),
+      (published h entry, refl, (refl, next, entry, is, whole, refl)),
     )

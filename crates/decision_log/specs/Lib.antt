@@ -1,5 +1,6 @@
 pub mod History
 pub mod Machine
+pub mod Reached
 pub mod Faults
 pub mod Known
 pub mod Calls
@@ -7,8 +8,10 @@ pub mod Seats
 pub mod Passes
 pub mod Draft
 pub mod Observed
+pub mod Atomic
 pub mod TurnRule
 pub mod TurnPlays
+pub mod TurnCounts
 pub mod TurnSeat
 pub mod TurnPass
 pub mod Opens

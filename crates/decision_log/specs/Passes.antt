@@ -10,6 +10,7 @@ use Rattle.decision_log.specs.declared.view.Hand.{Hand}
 use Rattle.decision_log.specs.declared.view.View.{View}
 use Rattle.decision_log.specs.declared.view.View.TheVariants.{Spent, One, Two, Rest}
 use Rattle.decision_log.specs.Machine.{Machine, IsState}
+use Rattle.decision_log.specs.Reached.{IsReached}
 
 -- the pass knows what the session of its number knows
 abbrev pub KnownTo : Machine → Hand → Type 0
@@ -22,9 +23,10 @@ SeatKnownTo machine (One hand) = KnownTo machine hand
 SeatKnownTo machine (Two first second) = KnownTo machine first × KnownTo machine second
 SeatKnownTo machine (Rest hand) = Unit {0}
 
--- a state of the machine that has this history and these passes
-pub record HasPasses (capacity : ℕ) (log : List Entry) (views : List View) (machine : Machine) : Type 0 where
+-- a state of the machine that has this history and these passes, and that looks and adds of sessions 1 to a number lead to
+pub record HasPasses (sessions capacity : ℕ) (log : List Entry) (views : List View) (machine : Machine) : Type 0 where
   pub state : IsState machine
+  pub reached : IsReached sessions machine
   pub capacity_is : machine.capacity ≡ capacity
   pub history : machine.history ≡ log
   pub passes : (id : ℕ) (view : View) → get_elem? views id ≡ some view → SeatKnownTo machine view

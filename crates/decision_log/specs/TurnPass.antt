@@ -10,7 +10,7 @@ use Rattle.decision_log.specs.Seats.{hand_of}
 
 -- its table and its sizes
 abbrev pub place_of : TurnLog → Place
-place_of log = record { table = log.table.shared.table_id; sessions = log.sessions; capacity = log.capacity }
+place_of log = record { table = log.table.inner.shared.table_id; sessions = log.sessions; capacity = log.capacity }
 
 -- the table of its seat, and the sizes that it was given
 abbrev pub home_of : TurnPass → Place

@@ -1,18 +1,16 @@
 -- What each step of a log with a turn does to the pass that takes it, and what it tells.
 --     looked, tried, published, released      the pass after a step
---     Sees, Reads, Takes, Drafts, Publishes, Releases, Meets     the steps
+--     Sees, Reads, Takes, Drafts, Publishes, Releases     the steps, each with its word and its kind
 use Rattle.std.specs.Prelude.{◌≡◌, ◌≢◌, ◌<◌, ◌+◌, ◌-◌, ℕ, List, [], ◌∷◌, ◌++◌, length, slice_get, slice_index, Some}
-use Rattle.atomic_table.specs.Table.{Me}
 use Rattle.xa_words.specs.Entry.{Entry, IsEntry}
 use Rattle.xa_words.specs.Words.{words_of}
 use Rattle.decision_log.specs.declared.view.Hand.{Hand}
-use Rattle.decision_log.specs.declared.view.View.{View}
 use Rattle.decision_log.specs.declared.view.Turn.{Turn}
 use Rattle.decision_log.specs.declared.view.Turn.TheVariants.{Without, Won, Fresh}
-use Rattle.decision_log.specs.Seats.{hand_of, second_of, seated, seated_two}
 use Rattle.decision_log.specs.Draft.{drafted}
-use Rattle.decision_log.specs.Observed.{met, HistoryIs, MetAt}
-use Rattle.decision_log.specs.TurnRule.{row_at}
+use Rattle.decision_log.specs.Observed.{HistoryIs}
+use Rattle.decision_log.specs.Atomic.{Atomic, Load, Store, Exchange}
+use Rattle.decision_log.specs.TurnRule.{row_at, turn_word}
 
 -- who has the turn and has looked is fresh
 abbrev pub looked_turn : Turn → Turn
@@ -54,38 +52,44 @@ published h entry = record {
 abbrev pub released : Hand → Hand
 released h = record { known = h.known; sessions = h.sessions; capacity = h.capacity; draft = []; turn = Without }
 
--- a load of the count
-abbrev pub Sees : Me Entry View → ℕ → Me Entry View → Type 0
-Sees me found me' =
-    (seen : List Entry) × (me' ≡ seated (looked (hand_of me.0) seen)) × (found ≡ length seen) × HistoryIs (hand_of me.0) seen
+-- a load of word 0, the count
+abbrev pub Sees : Atomic → Hand → ℕ → Hand → Type 0
+Sees (Load word) old found new =
+    (word ≡ 0) × (seen : List Entry) × (new ≡ looked old seen) × (found ≡ length seen) × HistoryIs old seen
+Sees (Store word value) old found new = ⊥
+Sees (Exchange word from to said) old found new = ⊥
 
--- a load of a word; one of a row that was seen is the entry's there
-abbrev pub Reads : ℕ → Me Entry View → ℕ → Me Entry View → Type 0
-Reads word me found me' =
-    (me' ≡ me)
-    × ((place index : ℕ) (entry : Entry) → word ≡ row_at place + index → index < 21 → slice_get (hand_of me.0).known.seen place ≡ Some entry
+-- a load of a word behind the count; one of a row that was seen is the entry's there
+abbrev pub Reads : Atomic → Hand → ℕ → Hand → Type 0
+Reads (Load word) old found new =
+    (word ≢ 0) × (new ≡ old)
+    × ((place index : ℕ) (entry : Entry) → word ≡ row_at place + index → index < 21 → slice_get old.known.seen place ≡ Some entry
     → IsEntry entry × (found ≡ slice_index (words_of entry) index))
+Reads (Store word value) old found new = ⊥
+Reads (Exchange word from to said) old found new = ⊥
 
--- a try to take the turn
-abbrev pub Takes : Me Entry View → ℕ → Me Entry View → Type 0
-Takes me found me' =
-    (found ≡ 0 → me' ≡ seated (tried (hand_of me.0) Won)) × (found ≢ 0 → me' ≡ seated (tried (hand_of me.0) Without))
+-- an exchange of the turn's word from 0 to the pass's number, which is a try
+abbrev pub Takes : Atomic → Hand → ℕ → Hand → Type 0
+Takes (Load word) old found new = ⊥
+Takes (Store word value) old found new = ⊥
+Takes (Exchange word from to said) old found new =
+    (word ≡ turn_word) × (from ≡ 0) × (to ≡ old.known.number) × (found ≡ 0 → new ≡ tried old Won) × (found ≢ 0 → new ≡ tried old Without)
 
 -- a store of a word into the row at the count
-abbrev pub Drafts : ℕ → ℕ → Me Entry View → Me Entry View → Type 0
-Drafts word new me me' = me' ≡ seated (drafted (hand_of me.0) (word - row_at (length (hand_of me.0).known.seen)) new)
+abbrev pub Drafts : Atomic → Hand → ℕ → Hand → Type 0
+Drafts (Load word) old found new = ⊥
+Drafts (Store word value) old found new = new ≡ drafted old (word - row_at (length old.known.seen)) value
+Drafts (Exchange word from to said) old found new = ⊥
 
--- a store of the count
-abbrev pub Publishes : Me Entry View → Me Entry View → Type 0
-Publishes me me' =
-    (entry : Entry) × IsEntry entry × ((hand_of me.0).draft ≡ words_of entry) × (me' ≡ seated (published (hand_of me.0) entry))
+-- a store of the count, one higher
+abbrev pub Publishes : Atomic → Hand → ℕ → Hand → Type 0
+Publishes (Load word) old found new = ⊥
+Publishes (Store word value) old found new =
+    (word ≡ 0) × (value ≡ length old.known.seen + 1) × (entry : Entry) × IsEntry entry × (old.draft ≡ words_of entry) × (new ≡ published old entry)
+Publishes (Exchange word from to said) old found new = ⊥
 
--- a store of 0 to the turn
-abbrev pub Releases : Me Entry View → Me Entry View → Type 0
-Releases me me' = me' ≡ seated (released (hand_of me.0))
-
--- a load of the count at a seat with two passes
-abbrev pub Meets : Me Entry View → ℕ → Me Entry View → Type 0
-Meets me found me' =
-    (seen : List Entry) × (me' ≡ seated_two (hand_of me.0) (met (second_of me.0) seen)) × (length (second_of me.0).known.seen < length (hand_of me.0).known.seen → found ≡ length seen)
-    × MetAt (hand_of me.0) (second_of me.0) seen
+-- a store of 0 to the turn's word
+abbrev pub Releases : Atomic → Hand → ℕ → Hand → Type 0
+Releases (Load word) old found new = ⊥
+Releases (Store word value) old found new = (word ≡ turn_word) × (value ≡ 0) × (new ≡ released old)
+Releases (Exchange word from to said) old found new = ⊥

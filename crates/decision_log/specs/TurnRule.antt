@@ -1,5 +1,7 @@
 -- The rule of a log with a turn, which holds between any two steps.
 --     row_at          where the row of a place begins
+--     turn_word       which word names who has the turn
+--     count_for       what the count is where a pass has seen the whole history
 --     HasTurn         what a pass knows of the turn is so
 --     Knows           what a pass knows of the log is so
 --     TurnRule        the rule
@@ -18,6 +20,14 @@ use Rattle.decision_log.specs.Seats.{Seats}
 -- the first word of the row of a place
 abbrev pub row_at : ℕ → ℕ
 row_at place = 2 + place * 21
+
+-- the word behind the count
+abbrev pub turn_word : ℕ
+turn_word = 1
+
+-- as many as the pass has seen
+abbrev pub count_for : Hand → ℕ
+count_for hand = length hand.known.seen
 
 -- without the turn there is no draft; with it the turn word is the pass's number; fresh, the pass has seen all
 abbrev pub HasTurn : List ℕ → List Entry → Hand → Turn → Type 0

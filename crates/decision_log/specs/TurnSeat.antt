@@ -10,15 +10,15 @@ use Rattle.decision_log.specs.Seats.{hand_of, second_of, seated, seated_two, sea
 
 -- it is a seat of this log, and knows one pass
 pub record IsSeat (log : TurnLog) (seat : Seat Entry View) : Type 0 where
-  pub table : seat.table_id ≡ log.table.shared.table_id
+  pub table : seat.table_id ≡ log.table.inner.shared.table_id
   pub held : seat.me ≡ seated (hand_of seat.me.0)
 
 -- it is a seat of this log, and knows two passes
 pub record IsTwo (log : TurnLog) (seat : Seat Entry View) : Type 0 where
-  pub table : seat.table_id ≡ log.table.shared.table_id
+  pub table : seat.table_id ≡ log.table.inner.shared.table_id
   pub held : seat.me ≡ seated_two (hand_of seat.me.0) (second_of seat.me.0)
 
 -- it is a seat of this log, and knows the passes that weren't given out
 pub record IsRest (log : TurnLog) (seat : Seat Entry View) : Type 0 where
-  pub table : seat.table_id ≡ log.table.shared.table_id
+  pub table : seat.table_id ≡ log.table.inner.shared.table_id
   pub held : seat.me ≡ seated_rest (hand_of seat.me.0)

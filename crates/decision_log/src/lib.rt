@@ -6,6 +6,8 @@ mod fault;
 mod known;
 pub mod laws;
 mod log;
+mod log_table;
+mod log_words;
 mod seating;
 mod sizes;
 #[cfg(test)]
@@ -16,6 +18,8 @@ mod view;
 pub use fault::{AddFault, OpenFault};
 pub use known::Known;
 pub use log::DecisionLog;
+pub use log_table::LogTable;
+pub use log_words::{LogPlay, LogWords};
 pub use seating::Seating;
 pub use sizes::{MOST_ENTRIES, Sizes};
 pub use turn_log::{TurnLog, TurnPass};

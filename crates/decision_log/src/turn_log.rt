@@ -12,23 +12,20 @@ mod rule;
 mod seats;
 mod steps;
 
-use crate::{Sizes, View};
-use atomic_table::Table;
+use crate::LogTable;
 pub use pass::TurnPass;
 pub use rule::Turns;
-use std::alloc::Global;
-use xa_words::Entry;
 
 /// A log with a turn. Who adds takes the turn, looks, writes its entry's words, counts it and gives the turn back.
 ///
 /// A pass that stops while it has the turn leaves the others `Busy`.
 #[derive(Drop)]
 pub struct TurnLog {
-    table: Table<Entry, View, Sizes, Turns, Global>,
+    table: LogTable<Turns>,
     sessions: u64,
     capacity: u64,
-    ghost wide: { table.shared.table_id.words ≡ row_at capacity },
-    ghost sizes: { table.shared.key ≡ record { sessions = sessions; capacity = capacity } },
+    ghost wide: { table.inner.shared.table_id.words ≡ row_at capacity },
+    ghost sizes: { table.inner.shared.key ≡ record { sessions = sessions; capacity = capacity } },
     ghost low: { (1 ≤ sessions) × (1 ≤ capacity) },
     ghost high: { (sessions ≤ 16) × (capacity ≤ 1024) },
 }

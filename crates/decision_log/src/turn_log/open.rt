@@ -7,8 +7,8 @@ ghost use Rattle.decision_log.specs.TurnSeat.{IsRest};
 
 use super::layout::ROWS;
 use super::{TurnLog, TurnPass};
-use crate::{MOST_ENTRIES, OpenFault, Sizes, View};
-use atomic_table::{Seat, Table};
+use crate::{LogTable, MOST_ENTRIES, OpenFault, Sizes, View};
+use atomic_table::Seat;
 use std::alloc::{AllocError, Global};
 use xa_words::{Entry, WORDS};
 use xa_xid::SessionNo;
@@ -56,7 +56,7 @@ impl TurnLog {
     {
         let words: Vec<u64> = vec![in alloc; 0; ROWS + capacity as usize * WORDS]?;
         let sizes = Sizes { sessions, capacity };
-        let (table, rest) = Table::of_words(alloc, &words, &sizes)?;
+        let (table, rest) = LogTable::of_words(alloc, &words, &sizes)?;
         let log = TurnLog {
             table,
             sessions,

@@ -1,55 +1,60 @@
 //! What each step tells. These types are for the proofs alone.
-ghost use Rattle.decision_log.specs.TurnPlays.{Sees, Reads, Takes, Drafts, Publishes, Releases, Meets};
+ghost use Rattle.decision_log.specs.TurnPlays.{Sees, Reads, Takes, Drafts, Publishes, Releases};
+ghost use Rattle.decision_log.specs.TurnCounts.{see_counts, read_counts, take_counts, draft_counts, publish_counts, release_counts};
 
-use crate::View;
-use atomic_table::Play;
-use xa_words::Entry;
+use super::Turns;
+use crate::LogPlay;
 
 /// A load of the count.
 pub(super) struct SeeAll;
 
-impl Play<Entry, View> for SeeAll {
-    ghost then = { λ step me found after. Sees me found after };
+impl LogPlay<Turns> for SeeAll {
+    ghost then = { Sees };
+
+    ghost counts = { see_counts };
 }
 
 /// A load of a word of a row.
 pub(super) struct ReadWord;
 
-impl Play<Entry, View> for ReadWord {
-    ghost then = { λ step me found after. Reads step.word me found after };
+impl LogPlay<Turns> for ReadWord {
+    ghost then = { Reads };
+
+    ghost counts = { read_counts };
 }
 
 /// A try to take the turn.
 pub(super) struct TakeTurn;
 
-impl Play<Entry, View> for TakeTurn {
-    ghost then = { λ step me found after. Takes me found after };
+impl LogPlay<Turns> for TakeTurn {
+    ghost then = { Takes };
+
+    ghost counts = { take_counts };
 }
 
 /// A store into the row at the count.
 pub(super) struct DraftWord;
 
-impl Play<Entry, View> for DraftWord {
-    ghost then = { λ step me found after. Drafts step.word step.first me after };
+impl LogPlay<Turns> for DraftWord {
+    ghost then = { Drafts };
+
+    ghost counts = { draft_counts };
 }
 
 /// A store of the count.
 pub(super) struct Publish;
 
-impl Play<Entry, View> for Publish {
-    ghost then = { λ step me found after. Publishes me after };
+impl LogPlay<Turns> for Publish {
+    ghost then = { Publishes };
+
+    ghost counts = { publish_counts };
 }
 
 /// A store of 0 to the turn.
 pub(super) struct Release;
 
-impl Play<Entry, View> for Release {
-    ghost then = { λ step me found after. Releases me after };
-}
+impl LogPlay<Turns> for Release {
+    ghost then = { Releases };
 
-/// A load of the count at a seat with two passes.
-pub(super) struct MeetAll;
-
-impl Play<Entry, View> for MeetAll {
-    ghost then = { λ step me found after. Meets me found after };
+    ghost counts = { release_counts };
 }

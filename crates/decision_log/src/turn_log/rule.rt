@@ -1,6 +1,6 @@
 //! The rule of the log.
 
-use crate::{Sizes, View};
+use crate::{LogWords, Sizes, View};
 use atomic_table::TableRule;
 use xa_words::Entry;
 
@@ -15,4 +15,12 @@ impl TableRule<Entry, View, Sizes> for Turns {
     ghost holds = { λ sizes state. TurnRule sizes state.words state.views };
 
     ghost first = { λ sizes. Rest (newcomer_hand sizes.sessions sizes.capacity 1) };
+}
+
+impl LogWords for Turns {
+    ghost use Rattle.decision_log.specs.TurnRule.{turn_word, count_for};
+
+    ghost newest = { count_for };
+
+    ghost tried = { turn_word };
 }

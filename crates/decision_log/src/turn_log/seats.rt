@@ -6,9 +6,7 @@ ghost use Rattle.decision_log.specs.Observed.{met, MetAt};
 ghost use Rattle.decision_log.specs.TurnSeat.{IsSeat, IsTwo, IsRest};
 
 use super::TurnLog;
-use super::layout::COUNT;
-use super::plays::MeetAll;
-use crate::{Seating, View};
+use crate::View;
 use atomic_table::Seat;
 use xa_words::Entry;
 
@@ -19,7 +17,7 @@ impl TurnLog {
         ensures seat { IsSeat self.now seat.new }
         ensures same { hand seat.new ≡ hand seat.old }
     {
-        self.table.shared.split_seat::<Seating>(seat)
+        self.table.split_seat(seat)
     }
 
     /// Takes in the pass of another seat.
@@ -30,7 +28,7 @@ impl TurnLog {
         ensures first { hand seat.new ≡ hand seat.old }
         ensures second { second seat.new ≡ hand other }
     {
-        self.table.shared.join_seat::<Seating>(seat, other);
+        self.table.join_seat(seat, other);
     }
 
     /// Loads the count: the second pass has then seen all that the first has.
@@ -40,7 +38,7 @@ impl TurnLog {
         ensures first { hand seat.new ≡ hand seat.old }
         ensures met { (seen : List Entry) × (second seat.new ≡ met (second seat.old) seen) × (length (second seat.old).known.seen < length (hand seat.old).known.seen → result ≡ length seen) × MetAt (hand seat.old) (second seat.old) seen }
     {
-        self.table.shared.load::<MeetAll>(seat, COUNT)
+        self.table.load_both(seat)
     }
 
     /// Splits a seat with two passes; the new seat has the second.
@@ -51,7 +49,7 @@ impl TurnLog {
         ensures other { IsSeat self.now result }
         ensures second { hand result ≡ second seat.old }
     {
-        self.table.shared.split_seat::<Seating>(seat)
+        self.table.split_seat(seat)
     }
 
     /// Gives out the next pass.
@@ -63,6 +61,6 @@ impl TurnLog {
         ensures pass { IsSeat self.now result }
         ensures given { hand result ≡ hand seat.old }
     {
-        self.table.shared.split_seat::<Seating>(seat)
+        self.table.split_seat(seat)
     }
 }

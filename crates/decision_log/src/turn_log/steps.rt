@@ -24,18 +24,18 @@ impl TurnLog {
         ensures seat { IsSeat self.now seat.new }
         ensures seen { (seen : List Entry) × (hand seat.new ≡ looked (hand seat.old) seen) × (result ≡ length seen) × HistoryIs (hand seat.old) seen }
     {
-        self.table.shared.load::<SeeAll>(seat, COUNT)
+        self.table.load::<SeeAll>(seat, COUNT)
     }
 
     /// Loads a word of the row of an entry that was seen.
     pub(super) fn load_word(&self, seat: &mut Seat<Entry, View>, word: usize) -> u64
         requires seat { IsSeat self.now seat.old }
-        requires word { word < row_at self.now.capacity }
+        requires word { (0 < word) × (word < row_at self.now.capacity) }
         ensures seat { IsSeat self.now seat.new }
         ensures same { hand seat.new ≡ hand seat.old }
         ensures read { (place index : ℕ) (entry : Entry) → word ≡ row_at place + index → index < 21 → slice_get (hand seat.old).known.seen place ≡ Some entry → IsEntry entry × (result ≡ slice_index (words_of entry) index) }
     {
-        self.table.shared.load::<ReadWord>(seat, word)
+        self.table.load::<ReadWord>(seat, word)
     }
 
     /// Tries to take the turn; the answer is who had it, or 0.
@@ -47,7 +47,6 @@ impl TurnLog {
         ensures lost { result ≢ 0 → hand seat.new ≡ tried (hand seat.old) Without }
     {
         self.table
-            .shared
             .compare_exchange::<TakeTurn>(seat, TURN, 0, number)
     }
 
@@ -61,7 +60,7 @@ impl TurnLog {
         ensures seat { IsSeat self.now seat.new }
         ensures stored { (index : ℕ) → word ≡ row_at (length (hand seat.old).known.seen) + index → hand seat.new ≡ drafted (hand seat.old) index new }
     {
-        self.table.shared.store::<DraftWord>(seat, word, new)
+        self.table.store::<DraftWord>(seat, word, new)
     }
 
     /// Stores the count: the entry is added.
@@ -76,7 +75,7 @@ impl TurnLog {
         ensures added { hand seat.new ≡ published (hand seat.old) entry.now }
     {
         let _session = entry.session();
-        self.table.shared.store::<Publish>(seat, COUNT, new)
+        self.table.store::<Publish>(seat, COUNT, new)
     }
 
     /// Stores 0 to the turn.
@@ -86,6 +85,6 @@ impl TurnLog {
         ensures seat { IsSeat self.now seat.new }
         ensures released { hand seat.new ≡ released (hand seat.old) }
     {
-        self.table.shared.store::<Release>(seat, TURN, 0)
+        self.table.store::<Release>(seat, TURN, 0)
     }
 }

@@ -1,4 +1,4 @@
-use Rattle.chain_log.proofs.Chains.{later_other}
+use Rattle.decision_log.proofs.Histories.{later_other}
 use Rattle.chain_log.proofs.laws.later_entries_are_of_others.Goals as goal
 
 pub returns : goal.returns

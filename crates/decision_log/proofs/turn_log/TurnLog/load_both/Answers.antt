@@ -1,15 +1,6 @@
-use Rattle.std.proofs.Common.{arith, subst, sym}
-use Rattle.atomic_table.specs.Table.{Allows}
 use Rattle.decision_log.specs.Seats.{hand_of, second_of}
-use Rattle.decision_log.specs.TurnPlays.{Meets}
-use Rattle.decision_log.proofs.TurnSteps.{Rules}
 use Rattle.decision_log.proofs.TurnSeats.{meet_step}
 use Rattle.decision_log.proofs.turn_log.TurnLog.load_both.Goals as goal
 
-pub load-requires : goal.load-requires
-load-requires c = (
-  c.requires.table,
-  omega (arith, c.args.self.now.wide),
-  subst (λ me. Allows (Rules c.args.self.now.table.shared.key) c.args.self.now.table.shared.table_id.slots c.args.seat.now.id me 0 (λ n. n) (Meets me)) (sym c.requires.held)
-      (meet_step c.args.self.now.table.shared.key c.args.self.now.table.shared.table_id.slots c.args.seat.now.id (hand_of c.args.seat.now.me.0) (second_of c.args.seat.now.me.0)),
-)
+pub load_both-requires-clause-allowed : goal.load_both-requires-clause-allowed
+load_both-requires-clause-allowed c = meet_step c.args.self.now.table.inner.shared.key c.args.self.now.table.inner.shared.table_id.slots c.args.seat.now.id (hand_of c.args.seat.now.me.0) (second_of c.args.seat.now.me.0)

@@ -1,0 +1,55 @@
+-- One atomic step of a pass on the words of a log, and how the counts of the pass rise by it.
+--     Atomic          a load of a word, a store into it, or an exchange of it
+--     Does            what the step finds, and the words after it
+--     IsLoad          the step loads this word
+--     IsTry           the step exchanges this word
+--     Counts          `looks` rises by the load of word 0 that sees the history, `tries` by each exchange of one word, and neither by anything else
+--     Tells           what a play says of a seat that knows one pass
+--     Meets           what the load of word 0 says at a seat that knows two
+use Rattle.std.specs.Prelude.{◌≡◌, ◌≢◌, ◌⊎◌, ◌<◌, ◌+◌, ℕ, List, length, set, slice_index}
+use mathlib.Core.Option.{Option}
+use Rattle.atomic_table.specs.Table.{Me}
+use Rattle.xa_words.specs.Entry.{Entry}
+use Rattle.decision_log.specs.declared.view.Hand.{Hand}
+use Rattle.decision_log.specs.declared.view.View.{View}
+use Rattle.decision_log.specs.Seats.{seated, seated_two}
+use Rattle.decision_log.specs.Observed.{met, MetAt}
+
+-- the word, then at a store the new value, at an exchange the value that is asked for, the new one, and the entry that is announced
+pub data Atomic : Type 0 where
+  Load : ℕ → Atomic
+  Store : ℕ → ℕ → Atomic
+  Exchange : ℕ → ℕ → ℕ → Option Entry → Atomic
+
+-- a load and an exchange find what stood there; an exchange leaves it where it isn't what was asked for
+abbrev pub Does : Atomic → List ℕ → ℕ → List ℕ → Type 0
+Does (Load word) old found new = (found ≡ slice_index old word) × (new ≡ old)
+Does (Store word value) old found new = new ≡ set old word value
+Does (Exchange word from to said) old found new =
+    (found ≡ slice_index old word) × (found ≡ from → new ≡ set old word to) × (found ≢ from → new ≡ old)
+
+-- the step is a load of this word
+abbrev pub IsLoad : ℕ → Atomic → Type 0
+IsLoad at (Load word) = word ≡ at
+IsLoad at (Store word value) = ⊥
+IsLoad at (Exchange word from to said) = ⊥
+
+-- the step is an exchange of this word
+abbrev pub IsTry : ℕ → Atomic → Type 0
+IsTry at (Load word) = ⊥
+IsTry at (Store word value) = ⊥
+IsTry at (Exchange word from to said) = word ≡ at
+
+-- a look is the load of word 0, which is then what the pass has seen; a try is an exchange of the word at which passes try
+pub record Counts (newest : Hand → ℕ) (tried : ℕ) (step : Atomic) (found : ℕ) (old new : Hand) : Type 0 where
+  pub looks : ((new.known.looks ≡ old.known.looks + 1) × IsLoad 0 step × (found ≡ newest new)) ⊎ ((new.known.looks ≡ old.known.looks) × (IsLoad 0 step → ⊥))
+  pub tries : ((new.known.tries ≡ old.known.tries + 1) × IsTry tried step) ⊎ ((new.known.tries ≡ old.known.tries) × (IsTry tried step → ⊥))
+
+-- the seat knows one pass after the step too, and of that the play holds
+abbrev pub Tells : (ℕ → Hand → Type 0) → ℕ → Me Entry View → Type 0
+Tells then found me = (hand : Hand) × (me ≡ seated hand) × then found hand
+
+-- the first pass stays; where the second had seen less, it has now seen the whole history
+abbrev pub Meets : (Hand → ℕ) → Hand → Hand → ℕ → Me Entry View → Type 0
+Meets newest first second found me =
+    (seen : List Entry) × (me ≡ seated_two first (met second seen)) × (length second.known.seen < length first.known.seen → found ≡ newest (met second seen)) × MetAt first second seen

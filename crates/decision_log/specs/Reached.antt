@@ -1,0 +1,27 @@
+-- What it is for a machine to be reached: by looks and adds, from the start.
+--     session_of      whose event it is
+--     EventsOf        each event is of a session from 1 to a number
+--     IsReached       such events lead from the start to the machine's history, and to what these sessions know
+use Rattle.std.specs.Prelude.{◌≡◌, ◌≤◌, ℕ, List, [], ◌∷◌}
+use Rattle.decision_log.specs.Machine.{Machine, Event, Look, Add, Runs, opening}
+
+-- the session that looks or adds
+abbrev pub session_of : Event → ℕ
+session_of (Look session) = session
+session_of (Add session entry) = session
+
+-- the sessions are 1 to a number
+abbrev pub EventsOf : ℕ → List Event → Type 0
+EventsOf sessions [] = Unit {0}
+EventsOf sessions (event ∷ events) = (1 ≤ session_of event) × (session_of event ≤ sessions) × EventsOf sessions events
+
+-- events of sessions 1 to a number lead from the start to a machine that has the same history, and whose sessions 1 to the number know the same
+pub record IsReached (sessions : ℕ) (machine : Machine) : Type 0 where
+  pub events : List Event
+  pub own : EventsOf sessions events
+  pub reached : Machine
+  pub runs : Runs events (opening machine.capacity) reached
+  pub history : reached.history ≡ machine.history
+  pub capacity : reached.capacity ≡ machine.capacity
+  pub seen : (session : ℕ) → 1 ≤ session → session ≤ sessions → (reached.knows session).seen ≡ (machine.knows session).seen
+  pub mine : (session : ℕ) → 1 ≤ session → session ≤ sessions → (reached.knows session).mine ≡ (machine.knows session).mine

@@ -1,0 +1,37 @@
+//! The words of a log, and the only steps that its passes take on them.
+//!
+//! No other file reaches the table: so a view changes by these steps alone, and its counts as `Counts` says.
+ghost use Rattle.std.specs.Prelude.{◌≡◌, [], length, IfOk};
+ghost use Rattle.atomic_table.specs.Table.{opening};
+
+mod plays;
+mod seats;
+mod steps;
+
+use crate::{LogWords, Sizes, View};
+use atomic_table::{Seat, Table};
+use std::alloc::{AllocError, Global};
+use xa_words::Entry;
+
+/// The words of a log, shared by its passes, under the log's rule.
+#[derive(Drop)]
+pub struct LogTable<R: LogWords> {
+    inner: Table<Entry, View, Sizes, R, Global>,
+}
+
+impl<R: LogWords> LogTable<R> {
+    /// The table of these words, and the seat that knows all passes.
+    ///
+    /// May answer `AllocError`. Doesn't wait.
+    pub fn of_words(
+        alloc: Global,
+        words: &[u64],
+        sizes: &Sizes,
+    ) -> Result<(LogTable<R>, Seat<Entry, View>), AllocError>
+        requires { R.holds sizes.now (opening words.now [] (R.first sizes.now)) }
+        ensures { IfOk result (λ made. (made.0.inner.shared.table_id.words ≡ length words.now) × (made.0.inner.shared.key ≡ sizes.now) × (made.1.table_id ≡ made.0.inner.shared.table_id) × (made.1.me ≡ (R.first sizes.now, []))) }
+    {
+        let (inner, seat) = Table::of_words(alloc, words, sizes)?;
+        Ok((LogTable { inner }, seat))
+    }
+}
