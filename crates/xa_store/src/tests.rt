@@ -1,7 +1,7 @@
 //! Sessions of a store, how a store is opened, what its history is, and races of runs.
 ghost use Rattle.std.specs.Prelude.{◌≡◌, IfSome};
 ghost use Rattle.std.specs.List.{All};
-ghost use Rattle.chain_log.specs.ChainPass.{place_of, home_of};
+ghost use Rattle.xa_store.specs.Passes.{place_of, home_of};
 
 use crate::{Gate, Log, OpenGate, Outcome, Pass, RaceFault, Run, Store, race};
 use decision_log::OpenFault;

@@ -1,7 +1,7 @@
-use Rattle.std.proofs.Common.{◌+◌, ◌<◌, [], ◌∷◌, ◌++◌, length, take, refl, ap, sym, ◌∙◌, subst, rules, arith}
+use Rattle.std.proofs.Common.{◌+◌, ◌<◌, true, [], ◌∷◌, ◌++◌, length, take, refl, ap, sym, ◌∙◌, subst, rules, arith}
 use Rattle.std.proofs.lemmas.List.{take_more}
 use Rattle.xa_session.specs.Answer.{IsAnswered}
-use Rattle.xa_store.proofs.Legality.{IsOnTheWay, sets_out, goes_on}
+use Rattle.xa_store.proofs.Legality.{IsOnTheWay, sets_out, goes_on, lets_in_more}
 use Rattle.xa_store.proofs.answering.answer_all.Goals as goal
 
 pub loop-index-init : goal.loop-index-init
@@ -12,6 +12,7 @@ loop-index-init g c =
       subst (λ items. IsOnTheWay c.args.session.base.now known known [] items) (sym c.in-Ok.ensures.items) (sets_out c.args.session.base.now known (g.met.L.DecisionLog.own_part c.args.session.pass)),
       search rules,
       search rules,
+      λ line below. absurd (omega arith),
     )
 
 pub loop-index-preserved : goal.loop-index-preserved
@@ -33,4 +34,6 @@ loop-index-preserved g c =
           (subst (λ lines. IsOnTheWay base (known c.args.session.pass) (known c.answer_one.new.session.pass) lines (c.loop-index.answers.items ++ c.in_ok-answer.answer ∷ [])) (sym taken) way),
       omega (arith, c.push_reserved.ensures.len, inv.3),
       omega (arith, c.push_reserved.ensures.capacity, inv.4),
+      lets_in_more (g.G.Gate.may_answer c.args.gate.now) (known c.args.session.pass).number c.loop-index.index inv.5
+          (subst (λ n. g.G.Gate.may_answer c.args.gate.now n c.loop-index.index true) inv.2.number told.opened),
     )
