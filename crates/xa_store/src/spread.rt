@@ -143,8 +143,8 @@ where
         thread::scope_env(),
         rt,
         |scope| -> Result<AllEnded<'_, L>, Blame>
-            ensures ok { IfOk result (λ all. AllThree (λ run session answers. HasRun L.home L.known (G.may_answer gate.now) run.session.base.now run.session.pass run.lines.items session.base.now session.pass answers) runs.entry.items all.sessions.items (map (λ answers. answers.items) all.answers.items)) }
-            ensures err { IfErr result (λ blame. StopsSome (λ run. Stops (G.may_answer gate.now) run.session.base.now (L.home run.session.pass).capacity (L.known run.session.pass) run.lines.items) runs.entry.items blame.fault) }
+            ensures ok { IfOk result (λ all. AllThree (λ run session answers. HasRun L.home L.known (G.may_answer gate.entry.now) run.session.base.now run.session.pass run.lines.items session.base.now session.pass answers) runs.entry.items all.sessions.items (map (λ answers. answers.items) all.answers.items)) }
+            ensures err { IfErr result (λ blame. StopsSome (λ run. Stops (G.may_answer gate.entry.now) run.session.base.now (L.home run.session.pass).capacity (L.known run.session.pass) run.lines.items) runs.entry.items blame.fault) }
         { spread(scope, rt, alloc, runs, gate) },
     )
 }
