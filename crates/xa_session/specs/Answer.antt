@@ -11,7 +11,9 @@
 --     IsFinal          trying again is of no use
 --     RepliesAfter     an answer, or Full, comes only once the replica stands for what it was found on
 --     WantsMemory      the only causes of want of memory
-use Rattle.std.specs.Prelude.{◌≡◌, ◌<◌, ◌≤◌, ℕ, Bool, true, false, IsTrue, ◌⊎◌, List, [], ◌∷◌, ◌++◌, length, take, slice_get, Some, Result, Ok, Err}
+--     Tries            how often an attempt without an answer has tried to add
+--     LooksLast        no try to add has followed the last look
+use Rattle.std.specs.Prelude.{◌≡◌, ◌<◌, ◌≤◌, ◌+◌, ℕ, Bool, true, false, IsTrue, ◌⊎◌, List, [], ◌∷◌, ◌++◌, length, take, slice_get, Some, Result, Ok, Err}
 use Rattle.xa_words.specs.Entry.{Entry}
 use Rattle.xa_xid.specs.declared.statement.Statement.{Statement}
 use Rattle.xa_server.specs.State.{State}
@@ -102,3 +104,14 @@ WantsMemory statement (Overtaken front) replica known = Unit {0}
 WantsMemory statement Full replica known = Unit {0}
 WantsMemory statement NoMemory replica known = (is_recover statement ≡ true) ⊎ (replica.replayed < length known.seen)
 WantsMemory statement Busy replica known = Unit {0}
+
+-- an attempt without an answer has lost one try to add, or else has not tried
+abbrev pub Tries : Fault → Known → Known → Type 0
+Tries (Overtaken front) old new = new.tries ≡ old.tries + 1
+Tries Full old new = new.tries ≡ old.tries
+Tries NoMemory old new = new.tries ≡ old.tries
+Tries Busy old new = new.tries ≡ old.tries + 1
+
+-- where each try comes after a look of its own, more looks than tries say that the last look was followed by none
+abbrev pub LooksLast : Known → Known → Type 0
+LooksLast old new = new.tries + old.looks < new.looks + old.tries

@@ -1,7 +1,7 @@
 //! One try to have a statement answered.
 ghost use Rattle.std.specs.Prelude.{◌≡◌, ◌<◌, ◌≤◌, ◌+◌, ◌^◌, length, IfOk, IfErr, OnOk, OnErr};
 ghost use Rattle.decision_log.specs.Calls.{Looked};
-ghost use Rattle.xa_session.specs.Answer.{IsAnswered, Fails, RepliesAfter, WantsMemory};
+ghost use Rattle.xa_session.specs.Answer.{IsAnswered, Fails, RepliesAfter, WantsMemory, Tries};
 
 use crate::{Answer, Fault, Session};
 use decision_log::{AddFault, DecisionLog};
@@ -67,7 +67,9 @@ impl<'a, L: DecisionLog> Session<'a, L> {
         ensures base { self.new.base.now ≡ self.old.base.now }
         ensures answered { IfOk result (λ answer. IsAnswered self.old.base.now statement.now answer (L.known self.old.pass) (L.known self.new.pass)) }
         ensures fails { IfErr result (λ fault. Fails L.TURNS (L.home self.old.pass).capacity self.old.base.now statement.now fault (L.known self.old.pass) (L.known self.new.pass)) }
+        ensures looked { (L.known self.old.pass).looks < (L.known self.new.pass).looks }
         ensures tries { (L.known self.new.pass).tries ≤ (L.known self.old.pass).tries + 1 }
+        ensures tried { IfErr result (λ fault. Tries fault (L.known self.old.pass) (L.known self.new.pass)) }
         ensures replayed { RepliesAfter result self.new.replica (L.known self.new.pass) }
         ensures folds { self.old.replica.replayed ≤ self.new.replica.replayed }
         ensures memory { IfErr result (λ fault. WantsMemory statement.now fault self.new.replica (L.known self.new.pass)) }

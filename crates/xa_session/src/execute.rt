@@ -1,8 +1,8 @@
 //! Trying until a statement is answered.
-ghost use Rattle.std.specs.Prelude.{◌≡◌, ◌≤◌, ℕ, IfOk, IfErr};
+ghost use Rattle.std.specs.Prelude.{◌≡◌, ◌≤◌, ℕ, Err, IfOk, IfErr, OnErr};
 ghost use Rattle.xa_server.specs.declared.reply.Reply.TheVariants.{Ok as Accepted};
 ghost use Rattle.xa_xid.specs.declared.statement.Statement.TheVariants.{Disconnect};
-ghost use Rattle.xa_session.specs.Answer.{IsAnswered, Fails, IsFinal, RepliesAfter, WantsMemory};
+ghost use Rattle.xa_session.specs.Answer.{IsAnswered, Fails, IsFinal, RepliesAfter, WantsMemory, LooksLast};
 
 use crate::{Answer, Fault, Session};
 use decision_log::DecisionLog;
@@ -26,6 +26,7 @@ impl<'a, L: DecisionLog> Session<'a, L> {
         ensures replayed { RepliesAfter result self.new.replica (L.known self.new.pass) }
         ensures folds { self.old.replica.replayed ≤ self.new.replica.replayed }
         ensures memory { IfErr result (λ fault. WantsMemory statement.now fault self.new.replica (L.known self.new.pass)) }
+        ensures tried { OnErr result (LooksLast (L.known self.old.pass) (L.known self.new.pass)) }
     {
         for _ in rt.forever() {
             match self.attempt(statement) {
@@ -50,7 +51,10 @@ impl<'a, L: DecisionLog> Session<'a, L> {
         ensures stays { IfErr result (λ refused. (L.home refused.0.pass ≡ L.home self.entry.pass) × (refused.0.base.now ≡ self.entry.base.now)) }
         ensures fails { IfErr result (λ refused. Fails L.TURNS (L.home self.entry.pass).capacity self.entry.base.now Disconnect refused.1 (L.known self.entry.pass) (L.known refused.0.pass)) }
         ensures lasts { IfErr result (λ refused. IsFinal refused.1) }
+        ensures replayed { IfErr result (λ refused. RepliesAfter (Err refused.1) refused.0.replica (L.known refused.0.pass)) }
         ensures folds { IfErr result (λ refused. self.entry.replica.replayed ≤ refused.0.replica.replayed) }
+        ensures memory { IfErr result (λ refused. WantsMemory Disconnect refused.1 refused.0.replica (L.known refused.0.pass)) }
+        ensures tried { IfErr result (λ refused. LooksLast (L.known self.entry.pass) (L.known refused.0.pass)) }
     {
         match self.execute(rt, &Statement::Disconnect) {
             Ok(_) => Ok(self.pass),

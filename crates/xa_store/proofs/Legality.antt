@@ -1,5 +1,7 @@
 -- Answers in order: one more of them, and in a longer history.
-use Rattle.std.proofs.Common.{◌≡◌, ◌⊎◌, ℕ, Bool, true, false, cond, ◌+◌, ◌<◌, ◌≤◌, List, [], ◌∷◌, ◌++◌, length, take, refl, ap, sym, ◌∙◌, subst, inl, inr, ⊎_elim, arith, length-append, append-nil}
+use Rattle.std.proofs.Common.{◌≡◌, ◌⊎◌, ℕ, Bool, true, false, cond, ◌+◌, ◌<◌, ◌≤◌, List, [], ◌∷◌, ◌++◌, length, take, refl, ap, sym, ◌∙◌, subst, inl, inr, ⊎_elim, Some, arith, length-append, append-nil}
+use Rattle.std.specs.Prelude.{slice_get}
+use borrow.Author.Count.{below_more}
 use Rattle.std.proofs.lemmas.List.{length-take-le, append_assoc}
 use Rattle.xa_xid.specs.declared.statement.Statement.{Statement}
 use Rattle.xa_words.specs.Entry.{Entry}
@@ -9,12 +11,12 @@ use Rattle.xa_server.specs.Step.{enters}
 use Rattle.decision_log.specs.declared.known.Known.{Known}
 use Rattle.decision_log.specs.History.{Begins, entries_of}
 use Rattle.decision_log.proofs.Histories.{begins_itself, begins_through, length_begins, get_begins}
-use Rattle.xa_session.specs.Replay.{state_at}
+use Rattle.xa_session.specs.Replay.{state_after, state_at}
 use Rattle.xa_session.specs.Answer.{entry_of, AnswersAt, IsAnswered}
 use Rattle.xa_session.specs.declared.answer.Answer.{Answer}
 use Rattle.xa_session.proofs.Replaying.{state_at-begins}
 use Rattle.xa_store.specs.Gathered.{IsTakenIn}
-use Rattle.xa_store.specs.Legal.{next_place, Answered, entered, IsLegal, Stops, StopsBefore}
+use Rattle.xa_store.specs.Legal.{next_place, Answered, entered, IsLegal, LetsIn, Halts, Stops}
 use Rattle.xa_store.specs.declared.race_fault.RaceFault.{RaceFault}
 use Rattle.xa_store.specs.declared.race_fault.RaceFault.TheVariants.{GateShut, Full, NoMemory, ThreadRefused}
 
@@ -198,8 +200,43 @@ legal_longer base history old new statements answers number part taken legal = r
       ∙ ap (λ list. old.mine ++ list) (sym (entered_longer base new.seen history old.number taken.seen (length old.seen) statements answers legal.answered));
 }
 
-pub stops_before : (number place count : ℕ) (fault : RaceFault) → place < count → Stops number place fault → StopsBefore number count fault
-stops_before number place count (GateShut session line) below is = (is.0, omega (arith, is.1))
-stops_before number place count (Full session line) below is = (is.0, omega (arith, is.1))
-stops_before number place count NoMemory below is = tt
-stops_before number place count ThreadRefused below is = absurd is
+-- the gate can have let the session in at one statement more
+pub lets_in_more : (gate : ℕ → ℕ → Bool → Type 0) (session count : ℕ) → LetsIn gate session count → gate session count true → LetsIn gate session (count + 1)
+lets_in_more gate session count before here = below_more (λ line. gate session line true) count before here
+
+-- a fault at one statement is a fault of the run
+module _ (gate : ℕ → ℕ → Bool → Type 0) (base : State) (capacity : ℕ) (before now new : Known) (statements : List Statement) (answers : List Answer) (place : ℕ) (statement : Statement) where
+  pub stops : (fault : RaceFault) → place < length statements → slice_get statements place ≡ Some statement → entries_of now.number now.seen ≡ now.mine → entries_of new.number new.seen ≡ new.mine
+      → IsOnTheWay base before now (take place statements) answers → Halts gate base capacity statement place fault now new → Stops gate base capacity before statements fault
+  stops (GateShut session line) below given part part' way is = record {
+    history = now.seen;
+    reached = record {
+      number = is.0 ∙ way.number;
+      below = omega (arith, is.1);
+      answers = answers;
+      legal = subst (λ n. IsLegal base now.seen before (take n statements) answers) (sym is.1) way.legal;
+    };
+    shut = is.2.shut;
+  }
+  stops (Full session line) below given part part' way is =
+      let unanswered = is.2.unanswered in
+      let taken : IsTakenIn new.seen now = record {
+        seen = unanswered.advances.seen;
+        mine = ap (λ n. entries_of n new.seen) (sym unanswered.advances.number) ∙ part' ∙ unanswered.mine;
+      } in
+      let legal = legal_longer base new.seen before now (take place statements) answers way.number part taken way.legal in
+      record {
+        history = new.seen;
+        reached = record {
+          number = is.0 ∙ way.number;
+          below = omega (arith, is.1);
+          answers = answers;
+          legal = subst (λ n. IsLegal base new.seen before (take n statements) answers) (sym is.1) legal;
+        };
+        statement = statement;
+        given = ap (slice_get statements) is.1 ∙ given;
+        enters = ap (λ n. enters (state_after base new.seen) n statement) is.0 ∙ is.2.enters;
+        full = is.2.full;
+      }
+  stops NoMemory below given part part' way is = tt
+  stops ThreadRefused below given part part' way is = absurd is

@@ -3,7 +3,8 @@ use Rattle.std.proofs.Common.{◌≡◌, ℕ, zero, suc, List, [], ◌∷◌, �
 use Rattle.std.specs.Prelude.{slice_get}
 use Rattle.std.specs.List.{AllZip, AllByRecursion}
 use Rattle.std.specs.Result.{IfOk, IfErr}
-use Rattle.xa_store.specs.Spread.{AllThree}
+use Rattle.xa_store.specs.Spread.{HasStopped, AllThree}
+use Rattle.xa_store.specs.declared.race_fault.RaceFault.{RaceFault}
 
 pub when_ok : {T E : Type 0} (r : Result T E) (P : T → Type 0) (x : T) → IfOk r P → r ≡ Ok x → P x
 when_ok (Ok y) P x is same = let here : y ≡ x = cc in subst P here is
@@ -59,6 +60,14 @@ three_all R P Q keep (a ∷ xs) [] zs all is = absurd all
 three_all R P Q keep (a ∷ xs) (b ∷ ys) [] all is = absurd all
 three_all R P Q keep (a ∷ xs) (b ∷ ys) (c ∷ zs) all is = (keep a b c all.0 is.0, three_all R P Q keep xs ys zs all.1 is.1)
 
+-- what each place has of its first
+pub three_first : {A B C : Type 0} (R : A → B → C → Type 0) (P : A → Type 0) → ((a : A) (b : B) (c : C) → R a b c → P a) → (xs : List A) (ys : List B) (zs : List C) → AllThree R xs ys zs → AllByRecursion P xs
+three_first R P keep [] [] zs all = tt
+three_first R P keep [] (b ∷ ys) zs all = absurd all
+three_first R P keep (a ∷ xs) [] zs all = absurd all
+three_first R P keep (a ∷ xs) (b ∷ ys) [] all = absurd all
+three_first R P keep (a ∷ xs) (b ∷ ys) (c ∷ zs) all = (keep a b c all.0, three_first R P keep xs ys zs all.1)
+
 -- a list and another, element by element
 
 pub zip_mapped : {A B C : Type 0} (K : A → B → Type 0) (Q : A → C → Type 0) (f : B → C) → ((a : A) (b : B) → K a b → Q a (f b)) → (xs : List A) (ys : List B) → AllZip K xs ys → AllZip Q xs (map f ys)
@@ -100,3 +109,16 @@ get_front (a ∷ xs) ys (suc place) x is = get_front xs ys place x is
 pub get_end : {A : Type 0} (xs : List A) (x : A) → slice_get (xs ++ x ∷ []) (length xs) ≡ Some x
 get_end [] x = refl
 get_end (a ∷ xs) x = get_end xs x
+
+-- a run that stops is one of more runs
+module _ {Run : Type 0} (xs : List Run) (x : Run) (all : List Run) (stops : Run → RaceFault → Type 0) (fault : RaceFault) (are : xs ++ x ∷ [] ≡ all) where
+  pub stopped_before : HasStopped stops xs fault → HasStopped stops all fault
+  stopped_before at = record {
+    index = at.index;
+    run = at.run;
+    found = subst (λ list. slice_get list at.index ≡ Some at.run) are (get_front xs (x ∷ []) at.index at.run at.found);
+    cause = at.cause;
+  }
+
+  pub stopped_last : stops x fault → HasStopped stops all fault
+  stopped_last is = record { index = length xs; run = x; found = subst (λ list. slice_get list (length xs) ≡ Some x) are (get_end xs x); cause = is }

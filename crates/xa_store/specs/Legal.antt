@@ -6,11 +6,14 @@
 --     Legal           the answers of all runs
 --     IsReturned      a run's pass, as it is afterwards
 --     IsOutcome       what a race gives
---     Stops           why a session's run stops at a statement
---     StopsBefore     the same, at one of so many statements
---     NamesLine       a run of a session has a statement at this place
+--     LetsIn          a gate can let a session give its statements
+--     Halts           why a session's statement isn't answered
+--     IsReached       the statements in front of a place were answered
+--     IsShutAt        the gate can shut a run at a statement
+--     IsFullAt        a run's statement has no room in the history
+--     Stops           why a run stops
 --     Blames          why a race gives nothing
-use Rattle.std.specs.Prelude.{◌≡◌, ◌<◌, ◌≤◌, ◌+◌, ℕ, cond, List, [], ◌∷◌, ◌++◌, length, map, slice_get, Some}
+use Rattle.std.specs.Prelude.{◌≡◌, ◌<◌, ◌≤◌, ◌+◌, ℕ, Bool, true, false, cond, List, [], ◌∷◌, ◌++◌, length, map, take, slice_get, Some}
 use Rattle.std.specs.List.{AllZip}
 use Rattle.xa_xid.specs.declared.statement.Statement.{Statement}
 use Rattle.xa_words.specs.Entry.{Entry}
@@ -18,11 +21,10 @@ use Rattle.xa_server.specs.State.{State}
 use Rattle.xa_server.specs.Step.{enters}
 use Rattle.decision_log.specs.declared.known.Known.{Known}
 use Rattle.decision_log.specs.History.{Begins, entries_of}
-use Rattle.chain_log.specs.declared.pass.ChainPass.{ChainPass}
-use Rattle.chain_log.specs.ChainPass.{home_of, known_of}
-use Rattle.xa_session.specs.Replay.{state_at}
-use Rattle.xa_session.specs.Answer.{entry_of, AnswersAt}
+use Rattle.xa_session.specs.Replay.{state_after, state_at}
+use Rattle.xa_session.specs.Answer.{entry_of, AnswersAt, IsFull}
 use Rattle.xa_session.specs.declared.answer.Answer.{Answer}
+use Rattle.xa_store.specs.Passes.{Pass, home_of, known_of}
 use Rattle.xa_store.specs.Gathered.{IsTakenIn, last_known}
 use Rattle.xa_store.specs.declared.run.Run.{Run}
 use Rattle.xa_store.specs.declared.outcome.Outcome.{Outcome}
@@ -60,7 +62,7 @@ abbrev pub Legal : State → List Entry → List Run → List (List Answer) → 
 Legal base history runs answers = AllZip (λ run. IsLegal base history (known_of run.pass) run.lines.items) runs answers
 
 -- the pass has the run's number and log, and the history has all that it knows
-pub record IsReturned (history : List Entry) (run : Run) (pass : ChainPass) : Type 0 where
+pub record IsReturned (history : List Entry) (run : Run) (pass : Pass) : Type 0 where
   pub home : home_of pass ≡ home_of run.pass
   pub number : (known_of pass).number ≡ (known_of run.pass).number
   pub taken_in : IsTakenIn history (known_of pass)
@@ -71,31 +73,61 @@ pub record IsOutcome (base : State) (runs : List Run) (outcome : Outcome) : Type
   pub passes : AllZip (IsReturned outcome.history.items) runs outcome.passes.items
   pub history : outcome.history.items ≡ (last_known (map known_of outcome.passes.items)).seen
 
--- a fault that names a statement names the one at which the run stops
-abbrev pub Stops : ℕ → ℕ → RaceFault → Type 0
-Stops number place (GateShut session line) = (session ≡ number) × (line ≡ place)
-Stops number place (Full session line) = (session ≡ number) × (line ≡ place)
-Stops number place NoMemory = Unit {0}
-Stops number place ThreadRefused = ⊥
+-- the gate can let the session go on at each of its first so many statements
+abbrev pub LetsIn : (ℕ → ℕ → Bool → Type 0) → ℕ → ℕ → Type 0
+LetsIn gate session count = (line : ℕ) → line < count → gate session line true
 
--- the run stops at one of its first so many statements
-abbrev pub StopsBefore : ℕ → ℕ → RaceFault → Type 0
-StopsBefore number count (GateShut session line) = (session ≡ number) × (line < count)
-StopsBefore number count (Full session line) = (session ≡ number) × (line < count)
-StopsBefore number count NoMemory = Unit {0}
-StopsBefore number count ThreadRefused = ⊥
+-- the gate can shut this line, and the session has done nothing for it
+pub record IsTurnedAway (gate : ℕ → ℕ → Bool → Type 0) (session line : ℕ) (old new : Known) : Type 0 where
+  pub shut : gate session line false
+  pub same : new ≡ old
 
--- one of the runs is of this session, and has a statement at this place
-pub record NamesLine (runs : List Run) (session line : ℕ) : Type 0 where
+-- the fault names the session, and the statement that isn't answered: the gate was shut, or the history is full
+abbrev pub Halts : (ℕ → ℕ → Bool → Type 0) → State → ℕ → Statement → ℕ → RaceFault → Known → Known → Type 0
+Halts gate base capacity statement place (GateShut session line) old new = (session ≡ old.number) × (line ≡ place) × IsTurnedAway gate session line old new
+Halts gate base capacity statement place (Full session line) old new = (session ≡ old.number) × (line ≡ place) × IsFull base capacity statement old new
+Halts gate base capacity statement place NoMemory old new = Unit {0}
+Halts gate base capacity statement place ThreadRefused old new = ⊥
+
+-- the run is this session's, and its statements in front of this line, but not this one, were answered as the history explains
+pub record IsReached (base : State) (history : List Entry) (before : Known) (statements : List Statement) (session line : ℕ) : Type 0 where
+  pub number : session ≡ before.number
+  pub below : line < length statements
+  pub answers : List Answer
+  pub legal : IsLegal base history before (take line statements) answers
+
+-- once the statements in front of this one were answered, the gate can shut the run
+pub record IsShutAt (gate : ℕ → ℕ → Bool → Type 0) (base : State) (before : Known) (statements : List Statement) (session line : ℕ) : Type 0 where
+  pub history : List Entry
+  pub reached : IsReached base history before statements session line
+  pub shut : gate session line false
+
+-- once the statements in front of this one were answered, it enters a history that is as long as the log can be
+pub record IsFullAt (base : State) (capacity : ℕ) (before : Known) (statements : List Statement) (session line : ℕ) : Type 0 where
+  pub history : List Entry
+  pub reached : IsReached base history before statements session line
+  pub statement : Statement
+  pub given : slice_get statements line ≡ Some statement
+  pub enters : enters (state_after base history) session statement ≡ true
+  pub full : length history ≡ capacity
+
+-- a fault that names a statement names the one at which the run stops, with its cause
+abbrev pub Stops : (ℕ → ℕ → Bool → Type 0) → State → ℕ → Known → List Statement → RaceFault → Type 0
+Stops gate base capacity before statements (GateShut session line) = IsShutAt gate base before statements session line
+Stops gate base capacity before statements (Full session line) = IsFullAt base capacity before statements session line
+Stops gate base capacity before statements NoMemory = Unit {0}
+Stops gate base capacity before statements ThreadRefused = ⊥
+
+-- one of the runs stops so
+pub record IsBlamed (gate : ℕ → ℕ → Bool → Type 0) (base : State) (runs : List Run) (fault : RaceFault) : Type 0 where
   pub index : ℕ
   pub run : Run
   pub found : slice_get runs index ≡ Some run
-  pub number : session ≡ (known_of run.pass).number
-  pub below : line < length run.lines.items
+  pub stops : Stops gate base (home_of run.pass).capacity (known_of run.pass) run.lines.items fault
 
--- a fault of a run names one of its statements
-abbrev pub Blames : List Run → RaceFault → Type 0
-Blames runs (GateShut session line) = NamesLine runs session line
-Blames runs (Full session line) = NamesLine runs session line
-Blames runs NoMemory = Unit {0}
-Blames runs ThreadRefused = Unit {0}
+-- a gate that shut, and a full history, are those of a run
+abbrev pub Blames : (ℕ → ℕ → Bool → Type 0) → State → List Run → RaceFault → Type 0
+Blames gate base runs (GateShut session line) = IsBlamed gate base runs (GateShut session line)
+Blames gate base runs (Full session line) = IsBlamed gate base runs (Full session line)
+Blames gate base runs NoMemory = Unit {0}
+Blames gate base runs ThreadRefused = Unit {0}

@@ -1,3 +1,4 @@
+pub mod Passes
 pub mod Gathered
 pub mod Legal
 pub mod Faults

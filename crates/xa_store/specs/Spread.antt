@@ -1,17 +1,41 @@
 -- Runs, sessions and answers side by side.
 --     HasAnswered     a session has answered all statements of its run
+--     HasRun          the same of a session that is on the log and the base that it was on
+--     HasStopped      one of some runs stops
+--     StopsSome       why not all of some runs were answered
 --     AllThree        the same holds of three lists, place by place
-use Rattle.std.specs.Prelude.{◌≡◌, List, [], ◌∷◌}
+use Rattle.std.specs.Prelude.{◌≡◌, ◌⊎◌, ℕ, Bool, List, [], ◌∷◌, length, slice_get, Some}
 use Rattle.xa_xid.specs.declared.statement.Statement.{Statement}
 use Rattle.xa_server.specs.State.{State}
+use Rattle.decision_log.specs.Known.{Place}
 use Rattle.decision_log.specs.declared.known.Known.{Known}
 use Rattle.xa_session.specs.declared.answer.Answer.{Answer}
-use Rattle.xa_store.specs.Legal.{IsLegal}
+use Rattle.xa_store.specs.Legal.{IsLegal, LetsIn}
+use Rattle.xa_store.specs.declared.race_fault.RaceFault.{RaceFault}
+use Rattle.xa_store.specs.declared.race_fault.RaceFault.TheVariants.{NoMemory, ThreadRefused}
 
--- its answers are legal in what it has seen in the end
-pub record HasAnswered (base : State) (old new : Known) (statements : List Statement) (answers : List Answer) : Type 0 where
+-- its answers are legal in what it has seen in the end, and the gate can have let it in
+pub record HasAnswered (gate : ℕ → ℕ → Bool → Type 0) (base : State) (old new : Known) (statements : List Statement) (answers : List Answer) : Type 0 where
   pub number : new.number ≡ old.number
   pub legal : IsLegal base new.seen old statements answers
+  pub opened : LetsIn gate old.number (length statements)
+
+-- a session's base and pass, before its run and after it
+pub record HasRun {Pass : Type 0} (home : Pass → Place) (known : Pass → Known) (gate : ℕ → ℕ → Bool → Type 0) (base : State) (pass : Pass) (statements : List Statement) (base' : State) (pass' : Pass) (answers : List Answer) : Type 0 where
+  pub same_base : base' ≡ base
+  pub same_log : home pass' ≡ home pass
+  pub answered : HasAnswered gate base (known pass) (known pass') statements answers
+
+-- one of the runs stops with this fault
+pub record HasStopped {Run : Type 0} (stops : Run → RaceFault → Type 0) (runs : List Run) (fault : RaceFault) : Type 0 where
+  pub index : ℕ
+  pub run : Run
+  pub found : slice_get runs index ≡ Some run
+  pub cause : stops run fault
+
+-- there is no memory or no thread, or else one of the runs stops
+abbrev pub StopsSome : {Run : Type 0} → (Run → RaceFault → Type 0) → List Run → RaceFault → Type 0
+StopsSome stops runs fault = (fault ≡ NoMemory) ⊎ (fault ≡ ThreadRefused) ⊎ HasStopped stops runs fault
 
 -- three lists of one length, each three elements of one place related
 abbrev pub AllThree : {A B C : Type 0} → (A → B → C → Type 0) → List A → List B → List C → Type 0

@@ -1,7 +1,8 @@
 //! One session answers its statements, one after another.
-ghost use Rattle.std.specs.Prelude.{◌≡◌, length, IfOk, IfErr};
+ghost use Rattle.std.specs.Prelude.{◌≡◌, true, IfOk, IfErr, OnOk};
 ghost use Rattle.xa_session.specs.Answer.{IsAnswered};
-ghost use Rattle.xa_store.specs.Legal.{IsLegal, Stops, StopsBefore};
+ghost use Rattle.xa_store.specs.Legal.{Halts, Stops};
+ghost use Rattle.xa_store.specs.Spread.{HasRun};
 
 use crate::{Gate, RaceFault};
 use decision_log::DecisionLog;
@@ -21,7 +22,8 @@ fn answer_one<L: DecisionLog, G: Gate, R: Wait>(
     ensures base { session.new.base.now ≡ session.old.base.now }
     ensures home { L.home session.new.pass ≡ L.home session.old.pass }
     ensures answered { IfOk result (λ answer. IsAnswered session.old.base.now statement.now answer (L.known session.old.pass) (L.known session.new.pass)) }
-    ensures fault { IfErr result (λ fault. Stops (L.known session.old.pass).number line fault) }
+    ensures opened { OnOk result (G.may_answer gate.now (L.known session.old.pass).number line true) }
+    ensures fault { IfErr result (λ fault. Halts (G.may_answer gate.now) session.old.base.now (L.home session.old.pass).capacity statement.now line fault (L.known session.old.pass) (L.known session.new.pass)) }
 {
     let number = session.number();
     if !gate.enter(number, line) {
@@ -53,11 +55,8 @@ pub(crate) fn answer_all<'a, L: DecisionLog, G: Gate, R: Wait>(
 ) -> Result<(Session<'a, L>, Vec<Answer>), RaceFault>
 where
     L::Pass: Drop,
-    ensures base { IfOk result (λ done. done.0.base.now ≡ session.entry.base.now) }
-    ensures home { IfOk result (λ done. L.home done.0.pass ≡ L.home session.entry.pass) }
-    ensures number { IfOk result (λ done. (L.known done.0.pass).number ≡ (L.known session.entry.pass).number) }
-    ensures legal { IfOk result (λ done. IsLegal session.entry.base.now (L.known done.0.pass).seen (L.known session.entry.pass) lines.now done.1.items) }
-    ensures fault { IfErr result (λ fault. StopsBefore (L.known session.entry.pass).number (length lines.now) fault) }
+    ensures ok { IfOk result (λ done. HasRun L.home L.known (G.may_answer gate.now) session.entry.base.now session.entry.pass lines.now done.0.base.now done.0.pass done.1.items) }
+    ensures fault { IfErr result (λ fault. Stops (G.may_answer gate.now) session.entry.base.now (L.home session.entry.pass).capacity (L.known session.entry.pass) lines.now fault) }
 {
     let Ok(mut answers) = Vec::with_capacity(alloc, lines.len()) else {
         return Err(RaceFault::NoMemory);

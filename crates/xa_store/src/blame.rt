@@ -1,5 +1,5 @@
 //! Which fault of a race is told.
-ghost use Rattle.std.specs.Prelude.{◌≡◌, ◌⊎◌};
+ghost use Rattle.std.specs.Prelude.{◌≡◌, ◌≤◌, ◌⊎◌};
 
 use crate::RaceFault;
 use xa_xid::SessionNo;
@@ -16,7 +16,8 @@ pub(crate) struct Blame {
 impl Blame {
     /// The fault of a session's run.
     pub(crate) fn of(session: SessionNo, fault: RaceFault) -> Blame
-        ensures { result.fault ≡ fault }
+        ensures fault { result.fault ≡ fault }
+        ensures session { result.session ≡ session }
     {
         Blame {
             session: session.get(),
@@ -36,7 +37,8 @@ impl Blame {
 
     /// Which of the two is told.
     pub(crate) fn or(self, other: Blame) -> Blame
-        ensures { (result ≡ self) ⊎ (result ≡ other) }
+        ensures either { (result ≡ self) ⊎ (result ≡ other) }
+        ensures lowest { (result.session ≤ self.session) × (result.session ≤ other.session) }
     {
         if other.session < self.session {
             other

@@ -1,14 +1,18 @@
 //! Gates that a run asks before each of its statements.
-ghost use Rattle.std.specs.Prelude.{IsTrue};
+ghost use Rattle.std.specs.Prelude.{Bool, ℕ, IsTrue};
 
 use xa_xid::SessionNo;
 
 /// Lets a run go on, or shuts it. All runs of a race ask the same gate, each from its own thread.
 pub trait Gate {
+    // the answers that the gate can give to a session at a line; a gate that doesn't say so can give both
+    ghost may_answer: { Self → ℕ → ℕ → Bool → Type 0 } = { λ _ _ _ _. Unit {0} };
+
     /// Whether the session may give its statement at `line`, counted from 0.
     ///
-    /// No answer is promised.
-    fn enter(&self, session: SessionNo, line: u64) -> bool;
+    /// The answer is one that the gate can give there, and nothing else is promised of it: it may change from call to call.
+    fn enter(&self, session: SessionNo, line: u64) -> bool
+        ensures { may_answer self.now session line result };
 }
 
 /// The gate that is always open.
@@ -16,9 +20,9 @@ pub trait Gate {
 pub struct OpenGate;
 
 impl Gate for OpenGate {
-    fn enter(&self, _session: SessionNo, _line: u64) -> bool
-        ensures { IsTrue result }
-    {
+    ghost may_answer = { λ _ _ _ opened. IsTrue opened };
+
+    fn enter(&self, _session: SessionNo, _line: u64) -> bool {
         true
     }
 }

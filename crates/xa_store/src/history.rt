@@ -1,7 +1,7 @@
 //! What all of a store's sessions have seen.
 ghost use Rattle.std.specs.Prelude.{◌≡◌, ◌<◌, IfOk, length, map};
 ghost use Rattle.std.specs.List.{All, AllZip};
-ghost use Rattle.chain_log.specs.ChainPass.{place_of, home_of, known_of};
+ghost use Rattle.xa_store.specs.Passes.{place_of, home_of, known_of};
 ghost use Rattle.xa_store.specs.Gathered.{IsTakenIn, Keeps, last_known};
 
 use crate::gather::{copy_seen, gather};

@@ -1,9 +1,9 @@
 //! Runs of sessions side by side.
-ghost use Rattle.std.specs.Prelude.{◌≡◌, map, IfOk, IfErr};
+ghost use Rattle.std.specs.Prelude.{◌≡◌, length, map, IfOk, IfErr, OnOk};
 ghost use Rattle.std.specs.List.{All, AllZip};
-ghost use Rattle.chain_log.specs.ChainPass.{place_of, home_of, known_of};
+ghost use Rattle.xa_store.specs.Passes.{place_of, home_of, known_of};
 ghost use Rattle.xa_store.specs.Gathered.{IsTakenIn, Keeps, last_known};
-ghost use Rattle.xa_store.specs.Legal.{IsOutcome, Blames};
+ghost use Rattle.xa_store.specs.Legal.{IsOutcome, LetsIn, Blames};
 
 use crate::spread::{AllEnded, Started, run_all};
 use crate::{Gate, Log, Outcome, Pass, RaceFault, Run, Store};
@@ -84,7 +84,8 @@ pub fn race<G: Gate + Sync, R: Threads + Wait + Sync>(
 ) -> Result<Outcome, RaceFault>
     requires { All (λ run. home_of run.pass ≡ place_of store.now.log) runs.items }
     ensures legal { IfOk result (λ outcome. IsOutcome store.now.base runs.items outcome) }
-    ensures fault { IfErr result (λ fault. Blames runs.items fault) }
+    ensures opened { OnOk result (All (λ run. LetsIn (G.may_answer gate.now) (known_of run.pass).number (length run.lines.items)) runs.items) }
+    ensures fault { IfErr result (λ fault. Blames (G.may_answer gate.now) store.now.base runs.items fault) }
 {
     let Ok(started) = start_all(alloc, store, runs) else {
         return Err(RaceFault::NoMemory);

@@ -1,8 +1,7 @@
 //! Runs on threads of their own.
-ghost use Rattle.std.specs.Prelude.{◌≡◌, ◌⊎◌, ◌++◌, ℕ, [], ◌∷◌, length, map, slice_get, Some, Ok, Err, IfOk, IfErr, OnOk};
-ghost use Rattle.std.specs.List.{All};
-ghost use Rattle.xa_store.specs.Legal.{StopsBefore};
-ghost use Rattle.xa_store.specs.Spread.{HasAnswered, AllThree};
+ghost use Rattle.std.specs.Prelude.{◌≡◌, ◌⊎◌, ◌++◌, [], ◌∷◌, map, Ok, Err, IfOk, IfErr, OnOk};
+ghost use Rattle.xa_store.specs.Legal.{Stops};
+ghost use Rattle.xa_store.specs.Spread.{HasRun, StopsSome, AllThree};
 
 use crate::answering::answer_all;
 use crate::blame::Blame;
@@ -49,10 +48,10 @@ impl<'a, L: DecisionLog> AllEnded<'a, L> {
 
 /// What a run's thread promises of what it gives back.
 #[derive(Drop)]
-struct AnswersAll<'a, L: DecisionLog>(Snapshot<Started<'a, L>>);
+struct AnswersAll<'a, L: DecisionLog, G: Gate>(Snapshot<Started<'a, L>>, Snapshot<G>);
 
-impl<'a, L: DecisionLog> Promise<RunEnded<'a, L>> for AnswersAll<'a, L> {
-    ghost kept_by = { λ promise ended. IfOk ended (λ done. (done.0.base.now ≡ promise.0.value.session.base.now) × (L.home done.0.pass ≡ L.home promise.0.value.session.pass) × HasAnswered promise.0.value.session.base.now (L.known promise.0.value.session.pass) (L.known done.0.pass) promise.0.value.lines.items done.1.items) × IfErr ended (λ fault. StopsBefore (L.known promise.0.value.session.pass).number (length promise.0.value.lines.items) fault) };
+impl<'a, L: DecisionLog, G: Gate> Promise<RunEnded<'a, L>> for AnswersAll<'a, L, G> {
+    ghost kept_by = { λ promise ended. let run = promise.0.value in IfOk ended (λ done. HasRun L.home L.known (G.may_answer promise.1.value) run.session.base.now run.session.pass run.lines.items done.0.base.now done.0.pass done.1.items) × IfErr ended (λ fault. Stops (G.may_answer promise.1.value) run.session.base.now (L.home run.session.pass).capacity (L.known run.session.pass) run.lines.items fault) };
 }
 
 /// Answers all statements of a run.
@@ -64,10 +63,8 @@ fn answer_run<'a, L: DecisionLog, G: Gate, R: Wait>(
 ) -> RunEnded<'a, L>
 where
     L::Pass: Drop,
-    ensures base { IfOk result (λ done. done.0.base.now ≡ run.entry.session.base.now) }
-    ensures home { IfOk result (λ done. L.home done.0.pass ≡ L.home run.entry.session.pass) }
-    ensures answered { IfOk result (λ done. HasAnswered run.entry.session.base.now (L.known run.entry.session.pass) (L.known done.0.pass) run.entry.lines.items done.1.items) }
-    ensures fault { IfErr result (λ fault. StopsBefore (L.known run.entry.session.pass).number (length run.entry.lines.items) fault) }
+    ensures ok { IfOk result (λ done. HasRun L.home L.known (G.may_answer gate.now) run.entry.session.base.now run.entry.session.pass run.entry.lines.items done.0.base.now done.0.pass done.1.items) }
+    ensures fault { IfErr result (λ fault. Stops (G.may_answer gate.now) run.entry.session.base.now (L.home run.entry.session.pass).capacity (L.known run.entry.session.pass) run.entry.lines.items fault) }
 {
     let Started { session, lines } = run;
     answer_all(rt, alloc, session, lines.as_slice(), gate)
@@ -107,8 +104,8 @@ fn spread<'s, 'a: 's, E, L: DecisionLog + Sync, G: Gate + Sync, R: Threads + Wai
 ) -> Result<AllEnded<'a, L>, Blame>
 where
     L::Pass: Send + Drop,
-    ensures ok { IfOk result (λ all. AllThree (λ run session answers. (session.base.now ≡ run.session.base.now) × (L.home session.pass ≡ L.home run.session.pass) × HasAnswered run.session.base.now (L.known run.session.pass) (L.known session.pass) run.lines.items answers) runs.entry.items all.sessions.items (map (λ answers. answers.items) all.answers.items)) }
-    ensures err { IfErr result (λ blame. (blame.fault ≡ RaceFault.NoMemory) ⊎ (blame.fault ≡ RaceFault.ThreadRefused) ⊎ ((index : ℕ) × (run : _) × (slice_get runs.entry.items index ≡ Some run) × StopsBefore (L.known run.session.pass).number (length run.lines.items) blame.fault)) }
+    ensures ok { IfOk result (λ all. AllThree (λ run session answers. HasRun L.home L.known (G.may_answer gate.now) run.session.base.now run.session.pass run.lines.items session.base.now session.pass answers) runs.entry.items all.sessions.items (map (λ answers. answers.items) all.answers.items)) }
+    ensures err { IfErr result (λ blame. StopsSome (λ run. Stops (G.may_answer gate.now) run.session.base.now (L.home run.session.pass).capacity (L.known run.session.pass) run.lines.items) runs.entry.items blame.fault) }
 {
     let Some(run) = runs.pop() else {
         return Ok(AllEnded {
@@ -118,7 +115,7 @@ where
     };
     let number = run.session.number();
     let thread = scope.spawn_with(
-        AnswersAll(Snapshot::of(&run)),
+        AnswersAll(Snapshot::of(&run), Snapshot::of(gate)),
         move || answer_run(rt, alloc, run, gate),
     );
     let others = spread(scope, rt, alloc, runs, gate);
@@ -139,15 +136,15 @@ pub(crate) fn run_all<'a, L: DecisionLog + Sync, G: Gate + Sync, R: Threads + Wa
 ) -> Result<AllEnded<'a, L>, Blame>
 where
     L::Pass: Send + Drop,
-    ensures ok { IfOk result (λ all. AllThree (λ run session answers. (session.base.now ≡ run.session.base.now) × (L.home session.pass ≡ L.home run.session.pass) × HasAnswered run.session.base.now (L.known run.session.pass) (L.known session.pass) run.lines.items answers) runs.entry.items all.sessions.items (map (λ answers. answers.items) all.answers.items)) }
-    ensures err { IfErr result (λ blame. (blame.fault ≡ RaceFault.NoMemory) ⊎ (blame.fault ≡ RaceFault.ThreadRefused) ⊎ ((index : ℕ) × (run : _) × (slice_get runs.entry.items index ≡ Some run) × StopsBefore (L.known run.session.pass).number (length run.lines.items) blame.fault)) }
+    ensures ok { IfOk result (λ all. AllThree (λ run session answers. HasRun L.home L.known (G.may_answer gate.now) run.session.base.now run.session.pass run.lines.items session.base.now session.pass answers) runs.entry.items all.sessions.items (map (λ answers. answers.items) all.answers.items)) }
+    ensures err { IfErr result (λ blame. StopsSome (λ run. Stops (G.may_answer gate.now) run.session.base.now (L.home run.session.pass).capacity (L.known run.session.pass) run.lines.items) runs.entry.items blame.fault) }
 {
     thread::scope(
         thread::scope_env(),
         rt,
         |scope| -> Result<AllEnded<'_, L>, Blame>
-            ensures ok { IfOk result (λ all. AllThree (λ run session answers. (session.base.now ≡ run.session.base.now) × (L.home session.pass ≡ L.home run.session.pass) × HasAnswered run.session.base.now (L.known run.session.pass) (L.known session.pass) run.lines.items answers) runs.entry.items all.sessions.items (map (λ answers. answers.items) all.answers.items)) }
-            ensures err { IfErr result (λ blame. (blame.fault ≡ RaceFault.NoMemory) ⊎ (blame.fault ≡ RaceFault.ThreadRefused) ⊎ ((index : ℕ) × (run : _) × (slice_get runs.entry.items index ≡ Some run) × StopsBefore (L.known run.session.pass).number (length run.lines.items) blame.fault)) }
+            ensures ok { IfOk result (λ all. AllThree (λ run session answers. HasRun L.home L.known (G.may_answer gate.entry.now) run.session.base.now run.session.pass run.lines.items session.base.now session.pass answers) runs.entry.items all.sessions.items (map (λ answers. answers.items) all.answers.items)) }
+            ensures err { IfErr result (λ blame. StopsSome (λ run. Stops (G.may_answer gate.entry.now) run.session.base.now (L.home run.session.pass).capacity (L.known run.session.pass) run.lines.items) runs.entry.items blame.fault) }
         { spread(scope, rt, alloc, runs, gate) },
     )
 }

@@ -1,7 +1,7 @@
 //! Sessions of a store, how a store is opened, what its history is, and races of runs.
 ghost use Rattle.std.specs.Prelude.{◌≡◌, IfSome};
 ghost use Rattle.std.specs.List.{All};
-ghost use Rattle.chain_log.specs.ChainPass.{place_of, home_of};
+ghost use Rattle.xa_store.specs.Passes.{place_of, home_of};
 
 use crate::{Gate, Log, OpenGate, Outcome, Pass, RaceFault, Run, Store, race};
 use decision_log::OpenFault;
@@ -219,6 +219,18 @@ impl Gate for ShutsEachLast {
     }
 }
 
+/// A gate that lets a run go on only where each of its lines is asked for once, in order: it counts how often it was asked.
+#[derive(Drop)]
+struct CountsLines {
+    asked: AtomicU64,
+}
+
+impl Gate for CountsLines {
+    fn enter(&self, _session: SessionNo, line: u64) -> bool {
+        self.asked.fetch_add(1, Ordering::SeqCst) == line
+    }
+}
+
 /// Whether one of two sessions has started the branch, and the other was told so.
 fn is_started_once(outcome: &Outcome) -> bool {
     let [first, second] = outcome.answers.as_slice() else {
@@ -334,6 +346,35 @@ fn a_gate_stops_one_run_and_no_other(rt: HostRuntime) -> Result<(), AllocError> 
             == Some(RaceFault::GateShut { session, line: 1 })
     );
     assert!(rt; is_listed_by(&store, third, 4, b'b'));
+    Ok(())
+}
+
+#[test]
+fn a_gate_is_asked_once_before_each_statement(rt: HostRuntime) -> Result<(), AllocError> {
+    let Ok((store, mut passes)) = Store::open(rt.alloc(), 2, 1) else {
+        panic!(rt; "not opened")
+    };
+    let Some(pass) = passes.pop() else {
+        panic!(rt; "a pass")
+    };
+    let lines = vec![in rt.alloc();
+        Statement::Start(xid(b'a')),
+        Statement::End(xid(b'a')),
+        Statement::Recover { convert: false },
+        Statement::Prepare(xid(b'a')),
+    ]?;
+    let Some(runs) = one_run(&store, rt.alloc(), pass, lines) else {
+        panic!(rt; "a run")
+    };
+    let gate = CountsLines {
+        asked: AtomicU64::new(0),
+    };
+    let session = SessionNo::of(1).unwrap();
+    assert!(rt;
+        race(&rt, rt.alloc(), &store, runs, &gate).err()
+            == Some(RaceFault::Full { session, line: 3 })
+    );
+    assert!(rt; gate.asked.load(Ordering::SeqCst) == 4);
     Ok(())
 }
 

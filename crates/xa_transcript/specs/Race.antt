@@ -9,7 +9,7 @@ use Rattle.std.specs.List.{filter_map}
 use Rattle.xa_xid.specs.declared.statement.Statement.{Statement}
 use Rattle.xa_statement.specs.Reading.{read_of}
 use Rattle.decision_log.specs.Known.{newcomer}
-use Rattle.chain_log.specs.ChainPass.{known_of}
+use Rattle.xa_store.specs.Passes.{known_of}
 use Rattle.xa_store.specs.declared.run.Run.{Run}
 use Rattle.xa_transcript.specs.Script.{Line, Blank, Bad, Given, line_of, lines_of}
 use Rattle.xa_transcript.specs.Printed.{syntax_text}

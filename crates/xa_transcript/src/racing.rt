@@ -3,8 +3,7 @@ ghost use Rattle.std.specs.Prelude.{◌≡◌, ◌≤◌, ◌+◌, ℕ, length, 
 ghost use Rattle.std.specs.Io.KnownBytes.{Appends, IsAtEnd};
 ghost use Rattle.decision_log.specs.Known.{newcomer};
 ghost use Rattle.decision_log.specs.Opens.{IsCapacity};
-ghost use Rattle.chain_log.specs.ChainPass.{known_of};
-ghost use Rattle.chain_log.specs.declared.pass.ChainPass.{ChainPass};
+ghost use Rattle.xa_store.specs.Passes.{known_of};
 ghost use Rattle.xa_transcript.specs.Script.{lines_of};
 ghost use Rattle.xa_transcript.specs.Transcript.{ConsumesMoreThan};
 ghost use Rattle.xa_transcript.specs.Race.{AreRunsFrom};
@@ -23,7 +22,7 @@ use xa_xid::NoMemory;
 
 /// The runs of the sessions that have these passes, session 1 first.
 fn runs_of(alloc: Global, script: &[u8], passes: Vec<Pass>) -> Result<Vec<Run>, NoMemory>
-    requires { (index : ℕ) (pass : ChainPass) → slice_get passes.items index ≡ Some pass → known_of pass ≡ newcomer (index + 1) }
+    requires { (index : ℕ) (pass : _) → slice_get passes.items index ≡ Some pass → known_of pass ≡ newcomer (index + 1) }
     ensures runs { IfOk result (λ runs. AreRunsFrom 1 (lines_of script.now) runs.items) }
     ensures passes { IfOk result (λ runs. map (λ run. run.pass) runs.items ≡ passes.items) }
 {

@@ -1,7 +1,9 @@
-use Rattle.std.proofs.Common.{◌+◌, ◌<◌, [], ◌∷◌, ◌++◌, length, take, refl, ap, sym, ◌∙◌, subst, rules, arith}
+use Rattle.std.proofs.Common.{◌+◌, ◌<◌, true, [], ◌∷◌, ◌++◌, length, take, refl, ap, sym, ◌∙◌, subst, rules, arith}
 use Rattle.std.proofs.lemmas.List.{take_more}
+use Rattle.std.proofs.lemmas.Option.{slice_get_read}
 use Rattle.xa_session.specs.Answer.{IsAnswered}
-use Rattle.xa_store.proofs.Legality.{IsOnTheWay, sets_out, goes_on}
+use Rattle.xa_store.proofs.Legality.{IsOnTheWay, sets_out, goes_on, lets_in_more, stops}
+use Rattle.xa_store.specs.Legal.{Halts, Stops}
 use Rattle.xa_store.proofs.answering.answer_all.Goals as goal
 
 pub loop-index-init : goal.loop-index-init
@@ -12,6 +14,7 @@ loop-index-init g c =
       subst (λ items. IsOnTheWay c.args.session.base.now known known [] items) (sym c.in-Ok.ensures.items) (sets_out c.args.session.base.now known (g.met.L.DecisionLog.own_part c.args.session.pass)),
       search rules,
       search rules,
+      λ line below. absurd (omega arith),
     )
 
 pub loop-index-preserved : goal.loop-index-preserved
@@ -33,4 +36,27 @@ loop-index-preserved g c =
           (subst (λ lines. IsOnTheWay base (known c.args.session.pass) (known c.answer_one.new.session.pass) lines (c.loop-index.answers.items ++ c.in_ok-answer.answer ∷ [])) (sym taken) way),
       omega (arith, c.push_reserved.ensures.len, inv.3),
       omega (arith, c.push_reserved.ensures.capacity, inv.4),
+      lets_in_more (g.G.Gate.may_answer c.args.gate.now) (known c.args.session.pass).number c.loop-index.index inv.5
+          (subst (λ n. g.G.Gate.may_answer c.args.gate.now n c.loop-index.index true) inv.2.number told.opened),
     )
+
+pub returns-in_err-answer-clause-fault : goal.returns-in_err-answer-clause-fault
+returns-in_err-answer-clause-fault g c =
+    let inv = c.loop-index.invariant in
+    let known = g.L.DecisionLog.known in
+    let may = g.G.Gate.may_answer c.args.gate.now in
+    let place = c.loop-index.index in
+    let lines = c.args.lines.now in
+    let statement = c.index-lines-index.result in
+    let fault = c.in_err-answer.field-0.0 in
+    let now = known c.loop-index.session.pass in
+    let new = known c.answer_one.new.session.pass in
+    let below : place < length lines = omega (arith, c.loop-index-test.true) in
+    let halts : Halts may c.args.session.base.now (g.L.DecisionLog.home c.args.session.pass).capacity statement place fault now new =
+    subst (λ base. Halts may base (g.L.DecisionLog.home c.args.session.pass).capacity statement place fault now new) inv.0
+    (subst (λ home. Halts may c.loop-index.session.base.now home.capacity statement place fault now new) inv.1 c.in_err-answer.ensures.fault) in
+    let stopped : Stops may c.args.session.base.now (g.L.DecisionLog.home c.args.session.pass).capacity (known c.args.session.pass) lines fault =
+    stops may c.args.session.base.now (g.L.DecisionLog.home c.args.session.pass).capacity (known c.args.session.pass) now new lines c.loop-index.answers.items place statement fault below
+    (slice_get_read lines (length lines) place statement refl below c.index-lines-index.is)
+    (g.met.L.DecisionLog.own_part c.loop-index.session.pass) (g.met.L.DecisionLog.own_part c.answer_one.new.session.pass) inv.2 halts in
+    search rules

@@ -1,4 +1,5 @@
 use Rattle.std.proofs.Common.{◌≡◌, ◌≤◌, take, length, vec_len, vec_capacity}
+use Rattle.xa_store.specs.Legal.{LetsIn}
 use Rattle.xa_store.proofs.Legality.{IsOnTheWay}
 use Rattle.xa_store.proofs.answering.answer_all.Given as goal
 
@@ -9,3 +10,4 @@ invariant-loop-index g l =
     × IsOnTheWay l.fn.session.base.now (g.L.DecisionLog.known l.fn.session.pass) (g.L.DecisionLog.known l.session.pass) (take l.index l.lines) l.answers.items
     × (vec_len l.answers ≡ l.index)
     × (length l.lines ≤ vec_capacity l.answers)
+    × LetsIn (g.G.Gate.may_answer l.fn.gate) (g.L.DecisionLog.known l.fn.session.pass).number l.index

@@ -1,7 +1,7 @@
 use Rattle.std.proofs.Common.{◌≡◌, map, ap, sym, subst, ◌∙◌}
 use Rattle.std.specs.List.{All, AllZip}
 use Rattle.std.proofs.lemmas.List.Elements.{All-map}
-use Rattle.chain_log.specs.ChainPass.{home_of, known_of}
+use Rattle.xa_store.specs.Passes.{home_of, known_of}
 use Rattle.xa_store.specs.Gathered.{IsTakenIn, Keeps, last_known}
 use Rattle.xa_store.proofs.Spreading.{zip_mapped, map_twice}
 use Rattle.xa_store.proofs.racing.conclude.Goals as goal

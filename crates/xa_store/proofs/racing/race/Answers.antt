@@ -1,18 +1,19 @@
 use Rattle.std.proofs.Common.{◌≡◌, length, map, ap, sym, subst, ◌∙◌, ⊎_elim}
 use Rattle.std.specs.List.{AllZip}
 use Rattle.std.proofs.lemmas.List.Elements.{All-from_recursion, recursion_from_All}
-use Rattle.chain_log.specs.ChainPass.{place_of, home_of, known_of}
+use Rattle.xa_store.specs.Passes.{place_of, home_of, known_of}
 use Rattle.xa_store.specs.Gathered.{IsTakenIn, Keeps}
-use Rattle.xa_store.specs.Legal.{IsLegal, IsReturned, StopsBefore, Blames}
+use Rattle.xa_store.specs.Legal.{IsLegal, IsReturned, LetsIn, Stops, Blames}
 use Rattle.xa_store.specs.Spread.{HasAnswered, AllThree}
+use Rattle.xa_store.specs.declared.run.Run.{Run}
 use Rattle.xa_store.proofs.Races.{legal_in, blames}
-use Rattle.xa_store.proofs.Spreading.{three_through, three_changed, three_second, three_all, zip_and_all, zip_get}
+use Rattle.xa_store.proofs.Spreading.{three_through, three_changed, three_second, three_all, three_first, zip_and_all, zip_get}
 use Rattle.xa_store.proofs.racing.race.Goals as goal
 
 pub conclude-requires : goal.conclude-requires
 conclude-requires g c =
     let three = three_through _ _ (λ run session answers. home_of session.pass ≡ home_of run.pass)
-    (λ run started session answers is was. was.1 ∙ ap home_of is.1)
+    (λ run started session answers is was. was.same_log ∙ ap home_of is.1)
     c.args.runs.items c.in-Ok.started.items c.in-Ok-run_all.ended.sessions.items (map (λ answers. answers.items) c.in-Ok-run_all.ended.answers.items) c.in-Ok.ensures c.in-Ok-run_all.ensures.ok in
     All-from_recursion (λ session. home_of session.pass ≡ place_of c.args.store.now.log) c.in-Ok-run_all.ended.sessions.items
     (three_all _ (λ run. home_of run.pass ≡ place_of c.args.store.now.log) _ (λ run session answers is home. is ∙ home)
@@ -21,14 +22,19 @@ conclude-requires g c =
 
 pub returns-in-Err-clause-fault : goal.returns-in-Err-clause-fault
 returns-in-Err-clause-fault g c =
+    let may = g.G.Gate.may_answer c.args.gate.now in
+    let base = c.args.store.now.base in
+    let fault = c.in-Err.blame.fault in
     ⊎_elim
-    (λ memory. subst (λ fault. Blames c.args.runs.items fault) (sym memory) tt)
-    (λ rest. ⊎_elim (λ refused. subst (λ fault. Blames c.args.runs.items fault) (sym refused) tt)
+    (λ memory. subst (λ one. Blames may base c.args.runs.items one) (sym memory) tt)
+    (λ rest. ⊎_elim (λ refused. subst (λ one. Blames may base c.args.runs.items one) (sym refused) tt)
     (λ at.
-    let run = zip_get _ c.args.runs.items c.in-Ok.started.items at.0 at.1 c.in-Ok.ensures at.2 in
-    blames c.args.runs.items at.0 run.0 c.in-Err.blame.fault run.1
-    (subst (λ pass. StopsBefore (known_of pass).number (length run.0.lines.items) c.in-Err.blame.fault) run.2.1
-    (subst (λ items. StopsBefore (known_of at.1.session.pass).number (length items) c.in-Err.blame.fault) run.2.2 at.3)))
+    let run = zip_get _ c.args.runs.items c.in-Ok.started.items at.index at.run c.in-Ok.ensures at.found in
+    let pass = at.run.session.pass in
+    blames may base c.args.runs.items at.index run.0 fault run.1
+    (subst (λ b. Stops may b (home_of run.0.pass).capacity (known_of run.0.pass) run.0.lines.items fault) run.2.0
+    (subst (λ p. Stops may at.run.session.base.now (home_of p).capacity (known_of p) run.0.lines.items fault) run.2.1
+    (subst (λ items. Stops may at.run.session.base.now (home_of pass).capacity (known_of pass) items fault) run.2.2 at.cause))))
     rest)
     c.in-Err.ensures.err
 
@@ -40,13 +46,14 @@ returns-clause-legal g c =
     let answers = map (λ answered. answered.items) c.in-Ok-run_all.ended.answers.items in
     let outcome = c.in-Ok-conclude.outcome in
     let told = c.in-Ok-conclude.ensures in
-    let three : AllThree (λ run session answered. (home_of session.pass ≡ home_of run.pass) × HasAnswered base (known_of run.pass) (known_of session.pass) run.lines.items answered) runs sessions answers =
+    let may = g.G.Gate.may_answer c.args.gate.now in
+    let three : AllThree (λ run session answered. (home_of session.pass ≡ home_of run.pass) × HasAnswered may base (known_of run.pass) (known_of session.pass) run.lines.items answered) runs sessions answers =
     three_through _ _ _
     (λ run started session answered is was. (
-      was.1 ∙ ap home_of is.1,
-      subst (λ lines. HasAnswered base (known_of run.pass) (known_of session.pass) lines answered) is.2
-          (subst (λ pass. HasAnswered base (known_of pass) (known_of session.pass) started.lines.items answered) is.1
-          (subst (λ b. HasAnswered b (known_of started.session.pass) (known_of session.pass) started.lines.items answered) is.0 was.2)),
+      was.same_log ∙ ap home_of is.1,
+      subst (λ lines. HasAnswered may base (known_of run.pass) (known_of session.pass) lines answered) is.2
+          (subst (λ pass. HasAnswered may base (known_of pass) (known_of session.pass) started.lines.items answered) is.1
+          (subst (λ b. HasAnswered may b (known_of started.session.pass) (known_of session.pass) started.lines.items answered) is.0 was.answered)),
     ))
     runs c.in-Ok.started.items sessions answers c.in-Ok.ensures c.in-Ok-run_all.ensures.ok in
     let met : AllZip (λ session pass. ((home_of pass ≡ home_of session.pass) × Keeps (known_of session.pass) (known_of pass)) × IsTakenIn outcome.history.items (known_of pass)) sessions outcome.passes.items =
@@ -56,7 +63,7 @@ returns-clause-legal g c =
           subst (λ all. AllZip (λ run. IsLegal base outcome.history.items (known_of run.pass) run.lines.items) runs (map (λ answered. answered.items) all.items)) (sym told.answers)
           (three_changed _ _ (λ run. IsLegal base outcome.history.items (known_of run.pass) run.lines.items)
           (λ run session pass answered is after.
-          legal_in base outcome.history.items (known_of run.pass) (known_of session.pass) (known_of pass) run.lines.items answered session.pass.state.part is.1 after.0.1 after.1)
+          legal_in may base outcome.history.items (known_of run.pass) (known_of session.pass) (known_of pass) run.lines.items answered session.pass.state.part is.1 after.0.1 after.1)
           runs sessions outcome.passes.items answers three met);
       passes =
           three_second _ _ (IsReturned outcome.history.items)
@@ -65,3 +72,15 @@ returns-clause-legal g c =
           runs sessions outcome.passes.items answers three met;
       history = told.last;
     }
+
+pub returns-clause-opened : goal.returns-clause-opened
+returns-clause-opened g c =
+    let may = g.G.Gate.may_answer c.args.gate.now in
+    let lets_in : Run → Type 0 = λ run. LetsIn may (known_of run.pass).number (length run.lines.items) in
+    let three = three_through _ _ (λ run session answers. lets_in run)
+    (λ run started session answers is was.
+    subst (λ lines. LetsIn may (known_of run.pass).number (length lines)) is.2
+    (subst (λ pass. LetsIn may (known_of pass).number (length started.lines.items)) is.1 was.answered.opened))
+    c.args.runs.items c.in-Ok.started.items c.in-Ok-run_all.ended.sessions.items (map (λ answers. answers.items) c.in-Ok-run_all.ended.answers.items) c.in-Ok.ensures c.in-Ok-run_all.ensures.ok in
+    All-from_recursion lets_in c.args.runs.items
+    (three_first _ lets_in (λ run session answers is. is) c.args.runs.items c.in-Ok-run_all.ended.sessions.items (map (λ answers. answers.items) c.in-Ok-run_all.ended.answers.items) three)

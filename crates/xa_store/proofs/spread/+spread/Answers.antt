@@ -1,20 +1,24 @@
-use Rattle.std.proofs.Common.{◌≡◌, [], ◌∷◌, length, map, ap, sym, ◌∙◌, subst, inl, inr, ⊎_elim, Some}
-use Rattle.std.specs.Prelude.{slice_get}
+use Rattle.std.proofs.Common.{◌≡◌, map, ap, sym, ◌∙◌, subst, inl, inr, ⊎_elim}
 use Rattle.std.specs.Result.{IfOk, IfErr}
 use Rattle.std.proofs.lemmas.Result.{IfOk-weaker, IfErr-weaker}
-use Rattle.xa_store.specs.Legal.{StopsBefore}
-use Rattle.xa_store.specs.Spread.{HasAnswered}
-use Rattle.xa_store.proofs.Spreading.{when_ok, when_err, three_more, get_front, get_end}
+use Rattle.xa_store.specs.Legal.{Stops}
+use Rattle.xa_store.specs.Spread.{HasRun}
+use Rattle.xa_store.proofs.Spreading.{when_ok, when_err, three_more, stopped_before, stopped_last}
 use Rattle.xa_store.proofs.spread.+spread.Goals as goal
 
 pub returns-in-Ok-clause-ok : goal.returns-in-Ok-clause-ok
 returns-in-Ok-clause-ok g t c =
     let known = g.L.DecisionLog.known in
     let home = g.L.DecisionLog.home in
+    let may = g.G.Gate.may_answer in
     let run = c.in-Some.run' in
-    let same : c.in-Ok.thread.promise.0.value ≡ run = ap (λ p. p.0.value) c.in-Ok.ensures.ok ∙ c.of.ensures in
-    let kept : IfOk c.join.result (λ done. (done.0.base.now ≡ run.session.base.now) × (home done.0.pass ≡ home run.session.pass) × HasAnswered run.session.base.now (known run.session.pass) (known done.0.pass) run.lines.items done.1.items) =
-    subst (λ one. IfOk c.join.result (λ done. (done.0.base.now ≡ one.session.base.now) × (home done.0.pass ≡ home one.session.pass) × HasAnswered one.session.base.now (known one.session.pass) (known done.0.pass) one.lines.items done.1.items)) same c.join.ensures.0 in
+    let promise = c.in-Ok.thread.promise in
+    let same : promise.0.value ≡ run = ap (λ p. p.0.value) c.in-Ok.ensures.ok ∙ c.of.ensures in
+    let asked : promise.1.value ≡ c.args.gate.now = ap (λ p. p.1.value) c.in-Ok.ensures.ok ∙ c.of-2.ensures in
+    let kept : IfOk c.join.result (λ done. HasRun home known (may c.args.gate.now) run.session.base.now run.session.pass run.lines.items done.0.base.now done.0.pass done.1.items) =
+    subst (λ gate. IfOk c.join.result (λ done. HasRun home known (may gate) run.session.base.now run.session.pass run.lines.items done.0.base.now done.0.pass done.1.items)) asked
+    (subst (λ one. IfOk c.join.result (λ done. HasRun home known (may promise.1.value) one.session.base.now one.session.pass one.lines.items done.0.base.now done.0.pass done.1.items)) same
+    c.join.ensures.0) in
     IfOk-weaker c.take_in.result _ _
     (λ all is.
     let rest = when_ok c.spread-others.result _ is.0 c.spread-others.ensures.ok is.2 in
@@ -25,26 +29,27 @@ returns-in-Ok-clause-ok g t c =
 pub returns-in-Ok-clause-err : goal.returns-in-Ok-clause-err
 returns-in-Ok-clause-err g t c =
     let known = g.L.DecisionLog.known in
+    let home = g.L.DecisionLog.home in
+    let may = g.G.Gate.may_answer in
     let run = c.in-Some.run' in
-    let same : c.in-Ok.thread.promise.0.value ≡ run = ap (λ p. p.0.value) c.in-Ok.ensures.ok ∙ c.of.ensures in
-    let kept : IfErr c.join.result (λ fault. StopsBefore (known run.session.pass).number (length run.lines.items) fault) =
-    subst (λ one. IfErr c.join.result (λ fault. StopsBefore (known one.session.pass).number (length one.lines.items) fault)) same c.join.ensures.1 in
+    let promise = c.in-Ok.thread.promise in
+    let same : promise.0.value ≡ run = ap (λ p. p.0.value) c.in-Ok.ensures.ok ∙ c.of.ensures in
+    let asked : promise.1.value ≡ c.args.gate.now = ap (λ p. p.1.value) c.in-Ok.ensures.ok ∙ c.of-2.ensures in
+    let kept : IfErr c.join.result (λ fault. Stops (may c.args.gate.now) run.session.base.now (home run.session.pass).capacity (known run.session.pass) run.lines.items fault) =
+    subst (λ gate. IfErr c.join.result (λ fault. Stops (may gate) run.session.base.now (home run.session.pass).capacity (known run.session.pass) run.lines.items fault)) asked
+    (subst (λ one. IfErr c.join.result (λ fault. Stops (may promise.1.value) one.session.base.now (home one.session.pass).capacity (known one.session.pass) one.lines.items fault)) same
+    c.join.ensures.1) in
     IfErr-weaker c.take_in.result _ _
     (λ blame is.
     ⊎_elim
     (λ others.
     ⊎_elim (λ memory. inl memory)
     (λ rest. ⊎_elim (λ refused. inr (inl refused))
-    (λ at. inr (inr (at.0, at.1, subst (λ list. slice_get list at.0 ≡ Some at.1) (sym c.in-Some.ensures.items) (get_front c.pop.new.self.items (run ∷ []) at.0 at.1 at.2), at.3)))
+    (λ at. inr (inr (stopped_before c.pop.new.self.items run _ _ blame.fault (sym c.in-Some.ensures.items) at)))
     rest)
     (when_err c.spread-others.result _ blame c.spread-others.ensures.err others))
     (λ rest. ⊎_elim
-    (λ ended. inr (inr (
-      length c.pop.new.self.items,
-      run,
-      subst (λ list. slice_get list (length c.pop.new.self.items) ≡ Some run) (sym c.in-Some.ensures.items) (get_end c.pop.new.self.items run),
-      when_err c.join.result _ blame.fault kept ended,
-    )))
+    (λ ended. inr (inr (stopped_last c.pop.new.self.items run _ _ blame.fault (sym c.in-Some.ensures.items) (when_err c.join.result _ blame.fault kept ended))))
     (λ memory. inl memory) rest)
     is)
     c.take_in.ensures.err
@@ -58,7 +63,7 @@ returns-clause-err g t c =
     (λ others.
     ⊎_elim (λ memory. inl memory)
     (λ rest. ⊎_elim (λ refused. inr (inl refused))
-    (λ at. inr (inr (at.0, at.1, subst (λ list. slice_get list at.0 ≡ Some at.1) (sym c.in-Some.ensures.items) (get_front c.pop.new.self.items (run ∷ []) at.0 at.1 at.2), at.3)))
+    (λ at. inr (inr (stopped_before c.pop.new.self.items run _ _ blame.fault (sym c.in-Some.ensures.items) at)))
     rest)
     (when_err c.spread-others.result _ blame c.spread-others.ensures.err others))
     (λ rest. ⊎_elim (λ refused. inr (inl (cc refused))) (λ memory. inl memory) rest)

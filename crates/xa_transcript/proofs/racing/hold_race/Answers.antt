@@ -1,6 +1,6 @@
 use Rattle.std.proofs.Common.{◌≡◌, length, max, ◌∙◌, subst, arith}
 use Rattle.std.specs.List.{All}
-use Rattle.chain_log.specs.ChainPass.{place_of, home_of}
+use Rattle.xa_store.specs.Passes.{place_of, home_of}
 use Rattle.xa_server.specs.State.{State}
 use Rattle.xa_store.specs.Legal.{IsOutcome}
 use Rattle.xa_transcript.proofs.RaceRuns.{runs_home, runs_count, own_sessions, own_room}

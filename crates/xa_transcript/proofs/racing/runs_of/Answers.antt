@@ -3,7 +3,7 @@ use Rattle.std.proofs.lemmas.Option.{slice_get_read}
 use Rattle.std.proofs.lemmas.Iterator.Adapters.{YieldsList-from_vec}
 use Rattle.std.proofs.lemmas.Iterator.Consumers.{YieldsList-turn}
 use Rattle.decision_log.specs.Known.{newcomer}
-use Rattle.chain_log.specs.ChainPass.{known_of}
+use Rattle.xa_store.specs.Passes.{known_of}
 use Rattle.xa_store.specs.declared.run.Run.{Run}
 use Rattle.xa_transcript.specs.Script.{lines_of}
 use Rattle.xa_transcript.proofs.RaceRuns.{runs_more, map_push, length_mapped}

@@ -1,4 +1,4 @@
-use Rattle.std.proofs.Common.{◌≡◌, ◌≤◌}
+use Rattle.std.proofs.Common.{◌≡◌, ◌≤◌, ◌+◌}
 use Rattle.xa_session.specs.Answer.{IsUnanswered}
 use Rattle.xa_session.proofs.session.Session.execute.Given as goal
 
@@ -9,5 +9,7 @@ invariant-loop g l = record {
   home : g.L.DecisionLog.home l.self.pass ≡ g.L.DecisionLog.home l.fn.self.pass;
   base : l.self.base.now ≡ l.fn.self.base.now;
   unanswered : IsUnanswered (g.L.DecisionLog.known l.fn.self.pass) (g.L.DecisionLog.known l.self.pass);
+  looks : (g.L.DecisionLog.known l.self.pass).tries + (g.L.DecisionLog.known l.fn.self.pass).looks
+      ≤ (g.L.DecisionLog.known l.self.pass).looks + (g.L.DecisionLog.known l.fn.self.pass).tries;
   folds : l.fn.self.replica.replayed ≤ l.self.replica.replayed;
 }

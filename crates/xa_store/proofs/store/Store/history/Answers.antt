@@ -2,7 +2,7 @@ use Rattle.std.proofs.Common.{◌≡◌, [], ◌∷◌, ◌++◌, map, ap, sym, 
 use Rattle.std.specs.List.{All}
 use Rattle.std.proofs.lemmas.Result.{IfOk-weaker}
 use Rattle.std.proofs.lemmas.List.Elements.{All-push, AllZip-push}
-use Rattle.chain_log.specs.ChainPass.{home_of, known_of}
+use Rattle.xa_store.specs.Passes.{home_of, known_of}
 use Rattle.xa_store.specs.Gathered.{IsTakenIn, Keeps, last_known}
 use Rattle.xa_store.proofs.Gathering.{zip_weaker, meets_keeps, last_known_of}
 use Rattle.xa_store.proofs.store.Store.history.Goals as goal
