@@ -3,12 +3,14 @@ use Rattle.std.proofs.Common.{◌≡◌, ℕ, true, false, ◌==◌, if◌then�
 use Rattle.std.proofs.lemmas.Bool.{eqb-true}
 use Rattle.xa_xid.specs.Bytes.{unblank}
 use Rattle.xa_xid.specs.Literal.{Reading, TextAt, literal_at, sized}
+use Rattle.xa_xid.specs.Faults.{FaultyLiteral, FaultyXid, faulty_gtrid, faulty_bqual, faulty_format_id}
 use Rattle.xa_xid.specs.Number.{NumberAt, number_at}
 use Rattle.xa_xid.specs.Xid.{Text}
 use Rattle.xa_xid.specs.XidText.{XidAt, gtrid_alone, gtrid_bqual, gtrid_bqual_format, CommaAt, NoCommaAt, Parse, xid_at, xid_of, comma_next, after_gtrid, after_bqual}
+use Rattle.xa_xid.specs.declared.literal_fault.LiteralFault.{LiteralFault}
 use Rattle.xa_xid.specs.declared.xid.Xid.{Xid}
-use Rattle.xa_xid.proofs.Numerals.{read_number_spelled, spelled_number_read}
-use Rattle.xa_xid.proofs.Spelled.{read_spelled}
+use Rattle.xa_xid.proofs.Numerals.{read_number_spelled, spelled_number_read, read_faulty_number, faulty_number_read}
+use Rattle.xa_xid.proofs.Spelled.{read_spelled, read_faulty, faulty_read}
 use Rattle.xa_xid.proofs.Spelling.{spelled_read}
 use Rattle.xa_xid.proofs.Texts.{kept-fits}
 use Rattle.xa_xid.proofs.Written.{format_found, bqual_found, gtrid_found}
@@ -53,7 +55,7 @@ no_comma_read (byte ∷ text) s = rw s refl
 -- the reading is of an identifier that the text begins with
 abbrev pub XidSpelled : List ℕ → Parse → Type 0
 XidSpelled text (Ok found) = XidAt text found.0 found.1
-XidSpelled text (Err fault) = Unit {0}
+XidSpelled text (Err fault) = FaultyXid text fault.0 fault.1
 
 -- from the reading to the spelling, from the last part to the first
 format_spelled : (text second third fourth fifth : List ℕ) (gtrid bqual : Text) → TextAt (unblank text) gtrid second → CommaAt (unblank second) third
@@ -61,7 +63,8 @@ format_spelled : (text second third fourth fifth : List ℕ) (gtrid bqual : Text
     → (found : Reading ℕ) → number_at (unblank fifth) ≡ found → XidSpelled text (format_found gtrid bqual (unblank fifth) found)
 format_spelled text second third fourth fifth gtrid bqual first comma part last (Ok (value, rest)) e =
     gtrid_bqual_format gtrid bqual value first comma part last (read_number_spelled (unblank fifth) value rest e)
-format_spelled text second third fourth fifth gtrid bqual first comma part last (Err fault) e = tt
+format_spelled text second third fourth fifth gtrid bqual first comma part last (Err fault) e =
+    faulty_format_id text second third fourth fifth gtrid bqual fault first comma part last (read_faulty_number (unblank fifth) fault e)
 
 after_bqual_spelled : (text second third fourth : List ℕ) (gtrid bqual : Text) → TextAt (unblank text) gtrid second → CommaAt (unblank second) third
     → TextAt (unblank third) bqual fourth → (next : Option (List ℕ)) → CommaFound (unblank fourth) next
@@ -75,7 +78,8 @@ bqual_spelled : (text second third : List ℕ) (gtrid : Text) → TextAt (unblan
 bqual_spelled text second third gtrid first comma (Ok (bqual, fourth)) e =
     after_bqual_spelled text second third fourth gtrid bqual first comma (read_text_spelled (unblank third) bqual fourth e)
     (comma_next (unblank fourth)) (comma_found (unblank fourth))
-bqual_spelled text second third gtrid first comma (Err fault) e = tt
+bqual_spelled text second third gtrid first comma (Err fault) e =
+    faulty_bqual text second third gtrid fault first comma (read_faulty (unblank third) fault e)
 
 after_gtrid_spelled : (text second : List ℕ) (gtrid : Text) → TextAt (unblank text) gtrid second → (next : Option (List ℕ))
     → CommaFound (unblank second) next → XidSpelled text (after_gtrid gtrid second next)
@@ -86,7 +90,7 @@ after_gtrid_spelled text second gtrid first (Some third) comma =
 gtrid_spelled : (text : List ℕ) (found : Reading Text) → literal_at (unblank text) ≡ found → XidSpelled text (gtrid_found (unblank text) found)
 gtrid_spelled text (Ok (gtrid, second)) e =
     after_gtrid_spelled text second gtrid (read_text_spelled (unblank text) gtrid second e) (comma_next (unblank second)) (comma_found (unblank second))
-gtrid_spelled text (Err fault) e = tt
+gtrid_spelled text (Err fault) e = faulty_gtrid text fault (read_faulty (unblank text) fault e)
 
 xid_spelled : (text : List ℕ) → XidSpelled text (xid_at text)
 unfolding xid_at
@@ -133,3 +137,22 @@ pub one_xid : (text : List ℕ) (xid other : Xid) (rest behind : List ℕ) → X
 one_xid text xid other rest behind form again =
     let same = xid_once (xid_at text) (xid, rest) (other, behind) (spelled_xid_read text xid rest form) (spelled_xid_read text other behind again) in
     (ap (λ pair. pair.0) same, ap (λ pair. pair.1) same)
+
+-- each fault and its place are a row of the table
+pub read_faulty_xid : (text : List ℕ) (fault : LiteralFault) (rest : List ℕ) → xid_at text ≡ Err (fault, rest) → FaultyXid text fault rest
+read_faulty_xid text fault rest e = rw e at (xid_spelled text)
+
+gtrid_told : (text : List ℕ) (fault : LiteralFault) → FaultyLiteral (unblank text) fault → xid_at text ≡ Err (fault, unblank text)
+unfolding xid_at
+gtrid_told text fault row = ap (gtrid_found (unblank text)) (faulty_read (unblank text) fault row)
+
+-- and a row of the table is told so
+pub faulty_xid_read : (text : List ℕ) (fault : LiteralFault) (rest : List ℕ) → FaultyXid text fault rest → xid_at text ≡ Err (fault, rest)
+faulty_xid_read _ _ _ (faulty_gtrid text fault row) = gtrid_told text fault row
+faulty_xid_read _ _ _ (faulty_bqual text second third gtrid fault first comma row) =
+    gtrid_read text second gtrid first ∙ ap (after_gtrid gtrid second) (comma_read (unblank second) third comma)
+    ∙ ap (bqual_found gtrid (unblank third)) (faulty_read (unblank third) fault row)
+faulty_xid_read _ _ _ (faulty_format_id text second third fourth fifth gtrid bqual fault first comma part last row) =
+    gtrid_read text second gtrid first ∙ bqual_read gtrid bqual second third fourth comma part
+    ∙ ap (after_bqual gtrid bqual fourth) (comma_read (unblank fourth) fifth last)
+    ∙ ap (format_found gtrid bqual (unblank fifth)) (faulty_number_read (unblank fifth) fault row)

@@ -1,27 +1,34 @@
--- What is read as a number is spelled as one, and the other way round.
-use Rattle.std.proofs.Common.{◌≡◌, ℕ, ◌^◌, ◌<◌, true, false, ◌==◌, ◌&&◌, not, nat_lt, if◌then◌else◌, IsTrue, List, [], ◌∷◌, ◌++◌, length, Some, None, Ok, Err, refl, sym, ◌∙◌, ap, arith}
-use Rattle.std.proofs.lemmas.Bool.{cond_both, eqb-true, ne_eqb, and_parts, ltb-true}
+-- What is read as a number is spelled as one, and the other way round; and each fault is a row of the table.
+use Rattle.std.proofs.Common.{◌≡◌, ℕ, ◌^◌, ◌<◌, ◌≤◌, true, false, ◌==◌, ◌&&◌, not, nat_lt, if◌then◌else◌, IsTrue, List, [], ◌∷◌, ◌++◌, length, Some, None, Result, Ok, Err, refl, sym, ◌∙◌, ap, subst, arith}
+use Rattle.std.proofs.lemmas.Bool.{cond_both, eqb-true, ne_eqb, and_parts, ltb-true, ltb-false}
 use Rattle.std.proofs.lemmas.Bool.Decides.{nat_tests}
 use Rattle.std.specs.Str.Parse.{digits_value}
 use Rattle.xa_xid.specs.Bytes.{belongs, behind, only, run, after_run, StartsNo}
 use Rattle.xa_xid.specs.Literal.{Reading, hex_digits_of}
+use Rattle.xa_xid.specs.Faults.{AreHex, HexRunAt, hex_run_at, NumeralAt, decimal_numeral, hexadecimal_numeral, FaultyNumber, no_number, too_large}
 use Rattle.xa_xid.specs.Number.{NumberAt, decimal_digits, hexadecimal_digits, fitting, hex_number_of, number_at, number_in}
 use Rattle.xa_xid.specs.declared.byte_class.ByteClass.TheVariants.{Word, Decimal, Hexadecimal}
-use Rattle.xa_xid.specs.declared.literal_fault.LiteralFault.TheVariants.{NumberTooLarge}
-use Rattle.xa_xid.proofs.Numbers.{fitting_small}
+use Rattle.xa_xid.specs.declared.literal_fault.LiteralFault.{LiteralFault}
+use Rattle.xa_xid.specs.declared.literal_fault.LiteralFault.TheVariants.{NotALiteral, Unclosed, OddHex, TooLong, NumberTooLarge}
+use Rattle.xa_xid.proofs.Numbers.{fitting_small, fitting_large}
 use Rattle.xa_xid.proofs.Spelling.{front-behind, only_passes, behind_starts, words_hex}
 use Rattle.xa_xid.proofs.Written.{Passes, front-append, behind-append, number_found, number_at-found}
 
 -- the reading is of a number that the text begins with
 abbrev pub NumberSpelled : List ℕ → Reading ℕ → Type 0
 NumberSpelled text (Ok found) = NumberAt text found.0 found.1
-NumberSpelled text (Err fault) = Unit {0}
+NumberSpelled text (Err NotALiteral) = Unit {0}
+NumberSpelled text (Err Unclosed) = ⊥
+NumberSpelled text (Err OddHex) = ⊥
+NumberSpelled text (Err TooLong) = ⊥
+NumberSpelled text (Err NumberTooLarge) = (value : ℕ) × (rest : List ℕ) × NumeralAt text value rest × (2 ^ 64 ≤ value)
 
-value_spelled : (text rest : List ℕ) (value : ℕ) → (value < 2 ^ 64 → NumberAt text value rest) → NumberSpelled text (number_found rest (fitting value))
+value_spelled : (text rest : List ℕ) (value : ℕ) → NumeralAt text value rest → (value < 2 ^ 64 → NumberAt text value rest)
+    → NumberSpelled text (number_found rest (fitting value))
 unfolding fitting
-value_spelled text rest value form =
+value_spelled text rest value numeral form =
     cond_both (nat_lt value (2 ^ 64)) (Ok value) (Err NumberTooLarge) (λ found. NumberSpelled text (number_found rest found))
-    (λ small. form (ltb-true value (2 ^ 64) small)) (λ _. tt)
+    (λ small. form (ltb-true value (2 ^ 64) small)) (λ large. (value, rest, numeral, omega (arith, ltb-false value (2 ^ 64) large)))
 
 hex_spelled : (written rest : List ℕ) → StartsNo (belongs Word) rest → NumberSpelled (written ++ rest) (number_found rest (hex_number_of (hex_digits_of written)))
 hex_spelled [] rest s = tt
@@ -35,7 +42,8 @@ hex_spelled (a ∷ b ∷ digit ∷ digits) rest s =
       | true ↦ λ e.
           let outer = and_parts (a == 48 && b == 120) (only (belongs Hexadecimal) all) e in
           let inner = and_parts (a == 48) (b == 120) outer.0 in
-          value_spelled text rest (digits_value 16 all)
+          let run : HexRunAt text all rest = rw (eqb-true a 48 inner.0, eqb-true b 120 inner.1) (hex_run_at digit digits rest outer.1 s) in
+          value_spelled text rest (digits_value 16 all) (hexadecimal_numeral text all rest run)
           (λ small. let form : NumberAt (48 ∷ 120 ∷ digit ∷ digits ++ rest) (digits_value 16 all) rest = hexadecimal_digits digit digits outer.1 refl small s in
           rw (eqb-true a 48 inner.0, eqb-true b 120 inner.1) form)
       | false ↦ λ e. tt
@@ -49,7 +57,7 @@ digits_spelled digit digits rest s =
     elim test as (λ t. test ≡ t → NumberSpelled (all ++ rest) (number_found rest (if t then fitting (digits_value 10 all) else hex_number_of (hex_digits_of all)))) [
       | true ↦ λ e.
           let decimal = (and_parts (not (length all == 0)) (only (belongs Decimal) all) e).1 in
-          value_spelled (all ++ rest) rest (digits_value 10 all) (λ small. decimal_digits digit digits decimal refl small s)
+          value_spelled (all ++ rest) rest (digits_value 10 all) (decimal_numeral digit digits rest decimal s) (λ small. decimal_digits digit digits decimal refl small s)
       | false ↦ λ _. hex_spelled all rest s
     ] refl
 
@@ -67,15 +75,15 @@ pub read_number_spelled : (text : List ℕ) (value : ℕ) (rest : List ℕ) → 
 read_number_spelled text value rest e = rw e at (number_spelled text)
 
 -- a run of a known value is read so
-written_read : (written rest : List ℕ) (value : ℕ) → Passes (belongs Word) written → StartsNo (belongs Word) rest → number_in written ≡ Ok value
-    → number_at (written ++ rest) ≡ Ok (value, rest)
-written_read written rest value word s e =
+written_read : (written rest : List ℕ) (found : Result ℕ LiteralFault) → Passes (belongs Word) written → StartsNo (belongs Word) rest → number_in written ≡ found
+    → number_at (written ++ rest) ≡ number_found rest found
+written_read written rest found word s e =
     let cut : run (written ++ rest) ≡ written = front-append (belongs Word) written rest word s in
     let left : after_run (written ++ rest) ≡ rest = behind-append (belongs Word) written rest word s in
     number_at-found (written ++ rest)
     ∙ ap (λ r. number_found (after_run (written ++ rest)) (number_in r)) cut
     ∙ ap (number_found (after_run (written ++ rest))) e
-    ∙ ap (λ r. Ok (value, r)) left
+    ∙ ap (λ r. number_found r found) left
 
 word_decimal : (byte : ℕ) → belongs Decimal byte ≡ true → belongs Word byte ≡ true
 unfolding belongs
@@ -85,36 +93,52 @@ words_decimal : (digits : List ℕ) → Passes (belongs Decimal) digits → Pass
 words_decimal [] all = tt
 words_decimal (digit ∷ digits) all = (word_decimal digit all.0, words_decimal digits all.1)
 
-decimal_read : (digit : ℕ) (digits rest : List ℕ) (value : ℕ) → IsTrue (only (belongs Decimal) (digit ∷ digits))
-    → digits_value 10 (digit ∷ digits) ≡ value → value < 2 ^ 64 → StartsNo (belongs Word) rest → number_at (digit ∷ digits ++ rest) ≡ Ok (value, rest)
-decimal_read digit digits rest value all e small s =
+decimal_read : (digit : ℕ) (digits rest : List ℕ) → IsTrue (only (belongs Decimal) (digit ∷ digits)) → StartsNo (belongs Word) rest
+    → number_at (digit ∷ digits ++ rest) ≡ number_found rest (fitting (digits_value 10 (digit ∷ digits)))
+decimal_read digit digits rest all s =
     let some : (length (digit ∷ digits) == 0) ≡ false = ne_eqb _ _ (λ e. omega arith) in
-    let found : number_in (digit ∷ digits) ≡ Ok value = rw (some, all) (sym (fitting_small value (digits_value 10 (digit ∷ digits)) small (sym e))) in
-    written_read (digit ∷ digits) rest value (words_decimal (digit ∷ digits) (only_passes (belongs Decimal) (digit ∷ digits) all)) s found
+    let found : number_in (digit ∷ digits) ≡ fitting (digits_value 10 (digit ∷ digits)) = rw (some, all) refl in
+    written_read (digit ∷ digits) rest (fitting (digits_value 10 (digit ∷ digits)))
+    (words_decimal (digit ∷ digits) (only_passes (belongs Decimal) (digit ∷ digits) all)) s found
 
 -- an x isn't a decimal digit
 prefixed_not_decimal : (digits : List ℕ) → only (belongs Decimal) (48 ∷ 120 ∷ digits) ≡ false
 unfolding behind belongs
 prefixed_not_decimal digits = ne_eqb _ _ (λ e. omega arith)
 
-hexadecimal_read : (digit : ℕ) (digits rest : List ℕ) (value : ℕ) → IsTrue (only (belongs Hexadecimal) (digit ∷ digits))
-    → digits_value 16 (digit ∷ digits) ≡ value → value < 2 ^ 64 → StartsNo (belongs Word) rest
-    → number_at (48 ∷ 120 ∷ digit ∷ digits ++ rest) ≡ Ok (value, rest)
+hexadecimal_read : (digit : ℕ) (digits rest : List ℕ) → AreHex (digit ∷ digits) → StartsNo (belongs Word) rest
+    → number_at (48 ∷ 120 ∷ digit ∷ digits ++ rest) ≡ number_found rest (fitting (digits_value 16 (digit ∷ digits)))
 unfolding belongs
-hexadecimal_read digit digits rest value all e small s =
+hexadecimal_read digit digits rest all s =
     let written = 48 ∷ 120 ∷ digit ∷ digits in
     let word : Passes (belongs Word) written = (refl, (refl, words_hex (digit ∷ digits) (only_passes (belongs Hexadecimal) (digit ∷ digits) all))) in
     let hex : hex_digits_of written ≡ Some (digit ∷ digits) = rw all refl in
-    let value_is : Ok value ≡ fitting (digits_value 16 (digit ∷ digits)) = fitting_small value (digits_value 16 (digit ∷ digits)) small (sym e) in
     let other : number_in written ≡ hex_number_of (hex_digits_of written) =
     ap (λ t. if not (length written == 0) && t then fitting (digits_value 10 written) else hex_number_of (hex_digits_of written)) (prefixed_not_decimal (digit ∷ digits))
     ∙ rw (ne_eqb (length written) 0 (λ e. omega arith)) refl in
-    written_read written rest value word s (other ∙ ap hex_number_of hex ∙ sym value_is)
+    written_read written rest (fitting (digits_value 16 (digit ∷ digits))) word s (other ∙ ap hex_number_of hex)
+
+run_read : (text digits rest : List ℕ) → HexRunAt text digits rest → number_at text ≡ number_found rest (fitting (digits_value 16 digits))
+run_read _ _ _ (hex_run_at digit digits rest all s) = hexadecimal_read digit digits rest all s
+
+-- what has a number's form is read, or is too large
+numeral_read : (text : List ℕ) (value : ℕ) (rest : List ℕ) → NumeralAt text value rest → number_at text ≡ number_found rest (fitting value)
+numeral_read _ _ _ (decimal_numeral digit digits rest all s) = decimal_read digit digits rest all s
+numeral_read _ _ _ (hexadecimal_numeral text digits rest form) = run_read text digits rest form
+
+-- what is spelled has that form, and a value that fits
+number_numeral : (text : List ℕ) (value : ℕ) (rest : List ℕ) → NumberAt text value rest → NumeralAt text value rest × (value < 2 ^ 64)
+number_numeral _ _ _ (decimal_digits digit digits {value} {rest} all e small s) =
+    (subst (λ v. NumeralAt (digit ∷ digits ++ rest) v rest) e (decimal_numeral digit digits rest all s), small)
+number_numeral _ _ _ (hexadecimal_digits digit digits {value} {rest} all e small s) =
+    let text = 48 ∷ 120 ∷ digit ∷ digits ++ rest in
+    (subst (λ v. NumeralAt text v rest) e (hexadecimal_numeral text (digit ∷ digits) rest (hex_run_at digit digits rest all s)), small)
 
 -- what is spelled is read
 pub spelled_number_read : (text : List ℕ) (value : ℕ) (rest : List ℕ) → NumberAt text value rest → number_at text ≡ Ok (value, rest)
-spelled_number_read _ _ _ (decimal_digits digit digits {value} {rest} all e small s) = decimal_read digit digits rest value all e small s
-spelled_number_read _ _ _ (hexadecimal_digits digit digits {value} {rest} all e small s) = hexadecimal_read digit digits rest value all e small s
+spelled_number_read text value rest form =
+    let parts = number_numeral text value rest form in
+    numeral_read text value rest parts.0 ∙ ap (number_found rest) (sym (fitting_small value value parts.1 refl))
 
 number_once : (reading : Reading ℕ) (found other : ℕ × List ℕ) → reading ≡ Ok found → reading ≡ Ok other → found ≡ other
 number_once reading found other e f = cc
@@ -125,3 +149,35 @@ pub one_number : (text : List ℕ) (value other : ℕ) (rest behind : List ℕ) 
 one_number text value other rest behind form again =
     let same = number_once (number_at text) (value, rest) (other, behind) (spelled_number_read text value rest form) (spelled_number_read text other behind again) in
     (ap (λ pair. pair.0) same, ap (λ pair. pair.1) same)
+
+-- each fault is a row of the table
+fitting_told : (rest : List ℕ) (value : ℕ) → number_found rest (fitting value) ≡ Err NotALiteral → ⊥
+unfolding fitting
+fitting_told rest value =
+    cond_both (nat_lt value (2 ^ 64)) (Ok value) (Err NumberTooLarge) (λ found. number_found rest found ≡ Err NotALiteral → ⊥) (λ _ e. cc) (λ _ e. cc)
+
+fault_row : (text : List ℕ) (fault : LiteralFault) → number_at text ≡ Err fault → NumberSpelled text (Err fault) → FaultyNumber text fault
+fault_row text NotALiteral e s =
+    no_number text (λ value rest form. fitting_told rest value (sym (numeral_read text value rest form) ∙ e))
+fault_row text Unclosed e s = absurd s
+fault_row text OddHex e s = absurd s
+fault_row text TooLong e s = absurd s
+fault_row text NumberTooLarge e s = too_large text s.0 s.1 s.2 s.3
+
+pub read_faulty_number : (text : List ℕ) (fault : LiteralFault) → number_at text ≡ Err fault → FaultyNumber text fault
+read_faulty_number text fault e = fault_row text fault e (rw e at (number_spelled text))
+
+-- and a row of the table is told as its fault
+none_told : (text : List ℕ) → ((value : ℕ) (rest : List ℕ) → NumeralAt text value rest → ⊥) → (found : Reading ℕ) → number_at text ≡ found
+    → NumberSpelled text found → found ≡ Err NotALiteral
+none_told text refused (Ok found) e s = absurd (refused found.0 found.1 (number_numeral text found.0 found.1 s).0)
+none_told text refused (Err NotALiteral) e s = refl
+none_told text refused (Err Unclosed) e s = absurd s
+none_told text refused (Err OddHex) e s = absurd s
+none_told text refused (Err TooLong) e s = absurd s
+none_told text refused (Err NumberTooLarge) e s = absurd (refused s.0 s.1 s.2)
+
+pub faulty_number_read : (text : List ℕ) (fault : LiteralFault) → FaultyNumber text fault → number_at text ≡ Err fault
+faulty_number_read _ _ (no_number text refused) = none_told text refused (number_at text) refl (number_spelled text)
+faulty_number_read _ _ (too_large text value rest form large) =
+    numeral_read text value rest form ∙ ap (number_found rest) (sym (fitting_large value large))

@@ -1,17 +1,19 @@
 -- What a token leaves of a text is an end of it, so a place says it too.
-use Rattle.std.proofs.Common.{◌≡◌, ℕ, ◌-◌, ◌+◌, ◌≤◌, List, [], ◌∷◌, ◌++◌, length, take, drop, Ok, Err, refl, sym, ◌∙◌, ap, arith, append_assoc, length-append}
+use Rattle.std.proofs.Common.{◌≡◌, ℕ, ◌-◌, ◌+◌, ◌≤◌, ◌↔◌, List, [], ◌∷◌, ◌++◌, length, take, drop, Result, Ok, Err, refl, sym, ◌∙◌, ap, arith, append_assoc, length-append}
 use Rattle.std.proofs.Math.Seq.{drop-append_seam}
 use Rattle.std.proofs.lemmas.List.{take-append-drop, length-drop}
 use Rattle.xa_xid.specs.Bytes.{belongs, front, unblank}
 use Rattle.xa_xid.specs.Literal.{Reading, LiteralAt, text_literal, hex_in_quotes, hex_run, TextAt, Between, literal_at, placed}
+use Rattle.xa_xid.specs.Faults.{FaultyLiteral, FaultyNumber, FaultyXid, faulty_gtrid, faulty_bqual, faulty_format_id}
 use Rattle.xa_xid.specs.Number.{NumberAt, decimal_digits, hexadecimal_digits, number_at}
 use Rattle.xa_xid.specs.Xid.{Text}
 use Rattle.xa_xid.specs.XidText.{XidAt, gtrid_alone, gtrid_bqual, gtrid_bqual_format, CommaAt, Parse, xid_at, gtrid_next, places}
 use Rattle.xa_xid.specs.declared.byte_class.ByteClass.TheVariants.{Blank}
 use Rattle.xa_xid.specs.declared.literal_fault.LiteralFault.{LiteralFault}
 use Rattle.xa_xid.specs.declared.xid.Xid.{Xid}
-use Rattle.xa_xid.proofs.Identifiers.{read_text_spelled, spelled_text_read, read_xid_spelled, spelled_xid_read}
-use Rattle.xa_xid.proofs.Numerals.{read_number_spelled, spelled_number_read}
+use Rattle.xa_xid.proofs.Identifiers.{read_text_spelled, spelled_text_read, read_xid_spelled, spelled_xid_read, read_faulty_xid, faulty_xid_read}
+use Rattle.xa_xid.proofs.Numerals.{read_number_spelled, spelled_number_read, read_faulty_number, faulty_number_read}
+use Rattle.xa_xid.proofs.Spelled.{read_faulty, faulty_read}
 use Rattle.xa_xid.proofs.Spelling.{front-behind}
 
 -- an end of a text
@@ -127,6 +129,28 @@ pub no_number_between : (text : List ℕ) (at : ℕ) (fault : LiteralFault) → 
 no_number_between text at fault e value next form =
     err_is_ok (number_at (drop at text)) fault (value, drop next text) e (spelled_number_read (drop at text) value (drop next text) form.spelled)
 
+-- a fault at a place, from its reading and back
+told_fault : {Value : Type 0} (reading : Result Value LiteralFault) (told fault : LiteralFault) → reading ≡ Err told → reading ≡ Err fault → told ≡ fault
+told_fault reading told fault e f = cc
+
+placed_fault : {Value : Type 0} (text : List ℕ) (found : Reading Value) (fault : LiteralFault) → placed text found ≡ Err fault → found ≡ Err fault
+placed_fault text (Ok (value, rest)) fault e = cc e
+placed_fault text (Err told) fault e = ap Err (told_fault (placed text (Err told)) told fault refl e)
+
+pub literal_fault_from : (text : List ℕ) (at : ℕ) (found : Reading Text) → literal_at (drop at text) ≡ found → (fault : LiteralFault)
+    → (placed text found ≡ Err fault) ↔ FaultyLiteral (drop at text) fault
+literal_fault_from text at found e fault = (
+  λ told. read_faulty (drop at text) fault (e ∙ placed_fault text found fault told),
+  λ row. ap (placed text) (sym e ∙ faulty_read (drop at text) fault row),
+)
+
+pub number_fault_from : (text : List ℕ) (at : ℕ) (found : Reading ℕ) → number_at (drop at text) ≡ found → (fault : LiteralFault)
+    → (placed text found ≡ Err fault) ↔ FaultyNumber (drop at text) fault
+number_fault_from text at found e fault = (
+  λ told. read_faulty_number (drop at text) fault (e ∙ placed_fault text found fault told),
+  λ row. ap (placed text) (sym e ∙ faulty_number_read (drop at text) fault row),
+)
+
 -- an identifier, read behind the blanks before it
 xid_at-unblank : (text tail : List ℕ) → tail ≡ unblank text → xid_at text ≡ gtrid_next tail
 unfolding xid_at
@@ -144,3 +168,26 @@ between_xid text tail at found blank e xid next form =
     let read : found ≡ Ok (xid, drop next text) =
     sym (xid_at-unblank (drop at text) tail blank ∙ e) ∙ spelled_xid_read (drop at text) xid (drop next text) form.spelled in
     ap (places text) read ∙ ap (λ n. Ok (xid, n)) (next_place text next form.within)
+
+-- from the faulty token of an identifier on
+end_faulty : (text : List ℕ) (fault : LiteralFault) (rest : List ℕ) → FaultyXid text fault rest → EndOf text rest
+end_faulty _ _ _ (faulty_gtrid text fault row) = end_unblank text
+end_faulty _ _ _ (faulty_bqual text second third gtrid fault first comma row) =
+    end_of_end text second (unblank third) (end_part text gtrid second first)
+    (end_of_end second third (unblank third) (end_comma second third comma) (end_unblank third))
+end_faulty _ _ _ (faulty_format_id text second third fourth fifth gtrid bqual fault first comma part last row) =
+    end_of_end text fourth (unblank fifth) (end_second text second third fourth gtrid bqual first comma part)
+    (end_of_end fourth fifth (unblank fifth) (end_comma fourth fifth last) (end_unblank fifth))
+
+pub xid_fault_between : (text tail : List ℕ) (at : ℕ) (fault : LiteralFault) (rest : List ℕ) → tail ≡ unblank (drop at text) → gtrid_next tail ≡ Err (fault, rest)
+    → Between FaultyXid text at fault (length text - length rest)
+xid_fault_between text tail at fault rest blank e =
+    let row = read_faulty_xid (drop at text) fault rest (xid_at-unblank (drop at text) tail blank ∙ e) in
+    between FaultyXid text at fault rest row (end_faulty (drop at text) fault rest row)
+
+pub between_xid_fault : (text tail : List ℕ) (at : ℕ) (found : Parse) → tail ≡ unblank (drop at text) → gtrid_next tail ≡ found
+    → (fault : LiteralFault) (place : ℕ) → Between FaultyXid text at fault place → places text found ≡ Err (fault, place)
+between_xid_fault text tail at found blank e fault place row =
+    let told : found ≡ Err (fault, drop place text) =
+    sym (xid_at-unblank (drop at text) tail blank ∙ e) ∙ faulty_xid_read (drop at text) fault (drop place text) row.spelled in
+    ap (places text) told ∙ ap (λ n. Err (fault, n)) (next_place text place row.within)

@@ -140,6 +140,13 @@ quote_other quote is e =
       | inr b ↦ omega (arith, eqb-true quote 34 b, e)
     ]
 
+x_cases : (letter : ℕ) → IsTrue (is_x letter) → letter ≡ 88 ⊎ letter ≡ 120
+x_cases letter is =
+    elim (or_cases (letter == 88) (letter == 120) is) as (λ _. letter ≡ 88 ⊎ letter ≡ 120) [
+      | inl a ↦ inl (eqb-true letter 88 a)
+      | inr b ↦ inr (eqb-true letter 120 b)
+    ]
+
 -- digits of few bytes are decoded, and of more are too long
 digits_sized : (digits bytes rest : List ℕ) → decode_of digits ≡ Ok bytes → (long : Bool) → (long ≡ true → 64 < length bytes) → (long ≡ false → length bytes ≤ 64)
     → (if long then Err TooLong else decoded digits rest) ≡ sized (kept bytes) rest
@@ -171,28 +178,48 @@ run_sized digits bytes rest e =
     (λ long. omega (arith, ltb-true 128 (length digits) long, twice, low)) (λ short. omega (arith, ltb-false 128 (length digits) short, twice, high))
 
 -- from the spelling to the reading
-text_read : (quote : ℕ) (text bytes rest : List ℕ) → IsTrue (is_quote quote) → QuotedAt quote text bytes rest
-    → literal_at (quote ∷ text) ≡ sized (kept bytes) rest
+pub opened_at : (quote : ℕ) (text : List ℕ) → IsTrue (is_quote quote) → literal_at (quote ∷ text) ≡ text_literal_of (quoted quote Plain text)
 unfolding literal_at
-text_read quote text bytes rest is q =
-    let found : quoted quote Plain text ≡ Some (bytes, rest) =
-    ap (quoted quote Plain) q.cut ∙ spelled_quoted quote q.written bytes rest (quote_other quote is) q.last q.form in
-    rw is (ap text_literal_of found)
+opened_at quote text is = rw is refl
 
-hex_quoted_read : (letter : ℕ) (digits bytes rest : List ℕ) → letter ≡ 88 ⊎ letter ≡ 120 → decode_of digits ≡ Ok bytes → Passes (belongs Hexadecimal) digits
-    → literal_at (letter ∷ 39 ∷ digits ++ 39 ∷ rest) ≡ sized (kept bytes) rest
-unfolding literal_at belongs
-hex_quoted_read letter digits bytes rest which e all =
-    let hex = belongs Hexadecimal in
-    let stops : StartsNo hex (39 ∷ rest) = refl in
-    let cut : front hex (digits ++ 39 ∷ rest) ≡ digits = front-append hex digits (39 ∷ rest) all stops in
-    let left : behind hex (digits ++ 39 ∷ rest) ≡ 39 ∷ rest = behind-append hex digits (39 ∷ rest) all stops in
-    let read : hex_in_quotes_of (front hex (digits ++ 39 ∷ rest)) (behind hex (digits ++ 39 ∷ rest)) ≡ sized (kept bytes) rest =
-    ap (λ d. hex_in_quotes_of d (behind hex (digits ++ 39 ∷ rest))) cut ∙ ap (hex_in_quotes_of digits) left ∙ quoted_sized digits bytes rest e in
-    elim which as (λ _. literal_at (letter ∷ 39 ∷ digits ++ 39 ∷ rest) ≡ sized (kept bytes) rest) [
-      | inl capital ↦ rw capital read
-      | inr small ↦ rw small read
+pub quoted_found : (quote : ℕ) (text bytes rest : List ℕ) → IsTrue (is_quote quote) → QuotedAt quote text bytes rest
+    → quoted quote Plain text ≡ Some (bytes, rest)
+quoted_found quote text bytes rest is q =
+    ap (quoted quote Plain) q.cut ∙ spelled_quoted quote q.written bytes rest (quote_other quote is) q.last q.form
+
+pub text_read : (quote : ℕ) (text bytes rest : List ℕ) → IsTrue (is_quote quote) → QuotedAt quote text bytes rest
+    → literal_at (quote ∷ text) ≡ sized (kept bytes) rest
+text_read quote text bytes rest is q = opened_at quote text is ∙ ap text_literal_of (quoted_found quote text bytes rest is q)
+
+-- digits behind an X and a quote
+hex_opened_at : (letter : ℕ) (text : List ℕ) → letter ≡ 88 ⊎ letter ≡ 120
+    → literal_at (letter ∷ 39 ∷ text) ≡ hex_in_quotes_of (front (belongs Hexadecimal) text) (behind (belongs Hexadecimal) text)
+unfolding literal_at
+hex_opened_at letter text which =
+    let read = hex_in_quotes_of (front (belongs Hexadecimal) text) (behind (belongs Hexadecimal) text) in
+    elim which as (λ _. literal_at (letter ∷ 39 ∷ text) ≡ read) [
+      | inl capital ↦ rw capital refl
+      | inr small ↦ rw small refl
     ]
+
+pub hex_quoted_at : (letter : ℕ) (digits rest : List ℕ) → IsTrue (is_x letter) → Passes (belongs Hexadecimal) digits → StartsNo (belongs Hexadecimal) rest
+    → literal_at (letter ∷ 39 ∷ digits ++ rest) ≡ hex_in_quotes_of digits rest
+hex_quoted_at letter digits rest is all stops =
+    let hex = belongs Hexadecimal in
+    let cut : front hex (digits ++ rest) ≡ digits = front-append hex digits rest all stops in
+    let left : behind hex (digits ++ rest) ≡ rest = behind-append hex digits rest all stops in
+    hex_opened_at letter (digits ++ rest) (x_cases letter is)
+    ∙ ap (λ d. hex_in_quotes_of d (behind hex (digits ++ rest))) cut
+    ∙ ap (hex_in_quotes_of digits) left
+
+pub quote_no_hex : (rest : List ℕ) → StartsNo (belongs Hexadecimal) (39 ∷ rest)
+unfolding belongs
+quote_no_hex rest = refl
+
+hex_quoted_read : (letter : ℕ) (digits bytes rest : List ℕ) → IsTrue (is_x letter) → decode_of digits ≡ Ok bytes → Passes (belongs Hexadecimal) digits
+    → literal_at (letter ∷ 39 ∷ digits ++ 39 ∷ rest) ≡ sized (kept bytes) rest
+hex_quoted_read letter digits bytes rest is e all =
+    hex_quoted_at letter digits (39 ∷ rest) is all (quote_no_hex rest) ∙ quoted_sized digits bytes rest e
 
 word_hex : (byte : ℕ) → belongs Hexadecimal byte ≡ true → belongs Word byte ≡ true
 unfolding belongs
@@ -202,31 +229,32 @@ pub words_hex : (digits : List ℕ) → Passes (belongs Hexadecimal) digits → 
 words_hex [] all = tt
 words_hex (digit ∷ digits) all = (word_hex digit all.0, words_hex digits all.1)
 
-hex_run_read : (digit : ℕ) (digits bytes rest : List ℕ) → decode_of (evened (digit ∷ digits)) ≡ Ok bytes → Passes (belongs Hexadecimal) (digit ∷ digits)
-    → StartsNo (belongs Word) rest → literal_at (48 ∷ 120 ∷ digit ∷ digits ++ rest) ≡ sized (kept bytes) rest
-unfolding literal_at belongs
-hex_run_read digit digits bytes rest e all s =
+-- a run of `0x` and digits, whole
+pub hex_run_cut : (digit : ℕ) (digits rest : List ℕ) → Passes (belongs Hexadecimal) (digit ∷ digits) → StartsNo (belongs Word) rest
+    → (hex_digits_of (run (48 ∷ 120 ∷ digit ∷ digits ++ rest)) ≡ Some (digit ∷ digits)) × (after_run (48 ∷ 120 ∷ digit ∷ digits ++ rest) ≡ rest)
+unfolding belongs
+hex_run_cut digit digits rest all s =
     let written = 48 ∷ 120 ∷ digit ∷ digits in
     let word : Passes (belongs Word) written = (refl, (refl, words_hex (digit ∷ digits) all)) in
-    let cut : run (written ++ rest) ≡ written = front-append (belongs Word) written rest word s in
-    let left : after_run (written ++ rest) ≡ rest = behind-append (belongs Word) written rest word s in
     let hex : hex_digits_of written ≡ Some (digit ∷ digits) = rw (passes_only (belongs Hexadecimal) (digit ∷ digits) all) refl in
-    ap (λ r. hex_run_of (hex_digits_of r) (after_run (written ++ rest))) cut
-    ∙ ap (λ d. hex_run_of d (after_run (written ++ rest))) hex
-    ∙ ap (hex_run_of (Some (digit ∷ digits))) left
-    ∙ run_sized (digit ∷ digits) bytes rest e
+    (ap hex_digits_of (front-append (belongs Word) written rest word s) ∙ hex, behind-append (belongs Word) written rest word s)
 
-x_cases : (letter : ℕ) → IsTrue (is_x letter) → letter ≡ 88 ⊎ letter ≡ 120
-x_cases letter is =
-    elim (or_cases (letter == 88) (letter == 120) is) as (λ _. letter ≡ 88 ⊎ letter ≡ 120) [
-      | inl a ↦ inl (eqb-true letter 88 a)
-      | inr b ↦ inr (eqb-true letter 120 b)
-    ]
+pub literal_at-run : (digit : ℕ) (digits rest : List ℕ) → Passes (belongs Hexadecimal) (digit ∷ digits) → StartsNo (belongs Word) rest
+    → literal_at (48 ∷ 120 ∷ digit ∷ digits ++ rest) ≡ hex_run_of (Some (digit ∷ digits)) rest
+unfolding literal_at
+literal_at-run digit digits rest all s =
+    let text = 48 ∷ 120 ∷ digit ∷ digits ++ rest in
+    let cut = hex_run_cut digit digits rest all s in
+    ap (λ d. hex_run_of d (after_run text)) cut.0 ∙ ap (hex_run_of (Some (digit ∷ digits))) cut.1
+
+hex_run_read : (digit : ℕ) (digits bytes rest : List ℕ) → decode_of (evened (digit ∷ digits)) ≡ Ok bytes → Passes (belongs Hexadecimal) (digit ∷ digits)
+    → StartsNo (belongs Word) rest → literal_at (48 ∷ 120 ∷ digit ∷ digits ++ rest) ≡ sized (kept bytes) rest
+hex_run_read digit digits bytes rest e all s = literal_at-run digit digits rest all s ∙ run_sized (digit ∷ digits) bytes rest e
 
 -- what begins with a literal is read as its bytes, or is too long
 pub spelled_read : (text bytes rest : List ℕ) → LiteralAt text bytes rest → literal_at text ≡ sized (kept bytes) rest
 spelled_read _ _ _ (text_literal quote {text} {bytes} {rest} is q) = text_read quote text bytes rest is q
 spelled_read _ _ _ (hex_in_quotes letter digits {bytes} {rest} is e all) =
-    hex_quoted_read letter digits bytes rest (x_cases letter is) e (only_passes (belongs Hexadecimal) digits all)
+    hex_quoted_read letter digits bytes rest is e (only_passes (belongs Hexadecimal) digits all)
 spelled_read _ _ _ (hex_run digit digits {bytes} {rest} e all s) =
     hex_run_read digit digits bytes rest e (only_passes (belongs Hexadecimal) (digit ∷ digits) all) s

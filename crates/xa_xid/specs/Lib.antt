@@ -1,4 +1,5 @@
 pub mod Bytes
+pub mod Faults
 pub mod Literal
 pub mod Number
 pub mod Quoted

@@ -4,6 +4,8 @@ ghost use Rattle.hex.specs.Hex.{IsBytes};
 ghost use Rattle.std.specs.declared.cmp.Ordering.TheVariants.{Equal};
 ghost use Rattle.xa_xid.specs.Xid.{Text, bytes_cmp, xid_cmp};
 ghost use Rattle.xa_xid.specs.Bytes.{belongs, StartsNo};
+ghost use Rattle.xa_xid.specs.Faults.{FaultyLiteral, FaultyNumber, FaultyXid};
+ghost use Rattle.xa_xid.specs.declared.literal_fault.LiteralFault.{LiteralFault};
 ghost use Rattle.xa_xid.specs.Literal.{LiteralAt, TextAt, kept, literal_at, sized};
 ghost use Rattle.xa_xid.specs.Number.{NumberAt, number_at};
 ghost use Rattle.xa_xid.specs.declared.xid.Xid.{Xid};
@@ -71,6 +73,16 @@ pub fn xids_are_read_as_spelled()
     ensures complete { (text : List ℕ) (xid : Xid) (rest : List ℕ) → XidAt text xid rest → xid_at text ≡ Ok (xid, rest) }
     ensures only_one { (text : List ℕ) (xid other : Xid) (rest behind : List ℕ) → XidAt text xid rest → XidAt text other behind
         → (xid ≡ other) × (rest ≡ behind) }
+{}
+
+/// A text is told a fault of a literal, a number or an identifier exactly where the table of faults has it, and, for an
+/// identifier, at the token that the table says.
+///
+/// Takes no memory. Doesn't wait.
+pub fn faults_are_the_table()
+    ensures literal { (text : List ℕ) (fault : LiteralFault) → (literal_at text ≡ Err fault) ↔ FaultyLiteral text fault }
+    ensures number { (text : List ℕ) (fault : LiteralFault) → (number_at text ≡ Err fault) ↔ FaultyNumber text fault }
+    ensures xid { (text : List ℕ) (fault : LiteralFault) (rest : List ℕ) → (xid_at text ≡ Err (fault, rest)) ↔ FaultyXid text fault rest }
 {}
 
 /// The canonical text of an identifier is read as that identifier, whatever stands behind it but a word byte.

@@ -1,7 +1,8 @@
 //! Literals of every form, read at a place in a text.
-ghost use Rattle.std.specs.Prelude.{◌≡◌, ℕ, ◌≤◌, ◌<◌, length, MatchResult, IfOk, IsTrue, option_copied};
+ghost use Rattle.std.specs.Prelude.{◌≡◌, ◌↔◌, ℕ, ◌≤◌, ◌<◌, length, drop, MatchResult, IfOk, IsTrue, option_copied};
 ghost use Rattle.xa_xid.specs.Bytes.{belongs, front, behind, run, after_run};
 ghost use Rattle.xa_xid.specs.Xid.{Text};
+ghost use Rattle.xa_xid.specs.Faults.{FaultyLiteral};
 ghost use Rattle.xa_xid.specs.Literal.{TextAt, Between, decoded, evened, hex_digits_of, hex_in_quotes_of, hex_run_of, literal_at, literal_from, opens_text, opens_hex};
 
 use crate::byte_class::text_from;
@@ -20,6 +21,7 @@ pub fn read_literal(text: &[u8], at: usize) -> Result<(Bytes, usize), LiteralFau
     ensures value { result ≡ literal_from text.now at }
     ensures spelled { IfOk result (λ found. Between TextAt text.now at found.0 found.1) }
     ensures complete { (bytes : Text) (next : ℕ) → Between TextAt text.now at bytes next → result ≡ Ok (bytes, next) }
+    ensures faulty { (fault : LiteralFault) → (result ≡ Err fault) ↔ FaultyLiteral (drop at text.now) fault }
 {
     let (bytes, rest) = literal_of(text_from(text, at))?;
     Ok((bytes, text.len() - rest.len()))

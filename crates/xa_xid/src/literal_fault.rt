@@ -1,4 +1,6 @@
 //! Why a token isn't what stands in its place.
+ghost use Rattle.std.specs.Prelude.{◌≡◌};
+ghost use Rattle.xa_xid.specs.Faults.{number_of_literal_fault};
 
 /// Why a literal or a formatID wasn't read.
 ///
@@ -6,13 +8,31 @@
 #[derive(Clone, Copy, Debug, PartialEq, Eq)]
 pub enum LiteralFault {
     /// No literal begins there; or, for a formatID, no number.
-    NotALiteral = 1,
+    NotALiteral,
     /// The closing quote is missing.
-    Unclosed = 2,
+    Unclosed,
     /// An odd number of digits stands between `X'` and `'`.
-    OddHex = 3,
+    OddHex,
     /// The literal stands for more than 64 bytes.
-    TooLong = 4,
+    TooLong,
     /// The number is above 2^64-1.
-    NumberTooLarge = 5,
+    NumberTooLarge,
+}
+
+impl LiteralFault {
+    /// The fault's number, in `[1, 5]`.
+    ///
+    /// Takes no memory. Doesn't wait.
+    /// Own rule: docs/STATEMENTS.md, 'Literals'.
+    pub fn number(&self) -> u64
+        ensures { result ≡ number_of_literal_fault self.now }
+    {
+        match self {
+            LiteralFault::NotALiteral => 1,
+            LiteralFault::Unclosed => 2,
+            LiteralFault::OddHex => 3,
+            LiteralFault::TooLong => 4,
+            LiteralFault::NumberTooLarge => 5,
+        }
+    }
 }

@@ -1,7 +1,8 @@
 //! Numbers, as a formatID is written.
-ghost use Rattle.std.specs.Prelude.{◌≡◌, ℕ, ◌≤◌, ◌<◌, ◌^◌, length, MatchResult, MatchOption, IfOk};
+ghost use Rattle.std.specs.Prelude.{◌≡◌, ◌↔◌, ℕ, ◌≤◌, ◌<◌, ◌^◌, length, drop, MatchResult, MatchOption, IfOk};
 ghost use Rattle.std.specs.Char.{digit_value};
 ghost use Rattle.std.specs.Str.Parse.{digits_value};
+ghost use Rattle.xa_xid.specs.Faults.{FaultyNumber};
 ghost use Rattle.xa_xid.specs.Literal.{Between};
 ghost use Rattle.xa_xid.specs.Number.{NumberAt, number_at, number_from, number_in, fitting};
 
@@ -19,6 +20,7 @@ pub fn read_number(text: &[u8], at: usize) -> Result<(u64, usize), LiteralFault>
     ensures value { result ≡ number_from text.now at }
     ensures spelled { IfOk result (λ found. Between NumberAt text.now at found.0 found.1) }
     ensures complete { (number next : ℕ) → Between NumberAt text.now at number next → result ≡ Ok (number, next) }
+    ensures faulty { (fault : LiteralFault) → (result ≡ Err fault) ↔ FaultyNumber (drop at text.now) fault }
 {
     let (number, rest) = number_of(text_from(text, at))?;
     Ok((number, text.len() - rest.len()))

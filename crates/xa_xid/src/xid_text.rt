@@ -1,7 +1,8 @@
 //! Identifiers, read at a place in a text and written in their canonical form.
-ghost use Rattle.std.specs.Prelude.{◌≡◌, ℕ, ◌≤◌, ◌++◌, length, MatchResult, IfOk, IfSome, option_copied};
+ghost use Rattle.std.specs.Prelude.{◌≡◌, ℕ, ◌≤◌, ◌++◌, length, MatchResult, IfOk, IfErr, IfSome, option_copied};
 ghost use Rattle.hex.specs.Hex.{encode_lower};
 ghost use Rattle.xa_xid.specs.Bytes.{unblank};
+ghost use Rattle.xa_xid.specs.Faults.{FaultyXid};
 ghost use Rattle.xa_xid.specs.Literal.{Between};
 ghost use Rattle.xa_xid.specs.declared.xid.Xid.{Xid};
 ghost use Rattle.xa_xid.specs.XidText.{XidAt, xid_at, xid_from, gtrid_next, bqual_next, format_id_next, comma_next, part_text, xid_text};
@@ -30,6 +31,8 @@ pub fn read_xid(text: &[u8], at: usize) -> Result<(Xid, usize), (LiteralFault, u
     ensures value { result ≡ xid_from text.now at }
     ensures spelled { IfOk result (λ found. Between XidAt text.now at found.0 found.1) }
     ensures complete { (xid : Xid) (next : ℕ) → Between XidAt text.now at xid next → result ≡ Ok (xid, next) }
+    ensures faulty { IfErr result (λ found. Between FaultyXid text.now at found.0 found.1) }
+    ensures told { (fault : LiteralFault) (place : ℕ) → Between FaultyXid text.now at fault place → result ≡ Err (fault, place) }
 {
     match read_gtrid(skip_blanks(text_from(text, at))) {
         Ok((xid, rest)) => Ok((xid, text.len() - rest.len())),
