@@ -6,8 +6,8 @@ ghost use Rattle.xa_server.specs.Tables.{with_record, without_last};
 
 use crate::branch::{self, Phase};
 use crate::branch_table::BranchTable;
-use crate::reply::XidList;
 use crate::lock::Change;
+use crate::reply::XidList;
 use crate::row;
 use crate::row_table::RowTable;
 use crate::seat::Seat;
