@@ -93,10 +93,9 @@ pub held_anew : (branches : BranchMap) (rows : RowMap) (own : Xid) (key : List �
     IsWhole (with_record branches own (longer key)) (map.insert rows key (held_row own change (map.get rows key)))
     × (state_of (with_record branches own (longer key)) (map.insert rows key (held_row own change (map.get rows key))) ≡ with_changed (state_of branches rows) own (with_change key change))
 held_anew branches rows own key change whole known unheld none =
-    let free = free_row branches rows own key whole unheld in
-    (
+    let free = free_row branches rows own key whole unheld in (
       whole_more branches rows own key (held_row own change (map.get rows key)) (known_record branches rows own known) none (holder_there own)
-      (λ other apart. ap is_some (holder_beside own other apart) ∙ sym (free other apart)) whole,
+          (λ other apart. ap is_some (holder_beside own other apart) ∙ sym (free other apart)) whole,
       seen_held (with_record branches own (longer key)) rows own key change (known_longer branches own key (known_record branches rows own known)) free
           ∙ ap (λ s. with_changed s own (with_change key change)) (seen_listed branches rows own key),
     )
@@ -107,8 +106,7 @@ pub held_again : (branches : BranchMap) (rows : RowMap) (own : Xid) (key : List 
     IsWhole branches (map.insert rows key (held_row own change (map.get rows key)))
     × (state_of branches (map.insert rows key (held_row own change (map.get rows key))) ≡ with_changed (state_of branches rows) own (with_change key change))
 held_again branches rows own key change whole known unheld there =
-    let free = free_row branches rows own key whole unheld in
-    (
+    let free = free_row branches rows own key whole unheld in (
       whole_row branches rows key (held_row own change (map.get rows key)) (λ xid. elim (same_or_apart xids_total exact_xids xid own) [
         | inl is ↦ rw is (holder_there own ∙ sym there)
         | inr apart ↦ ap is_some (holder_beside own xid apart) ∙ sym (free xid apart)
@@ -130,10 +128,9 @@ pub shared_anew : (branches : BranchMap) (rows : RowMap) (own : Xid) (key : List
     IsWhole (with_record branches own (longer key)) (map.insert rows key (shared_row own (map.get rows key)))
     × (state_of (with_record branches own (longer key)) (map.insert rows key (shared_row own (map.get rows key))) ≡ with_changed (state_of branches rows) own (with_lock key))
 shared_anew branches rows own key whole known unlocked unheld =
-    let is = shareable branches rows own key whole unlocked unheld in
-    (
+    let is = shareable branches rows own key whole unlocked unheld in (
       whole_more branches rows own key (shared_row own (map.get rows key)) (known_record branches rows own known) is.unheld (ap is_some (share_there own (map.get rows key) is))
-      (λ other apart. ap is_some (share_others own other (map.get rows key) apart)) whole,
+          (λ other apart. ap is_some (share_others own other (map.get rows key) apart)) whole,
       seen_shared (with_record branches own (longer key)) rows own key (known_longer branches own key (known_record branches rows own known)) is
           ∙ ap (λ s. with_changed s own (with_lock key)) (seen_listed branches rows own key),
     )

@@ -38,3 +38,18 @@ if_ok (Err e) p f = p
 pub err_value : {T E : Type 0} (r : Result T E) {P : Type 0} → P → OnErr r P
 err_value (Ok x) p = tt
 err_value (Err e) p = p
+
+-- two facts of each outcome
+pub whichever : {T E : Type 0} (r : Result T E) {P Q R S C : Type 0} → OnOk r P → OnErr r Q → OnOk r R → OnErr r S → (P → R → C) → (Q → S → C) → C
+whichever (Ok x) p q s t f g = f p s
+whichever (Err e) p q s t f g = g q t
+
+-- a consequence of two facts that hold at `Ok`
+pub on_ok_both : {T E : Type 0} (r : Result T E) {P R Q : Type 0} → OnOk r P → OnOk r R → (P → R → Q) → OnOk r Q
+on_ok_both (Ok x) p s f = f p s
+on_ok_both (Err e) p s f = p
+
+-- a consequence of two facts that hold at `Err`
+pub on_err_both : {T E : Type 0} (r : Result T E) {P R Q : Type 0} → OnErr r P → OnErr r R → (P → R → Q) → OnErr r Q
+on_err_both (Ok x) p s f = p
+on_err_both (Err e) p s f = f p s

@@ -3,6 +3,8 @@
 --     mapped               the map with each value changed
 --     branch_seen          a branch's record, with what the rows say of it
 --     state_of             the state that the records stand for
+--     times_listed         how often a branch's record lists a row
+--     is_holder            a row's record says that the branch holds the row
 --     IsWhole              what the records keep
 use Rattle.std.specs.Prelude.{◌≡◌, ℕ, Bool, cond, Option, Some, List, [], ◌∷◌, filter, length, is_none, is_some}
 use Rattle.std.specs.Option.{option_map_or, option_and_then}

@@ -2,11 +2,12 @@
 ghost use Rattle.std.specs.Prelude.{◌≡◌, true, false, cond, is_some, Some, None, OnOk, OnErr, IfOk};
 ghost use Rattle.std.specs.FinMap as map;
 ghost use Rattle.xa_server.specs.State.{seat_in as seat_in_phase};
+ghost use Rattle.xa_server.specs.Tables.{with_record, without_last};
 
 use crate::branch::{self, Phase};
 use crate::branch_table::BranchTable;
-use crate::reply::XidList;
 use crate::lock::Change;
+use crate::reply::XidList;
 use crate::row;
 use crate::row_table::RowTable;
 use crate::seat::Seat;
@@ -47,6 +48,16 @@ fn seat_in(phase: Option<Phase>, own: &Xid) -> Seat
         Some(Phase::Idle) => Seat::Idle(own.copy()),
         Some(Phase::Prepared) => Seat::Free,
         None => Seat::Free,
+    }
+}
+
+/// Takes the key back that a branch listed last, where the row's growth was refused.
+fn unlist_refused(branches: &mut BranchTable, own: &Xid, held: &Result<(), NoMemory>)
+    ensures held { OnOk held.now (branches.new ≡ branches.old) }
+    ensures refused { OnErr held.now (branches.new ≡ with_record branches.old own.now (λ branch. record branch { held = without_last branch.held })) }
+{
+    if held.is_err() {
+        branches.unlist(own);
     }
 }
 
@@ -203,9 +214,7 @@ impl Server {
         }
         self.branches.list(own, key)?;
         let held = self.rows.hold(key, own, change);
-        if held.is_err() {
-            self.branches.unlist(own);
-        }
+        unlist_refused(&mut self.branches, own, &held);
         held
     }
 
@@ -220,9 +229,7 @@ impl Server {
     {
         self.branches.list(own, key)?;
         let shared = self.rows.share(key, own);
-        if shared.is_err() {
-            self.branches.unlist(own);
-        }
+        unlist_refused(&mut self.branches, own, &shared);
         shared
     }
 

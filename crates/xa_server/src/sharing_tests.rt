@@ -1,6 +1,8 @@
 //! The worked cases of docs/BEHAVIOR.md of rows that branches share, on one server.
 use crate::Server;
-use crate::tests::{NONE, OK, ROW_LOCKED, commit, del, end, get, prepare, put, replies, rollback, start, value_of};
+use crate::tests::{
+    NONE, OK, ROW_LOCKED, commit, del, end, get, prepare, put, replies, rollback, start, value_of,
+};
 use std::test::Fail;
 use xa_xid::{SessionNo, Statement};
 

@@ -282,7 +282,8 @@ fn script_takes_at_most_2097152_reads(rt: HostRuntime) -> Result<(), Fail> {
 
 #[test]
 fn readers_share_a_row_until_one_of_them_may_write(rt: HostRuntime) -> Result<(), Fail> {
-    let script = b"1 XA START 'a'\n1 GET 'k'\n2 XA START 'b'\n2 GET 'k'\n1 PUT 'k','v'\n3 PUT 'k','x'\n3 GET 'k'\n\
+    let script =
+        b"1 XA START 'a'\n1 GET 'k'\n2 XA START 'b'\n2 GET 'k'\n1 PUT 'k','v'\n3 PUT 'k','x'\n3 GET 'k'\n\
 2 XA END 'b'\n2 XA ROLLBACK 'b'\n1 PUT 'k','v'\n1 GET 'k'\n";
     let wanted = b"1 OK\n1 NONE\n2 OK\n2 NONE\n1 ERROR 3572 (HY000): row locked by another branch\n\
 3 ERROR 3572 (HY000): row locked by another branch\n3 NONE\n2 OK\n2 OK\n1 OK\n1 VALUE 0x76\n";

@@ -8,7 +8,7 @@ use Rattle.xa_server.specs.Step.{with_changed, with_lock}
 use Rattle.xa_server.specs.Tables.{BranchMap, with_record}
 use Rattle.xa_server.specs.Rows.{RowMap, shared_row}
 use Rattle.xa_server.specs.View.{state_of, IsWhole}
-use Rattle.xa_server.proofs.Outcomes.{on_ok, on_err, at_ok, at_err}
+use Rattle.xa_server.proofs.Outcomes.{whichever, on_ok_both, on_err_both}
 use Rattle.xa_server.proofs.Holding
 use Rattle.xa_server.proofs.server.Server.share.Goals as goal
 
@@ -24,27 +24,23 @@ anew branches rows state own key is whole known unlocked unheld =
 back : (branches listed taken : BranchMap) (own : Xid) (key : List ℕ) → listed ≡ with_record branches own (Holding.longer key) → taken ≡ with_record listed own Holding.shorter → taken ≡ branches
 back branches listed taken own key l t = t ∙ ap (λ b. with_record b own Holding.shorter) l ∙ Holding.unlisted branches own key
 
-pub invariant_of-self-then-is_err : goal.invariant_of-self-then-is_err
+pub invariant_of-self-2 : goal.invariant_of-self-2
 unfolding Holding.longer Holding.shorter
-invariant_of-self-then-is_err c =
-    rw (back c.self.inside.branches c.list.new.self c.unlist.new.self c.args.own.now c.args.key.now c.in_ok-list.ensures.ok c.unlist.ensures, at_err c.share-shared.result c.if-is_err.ensures.value c.share-shared.ensures.err)
-    c.self.invariant
+invariant_of-self-2 c =
+    whichever c.share-shared.result c.share-shared.ensures.ok c.share-shared.ensures.err c.unlist_refused.ensures.held c.unlist_refused.ensures.refused
+    (λ ok kept. rw (kept ∙ c.in_ok-list.ensures.ok, ok)
+    (anew c.self.inside.branches c.self.inside.rows c.args.self.now c.args.own.now c.args.key.now c.self.view_is c.self.invariant c.requires.known c.requires.unlocked c.requires.new_lock).0)
+    (λ err taken. rw (back c.self.inside.branches c.list.new.self c.unlist_refused.new.branches c.args.own.now c.args.key.now c.in_ok-list.ensures.ok taken, err) c.self.invariant)
 
-pub invariant_of-self-else-is_err : goal.invariant_of-self-else-is_err
-unfolding Holding.longer
-invariant_of-self-else-is_err c =
-    rw (c.in_ok-list.ensures.ok, at_ok c.share-shared.result c.if-is_err.ensures.value c.share-shared.ensures.ok)
-    (anew c.self.inside.branches c.self.inside.rows c.args.self.now c.args.own.now c.args.key.now c.self.view_is c.self.invariant c.requires.known c.requires.unlocked c.requires.new_lock).0
-
-pub returns-then-is_err-clause-err : goal.returns-then-is_err-clause-err
+pub returns-clause-err : goal.returns-clause-err
 unfolding Holding.longer Holding.shorter
-returns-then-is_err-clause-err c = on_err c.share-shared.result c.share-shared.ensures.err (λ err.
-    ap (λ b. state_of b c.share-shared.new.self) (back c.self.inside.branches c.list.new.self c.unlist.new.self c.args.own.now c.args.key.now c.in_ok-list.ensures.ok c.unlist.ensures)
+returns-clause-err c = on_err_both c.share-shared.result c.share-shared.ensures.err c.unlist_refused.ensures.refused (λ err taken.
+    ap (λ b. state_of b c.share-shared.new.self) (back c.self.inside.branches c.list.new.self c.unlist_refused.new.branches c.args.own.now c.args.key.now c.in_ok-list.ensures.ok taken)
     ∙ ap (state_of c.self.inside.branches) err ∙ c.self.view_is)
 
-pub returns-else-is_err-clause-ok : goal.returns-else-is_err-clause-ok
+pub returns-clause-ok : goal.returns-clause-ok
 unfolding Holding.longer
-returns-else-is_err-clause-ok c = on_ok c.share-shared.result c.share-shared.ensures.ok (λ ok.
-    ap (λ b. state_of b c.share-shared.new.self) c.in_ok-list.ensures.ok
+returns-clause-ok c = on_ok_both c.share-shared.result c.share-shared.ensures.ok c.unlist_refused.ensures.held (λ ok kept.
+    ap (λ b. state_of b c.share-shared.new.self) (kept ∙ c.in_ok-list.ensures.ok)
     ∙ ap (state_of (with_record c.self.inside.branches c.args.own.now (Holding.longer c.args.key.now))) ok
     ∙ (anew c.self.inside.branches c.self.inside.rows c.args.self.now c.args.own.now c.args.key.now c.self.view_is c.self.invariant c.requires.known c.requires.unlocked c.requires.new_lock).1)
