@@ -1,4 +1,4 @@
-use Rattle.std.proofs.Common.{◌≡◌, sym, ◌∙◌}
+use Rattle.std.proofs.Common.{◌≡◌, ◌∙◌}
 use Rattle.decision_log.specs.Calls.{MeetsFirst}
 use Rattle.xa_store.proofs.Gathering.{meets_again, zip_through, all_kept}
 use Rattle.xa_store.proofs.gather.gather.Goals as goal
@@ -8,7 +8,7 @@ meet_each-requires-2 g c =
     all_kept (λ old new. (new.base.now ≡ old.base.now) × (g.L.DecisionLog.home new.pass ≡ g.L.DecisionLog.home old.pass) × MeetsFirst (g.L.DecisionLog.known old.pass) (g.L.DecisionLog.known new.pass))
     (λ session. g.L.DecisionLog.home session.pass ≡ g.L.DecisionLog.home c.args.last.now.pass)
     (λ session. g.L.DecisionLog.home session.pass ≡ g.L.DecisionLog.home c.meet_each.new.last.pass)
-    (λ old new step is. step.1 ∙ is ∙ sym (c.meet_each.ensures.home ∙ c.look.ensures.home))
+    (λ old new step is. cc (step.1, is))
     c.args.others.now.items c.meet_each.new.others.items c.meet_each.ensures.others c.requires
 
 pub returns-clause-others : goal.returns-clause-others
