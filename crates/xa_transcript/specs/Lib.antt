@@ -4,3 +4,5 @@ pub mod Transcript
 pub mod Race
 pub mod Outcome
 pub mod Cut
+pub mod Limits
+pub mod Faults

@@ -23,3 +23,4 @@ pub use cut_writer::CutWriter;
 pub use racing::race_script;
 pub use run::run_script;
 pub use script_fault::ScriptFault;
+pub use streams::script_limits;

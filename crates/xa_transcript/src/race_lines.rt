@@ -2,11 +2,11 @@
 ghost use Rattle.std.specs.Prelude.{◌≡◌, ◌≤◌, ◌++◌, length, IfOk, OnOk};
 ghost use Rattle.std.specs.Option.{option_to_list};
 ghost use Rattle.xa_transcript.specs.Script.{line_of, lines_of};
+ghost use Rattle.xa_transcript.specs.Limits.{script_bytes};
 ghost use Rattle.xa_transcript.specs.Race.{fault_place, fault_text, faults_text, last_session, session_in, statement_by, statements_of};
 
 use crate::lines::{ScriptLine, read_line, split_line};
 use crate::print::{push_number, push_syntax_fault};
-use crate::streams::SCRIPT_BYTES;
 use std::alloc::Global;
 use xa_statement::read_statement;
 use xa_xid::{NoMemory, Statement};
@@ -41,7 +41,7 @@ fn push_fault(text: &mut Vec<u8>, number: u64, line: &[u8]) -> Result<(), NoMemo
 
 /// What is told of the lines that go wrong; empty where none does.
 pub fn tell_faults(alloc: Global, script: &[u8]) -> Result<Vec<u8>, NoMemory>
-    requires { length script.now ≤ SCRIPT_BYTES }
+    requires { length script.now ≤ script_bytes }
     ensures { IfOk result (λ text. text.items ≡ faults_text 1 (lines_of script.now)) }
 {
     let mut text = Vec::new(alloc);

@@ -162,6 +162,23 @@ fn write_fault_leaves_a_prefix_of_an_outcome(rt: HostRuntime) -> Result<(), Fail
 }
 
 #[test]
+fn stream_fault_ends_a_race_at_once(rt: HostRuntime) -> Result<(), Fail> {
+    let (script, text) = SINGLE[1];
+    let mut input = CutReader::once(script, 6, 2);
+    let mut output = CutWriter::once(rt.alloc(), 5, text.len() - 1);
+    let result = race_script(&rt, rt.alloc(), &mut input, &mut output, 1024, &OpenGate);
+    assert_eq!(rt; result, Err(ScriptFault::Read));
+    assert_eq!(rt; input.reads_after_a_fault(), 0);
+    assert!(rt; output.as_slice().is_empty());
+    let mut input = script;
+    let result = race_script(&rt, rt.alloc(), &mut input, &mut output, 1024, &OpenGate);
+    assert_eq!(rt; result, Err(ScriptFault::Write));
+    assert_eq!(rt; output.writes_after_a_fault(), 0);
+    assert_eq!(rt; output.as_slice(), &text[..text.len() - 1]);
+    Ok(())
+}
+
+#[test]
 fn full_log_writes_nothing(rt: HostRuntime) -> Result<(), Fail> {
     let (script, _) = SINGLE[1];
     let mut input = script;

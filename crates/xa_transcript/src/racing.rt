@@ -5,6 +5,7 @@ ghost use Rattle.decision_log.specs.Known.{newcomer};
 ghost use Rattle.decision_log.specs.Opens.{IsCapacity};
 ghost use Rattle.xa_store.specs.Passes.{known_of};
 ghost use Rattle.xa_transcript.specs.Script.{lines_of};
+ghost use Rattle.xa_transcript.specs.Limits.{script_bytes};
 ghost use Rattle.xa_transcript.specs.Transcript.{ConsumesMoreThan};
 ghost use Rattle.xa_transcript.specs.Race.{AreRunsFrom};
 ghost use Rattle.xa_transcript.specs.Outcome.{IsRaced, IsRaceText, AppendsRace, AfterRaceFault, IsOfRace, IsOfText, script_fault_of};
@@ -12,7 +13,7 @@ ghost use Rattle.xa_transcript.specs.Outcome.{IsRaced, IsRaceText, AppendsRace, 
 use crate::ScriptFault;
 use crate::race_lines::{greatest_session, statements_given, tell_faults};
 use crate::race_text::print_outcome;
-use crate::streams::{SCRIPT_BYTES, read_all, write_whole};
+use crate::streams::{read_all, write_whole};
 use std::alloc::Global;
 use std::io::{Read, Write};
 use std::sync::Wait;
@@ -84,7 +85,7 @@ fn text_of_race<G: Gate + Sync, R: Threads + Wait + Sync>(
     gate: &G,
 ) -> Result<Vec<u8>, ScriptFault>
     requires capacity { IsCapacity capacity }
-    requires short { length script.now ≤ SCRIPT_BYTES }
+    requires short { length script.now ≤ script_bytes }
     ensures text { IfOk result (λ text. IsRaceText capacity script.now text.items) }
     ensures fault { IfErr result (IsOfText script.now) }
 {
@@ -123,10 +124,10 @@ pub fn race_script<I: Read, O: Write, G: Gate + Sync, R: Threads + Wait + Sync>(
     // All was read, and what was written is the text of its faulty lines, or of an outcome of a race of its runs.
     ensures read { OnOk result (IsAtEnd (I.remaining reader.new)) }
     ensures written { OnOk result (IfSome (I.remaining reader.old) (λ script. AppendsRace capacity script (O.contents writer.old) (O.contents writer.new))) }
-    ensures short { OnOk result (IfSome (I.remaining reader.old) (λ script. length script ≤ SCRIPT_BYTES)) }
+    ensures short { OnOk result (IfSome (I.remaining reader.old) (λ script. length script ≤ script_bytes)) }
 
     ensures fault { IfErr result (λ fault. AfterRaceFault capacity fault (I.remaining reader.old) (O.contents writer.old) (O.contents writer.new)) }
-    ensures too_long { result ≡ Err ScriptFault.TooLong → ConsumesMoreThan SCRIPT_BYTES (I.remaining reader.old) (I.remaining reader.new) }
+    ensures too_long { result ≡ Err ScriptFault.TooLong → ConsumesMoreThan script_bytes (I.remaining reader.old) (I.remaining reader.new) }
 {
     let script = read_all(alloc, reader)?;
     let text = text_of_race(rt, alloc, script.as_slice(), capacity, gate)?;

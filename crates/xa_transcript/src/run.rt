@@ -1,12 +1,13 @@
 //! Runs a script.
 ghost use Rattle.std.specs.Prelude.{◌≡◌, ◌≤◌, ◌<◌, ◌++◌, length, take, vec_len, IfOk, IfErr, OnOk, OnErr, IfSome, ◌≢◌, Err};
 ghost use Rattle.std.specs.Io.KnownBytes.{Appends, Consumes, IsAtEnd, Keeps};
+ghost use Rattle.xa_transcript.specs.Limits.{script_bytes};
 ghost use Rattle.xa_transcript.specs.Transcript.{AppendsPrefix, ConsumesMoreThan, AfterFault, IsOfRun, IsOfReading, transcript};
 
 use crate::ScriptFault;
 use crate::answer::answer_line;
 use crate::lines::split_line;
-use crate::streams::{SCRIPT_BYTES, read_all, write_whole};
+use crate::streams::{read_all, write_whole};
 use std::alloc::Global;
 use std::io::{Read, Write};
 use xa_server::Server;
@@ -48,10 +49,10 @@ pub fn run_script<R: Read, W: Write>(
     // All was read, and what was written is the transcript of it.
     ensures read { OnOk result (IsAtEnd (R.remaining reader.new)) }
     ensures written { OnOk result (IfSome (R.remaining reader.old) (λ script. Appends (W.contents writer.old) (W.contents writer.new) (transcript script))) }
-    ensures short { OnOk result (IfSome (R.remaining reader.old) (λ script. length script ≤ SCRIPT_BYTES)) }
+    ensures short { OnOk result (IfSome (R.remaining reader.old) (λ script. length script ≤ script_bytes)) }
 
     ensures fault { IfErr result (λ fault. AfterFault fault (R.remaining reader.old) (W.contents writer.old) (W.contents writer.new)) }
-    ensures too_long { result ≡ Err ScriptFault.TooLong → ConsumesMoreThan SCRIPT_BYTES (R.remaining reader.old) (R.remaining reader.new) }
+    ensures too_long { result ≡ Err ScriptFault.TooLong → ConsumesMoreThan script_bytes (R.remaining reader.old) (R.remaining reader.new) }
 {
     let script = read_all(alloc, reader)?;
     run_lines(alloc, script.as_slice(), writer)

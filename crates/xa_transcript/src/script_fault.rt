@@ -1,4 +1,7 @@
 //! Why a script's run ends early.
+ghost use Rattle.std.specs.Prelude.{◌≡◌};
+ghost use Rattle.xa_transcript.specs.Faults.{number_of_script_fault};
+
 use thiserror::Error;
 
 /// Why a script's run ends early.
@@ -27,4 +30,24 @@ pub enum ScriptFault {
     /// 7: a race's thread couldn't be started. Nothing was written.
     #[error("thread refused")]
     ThreadRefused,
+}
+
+impl ScriptFault {
+    /// The fault's number, in `[1, 7]`.
+    ///
+    /// Takes no memory. Doesn't wait.
+    /// Own rule: docs/BEHAVIOR.md, 'Scripts'.
+    pub fn number(&self) -> u64
+        ensures { result ≡ number_of_script_fault self.now }
+    {
+        match self {
+            ScriptFault::Read => 1,
+            ScriptFault::TooLong => 2,
+            ScriptFault::Write => 3,
+            ScriptFault::NoMemory => 4,
+            ScriptFault::Full => 5,
+            ScriptFault::GateShut => 6,
+            ScriptFault::ThreadRefused => 7,
+        }
+    }
 }

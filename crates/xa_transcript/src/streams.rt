@@ -1,6 +1,7 @@
 //! Reads a script whole, and writes a text whole.
 ghost use Rattle.std.specs.Prelude.{◌≡◌, ◌≤◌, vec_len, IfOk, IfErr, OnOk, OnErr, Err};
 ghost use Rattle.std.specs.Io.KnownBytes.{Appends, Consumes, IsAtEnd};
+ghost use Rattle.xa_transcript.specs.Limits.{script_bytes, script_reads};
 ghost use Rattle.xa_transcript.specs.Transcript.{AppendsPrefix, ConsumesMoreThan, IsOfReading};
 
 use crate::ScriptFault;
@@ -8,18 +9,29 @@ use std::alloc::Global;
 use std::io::{Read, Write};
 
 /// The greatest length of a script, in bytes.
-pub const SCRIPT_BYTES: usize = 1_048_576;
+const SCRIPT_BYTES: usize = 1_048_576;
 
 /// The greatest number of reads that a script takes.
 const SCRIPT_READS: u64 = 2_097_152;
+
+/// How long a script is at most, in bytes, and how many reads it takes at most.
+///
+/// Takes no memory. Doesn't wait.
+/// Own rule: docs/BEHAVIOR.md, 'Scripts'.
+pub fn script_limits() -> (usize, u64)
+    ensures bytes { result.0 ≡ script_bytes }
+    ensures reads { result.1 ≡ script_reads }
+{
+    (SCRIPT_BYTES, SCRIPT_READS)
+}
 
 /// Reads all that the reader gives.
 pub fn read_all<R: Read>(alloc: Global, reader: &mut R) -> Result<Vec<u8>, ScriptFault>
     ensures all { IfOk result (λ script. Consumes (R.remaining reader.old) (R.remaining reader.new) script.items) }
     ensures end { OnOk result (IsAtEnd (R.remaining reader.new)) }
-    ensures short { IfOk result (λ script. vec_len script ≤ SCRIPT_BYTES) }
+    ensures short { IfOk result (λ script. vec_len script ≤ script_bytes) }
     ensures fault { IfErr result IsOfReading }
-    ensures too_long { result ≡ Err ScriptFault.TooLong → ConsumesMoreThan SCRIPT_BYTES (R.remaining reader.old) (R.remaining reader.new) }
+    ensures too_long { result ≡ Err ScriptFault.TooLong → ConsumesMoreThan script_bytes (R.remaining reader.old) (R.remaining reader.new) }
 {
     let mut script = Vec::new(alloc);
     let mut piece = [0u8; 4096];

@@ -1,6 +1,7 @@
 //! Scripts and what their runs write, and streams that fault.
 use crate::{CutReader, CutWriter, ScriptFault, run_script};
 use std::alloc::Global;
+use std::io::{Read, Write};
 use std::test::Fail;
 
 /// What a run of the script writes.
@@ -239,6 +240,50 @@ fn read_fault_leaves_nothing(rt: HostRuntime) -> Result<(), Fail> {
         assert_eq!(rt; result, Err(ScriptFault::Read));
         assert!(rt; output.is_empty());
     }
+    Ok(())
+}
+
+#[test]
+fn read_fault_ends_a_run_at_once(rt: HostRuntime) -> Result<(), Fail> {
+    for reads in 0..21 {
+        let mut input = CutReader::once(ONE_BRANCH, 6, reads);
+        let mut output = Vec::new(rt.alloc());
+        let result = run_script(rt.alloc(), &mut input, &mut output);
+        assert_eq!(rt; result, Err(ScriptFault::Read));
+        assert_eq!(rt; input.reads_after_a_fault(), 0);
+        assert!(rt; output.is_empty());
+    }
+    Ok(())
+}
+
+#[test]
+fn write_fault_ends_a_run_at_once(rt: HostRuntime) -> Result<(), Fail> {
+    for room in 0..ONE_BRANCH_ANSWERS.len() {
+        let mut input = ONE_BRANCH;
+        let mut output = CutWriter::once(rt.alloc(), 3, room);
+        let result = run_script(rt.alloc(), &mut input, &mut output);
+        assert_eq!(rt; result, Err(ScriptFault::Write));
+        assert_eq!(rt; output.writes_after_a_fault(), 0);
+        assert_eq!(rt; output.as_slice(), &ONE_BRANCH_ANSWERS[..room]);
+    }
+    Ok(())
+}
+
+#[test]
+fn cut_streams_go_on_after_one_fault(rt: HostRuntime) -> Result<(), Fail> {
+    let mut input = CutReader::once(b"abc", 2, 1);
+    let mut piece = [0u8; 4];
+    assert_eq!(rt; input.read(&mut piece).ok(), Some(2));
+    assert!(rt; input.read(&mut piece).is_err());
+    assert_eq!(rt; input.read(&mut piece).ok(), Some(1));
+    assert_eq!(rt; piece[0], b'c');
+    assert_eq!(rt; input.reads_after_a_fault(), 1);
+    let mut output = CutWriter::once(rt.alloc(), 2, 1);
+    assert_eq!(rt; output.write(b"abc").ok(), Some(1));
+    assert!(rt; output.write(b"bc").is_err());
+    assert_eq!(rt; output.write(b"bc").ok(), Some(2));
+    assert_eq!(rt; output.as_slice(), b"abc".as_slice());
+    assert_eq!(rt; output.writes_after_a_fault(), 1);
     Ok(())
 }
 
