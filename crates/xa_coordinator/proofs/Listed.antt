@@ -1,6 +1,6 @@
 -- Which branches of a list are of a coordinator's naming.
 use Rattle.std.proofs.Common.{◌≡◌, ◌≢◌, ◌<◌, ◌≤◌, ◌+◌, ◌^◌, ℕ, Bool, true, false, List, [], ◌∷◌, ◌++◌, length, take, drop, get_or, zero, suc, refl, ap, sym, ◌∙◌, subst, inl, inr, Some, arith, add-one, length-append}
-use Rattle.std.specs.Prelude.{All, slice_get, ◌||◌}
+use Rattle.std.specs.Prelude.{All, slice_get, ◌||◌, ◌&&◌, ◌⊎◌}
 use Rattle.std.specs.List.{list_any}
 use Rattle.std.specs.Int.{w64, to_be_bytes, from_be_bytes}
 use Rattle.std.proofs.lemmas.List.Elements.{All-nil, All-push, All-weaker}
@@ -68,6 +68,13 @@ pub none_left_there : (name : List ℕ) (store : ℕ) (xids : List Xid) (place :
 none_left_there name store xids place old new is none = λ number fits. listed_prepared xids place old new is (branch_xid name number store) ∙ none number fits
 
 -- ---- reading the number of a name
+
+-- one of three tests fails
+pub one_fails : (x y z : Bool) → (x && (y && z)) ≡ false → (x ≡ false) ⊎ ((y ≡ false) ⊎ (z ≡ false))
+one_fails true true true is = absurd (cc)
+one_fails true true false is = inr (inr refl)
+one_fails true false z is = inr (inl refl)
+one_fails false y z is = inl refl
 
 -- the number stands behind the name
 pub number_behind_is : (name : List ℕ) (number store : ℕ) (xid : Xid) → IsBranchOf name number store xid → (length xid.gtrid.items ≡ length name + 8) × (from_be_bytes w64 (drop (length name) xid.gtrid.items) ≡ number)

@@ -115,6 +115,7 @@ impl<S: Speak> Coordinator<S> {
         fronts: Vec<u64>,
     ) -> Result<Report, RecoverFault>
         requires none { fronts.items ≡ [] }
+        requires empty { vec_len fronts ≡ 0 }
         requires room { vec_len self.old.stores ≤ vec_capacity fronts }
         ensures name { self.new.name ≡ self.old.name }
         ensures count { vec_len self.new.stores ≡ vec_len self.old.stores }

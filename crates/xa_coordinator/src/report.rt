@@ -26,9 +26,13 @@ impl Report {
         requires missing_fits { self.old.missing + tally.missing < 2 ^ 128 }
         ensures fronts { self.new.fronts.items ≡ self.old.fronts.items ++ front ∷ [] }
         ensures capacity { vec_capacity self.new.fronts ≡ vec_capacity self.old.fronts }
+        ensures length { vec_len self.new.fronts ≡ vec_len self.old.fronts + 1 }
         ensures committed { self.new.committed ≡ self.old.committed + tally.committed }
         ensures rolled_back { self.new.rolled_back ≡ self.old.rolled_back + tally.rolled_back }
         ensures missing { self.new.missing ≡ self.old.missing + tally.missing }
+        ensures committed_within { self.new.committed < self.old.committed + 2 ^ 64 }
+        ensures rolled_back_within { self.new.rolled_back < self.old.rolled_back + 2 ^ 64 }
+        ensures missing_within { self.new.missing < self.old.missing + 2 ^ 64 }
     {
         self.fronts.push_reserved(front);
         self.committed += u128::from(tally.committed);

@@ -1,4 +1,4 @@
-use Rattle.std.proofs.Common.{◌≡◌, ◌<◌, ◌≤◌, ◌+◌, ℕ, List, length, [], ◌∷◌, refl, ap, sym, ◌∙◌, subst, arith, length-append}
+use Rattle.std.proofs.Common.{◌≡◌, ◌<◌, ◌≤◌, ◌+◌, ℕ, refl, ap, ◌∙◌, subst, arith}
 use Rattle.xa_xid.specs.Xid.{Text}
 use Rattle.xa_coordinator.specs.View.{SessionView}
 use Rattle.xa_coordinator.specs.declared.tally.Tally.{Tally}
@@ -14,7 +14,7 @@ loop-store-init g c =
       name = refl;
       frees = frees_none me.branches;
       recovers = recovers_none g.S.Speak.view c.args.decisions.now me.name.items _ me.stores.items c.requires.none refl refl refl;
-      length = ap length c.requires.none;
+      length = c.requires.empty;
       room = c.requires.room;
       committed = omega arith;
       rolled_back = omega arith;
@@ -34,11 +34,11 @@ loop-store-preserved g c =
       recovers = recovers_next view d me.name.items store c.loop-store.report c.add.new.self (c.in-Ok.tally, c.in-Ok.front) me.stores.items c.loop-store.self.stores.items c.recover_store.new.self.stores.items so_far.recovers c.in-Ok.ensures.frame
           (subst (λ (name : Text). AtStore view store (IsRecovered d name.items store c.in-Ok.tally c.in-Ok.front) c.loop-store.self.stores.items c.recover_store.new.self.stores.items) so_far.name c.in-Ok.ensures.recovered)
           c.add.ensures.fronts c.add.ensures.committed c.add.ensures.rolled_back c.add.ensures.missing;
-      length = ap length c.add.ensures.fronts ∙ length-append c.loop-store.report.fronts.items (c.in-Ok.front ∷ []) ∙ ap (λ n. n + 1) so_far.length;
+      length = c.add.ensures.length ∙ ap (λ n. n + 1) so_far.length;
       room = omega (arith, so_far.room, c.add.ensures.capacity);
-      committed = omega (arith, so_far.committed, c.add.ensures.committed);
-      rolled_back = omega (arith, so_far.rolled_back, c.add.ensures.rolled_back);
-      missing = omega (arith, so_far.missing, c.add.ensures.missing);
+      committed = omega (arith, so_far.committed, c.add.ensures.committed_within);
+      rolled_back = omega (arith, so_far.rolled_back, c.add.ensures.rolled_back_within);
+      missing = omega (arith, so_far.missing, c.add.ensures.missing_within);
     }
 
 pub returns-in-Err-clause-breaks : goal.returns-in-Err-clause-breaks
