@@ -3,6 +3,7 @@ pub mod Seats
 pub mod Places
 pub mod Standings
 pub mod Marks
+pub mod Opening
 pub mod Telling
 pub mod Keeping
 pub mod Walk
@@ -12,3 +13,7 @@ pub mod Ended
 pub mod Hazards
 pub mod Working
 pub mod Works
+pub mod LettingGo
+pub mod Listed
+pub mod Settling
+pub mod Recovering

@@ -1,7 +1,7 @@
 //! The decisions of a coordinator.
-ghost use Rattle.std.specs.Prelude.{ℕ, ◌≡◌, ◌≤◌, ◌<◌, ◌+◌, [], ◌∷◌, ◌++◌, true, false, length, OnOk, OnErr, IfOk, IfSome, IfNone};
+ghost use Rattle.std.specs.Prelude.{ℕ, ◌≡◌, ◌≤◌, ◌<◌, ◌+◌, [], ◌∷◌, ◌++◌, true, false, length, map, OnOk, OnErr, IfOk, IfSome, IfNone};
 ghost use Rattle.xa_coordinator.specs.declared.standing.Standing.TheVariants.{Undecided as StandsUndecided};
-ghost use Rattle.xa_coordinator.specs.Decisions.{standing_of, is_decided as is_decided_by, may_be_decided, with_decided};
+ghost use Rattle.xa_coordinator.specs.Decisions.{standing_of, is_decided as is_decided_by, may_be_decided, with_decided, closed_of};
 
 use crate::Standing;
 use crate::begin_fault::BeginFault;
@@ -30,6 +30,15 @@ impl Model for Decisions {
     ghost view = { λ decisions. decisions.standings.items };
 
     ghost invariant = { λ decisions. length decisions.standings.items ≤ 1000000 };
+}
+
+/// Closes each number that is undecided.
+fn close_each(standings: &mut [Standing])
+    ensures { standings.new ≡ map closed_of standings.old }
+{
+    for standing in standings.iter_mut() {
+        *standing = standing.closed();
+    }
 }
 
 impl Decisions {
@@ -111,6 +120,13 @@ impl Decisions {
             return Err(BeginFault::NoMemory);
         };
         Ok(self.standings.len() as u64)
+    }
+
+    /// Closes every undecided number.
+    pub(crate) fn close_all(&mut self)
+        ensures { self.new ≡ map closed_of self.old }
+    {
+        close_each(self.standings.as_mut_slice());
     }
 
     /// Records that the transaction of a vote of Ready commits, before any of its branches does.
