@@ -12,5 +12,5 @@ join_seat-requires-clause-blank c = ap (λ me. me.1) c.requires.other.held
 pub join_seat-requires-clause-allowed : goal.join_seat-requires-clause-allowed
 join_seat-requires-clause-allowed c =
     subst (λ me. Joins (Rules c.args.self.now.table.inner.shared.key) c.args.seat.now.id me.0 c.args.other.id c.args.other.me.0 (both_of me.0 c.args.other.me.0) Spent) (sym c.requires.seat.held)
-      (subst (λ me. Joins (Rules c.args.self.now.table.inner.shared.key) c.args.seat.now.id (One (hand_of c.args.seat.now.me.0)) c.args.other.id me.0 (both_of (One (hand_of c.args.seat.now.me.0)) me.0) Spent) (sym c.requires.other.held)
-      (join_step c.args.self.now.table.inner.shared.key c.args.seat.now.id c.args.other.id (hand_of c.args.seat.now.me.0) (hand_of c.args.other.me.0)))
+    (subst (λ me. Joins (Rules c.args.self.now.table.inner.shared.key) c.args.seat.now.id (One (hand_of c.args.seat.now.me.0)) c.args.other.id me.0 (both_of (One (hand_of c.args.seat.now.me.0)) me.0) Spent) (sym c.requires.other.held)
+    (join_step c.args.self.now.table.inner.shared.key c.args.seat.now.id c.args.other.id (hand_of c.args.seat.now.me.0) (hand_of c.args.other.me.0)))
