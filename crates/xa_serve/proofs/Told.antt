@@ -1,5 +1,6 @@
 -- What the sequential server told.
-use Rattle.std.proofs.Common.{◌≡◌, ◌≤◌, ℕ, Bool, true, false, cond, nat_le, Option, Some, None, Result, Ok, Err, List, [], ◌∷◌, ◌++◌, length, refl, sym, ap, subst, ◌∙◌, inl, inr, append_assoc, append-nil, arith, codes}
+use Rattle.std.proofs.Common.{◌≡◌, ◌≤◌, ℕ, Bool, true, false, cond, nat_le, Option, Some, None, Result, Ok, Err, List, [], ◌∷◌, ◌++◌, length, refl, sym, ap, subst, ◌∙◌, inl, inr, append_assoc, append-nil, arith, codes, decimal, lit<}
+use Rattle.std.proofs.lemmas.Fmt.{decimal_digit}
 use Rattle.std.specs.Prelude.{All, OnOk, IfErr, IfSome}
 use Rattle.std.proofs.lemmas.List.Elements.{All-head, All-tail}
 use Rattle.std.proofs.lemmas.Bool.Decides.{nat_tests}
@@ -13,7 +14,7 @@ use Rattle.xa_transcript.specs.declared.script_fault.ScriptFault.TheVariants.{Re
 use Rattle.xa_serve.specs.Heard.{Heard, Whole, TooLong, heard_line}
 use Rattle.xa_serve.specs.Exchange.{Exchange}
 use Rattle.xa_serve.specs.Served.{AnswersAll, AreAnswers, IsServed, AfterFault}
-use Rattle.xa_serve.specs.Statements.{said, IsEmpty, IsRefusal, IsAnswer, text_of, state_of, served_text, IsTold, AfterFaultOfStatements, IsShort}
+use Rattle.xa_serve.specs.Statements.{said, refused_text, IsEmpty, IsRefusal, IsAnswer, text_of, state_of, served_text, IsTold, AfterFaultOfStatements, IsShort}
 
 -- a line for whose statement memory is refused or isn't
 record IsMarked (mark : Bool) (old : State) (line : Line) (text : List ℕ) (new : State) : Type 0 where
@@ -116,3 +117,11 @@ pub given_answered : (old new : State) (session : ℕ) (statement : List ℕ) (l
     → (text ≡ answer_of old line) × (new ≡ state_after old line)
 unfolding answer_of state_after
 given_answered old new session statement line text is told then = (rw (← is) told, rw (← is) then)
+
+-- the text of the answer to a bad line
+pub bad_text : codes "-" ++ codes " ERROR 1064 (42000): syntax fault at byte 0\n" ≡ answer_text (codes "-") (syntax_text 0)
+bad_text = let e : decimal 0 ≡ 48 ∷ [] = decimal_digit 0 (lit< tt) in ap (λ d. answer_text (codes "-") (codes "ERROR 1064 (42000): syntax fault at byte " ++ d)) (sym e)
+
+-- that of the answer to a statement for which memory was refused
+pub refused_text-parts : (who : List ℕ) (session : ℕ) → who ≡ decimal session → who ++ codes " ERROR 1037 (HY001): out of memory\n" ≡ refused_text session
+refused_text-parts who session is = rw is (simp append_assoc)

@@ -121,8 +121,9 @@ pub fn serve<S: LineServer, P: Peer<S>>(
     };
     let mut piece = [0u8; 4096];
     for _read in 0..u64::MAX {
-        let Ok(count) = peer.hear(&mut piece) else {
-            return Err(ScriptFault::Read);
+        let count = match peer.hear(&mut piece) {
+            Ok(count) => count,
+            Err(_) => return Err(ScriptFault::Read),
         };
         if count == 0 {
             answer_last(alloc, server, peer, &mut line)?;
