@@ -140,3 +140,9 @@ module _ {S : Type 0} (Begins : S → Type 0) (Answers : S → Heard → List �
   pub spent : (reads : ℕ) (o : Option Exchange) (line : Heard) (server : S) → 2 ^ 64 - 1 ≤ reads → Ready reads o line server → IfSome o (AfterFault Begins Answers Read)
   spent reads None line server all r = tt
   spent reads (Some e) line server all r = let a = under.ready_answered Begins Answers reads e line server r in let counted = r.1.counted in (a.1, inr (omega arith))
+
+  -- a write fault that is passed on
+  pub passed_on : {A : Type 0} (o : Option Exchange) (answer : Result A ScriptFault) (passed fault : ScriptFault) → answer ≡ Err passed → passed ≡ fault → fault ≡ Write → IsBegunAt o → IfErr answer (λ f. IfSome o (AfterFault Begins Answers f))
+  passed_on {A} o answer passed fault is same of_write begun =
+      let P : Result A ScriptFault → Type 0 = λ r. IfErr r (λ f. IfSome o (AfterFault Begins Answers f)) in
+      subst P (sym is) (write_fault o passed (same ∙ of_write) begun)
