@@ -1,11 +1,10 @@
 //! A peer over streams.
-ghost use Rattle.std.specs.Prelude.{◌≡◌, [], OnOk, IfOk};
+ghost use Rattle.std.specs.Prelude.{◌≡◌, [], OnOk};
 ghost use Rattle.std.specs.Io.{ReadsAtMost};
 ghost use Rattle.std.specs.Io.KnownBytes.{Appends, Keeps, ReadConsumes};
 ghost use Rattle.std.specs.Io.Buffered.{writer_buffer, writer_contents};
 
 use crate::{LineServer, Peer};
-use std::alloc::Global;
 use std::io;
 use std::io::{BufWriter, Read, Write};
 
@@ -18,22 +17,18 @@ pub struct Wire<R: Read + Drop, W: Write + Drop> {
 
 impl<R: Read + Drop, W: Write + Drop> Wire<R, W> {
 
-    /// A peer over these streams. What it is told is gathered, and written at each flush.
+    /// A peer over these streams. What it is told is gathered by the buffer of the writer, and written at each flush.
     ///
-    /// Takes memory for 8,192 bytes; fails where that was refused. Doesn't wait.
-    pub fn new(alloc: Global, reader: R, writer: W) -> io::Result<Wire<R, W>>
-        ensures reader { IfOk result (λ wire. wire.reader ≡ reader) }
-        ensures writer { IfOk result (λ wire. writer_buffer wire.writer ≡ []) }
+    /// Takes no memory. Doesn't wait.
+    pub fn new(reader: R, writer: BufWriter<W>) -> Wire<R, W>
+        ensures reader { result.reader ≡ reader }
+        ensures writer { result.writer ≡ writer }
     {
-        Ok(Wire {
-            reader,
-            writer: BufWriter::new(alloc, writer)?,
-        })
+        Wire { reader, writer }
     }
 }
 
 impl<S: LineServer, R: Read + Drop, W: Write + Drop> Peer<S> for Wire<R, W> {
-
     fn hear(&mut self, piece: &mut [u8]) -> io::Result<usize>
         ensures bound { ReadsAtMost result piece.new }
         ensures bytes { ReadConsumes (R.remaining self.old.reader) (R.remaining self.new.reader) result piece.new }
