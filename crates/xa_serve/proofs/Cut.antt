@@ -57,7 +57,7 @@ cut_feed bytes lines begun cut =
     let one : flat_map with_feed (begun ∷ []) ≡ begun ++ 10 ∷ [] = append-nil (with_feed begun) in
     record {
       whole = ap (λ xs. xs ++ 10 ∷ []) cut.whole ∙ append_assoc (flat_map with_feed lines) begun (10 ∷ []) ∙ ap (λ xs. flat_map with_feed lines ++ xs) (sym one)
-      ∙ sym (flat_map-append with_feed lines (begun ∷ [])) ∙ sym (append-nil (flat_map with_feed (lines ++ begun ∷ [])));
+          ∙ sym (flat_map-append with_feed lines (begun ∷ [])) ∙ sym (append-nil (flat_map with_feed (lines ++ begun ∷ [])));
       each = All-push HasNoFeed lines begun cut.each cut.last;
       last = All-nil (λ b. (b == 10) ≡ false);
     }

@@ -26,9 +26,9 @@ module _ {S : Type 0} (Begins : S → Type 0) (Answers : S → Heard → List �
   feed_ok None (Some new) (Ok x) byte line next server after feed cleared t = absurd t.2
   feed_ok (Some old) None (Ok x) byte line next server after feed cleared t = absurd t.2
   feed_ok (Some old) (Some new) (Ok x) byte line next server after feed cleared t = λ reads waiting u.
-    (let P : ℕ → Type 0 = λ b. IsUnderWay Begins Answers Open reads old (b ∷ waiting) line server in
-     let Q : Heard → Type 0 = λ l. IsUnderWay Begins Answers Open reads new waiting l after in
-     subst Q (sym cleared) (under.answered Begins Answers Open reads old new waiting t.0 line server after t.2 t.1 (subst P feed u)))
+      (let P : ℕ → Type 0 = λ b. IsUnderWay Begins Answers Open reads old (b ∷ waiting) line server in
+      let Q : Heard → Type 0 = λ l. IsUnderWay Begins Answers Open reads new waiting l after in
+      subst Q (sym cleared) (under.answered Begins Answers Open reads old new waiting t.0 line server after t.2 t.1 (subst P feed u)))
   feed_ok old new (Err e) byte line next server after feed cleared t = tt
 
   pub feed_err : {A E : Type 0} (old new : Option Exchange) (result : Result A E) (byte : ℕ) (line : Heard) (server after : S) → byte ≡ 10 → Answered old new result line server after
@@ -37,8 +37,8 @@ module _ {S : Type 0} (Begins : S → Type 0) (Answers : S → Heard → List �
   feed_err None (Some new) (Err e) byte line server after feed t = absurd t.2
   feed_err (Some old) None (Err e) byte line server after feed t = absurd t.2
   feed_err (Some old) (Some new) (Err e) byte line server after feed t = λ reads waiting u.
-    (let P : ℕ → Type 0 = λ b. IsUnderWay Begins Answers Open reads old (b ∷ waiting) line server in
-     under.begun_answer Begins Answers Open reads old new waiting t.0 t.2.0 line server after t.2.1 t.1 (subst P feed u))
+      (let P : ℕ → Type 0 = λ b. IsUnderWay Begins Answers Open reads old (b ∷ waiting) line server in
+      under.begun_answer Begins Answers Open reads old new waiting t.0 t.2.0 line server after t.2.1 t.1 (subst P feed u))
   feed_err old new (Ok x) byte line server after feed t = tt
 
   pub put_ok : (o : Option Exchange) (byte : ℕ) (line next : Heard) (server : S) → (byte == 10) ≡ false → next ≡ longer line byte → (reads : ℕ) (waiting : List ℕ)

@@ -37,11 +37,10 @@ marks_of [] later first last text a = ([], ap (λ s. served_text [] s later) (sy
 marks_of (line ∷ lines) later first last text a =
     let m = mark_of first a.0 (heard_line line) a.1 a.3 in
     let more = marks_of lines later a.0 last a.2 a.4 in
-    let next : served_text more.0 (state_of m.0 first (said (heard_line line))) (lines ++ later) ≡ a.2 ++ served_text [] last later = ap (λ s. served_text more.0 s (lines ++ later)) (sym m.1.state_is) ∙ more.1 in
-    (
+    let next : served_text more.0 (state_of m.0 first (said (heard_line line))) (lines ++ later) ≡ a.2 ++ served_text [] last later = ap (λ s. served_text more.0 s (lines ++ later)) (sym m.1.state_is) ∙ more.1 in (
       m.0 ∷ more.0,
       ap (λ t. t ++ served_text more.0 (state_of m.0 first (said (heard_line line))) (lines ++ later)) (sym m.1.text_is) ∙ ap (λ t. a.1 ++ t) next
-      ∙ sym (append_assoc a.1 a.2 (served_text [] last later)) ∙ ap (λ t. t ++ served_text [] last later) (sym a.5),
+          ∙ sym (append_assoc a.1 a.2 (served_text [] last later)) ∙ ap (λ t. t ++ served_text [] last later) (sym a.5),
     )
 
 nothing_later : (state : State) → served_text [] state [] ≡ []

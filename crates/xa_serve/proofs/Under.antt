@@ -36,8 +36,7 @@ module _ {S : Type 0} (Begins : S → Type 0) (Answers : S → Heard → List �
   -- nothing has passed yet
   pub fresh : (exchange : Exchange) (line : Heard) (server : S) → IsFresh exchange → line ≡ Whole [] → Begins server → IsReady Begins Answers Open 0 exchange line server
   fresh exchange line server none nothing begins =
-      let P : List ℕ → Type 0 = λ xs. AnswersAll Answers server [] xs server in
-      (
+      let P : List ℕ → Type 0 = λ xs. AnswersAll Answers server [] xs server in (
         none.2 ∙ sym none.1,
         record {
           done = [];
@@ -88,7 +87,7 @@ module _ {S : Type 0} (Begins : S → Type 0) (Answers : S → Heard → List �
         begins = u.begins;
         answers = answers_more u.lines u.first server after exchange.given u.begun answer u.answers (subst Q u.held now);
         stage_is = u.stage_is;
-    counted = u.counted;
+        counted = u.counted;
       })
 
   -- the answer to the line is given in part

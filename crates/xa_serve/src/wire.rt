@@ -9,6 +9,8 @@ use std::io;
 use std::io::{BufWriter, Read, Write};
 
 /// A peer that says what a reader gives, and is told what a writer takes.
+///
+/// A read that is interrupted is a fault; a write that is interrupted is tried again, as std's buffer does.
 #[derive(Drop)]
 pub struct Wire<R: Read + Drop, W: Write + Drop> {
     reader: R,
@@ -16,7 +18,6 @@ pub struct Wire<R: Read + Drop, W: Write + Drop> {
 }
 
 impl<R: Read + Drop, W: Write + Drop> Wire<R, W> {
-
     /// A peer over these streams. What it is told is gathered by the buffer of the writer, and written at each flush.
     ///
     /// Takes no memory. Doesn't wait.
