@@ -41,8 +41,9 @@ fn script_command<'a>(alloc: Global) -> Result<Command<'a>, AllocError>
     let race = Command::new(alloc, "race")
         .about("Races the script of the standard input, each session on a thread of its own")
         .arg(capacity_option(alloc))?;
-    let serve = Command::new(alloc, "serve")
-        .about("Answers each line of the standard input before it reads more");
+    let serve = Command::new(alloc, "serve").about(
+        "Answers each line of the standard input before it reads more",
+    );
     Command::new(alloc, "xa_script")
         .about("Runs scripts of XA statements")
         .subcommand_required(true)
