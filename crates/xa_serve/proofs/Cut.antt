@@ -1,12 +1,12 @@
 -- Cutting what is heard into lines.
-use Rattle.std.proofs.Common.{◌≡◌, ◌≤◌, ◌<◌, ℕ, ◌==◌, Bool, true, false, cond, List, [], ◌∷◌, ◌++◌, length, refl, sym, ap, subst, ◌∙◌, append_assoc, append-nil, nat_le, arith, length-append}
+use Rattle.std.proofs.Common.{◌≡◌, ◌≤◌, ◌<◌, ℕ, ◌==◌, Bool, true, false, cond, List, [], ◌∷◌, ◌++◌, length, refl, sym, ap, ◌∙◌, append_assoc, append-nil, nat_le, arith, length-append}
 use Rattle.std.proofs.lemmas.Bool.Decides.{nat_tests}
 use Rattle.std.specs.Prelude.{All}
 use Rattle.std.specs.List.{flat_map}
 use Rattle.std.proofs.lemmas.List.Elements.{All-nil, All-head, All-tail, All-push}
 use Rattle.std.proofs.lemmas.Grind.{flat_map-append}
-use Rattle.xa_transcript.specs.Script.{lines_of, with_first}
-use Rattle.xa_serve.specs.Heard.{Heard, Whole, TooLong, heard_line, longer, is_nothing, HasNoFeed, with_feed, IsCut}
+use Rattle.xa_transcript.specs.Script.{lines_of}
+use Rattle.xa_serve.specs.Heard.{Whole, TooLong, heard_line, longer, is_nothing, HasNoFeed, with_feed, IsCut}
 
 -- the first line, where a line feed ends it
 lines_of-feed : (line rest : List ℕ) → HasNoFeed line → lines_of (line ++ 10 ∷ rest) ≡ line ∷ lines_of rest

@@ -1,5 +1,5 @@
 -- The same of a peer that says what has passed, or doesn't.
-use Rattle.std.proofs.Common.{◌≡◌, ℕ, ◌==◌, ◌≤◌, ◌<◌, ◌+◌, add-one, ◌-◌, ◌^◌, true, false, Option, Some, None, Result, Ok, Err, List, [], ◌∷◌, length, take, drop, get_or, refl, sym, ap, subst, ◌∙◌, inl, inr, arith}
+use Rattle.std.proofs.Common.{◌≡◌, ℕ, ◌==◌, ◌≤◌, ◌<◌, ◌+◌, add-one, ◌-◌, ◌^◌, true, false, Option, Some, None, Result, Ok, Err, List, [], ◌∷◌, length, take, drop, get_or, refl, sym, subst, ◌∙◌, inl, inr, arith}
 use Rattle.std.specs.Prelude.{OnOk, OnErr, IfErr, IfSome}
 use Rattle.std.proofs.Math.Seq.{drop-cons}
 use Rattle.xa_serve.specs.Heard.{Heard, Whole, longer, is_nothing}

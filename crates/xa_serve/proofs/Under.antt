@@ -1,14 +1,13 @@
 -- A conversation, byte by byte and answer by answer.
-use Rattle.std.proofs.Common.{◌≡◌, ℕ, ◌==◌, Bool, true, false, cond, Option, Some, None, Result, Ok, Err, List, [], ◌∷◌, ◌++◌, length, take, drop, refl, sym, ap, subst, ◌∙◌, append_assoc, append-nil, nat_le, ◌≤◌, ◌+◌, arith, length-append}
+use Rattle.std.proofs.Common.{◌≡◌, ℕ, ◌==◌, true, false, List, [], ◌∷◌, ◌++◌, length, take, drop, refl, sym, ap, subst, ◌∙◌, append_assoc, append-nil, ◌≤◌, ◌+◌, arith, length-append}
 use Rattle.std.proofs.lemmas.List.{length-take}
 use Rattle.std.proofs.lemmas.Bool.Decides.{nat_tests}
-use Rattle.std.specs.Prelude.{OnOk, OnErr, IfOk, IfErr, IfSome}
 use Rattle.std.proofs.lemmas.List.{take-append-drop}
 use Rattle.xa_transcript.specs.Script.{lines_of}
-use Rattle.xa_serve.specs.Heard.{Heard, Whole, TooLong, heard_line, longer, is_nothing, IsCut}
-use Rattle.xa_serve.specs.Exchange.{Exchange, IsFresh, Tells, Flushes, Hears, with_heard}
+use Rattle.xa_serve.specs.Heard.{Heard, Whole, heard_line, longer, is_nothing, IsCut}
+use Rattle.xa_serve.specs.Exchange.{Exchange, IsFresh, with_heard}
 use Rattle.xa_serve.specs.Served.{AnswersAll, AreAnswers, IsAnswerSoFar, IsAnswered, IsServed, IsBegunAnswer}
-use Rattle.xa_serve.specs.UnderWay.{IsUnderWay, UnderWay, IsReady, IsAllAnswered}
+use Rattle.xa_serve.specs.UnderWay.{IsUnderWay, IsReady, IsAllAnswered}
 use Rattle.xa_serve.specs.declared.stage.Stage.{Stage}
 use Rattle.xa_serve.specs.declared.stage.Stage.TheVariants.{Open, Ended, Deaf}
 use Rattle.xa_serve.proofs.Cut.{cut_none, cut_more, cut_feed, lines_of-cut, lines_of-cut_feed, lines_of-some, lines_of-nothing, nothing_begun, heard_line-nothing, heard_line-longer}

@@ -2,7 +2,7 @@
 --     IsUnderWay, UnderWay    all whole lines of what was heard are answered, but for those that still wait
 --     IsAllAnswered           none waits, and nothing more is to be heard
 --     IsReady                 none waits, and the peer was told all
-use Rattle.std.specs.Prelude.{◌≡◌, ◌≤◌, ℕ, length, Option, Some, None, List, [], ◌∷◌, ◌++◌, ⊤}
+use Rattle.std.specs.Prelude.{◌≡◌, ◌≤◌, ℕ, length, Option, Some, None, List, [], ◌++◌, ⊤}
 use Rattle.xa_serve.specs.Heard.{Heard, heard_line, IsCut}
 use Rattle.xa_serve.specs.Exchange.{Exchange}
 use Rattle.xa_serve.specs.Served.{AnswersAll, AreAnswers}

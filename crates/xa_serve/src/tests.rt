@@ -1,4 +1,6 @@
 //! Conversations.
+ghost use Rattle.std.specs.Prelude.{◌<◌};
+
 use crate::{Answer, LineServer, Peer, Recorded, Wire, serve, serve_statements};
 use arrayvec::ArrayVec;
 use std::alloc::Global;
@@ -189,14 +191,15 @@ fn streams_make_a_peer(rt: HostRuntime) -> Result<(), Fail> {
 #[derive(Drop)]
 struct Counter {
     lines: u8,
+    ghost digit: { lines < 10 },
 }
 
 impl LineServer for Counter {
-    ghost use Rattle.std.specs.Prelude.{◌≡◌, Unit};
+    ghost use Rattle.std.specs.Prelude.{◌≡◌, ◌+◌, ◌∷◌, []};
 
     ghost begins = { λ counter. counter.lines ≡ 0 };
 
-    ghost answers = { λ old line text new. Unit {0} };
+    ghost answers = { λ old line text new. text ≡ (48 + new.lines) ∷ [] };
 
     fn answer(&mut self, _alloc: Global, _line: &[u8]) -> Answer {
         self.answer_long()

@@ -1,4 +1,4 @@
-use Rattle.std.proofs.Common.{rules, arith, ◌≡◌, ◌≤◌, ◌<◌, ◌++◌, ◌∷◌, [], length}
+use Rattle.std.proofs.Common.{rules, arith, ◌≡◌, ◌++◌, ◌∷◌, []}
 use Rattle.xa_serve.proofs.Cut.{put_short, put_long}
 use Rattle.xa_serve.proofs.begun_line.BegunLine.put.Goals as goal
 
