@@ -1,5 +1,5 @@
 -- What is true of each element of a list.
-use Rattle.std.proofs.Common.{List, get_or, arith}
+use Rattle.std.proofs.Common.{◌≡◌, ◌<◌, List, length, get_or, arith}
 use Rattle.std.specs.List.{All, AllZip}
 use Rattle.std.proofs.lemmas.List.Elements.{All-get_or, AllZip-get_or, length_all_zip}
 
