@@ -4,8 +4,6 @@
 #[cfg(test)]
 mod acts;
 #[cfg(test)]
-mod coordinator;
-#[cfg(test)]
 mod made;
 #[cfg(test)]
 mod race;
