@@ -1,11 +1,15 @@
 //! The scenes over sessions of real stores.
+ghost use Rattle.std.specs.Prelude.{◌≡◌, vec_len};
 
 use crate::acts::text;
 use crate::opened::{connected, opened, over_three};
 use crate::scenes;
-use xa_coordinator::{BeginFault, Decisions, RecoverFault, WorkFault, xid_of_branch};
+use std::alloc::Global;
+use std::process::Abort;
+use xa_coordinator::{BeginFault, Coordinator, Decisions, RecoverFault, WorkFault, xid_of_branch};
 use xa_server::XaError;
-use xa_session::Fault;
+use xa_session::{Fault, Session};
+use xa_store::Log;
 use xa_xid::write_xid;
 
 #[test]
