@@ -132,7 +132,7 @@ fn literals_stand_for_their_bytes(rt: HostRuntime) -> Result<(), Fail> {
 
 #[test]
 fn faulty_literals_tell_the_first_fault(rt: HostRuntime) -> Result<(), Fail> {
-    let table: [(&[u8], u8); 19] = [
+    let table: [(&[u8], u64); 19] = [
         (b"X'4'", 3),
         (b"X'4g'", 1),
         (b"0x", 1),
@@ -156,7 +156,7 @@ fn faulty_literals_tell_the_first_fault(rt: HostRuntime) -> Result<(), Fail> {
     for (text, number) in table.iter() {
         match read_literal(text, 0) {
             Ok(_) => assert!(rt; false, "{text:?}"),
-            Err(fault) => assert_eq!(rt; fault as u8, *number, "{text:?}"),
+            Err(fault) => assert_eq!(rt; fault.number(), *number, "{text:?}"),
         }
     }
     Ok(())
