@@ -1,10 +1,11 @@
 -- What calls add agrees with the decisions.
 use Rattle.std.proofs.Common.{◌≡◌, ◌<◌, inl, inr, ◌^◌, ℕ, Bool, true, false, List, [], ◌∷◌, refl, sym, subst}
-use Rattle.std.specs.Prelude.{slice_get, Some}
+use Rattle.std.specs.Prelude.{slice_get, Option, Some}
+use Rattle.xa_coordinator.specs.declared.open_branch.OpenBranch.{OpenBranch}
 use Rattle.std.proofs.lemmas.List.Elements.{All-nil, All-cons}
 use Rattle.xa_xid.specs.declared.xid.Xid.{Xid}
 use Rattle.xa_xid.specs.declared.statement.Statement.{Statement}
-use Rattle.xa_xid.specs.declared.statement.Statement.TheVariants.{End, Prepare, Commit, Rollback}
+use Rattle.xa_xid.specs.declared.statement.Statement.TheVariants.{End, Prepare}
 use Rattle.xa_coordinator.specs.declared.cause.Cause.{Cause}
 use Rattle.xa_coordinator.specs.declared.standing.Standing.{Standing}
 use Rattle.xa_coordinator.specs.declared.transaction.Transaction.{Transaction}
@@ -19,8 +20,8 @@ use Rattle.xa_coordinator.specs.Branch.{branch_xid}
 use Rattle.xa_coordinator.specs.Participants.{takes_part}
 use Rattle.xa_coordinator.specs.Agreement.{Adds, AgreesWith, Agrees}
 use Rattle.xa_coordinator.specs.Stores.{EachStore}
-use Rattle.xa_coordinator.specs.Told.{IsDone, IsUndone, IsStopped, at_end, at_once, behind_end, IsMissing, unknown_at_once, unknown_behind_end}
-use Rattle.xa_coordinator.specs.Outcomes.{branch_of, closing_of, IsClosed, Settles, IsVoted, IsEnded, EndsAs, VotesAs, Allows, closing_for, is_listed}
+use Rattle.xa_coordinator.specs.Told.{IsDone, IsUndone, IsUndoneBehind, IsStopped, IsMissing, IsUnfinished}
+use Rattle.xa_coordinator.specs.Outcomes.{branch_of, closing_of, ends_in, IsClosed, Settles, SettlesIn, IsVoted, IsEnded, EndsAs, VotesAs, Allows, closing_for, is_listed}
 use Rattle.xa_coordinator.specs.Decisions.{is_decided}
 use Rattle.xa_coordinator.specs.declared.prepared.Ballot.{Ballot}
 use Rattle.xa_coordinator.specs.declared.prepared.Ballot.TheVariants.{Ready as BallotReady, OnePhase as BallotOnePhase, No as BallotNo}
@@ -56,14 +57,22 @@ module _ (decisions : List Standing) (name : List ℕ) (store : ℕ) where
   ended_agrees : (xid : Xid) (old mid new : SessionView) → IsDone (End xid) old mid → Adds [] mid new → Agrees decisions name store old new
   ended_agrees xid old mid new ends nothing = one_agrees (End xid) old new tt (adds_then (End xid ∷ []) [] old mid new ends.adds nothing)
 
-  pub stopped_agrees : (statement : Statement) (xid : Xid) (cause : Cause) (old new : SessionView) → IsStopped statement xid cause old new → Agrees decisions name store old new
-  stopped_agrees statement xid cause old new (at_end is) = undone_agrees (End xid) cause old new is
-  stopped_agrees statement xid cause old new (at_once is) = undone_agrees statement cause old new is
-  stopped_agrees statement xid cause old new (behind_end mid ends is) = ended_agrees xid old mid new ends is.adds
+  behind_agrees : (statement : Statement) (xid : Xid) (cause : Cause) (old new : SessionView) → IsUndoneBehind statement xid cause old new → Agrees decisions name store old new
+  behind_agrees statement xid cause old new is = ended_agrees xid old is.mid new is.ends is.undone.adds
 
-  pub missing_agrees : (statement : Statement) (xid : Xid) (old new : SessionView) → IsMissing statement xid old new → Agrees decisions name store old new
-  missing_agrees statement xid old new (unknown_at_once is) = undone_agrees statement _ old new is
-  missing_agrees statement xid old new (unknown_behind_end mid ends is) = ended_agrees xid old mid new ends is.adds
+  pub stopped_agrees : (ends : Bool) (statement : Statement) (xid : Xid) (cause : Cause) (old new : SessionView) → IsStopped ends statement xid cause old new → Agrees decisions name store old new
+  stopped_agrees false statement xid cause old new is = undone_agrees statement cause old new is
+  stopped_agrees true statement xid cause old new (inl is) = undone_agrees (End xid) cause old new is
+  stopped_agrees true statement xid cause old new (inr is) = behind_agrees statement xid cause old new is
+
+  pub unfinished_agrees : (ends : Bool) (statement : Statement) (xid : Xid) (cause : Cause) (old new : SessionView) → IsUnfinished ends statement xid cause old new → Agrees decisions name store old new
+  unfinished_agrees false statement xid cause old new is = undone_agrees statement cause old new is.1
+  unfinished_agrees true statement xid cause old new (inl is) = undone_agrees (End xid) cause old new is
+  unfinished_agrees true statement xid cause old new (inr is) = behind_agrees statement xid cause old new is.1
+
+  pub missing_agrees : (ends : Bool) (statement : Statement) (xid : Xid) (old new : SessionView) → IsMissing ends statement xid old new → Agrees decisions name store old new
+  missing_agrees false statement xid old new is = undone_agrees statement _ old new is
+  missing_agrees true statement xid old new is = behind_agrees statement xid _ old new is
 
   pub voted_agrees : (xid : Xid) (takes : Bool) (old new : SessionView) → IsVoted xid takes old new → Agrees decisions name store old new
   voted_agrees xid false old new is = subst (λ s. Agrees decisions name store old s) (sym is) (nothing_agrees old)
@@ -73,33 +82,43 @@ module _ (decisions : List Standing) (name : List ℕ) (store : ℕ) where
   ends_agrees xid false old new is = subst (λ s. Agrees decisions name store old s) (sym is) (nothing_agrees old)
   ends_agrees xid true old new is = one_agrees (End xid) old new tt is
 
-  closed_agrees : (number : ℕ) → number < 2 ^ 64 → (closing : Closing) → Allows decisions number closing → (old new : SessionView) → IsClosed closing (branch_xid name number store) old new → Agrees decisions name store old new
-  closed_agrees number fits InTwoPhases allows old new is = one_agrees (Commit (branch_xid name number store) false) old new (number, record { fits = fits; is = refl }, allows) is
-  closed_agrees number fits InOnePhase allows old new is = one_agrees (Commit (branch_xid name number store) true) old new (number, record { fits = fits; is = refl }) is
-  closed_agrees number fits RollBack allows old new (inl is) = one_agrees (Rollback (branch_xid name number store)) old new (number, record { fits = fits; is = refl }, allows) is
-  closed_agrees number fits RollBack allows old new (inr is) =
-      two_agree (End (branch_xid name number store)) (Rollback (branch_xid name number store)) old new tt (number, record { fits = fits; is = refl }, allows) is
+  -- the statement that finishes a branch agrees with the decisions that allow it
+  pub closing_agrees : (number : ℕ) → number < 2 ^ 64 → (closing : Closing) → Allows decisions number closing → AgreesWith decisions name store (closing_of closing (branch_xid name number store))
+  closing_agrees number fits InTwoPhases allows = (number, record { fits = fits; is = refl }, allows)
+  closing_agrees number fits InOnePhase allows = (number, record { fits = fits; is = refl })
+  closing_agrees number fits RollBack allows = (number, record { fits = fits; is = refl }, allows)
 
-  pub settled_agrees : (number : ℕ) → number < 2 ^ 64 → (closing : Closing) → Allows decisions number closing → (takes listed : Bool) (old new : SessionView) → Settles closing (branch_xid name number store) takes listed old new →
+  closed_agrees : (ends : Bool) (statement : Statement) (xid : Xid) → AgreesWith decisions name store statement → (old new : SessionView) → IsClosed ends statement xid old new → Agrees decisions name store old new
+  closed_agrees false statement xid agrees old new is = one_agrees statement old new agrees is
+  closed_agrees true statement xid agrees old new is = two_agree (End xid) statement old new tt agrees is
+
+  pub settled_agrees : (ends : Bool) (statement : Statement) (xid : Xid) → AgreesWith decisions name store statement → (takes listed : Bool) (old new : SessionView) → Settles ends statement xid takes listed old new →
       Agrees decisions name store old new
-  settled_agrees number fits closing allows false listed old new is = subst (λ s. Agrees decisions name store old s) (sym is) (nothing_agrees old)
-  settled_agrees number fits closing allows true false old new is = closed_agrees number fits closing allows old new is
-  settled_agrees number fits closing allows true true old new is = missing_agrees (closing_of closing (branch_xid name number store)) (branch_xid name number store) old new is
+  settled_agrees ends statement xid agrees false listed old new is = subst (λ s. Agrees decisions name store old s) (sym is) (nothing_agrees old)
+  settled_agrees ends statement xid agrees true false old new is = closed_agrees ends statement xid agrees old new is
+  settled_agrees ends statement xid agrees true true old new is = missing_agrees ends statement xid old new is
 
 module _ {S : Type 0} (view : S → SessionView) (decisions : List Standing) (transaction : Transaction) where
+  -- a store's part of finishing
+  part_agrees : (branches : List (Option OpenBranch)) (closing : Closing) → Allows decisions transaction.number closing → (store : ℕ) (listed : Bool) (a b : SessionView) → SettlesIn branches transaction closing store listed a b →
+      Agrees decisions transaction.name.items store a b
+  part_agrees branches closing allows store listed a b is =
+      settled_agrees decisions transaction.name.items store (ends_in branches transaction closing store) (closing_of closing (branch_of transaction store)) (branch_of transaction store)
+      (closing_agrees decisions transaction.name.items store transaction.number transaction.eight_bytes closing allows) (takes_part transaction.participants store) listed a b is
+
   -- however a transaction was finished
-  pub ending_agrees : (closing : Closing) (ending : Ending) (old new : List S) → Allows decisions transaction.number closing → EndsAs view transaction closing ending old new → EachStore view (Agrees decisions transaction.name.items) old new
-  ending_agrees closing Committed old new allows is store =
-      at_weaker view store _ (Agrees decisions transaction.name.items store) (settled_agrees decisions transaction.name.items store transaction.number transaction.eight_bytes closing allows (takes_part transaction.participants store) false) old new (is.1 store)
-  ending_agrees closing RolledBack old new allows is store =
-      at_weaker view store _ (Agrees decisions transaction.name.items store) (settled_agrees decisions transaction.name.items store transaction.number transaction.eight_bytes closing allows (takes_part transaction.participants store) false) old new (is.1 store)
-  ending_agrees closing (Hazard stores) old new allows is store =
-      at_weaker view store _ (Agrees decisions transaction.name.items store)
-      (settled_agrees decisions transaction.name.items store transaction.number transaction.eight_bytes closing allows (takes_part transaction.participants store) (is_listed stores.items store)) old new (is.1 store)
-  ending_agrees closing (Unfinished last cause) old new allows is store =
+  pub ending_agrees : (branches : List (Option OpenBranch)) (closing : Closing) (ending : Ending) (old new : List S) → Allows decisions transaction.number closing → EndsAs view branches transaction closing ending old new →
+      EachStore view (Agrees decisions transaction.name.items) old new
+  ending_agrees branches closing Committed old new allows is store =
+      at_weaker view store _ (Agrees decisions transaction.name.items store) (part_agrees branches closing allows store false) old new (is.1 store)
+  ending_agrees branches closing RolledBack old new allows is store =
+      at_weaker view store _ (Agrees decisions transaction.name.items store) (part_agrees branches closing allows store false) old new (is.1 store)
+  ending_agrees branches closing (Hazard stores) old new allows is store =
+      at_weaker view store _ (Agrees decisions transaction.name.items store) (part_agrees branches closing allows store (is_listed stores.items store)) old new (is.1 store)
+  ending_agrees branches closing (Unfinished last cause) old new allows is store =
       from_ends view _ (Agrees decisions transaction.name.items) last _ old new is.1
-      (λ other a b settled. settled_agrees decisions transaction.name.items other transaction.number transaction.eight_bytes closing allows (takes_part transaction.participants other) settled.0 a b settled.1)
-      (λ a b stopped. stopped_agrees decisions transaction.name.items last (closing_of closing (branch_of transaction last)) (branch_of transaction last) cause a b stopped)
+      (λ other a b settled. part_agrees branches closing allows other settled.0 a b settled.1)
+      (λ a b unfinished. unfinished_agrees decisions transaction.name.items last (ends_in branches transaction closing last) (closing_of closing (branch_of transaction last)) (branch_of transaction last) cause a b unfinished)
       (λ other a. nothing_agrees decisions transaction.name.items other a)
       store
 
@@ -112,7 +131,7 @@ module _ {S : Type 0} (view : S → SessionView) (decisions : List Standing) (tr
   vote_agrees (No prepared last cause) old new is store =
       from_ends view _ (Agrees decisions transaction.name.items) last _ old new is.2
       (λ other a b voted. voted_agrees decisions transaction.name.items other (branch_of transaction other) (takes_part transaction.participants other) a b voted)
-      (λ a b stopped. stopped_agrees decisions transaction.name.items last (Prepare (branch_of transaction last)) (branch_of transaction last) cause a b stopped)
+      (λ a b stopped. stopped_agrees decisions transaction.name.items last true (Prepare (branch_of transaction last)) (branch_of transaction last) cause a b stopped)
       (λ other a. nothing_agrees decisions transaction.name.items other a)
       store
   vote_agrees Nothing old new is store = λ before after is_before is_after.

@@ -1,6 +1,6 @@
 -- The list of the stores whose branch wasn't known, as it grows.
 use Rattle.std.proofs.Common.{◌≡◌, ◌<◌, ◌≤◌, ◌+◌, ℕ, Bool, true, false, List, [], ◌∷◌, ◌++◌, length, refl, ap, sym, ◌∙◌, subst, inl, inr, arith, ne_eqb, eq-eqb, length-append}
-use Rattle.std.specs.Prelude.{All, nat_eq, ◌||◌}
+use Rattle.std.specs.Prelude.{All, nat_eq, ◌||◌, Option}
 use Rattle.std.proofs.lemmas.List.Elements.{All-nil, All-push, All-head, All-tail, All-weaker}
 use Rattle.std.proofs.lemmas.List.Folds.{list_any-append, list_any_none}
 use Rattle.xa_coordinator.specs.declared.participants.Participants.{Participants}
@@ -10,7 +10,8 @@ use Rattle.xa_coordinator.specs.View.{SessionView}
 use Rattle.xa_coordinator.specs.Participants.{takes_part}
 use Rattle.xa_coordinator.specs.Stores.{AtStore, EachStore, ChangesAt, Reached}
 use Rattle.xa_coordinator.specs.Told.{IsMissing}
-use Rattle.xa_coordinator.specs.Outcomes.{Ascends, is_listed, branch_of, closing_of, IsClosed, Settles, ClosesNext}
+use Rattle.xa_coordinator.specs.Outcomes.{Ascends, is_listed, branch_of, closing_of, ends_in, IsClosed, Settles, SettlesIn, ClosesNext}
+use Rattle.xa_coordinator.specs.declared.open_branch.OpenBranch.{OpenBranch}
 use Rattle.xa_coordinator.proofs.Walk.{reached_skip, reached_next, reached_weaker, at_weaker}
 
 -- participants below a number, ascending
@@ -74,42 +75,49 @@ same_listed stores place store less =
     or_false false = refl
 
 -- what holds of the stores that were passed, by the list
-abbrev pub SettledBy : Transaction → Closing → List ℕ → ℕ → SessionView → SessionView → Type 0
-SettledBy transaction closing stores store = Settles closing (branch_of transaction store) (takes_part transaction.participants store) (is_listed stores store)
+abbrev pub SettledBy : List (Option OpenBranch) → Transaction → Closing → List ℕ → ℕ → SessionView → SessionView → Type 0
+SettledBy branches transaction closing stores store = SettlesIn branches transaction closing store (is_listed stores store)
 
-module _ {S : Type 0} (view : S → SessionView) (transaction : Transaction) (closing : Closing) (stores : List ℕ) (place : ℕ) where
-  pub settled_skip : (old now : List S) → takes_part transaction.participants place ≡ false → Reached view (SettledBy transaction closing stores) place old now → Reached view (SettledBy transaction closing stores) (place + 1) old now
+module _ {S : Type 0} (view : S → SessionView) (branches : List (Option OpenBranch)) (transaction : Transaction) (closing : Closing) (stores : List ℕ) (place : ℕ) where
+  pub settled_skip : (old now : List S) → takes_part transaction.participants place ≡ false → Reached view (SettledBy branches transaction closing stores) place old now → Reached view (SettledBy branches transaction closing stores) (place + 1) old now
   settled_skip old now out so_far =
-      reached_skip view (SettledBy transaction closing stores) place old now so_far
-      (λ a. subst (λ takes. Settles closing (branch_of transaction place) takes (is_listed stores place) a a) (sym out) refl)
+      reached_skip view (SettledBy branches transaction closing stores) place old now so_far
+      (λ a. subst (λ takes. Settles (ends_in branches transaction closing place) (closing_of closing (branch_of transaction place)) (branch_of transaction place) takes (is_listed stores place) a a) (sym out) refl)
 
-  pub settled_closed : (old now next : List S) → takes_part transaction.participants place ≡ true → IsListed transaction.participants place stores → Reached view (SettledBy transaction closing stores) place old now → ChangesAt place now next →
-      AtStore view place (IsClosed closing (branch_of transaction place)) now next → Reached view (SettledBy transaction closing stores) (place + 1) old next
+  settled_as : (stores' : List ℕ) (listed : Bool) → takes_part transaction.participants place ≡ true → is_listed stores' place ≡ listed → (a b : SessionView) →
+      Settles (ends_in branches transaction closing place) (closing_of closing (branch_of transaction place)) (branch_of transaction place) true listed a b → SettledBy branches transaction closing stores' place a b
+  settled_as stores' listed takes is a b settled =
+      subst (λ t. Settles (ends_in branches transaction closing place) (closing_of closing (branch_of transaction place)) (branch_of transaction place) t (is_listed stores' place) a b) (sym takes)
+      (subst (λ l. Settles (ends_in branches transaction closing place) (closing_of closing (branch_of transaction place)) (branch_of transaction place) true l a b) (sym is) settled)
+
+  settled_closed : (old now next : List S) → takes_part transaction.participants place ≡ true → IsListed transaction.participants place stores → Reached view (SettledBy branches transaction closing stores) place old now → ChangesAt place now next →
+      AtStore view place (IsClosed (ends_in branches transaction closing place) (closing_of closing (branch_of transaction place)) (branch_of transaction place)) now next →
+      Reached view (SettledBy branches transaction closing stores) (place + 1) old next
   settled_closed old now next takes listed so_far changes is =
-      reached_next view (SettledBy transaction closing stores) place old now next so_far changes
-      (at_weaker view place (IsClosed closing (branch_of transaction place)) (SettledBy transaction closing stores place)
-      (λ a b closed. subst (λ t. Settles closing (branch_of transaction place) t (is_listed stores place) a b) (sym takes)
-      (subst (λ l. Settles closing (branch_of transaction place) true l a b) (sym (not_listed transaction.participants place stores listed)) closed)) now next is)
+      reached_next view (SettledBy branches transaction closing stores) place old now next so_far changes
+      (at_weaker view place (IsClosed (ends_in branches transaction closing place) (closing_of closing (branch_of transaction place)) (branch_of transaction place)) (SettledBy branches transaction closing stores place)
+      (settled_as stores false takes (not_listed transaction.participants place stores listed)) now next is)
 
-  pub settled_missing : (old now next : List S) → takes_part transaction.participants place ≡ true → Reached view (SettledBy transaction closing stores) place old now → ChangesAt place now next →
-      AtStore view place (IsMissing (closing_of closing (branch_of transaction place)) (branch_of transaction place)) now next → Reached view (SettledBy transaction closing (stores ++ place ∷ [])) (place + 1) old next
+  settled_missing : (old now next : List S) → takes_part transaction.participants place ≡ true → Reached view (SettledBy branches transaction closing stores) place old now → ChangesAt place now next →
+      AtStore view place (IsMissing (ends_in branches transaction closing place) (closing_of closing (branch_of transaction place)) (branch_of transaction place)) now next →
+      Reached view (SettledBy branches transaction closing (stores ++ place ∷ [])) (place + 1) old next
   settled_missing old now next takes so_far changes is =
-      reached_next view (SettledBy transaction closing (stores ++ place ∷ [])) place old now next
-      (reached_weaker view (SettledBy transaction closing stores) (SettledBy transaction closing (stores ++ place ∷ [])) place old now
-      (λ store less a b settled. subst (λ l. Settles closing (branch_of transaction store) (takes_part transaction.participants store) l a b) (sym (same_listed stores place store less)) settled) so_far)
+      reached_next view (SettledBy branches transaction closing (stores ++ place ∷ [])) place old now next
+      (reached_weaker view (SettledBy branches transaction closing stores) (SettledBy branches transaction closing (stores ++ place ∷ [])) place old now
+      (λ store less a b settled. subst (λ l. SettlesIn branches transaction closing store l a b) (sym (same_listed stores place store less)) settled) so_far)
       changes
-      (at_weaker view place (IsMissing (closing_of closing (branch_of transaction place)) (branch_of transaction place)) (SettledBy transaction closing (stores ++ place ∷ []) place)
-      (λ a b missing. subst (λ t. Settles closing (branch_of transaction place) t (is_listed (stores ++ place ∷ []) place) a b) (sym takes)
-      (subst (λ l. Settles closing (branch_of transaction place) true l a b) (sym (last_listed stores place)) missing)) now next is)
+      (at_weaker view place (IsMissing (ends_in branches transaction closing place) (closing_of closing (branch_of transaction place)) (branch_of transaction place)) (SettledBy branches transaction closing (stores ++ place ∷ []) place)
+      (settled_as (stores ++ place ∷ []) true takes (last_listed stores place)) now next is)
 
   -- one store more, whatever its branch came to
-  pub settled_next : (stores' : List ℕ) (old now next : List S) → takes_part transaction.participants place ≡ true → IsListed transaction.participants place stores → Reached view (SettledBy transaction closing stores) place old now → ChangesAt place now next →
-      ClosesNext view closing (branch_of transaction place) place stores stores' now next → IsListed transaction.participants (place + 1) stores' × Reached view (SettledBy transaction closing stores') (place + 1) old next
+  pub settled_next : (stores' : List ℕ) (old now next : List S) → takes_part transaction.participants place ≡ true → IsListed transaction.participants place stores → Reached view (SettledBy branches transaction closing stores) place old now → ChangesAt place now next →
+      ClosesNext view (ends_in branches transaction closing place) (closing_of closing (branch_of transaction place)) (branch_of transaction place) place stores stores' now next →
+      IsListed transaction.participants (place + 1) stores' × Reached view (SettledBy branches transaction closing stores') (place + 1) old next
   settled_next stores' old now next takes listed so_far changes (inl (same, is)) =
-      let P : List ℕ → Type 0 = λ list. IsListed transaction.participants (place + 1) list × Reached view (SettledBy transaction closing list) (place + 1) old next in
+      let P : List ℕ → Type 0 = λ list. IsListed transaction.participants (place + 1) list × Reached view (SettledBy branches transaction closing list) (place + 1) old next in
       subst P (sym same) (listed_skip transaction.participants place stores listed, settled_closed old now next takes listed so_far changes is)
   settled_next stores' old now next takes listed so_far changes (inr (more, is)) =
-      let P : List ℕ → Type 0 = λ list. IsListed transaction.participants (place + 1) list × Reached view (SettledBy transaction closing list) (place + 1) old next in
+      let P : List ℕ → Type 0 = λ list. IsListed transaction.participants (place + 1) list × Reached view (SettledBy branches transaction closing list) (place + 1) old next in
       subst P (sym more) (listed_more transaction.participants place stores listed takes, settled_missing old now next takes so_far changes is)
 
 -- where none is listed
@@ -118,8 +126,8 @@ unfolding is_listed
 none_listed [] store none = refl
 none_listed (x ∷ stores) store none = absurd (omega arith)
 
-pub settled_none : {S : Type 0} (view : S → SessionView) (transaction : Transaction) (closing : Closing) (stores : List ℕ) (old new : List S) → length stores ≡ 0 → EachStore view (SettledBy transaction closing stores) old new →
-    EachStore view (λ store. Settles closing (branch_of transaction store) (takes_part transaction.participants store) false) old new
-settled_none view transaction closing stores old new none is store =
-    at_weaker view store (SettledBy transaction closing stores store) (Settles closing (branch_of transaction store) (takes_part transaction.participants store) false)
-    (λ a b settled. subst (λ l. Settles closing (branch_of transaction store) (takes_part transaction.participants store) l a b) (none_listed stores store none) settled) old new (is store)
+pub settled_none : {S : Type 0} (view : S → SessionView) (branches : List (Option OpenBranch)) (transaction : Transaction) (closing : Closing) (stores : List ℕ) (old new : List S) → length stores ≡ 0 →
+    EachStore view (SettledBy branches transaction closing stores) old new → EachStore view (λ store. SettlesIn branches transaction closing store false) old new
+settled_none view branches transaction closing stores old new none is store =
+    at_weaker view store (SettledBy branches transaction closing stores store) (SettlesIn branches transaction closing store false)
+    (λ a b settled. subst (λ l. SettlesIn branches transaction closing store l a b) (none_listed stores store none) settled) old new (is store)

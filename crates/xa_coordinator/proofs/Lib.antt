@@ -3,6 +3,7 @@ pub mod Seats
 pub mod Places
 pub mod Standings
 pub mod Marks
+pub mod Opening
 pub mod Telling
 pub mod Keeping
 pub mod Walk

@@ -1,6 +1,7 @@
 -- What work in a store comes to, from its statements.
 use Rattle.std.proofs.Common.{◌≡◌, inl, inr, ℕ, Bool, true, false, List, [], ◌∷◌, ◌++◌, length, refl, ap, sym, ◌∙◌, subst, append-nil}
-use Rattle.std.specs.Prelude.{slice_get, Some, Result, Ok, Err, All}
+use Rattle.std.specs.Prelude.{slice_get, Option, Some, Result, Ok, Err, All}
+use Rattle.xa_coordinator.specs.declared.open_branch.OpenBranch.{OpenBranch}
 use Rattle.std.proofs.lemmas.List.Elements.{All-nil, All-cons, All-append}
 use Rattle.xa_xid.specs.declared.xid.Xid.{Xid}
 use Rattle.xa_xid.specs.declared.statement.Statement.{Statement}
@@ -17,7 +18,7 @@ use Rattle.xa_coordinator.specs.declared.standing.Standing.{Standing}
 use Rattle.xa_coordinator.specs.declared.transaction.Transaction.{Transaction}
 use Rattle.xa_coordinator.specs.View.{SessionView}
 use Rattle.xa_coordinator.specs.Agreement.{Adds, AgreesWith, Agrees}
-use Rattle.xa_coordinator.specs.OpenBranches.{seat_seen}
+use Rattle.xa_coordinator.specs.OpenBranches.{seat_seen, IsWorking}
 use Rattle.xa_coordinator.specs.Outcomes.{branch_of}
 use Rattle.xa_coordinator.specs.Participants.{takes_part}
 use Rattle.xa_coordinator.specs.Stores.{AtStore, EachStore, ChangesAt}
@@ -96,46 +97,47 @@ module _ {S : Type 0} (view : S → SessionView) where
 
   -- ---- what work came to
 
-  -- the branch was open
-  pub works_open : (lost : Type 0) (old new : Transaction) (store : ℕ) (row : Statement) (result : Result Reply WorkFault) (before after : List S) →
-      ((s : S) → slice_get before store ≡ Some s → seat_seen (view s) ≡ Active (branch_of old store)) → takes_part new.participants store ≡ true →
-      WorksWithin view (branch_of old store) store row result before after → WorksAs view lost old new store row result before after
-  works_open lost old new store row (Ok reply) before after seat takes is =
-      (takes, λ a b is_a is_b. record { mid = view a; opened = was_open (seat a is_a); replied = is a b is_a is_b })
-  works_open lost old new store row (Err (Session fault)) before after seat takes is =
-      inl (takes, λ a b is_a is_b. record { mid = view a; opened = was_open (seat a is_a); undone = is a b is_a is_b })
-  works_open lost old new store row (Err (Refused error)) before after seat takes is = absurd is
-  works_open lost old new store row (Err Lost) before after seat takes is = absurd is
+  module _ (open open' : List (Option OpenBranch)) (old new : Transaction) (store : ℕ) (row : Statement) where
+    -- the branch was open
+    pub works_open : (result : Result Reply WorkFault) (before after : List S) → ((s : S) → slice_get before store ≡ Some s → seat_seen (view s) ≡ Active (branch_of old store)) → takes_part new.participants store ≡ true →
+        IsWorking open' store old.number → WorksWithin view (branch_of old store) store row result before after → WorksAs view open open' old new store row result before after
+    works_open (Ok reply) before after seat takes mark is =
+        (takes, mark, λ a b is_a is_b. record { mid = view a; opened = was_open (seat a is_a); replied = is a b is_a is_b })
+    works_open (Err (Session fault)) before after seat takes mark is =
+        inl (takes, mark, λ a b is_a is_b. record { mid = view a; opened = was_open (seat a is_a); undone = is a b is_a is_b })
+    works_open (Err (Refused error)) before after seat takes mark is = absurd is
+    works_open (Err Lost) before after seat takes mark is = absurd is
 
-  -- it was started
-  pub works_started : (lost : Type 0) (old new : Transaction) (store : ℕ) (row : Statement) (result : Result Reply WorkFault) (before mid after : List S) → length mid ≡ length before →
-      AtStore view store (IsDone (Start (branch_of old store))) before mid → takes_part new.participants store ≡ true →
-      WorksWithin view (branch_of old store) store row result mid after → WorksAs view lost old new store row result before after
-  works_started lost old new store row (Ok reply) before mid after count started takes is = (
-    takes,
-    at_then view store (IsDone (Start (branch_of old store))) (IsReplied row reply (branch_of old store)) (IsWorked row reply (branch_of old store))
-        (λ a m b done replied. record { mid = m; opened = was_started m done; replied = replied }) before mid after count started is,
-  )
-  works_started lost old new store row (Err (Session fault)) before mid after count started takes is =
-      inl (
-        takes,
-        at_then view store (IsDone (Start (branch_of old store))) (IsUndone row (CauseSession fault)) (IsCut row (CauseSession fault) (branch_of old store))
-            (λ a m b done undone. record { mid = m; opened = was_started m done; undone = undone }) before mid after count started is,
-      )
-  works_started lost old new store row (Err (Refused error)) before mid after count started takes is = absurd is
-  works_started lost old new store row (Err Lost) before mid after count started takes is = absurd is
+    -- it was started
+    pub works_started : (result : Result Reply WorkFault) (before mid after : List S) → length mid ≡ length before →
+        AtStore view store (IsDone (Start (branch_of old store))) before mid → takes_part new.participants store ≡ true → IsWorking open' store old.number →
+        WorksWithin view (branch_of old store) store row result mid after → WorksAs view open open' old new store row result before after
+    works_started (Ok reply) before mid after count started takes mark is = (
+      takes,
+      mark,
+      at_then view store (IsDone (Start (branch_of old store))) (IsReplied row reply (branch_of old store)) (IsWorked row reply (branch_of old store))
+          (λ a m b done replied. record { mid = m; opened = was_started m done; replied = replied }) before mid after count started is,
+    )
+    works_started (Err (Session fault)) before mid after count started takes mark is =
+        inl (
+          takes,
+          mark,
+          at_then view store (IsDone (Start (branch_of old store))) (IsUndone row (CauseSession fault)) (IsCut row (CauseSession fault) (branch_of old store))
+              (λ a m b done undone. record { mid = m; opened = was_started m done; undone = undone }) before mid after count started is,
+        )
+    works_started (Err (Refused error)) before mid after count started takes mark is = absurd is
+    works_started (Err Lost) before mid after count started takes mark is = absurd is
 
-  -- in every case at most two statements were added
-  pub works_add : (lost : Type 0) (old new : Transaction) (store : ℕ) (row : Statement) (result : Result Reply WorkFault) (before after : List S) → WorksAs view lost old new store row result before after →
-      AtStore view store (AddsWork (branch_of old store) row) before after
-  works_add lost old new store row (Ok reply) before after is =
-      at_weaker view store (IsWorked row reply (branch_of old store)) (AddsWork (branch_of old store) row) (worked_adds row reply (branch_of old store)) before after is.1
-  works_add lost old new store row (Err (Session fault)) before after (inl is) =
-      at_weaker view store (IsCut row (CauseSession fault) (branch_of old store)) (AddsWork (branch_of old store) row) (cut_adds row (CauseSession fault) (branch_of old store)) before after is.1
-  works_add lost old new store row (Err (Session fault)) before after (inr is) =
-      at_weaker view store (IsUndone (Start (branch_of old store)) (CauseSession fault)) (AddsWork (branch_of old store) row) (unstarted_adds row (CauseSession fault) (branch_of old store)) before after is.1
-  works_add lost old new store row (Err (Refused error)) before after is =
-      at_weaker view store (IsUndone (Start (branch_of old store)) (CauseRefused error)) (AddsWork (branch_of old store) row) (unstarted_adds row (CauseRefused error) (branch_of old store)) before after is.1
-  works_add lost old new store row (Err Lost) before after is =
-      at_same view store (AddsWork (branch_of old store) row) (λ a. both (branch_of old store) row a a a (none (Start (branch_of old store)) a a (adds_nothing a)) (none row a a (adds_nothing a)))
-      before after (ap (λ (list : List S). slice_get list store) is.3)
+    -- in every case at most two statements were added
+    pub works_add : (result : Result Reply WorkFault) (before after : List S) → WorksAs view open open' old new store row result before after → AtStore view store (AddsWork (branch_of old store) row) before after
+    works_add (Ok reply) before after is =
+        at_weaker view store (IsWorked row reply (branch_of old store)) (AddsWork (branch_of old store) row) (worked_adds row reply (branch_of old store)) before after is.2
+    works_add (Err (Session fault)) before after (inl is) =
+        at_weaker view store (IsCut row (CauseSession fault) (branch_of old store)) (AddsWork (branch_of old store) row) (cut_adds row (CauseSession fault) (branch_of old store)) before after is.2
+    works_add (Err (Session fault)) before after (inr is) =
+        at_weaker view store (IsUndone (Start (branch_of old store)) (CauseSession fault)) (AddsWork (branch_of old store) row) (unstarted_adds row (CauseSession fault) (branch_of old store)) before after is.3
+    works_add (Err (Refused error)) before after is =
+        at_weaker view store (IsUndone (Start (branch_of old store)) (CauseRefused error)) (AddsWork (branch_of old store) row) (unstarted_adds row (CauseRefused error) (branch_of old store)) before after is.3
+    works_add (Err Lost) before after is =
+        at_same view store (AddsWork (branch_of old store) row) (λ a. both (branch_of old store) row a a a (none (Start (branch_of old store)) a a (adds_nothing a)) (none row a a (adds_nothing a)))
+        before after (ap (λ (list : List S). slice_get list store) is.4)

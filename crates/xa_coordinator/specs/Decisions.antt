@@ -3,6 +3,7 @@
 --     is_decided       whether a number is decided
 --     may_be_decided   whether a number was given and isn't closed
 --     with_decided     the decisions with this number decided
+--     closed_of        how a number stands once a recovery has closed what is undecided
 use Rattle.std.specs.Prelude.{ℕ, Bool, true, false, Option, Some, None, if◌then◌else◌, ◌==◌, ◌-◌, List, slice_get, slice_set}
 use Rattle.xa_coordinator.specs.declared.standing.Standing.{Standing}
 use Rattle.xa_coordinator.specs.declared.standing.Standing.TheVariants.{Undecided, Decided, Closed}
@@ -34,3 +35,9 @@ may_be_decided decisions number = is_open (standing_of decisions number)
 -- this number is decided, the others stand as they did
 unfoldable pub with_decided : List Standing → ℕ → List Standing
 with_decided decisions number = slice_set decisions (number - 1) Decided
+
+-- a recovery closes what is undecided
+abbrev pub closed_of : Standing → Standing
+closed_of Undecided = Closed
+closed_of Decided = Decided
+closed_of Closed = Closed

@@ -1,11 +1,20 @@
--- The numbers of a coordinator's faults.
+-- The numbers of a coordinator's faults, votes and endings.
 --     number_of_begin_fault      why no number was given
 --     number_of_work_fault       why work wasn't answered
+--     number_of_recover_fault    why a recovery didn't come to its end
+--     number_of_vote             what the stores voted
+--     number_of_ending           how a transaction ended
 use Rattle.std.specs.Prelude.{ℕ}
 use Rattle.xa_coordinator.specs.declared.begin_fault.BeginFault.{BeginFault}
 use Rattle.xa_coordinator.specs.declared.begin_fault.BeginFault.TheVariants.{NumbersSpent, NoMemory}
 use Rattle.xa_coordinator.specs.declared.work_fault.WorkFault.{WorkFault}
 use Rattle.xa_coordinator.specs.declared.work_fault.WorkFault.TheVariants.{Session, Refused, Lost}
+use Rattle.xa_coordinator.specs.declared.recover_fault.RecoverFault.{RecoverFault}
+use Rattle.xa_coordinator.specs.declared.recover_fault.RecoverFault.TheVariants.{Session as RecoverSession, StillPrepared, NoMemory as RecoverNoMemory, Refused as RecoverRefused}
+use Rattle.xa_coordinator.specs.declared.vote.Vote.{Vote}
+use Rattle.xa_coordinator.specs.declared.vote.Vote.TheVariants.{Ready, OnePhase, No, Nothing}
+use Rattle.xa_coordinator.specs.declared.ending.Ending.{Ending}
+use Rattle.xa_coordinator.specs.declared.ending.Ending.TheVariants.{Committed, RolledBack, Hazard, Unfinished}
 
 -- in the order of docs/BEHAVIOR.md, 'Faults of a coordinator'
 abbrev pub number_of_begin_fault : BeginFault → ℕ
@@ -17,3 +26,24 @@ abbrev pub number_of_work_fault : WorkFault → ℕ
 number_of_work_fault (Session fault) = 1
 number_of_work_fault (Refused error) = 2
 number_of_work_fault Lost = 3
+
+-- in the order of docs/BEHAVIOR.md, 'Faults of a coordinator'
+abbrev pub number_of_recover_fault : RecoverFault → ℕ
+number_of_recover_fault (RecoverSession store fault) = 1
+number_of_recover_fault (StillPrepared store) = 2
+number_of_recover_fault RecoverNoMemory = 3
+number_of_recover_fault (RecoverRefused store error) = 4
+
+-- in the order of docs/COORDINATOR.md, 'The vote'
+abbrev pub number_of_vote : Vote → ℕ
+number_of_vote (Ready prepared) = 1
+number_of_vote (OnePhase prepared) = 2
+number_of_vote (No prepared store cause) = 3
+number_of_vote Nothing = 4
+
+-- in the order of docs/COORDINATOR.md, 'The second phase'
+abbrev pub number_of_ending : Ending → ℕ
+number_of_ending Committed = 1
+number_of_ending RolledBack = 2
+number_of_ending (Hazard stores) = 3
+number_of_ending (Unfinished store cause) = 4

@@ -8,4 +8,5 @@ pub mod Told
 pub mod Stores
 pub mod Outcomes
 pub mod Work
+pub mod Recovery
 pub mod Faults

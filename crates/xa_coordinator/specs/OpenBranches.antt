@@ -5,7 +5,10 @@
 --     opening          the statement that brings a branch into a phase
 --     LeavesOpen       a statement leaves this branch open
 --     HasOpen          the coordinator has a transaction's branch open
-use Rattle.std.specs.Prelude.{◌≡◌, ℕ, List, Option, Some, None, slice_get}
+--     is_working       whether it has it open and ACTIVE
+--     IsWorking        it has it open and ACTIVE
+--     KeepsOpen        a call left what is open in the stores that it didn't speak to
+use Rattle.std.specs.Prelude.{◌≡◌, ◌≤◌, ◌==◌, ◌&&◌, ℕ, Bool, true, false, List, Option, Some, None, slice_get}
 use Rattle.xa_xid.specs.declared.xid.Xid.{Xid}
 use Rattle.xa_xid.specs.declared.statement.Statement.{Statement}
 use Rattle.xa_xid.specs.declared.statement.Statement.TheVariants.{Start, End}
@@ -15,6 +18,8 @@ use Rattle.xa_server.specs.declared.seat.Seat.TheVariants.{Active as SeatActive,
 use Rattle.xa_session.specs.Replay.{state_after}
 use Rattle.xa_coordinator.specs.View.{SessionView}
 use Rattle.xa_coordinator.specs.Branch.{branch_xid}
+use Rattle.xa_coordinator.specs.Participants.{takes_part}
+use Rattle.xa_coordinator.specs.declared.participants.Participants.{Participants}
 use Rattle.xa_coordinator.specs.declared.open_branch.OpenBranch.{OpenBranch}
 use Rattle.xa_coordinator.specs.declared.open_branch.Phase.{Phase}
 use Rattle.xa_coordinator.specs.declared.open_branch.Phase.TheVariants.{Active, Idle}
@@ -49,3 +54,26 @@ pub record HasOpen (branches : List (Option OpenBranch)) (store number : ℕ) : 
   pub branch : OpenBranch
   pub there : slice_get branches store ≡ Some (Some branch)
   pub is : branch.number ≡ number
+
+abbrev pub is_active : Phase → Bool
+is_active Active = true
+is_active Idle = false
+
+-- what is open in a store is the branch of the transaction of this number, ACTIVE
+abbrev pub works_for : ℕ → Option (Option OpenBranch) → Bool
+works_for number None = false
+works_for number (Some None) = false
+works_for number (Some (Some branch)) = is_active branch.phase && (branch.number == number)
+
+-- the coordinator has the transaction's branch open in the store, and ACTIVE
+unfoldable pub is_working : List (Option OpenBranch) → ℕ → ℕ → Bool
+is_working branches store number = works_for number (slice_get branches store)
+
+-- what is open in the store is the transaction's branch, ACTIVE
+abbrev pub IsWorking : List (Option OpenBranch) → ℕ → ℕ → Type 0
+IsWorking branches store number = slice_get branches store ≡ Some (Some (record { number = number; phase = Active }))
+
+-- in the stores that take no part, and in those from this number on, the coordinator has open what it had
+pub record KeepsOpen (participants : Participants) (place : ℕ) (old new : List (Option OpenBranch)) : Type 0 where
+  pub apart : (store : ℕ) → takes_part participants store ≡ false → slice_get new store ≡ slice_get old store
+  pub behind : (store : ℕ) → place ≤ store → slice_get new store ≡ slice_get old store

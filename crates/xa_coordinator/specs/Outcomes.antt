@@ -1,21 +1,23 @@
 -- What a call over several stores did in them.
 --     closing_of       the statement that finishes a branch
+--     ends_first, ends_in      whether XA END comes before it;  by what the coordinator has open
 --     IsClosed         the branch was finished
 --     ClosesAs         what became of one branch that was to be finished
 --     PreparesAs       what became of one branch that was to be prepared
 --     is_listed        whether a store is in a list
---     Settles          a store whose turn has passed, when branches are finished
+--     Settles, SettlesIn      a store whose turn has passed, when branches are finished
 --     IsVoted          a store whose turn has passed, when branches are prepared
 --     IsEnded          the store of the only participant, when it is ended alone
 --     IsHazard         a list of participants, ascending
 --     branch_of        the branch of a transaction in a store
 --     EndsAs           what the finishing of a transaction came to
+--     asked_by_ending, asked_by_vote      how far a call came
 --     VotesAs          what the stores voted
 --     ClosesNext       what became of one participant that was to be finished
 --     PollsAs          what became of the participants that were to be prepared
 --     Allows           the decisions allow that a transaction is finished so
 --     closing_for      how a transaction that was voted on is finished
-use Rattle.std.specs.Prelude.{◌≡◌, ◌<◌, ◌⊎◌, ℕ, Bool, true, false, nat_eq, List, [], ◌∷◌, ◌++◌, length, All, Result, Ok, Err}
+use Rattle.std.specs.Prelude.{◌≡◌, ◌≢◌, ◌<◌, ◌+◌, ◌⊎◌, ℕ, Bool, true, false, nat_eq, List, [], ◌∷◌, ◌++◌, length, All, Option, Result, Ok, Err}
 use Rattle.std.specs.List.{list_any}
 use Rattle.xa_xid.specs.declared.xid.Xid.{Xid}
 use Rattle.xa_xid.specs.declared.statement.Statement.{Statement}
@@ -42,7 +44,9 @@ use Rattle.xa_coordinator.specs.declared.ending.Ending.TheVariants.{Committed, R
 use Rattle.xa_coordinator.specs.declared.vote.Vote.{Vote}
 use Rattle.xa_coordinator.specs.declared.vote.Vote.TheVariants.{Ready, OnePhase, No, Nothing}
 use Rattle.xa_coordinator.specs.declared.participants.Participants.{Participants}
-use Rattle.xa_coordinator.specs.Told.{IsUndone, IsStopped, IsMissing}
+use Rattle.xa_coordinator.specs.OpenBranches.{is_working}
+use Rattle.xa_coordinator.specs.declared.open_branch.OpenBranch.{OpenBranch}
+use Rattle.xa_coordinator.specs.Told.{IsUndone, IsStopped, IsMissing, IsUnfinished}
 
 -- the statement that finishes a branch
 abbrev pub closing_of : Closing → Xid → Statement
@@ -50,38 +54,43 @@ closing_of InTwoPhases xid = Commit xid false
 closing_of InOnePhase xid = Commit xid true
 closing_of RollBack xid = Rollback xid
 
--- the branch was finished: the statement was added; a branch that took work and is rolled back is ended first
-abbrev pub IsClosed : Closing → Xid → SessionView → SessionView → Type 0
-IsClosed InTwoPhases xid old new = Adds (Commit xid false ∷ []) old new
-IsClosed InOnePhase xid old new = Adds (Commit xid true ∷ []) old new
-IsClosed RollBack xid old new = Adds (Rollback xid ∷ []) old new ⊎ Adds (End xid ∷ Rollback xid ∷ []) old new
+-- XA END comes before a rollback of a branch that takes work
+abbrev pub ends_first : Closing → (working : Bool) → Bool
+ends_first InTwoPhases working = false
+ends_first InOnePhase working = false
+ends_first RollBack working = working
+
+-- the branch was finished: the statement was added, behind XA END where that comes before it
+abbrev pub IsClosed : (ends : Bool) → Statement → Xid → SessionView → SessionView → Type 0
+IsClosed false statement xid old new = Adds (statement ∷ []) old new
+IsClosed true statement xid old new = Adds (End xid ∷ statement ∷ []) old new
 
 -- one statement that was to finish a branch
 abbrev pub SaysAs : Statement → Result Found Cause → SessionView → SessionView → Type 0
 SaysAs statement (Ok Closed) old new = Adds (statement ∷ []) old new
 SaysAs statement (Ok Missing) old new = IsUndone statement (RefusedBy Nota) old new
-SaysAs statement (Err cause) old new = IsUndone statement cause old new
+SaysAs statement (Err cause) old new = (cause ≢ RefusedBy Nota) × IsUndone statement cause old new
 
 -- a branch that was to be finished
-abbrev pub ClosesAs : Closing → Xid → Result Found Cause → SessionView → SessionView → Type 0
-ClosesAs closing xid (Ok Closed) old new = IsClosed closing xid old new
-ClosesAs closing xid (Ok Missing) old new = IsMissing (closing_of closing xid) xid old new
-ClosesAs closing xid (Err cause) old new = IsStopped (closing_of closing xid) xid cause old new
+abbrev pub ClosesAs : (ends : Bool) → Statement → Xid → Result Found Cause → SessionView → SessionView → Type 0
+ClosesAs ends statement xid (Ok Closed) old new = IsClosed ends statement xid old new
+ClosesAs ends statement xid (Ok Missing) old new = IsMissing ends statement xid old new
+ClosesAs ends statement xid (Err cause) old new = IsUnfinished ends statement xid cause old new
 
 -- a branch that was to be ended and prepared
 abbrev pub PreparesAs : Xid → Result (Unit {0}) Cause → SessionView → SessionView → Type 0
 PreparesAs xid (Ok _) old new = Adds (End xid ∷ Prepare xid ∷ []) old new
-PreparesAs xid (Err cause) old new = IsStopped (Prepare xid) xid cause old new
+PreparesAs xid (Err cause) old new = IsStopped true (Prepare xid) xid cause old new
 
 -- the store is in the list
 unfoldable pub is_listed : List ℕ → ℕ → Bool
 is_listed stores store = list_any (nat_eq store) stores
 
 -- a participant's branch was finished, or wasn't known there; another store's session is as it was
-abbrev pub Settles : Closing → Xid → (takes_part listed : Bool) → SessionView → SessionView → Type 0
-Settles closing xid false listed old new = new ≡ old
-Settles closing xid true false old new = IsClosed closing xid old new
-Settles closing xid true true old new = IsMissing (closing_of closing xid) xid old new
+abbrev pub Settles : (ends : Bool) → Statement → Xid → (takes_part listed : Bool) → SessionView → SessionView → Type 0
+Settles ends statement xid false listed old new = new ≡ old
+Settles ends statement xid true false old new = IsClosed ends statement xid old new
+Settles ends statement xid true true old new = IsMissing ends statement xid old new
 
 -- a participant's branch was ended and prepared; another store's session is as it was
 abbrev pub IsVoted : Xid → (takes_part : Bool) → SessionView → SessionView → Type 0
@@ -114,19 +123,42 @@ commits RollBack = false
 abbrev pub branch_of : Transaction → ℕ → Xid
 branch_of transaction store = branch_xid transaction.name.items transaction.number store
 
--- what the finishing of a transaction's branches came to
-abbrev pub EndsAs : {S : Type 0} → (S → SessionView) → Transaction → Closing → Ending → List S → List S → Type 0
-EndsAs view transaction closing Committed old new =
-    (commits closing ≡ true) × EachStore view (λ store. Settles closing (branch_of transaction store) (takes_part transaction.participants store) false) old new
-EndsAs view transaction closing RolledBack old new =
-    (commits closing ≡ false) × EachStore view (λ store. Settles closing (branch_of transaction store) (takes_part transaction.participants store) false) old new
-EndsAs view transaction closing (Hazard stores) old new =
+-- whether XA END comes before the statement that finishes a transaction's branch in a store
+abbrev pub ends_in : List (Option OpenBranch) → Transaction → Closing → ℕ → Bool
+ends_in branches transaction closing store = ends_first closing (is_working branches store transaction.number)
+
+-- the branch of a store was finished, or wasn't known there, where the store takes part
+abbrev pub SettlesIn : List (Option OpenBranch) → Transaction → Closing → ℕ → (listed : Bool) → SessionView → SessionView → Type 0
+SettlesIn branches transaction closing store listed =
+    Settles (ends_in branches transaction closing store) (closing_of closing (branch_of transaction store)) (branch_of transaction store) (takes_part transaction.participants store) listed
+
+-- what the finishing of a transaction's branches came to, by what the coordinator had open
+abbrev pub EndsAs : {S : Type 0} → (S → SessionView) → List (Option OpenBranch) → Transaction → Closing → Ending → List S → List S → Type 0
+EndsAs view branches transaction closing Committed old new =
+    (commits closing ≡ true) × EachStore view (λ store. SettlesIn branches transaction closing store false) old new
+EndsAs view branches transaction closing RolledBack old new =
+    (commits closing ≡ false) × EachStore view (λ store. SettlesIn branches transaction closing store false) old new
+EndsAs view branches transaction closing (Hazard stores) old new =
     IsHazard transaction.participants stores.items
-    × EachStore view (λ store. Settles closing (branch_of transaction store) (takes_part transaction.participants store) (is_listed stores.items store)) old new
-EndsAs view transaction closing (Unfinished store cause) old new =
+    × EachStore view (λ store. SettlesIn branches transaction closing store (is_listed stores.items store)) old new
+EndsAs view branches transaction closing (Unfinished store cause) old new =
     (takes_part transaction.participants store ≡ true)
-    × EndsAt view (λ other before after. (listed : Bool) × Settles closing (branch_of transaction other) (takes_part transaction.participants other) listed before after)
-    store (IsStopped (closing_of closing (branch_of transaction store)) (branch_of transaction store) cause) old new
+    × EndsAt view (λ other before after. (listed : Bool) × SettlesIn branches transaction closing other listed before after)
+    store (IsUnfinished (ends_in branches transaction closing store) (closing_of closing (branch_of transaction store)) (branch_of transaction store) cause) old new
+
+-- the stores below this number were spoken to, if they take part
+abbrev pub asked_by_ending : Ending → ℕ
+asked_by_ending Committed = 16
+asked_by_ending RolledBack = 16
+asked_by_ending (Hazard stores) = 16
+asked_by_ending (Unfinished store cause) = store + 1
+
+-- the stores below this number were spoken to, if they take part
+abbrev pub asked_by_vote : Vote → ℕ
+asked_by_vote (Ready prepared) = 16
+asked_by_vote (OnePhase prepared) = 16
+asked_by_vote (No prepared store cause) = store + 1
+asked_by_vote Nothing = 0
 
 -- what the stores voted
 abbrev pub VotesAs : {S : Type 0} → (S → SessionView) → Transaction → Vote → List S → List S → Type 0
@@ -142,15 +174,15 @@ VotesAs view transaction (No prepared store cause) old new =
     (prepared ≡ record { transaction = transaction; ballot = BallotNo })
     × (takes_part transaction.participants store ≡ true)
     × EndsAt view (λ other. IsVoted (branch_of transaction other) (takes_part transaction.participants other))
-    store (IsStopped (Prepare (branch_of transaction store)) (branch_of transaction store) cause) old new
+    store (IsStopped true (Prepare (branch_of transaction store)) (branch_of transaction store) cause) old new
 VotesAs view transaction Nothing old new =
     ((store : ℕ) → takes_part transaction.participants store ≡ false) × (new ≡ old)
 
 -- the branch of a store was finished, or wasn't known there and the store was listed
-abbrev pub ClosesNext : {S : Type 0} → (S → SessionView) → Closing → Xid → ℕ → (listed listed' : List ℕ) → List S → List S → Type 0
-ClosesNext view closing xid store listed listed' old new =
-    ((listed' ≡ listed) × AtStore view store (IsClosed closing xid) old new)
-    ⊎ ((listed' ≡ listed ++ store ∷ []) × AtStore view store (IsMissing (closing_of closing xid) xid) old new)
+abbrev pub ClosesNext : {S : Type 0} → (S → SessionView) → (ends : Bool) → Statement → Xid → ℕ → (listed listed' : List ℕ) → List S → List S → Type 0
+ClosesNext view ends statement xid store listed listed' old new =
+    ((listed' ≡ listed) × AtStore view store (IsClosed ends statement xid) old new)
+    ⊎ ((listed' ≡ listed ++ store ∷ []) × AtStore view store (IsMissing ends statement xid) old new)
 
 -- the participants were asked to prepare, in ascending order, up to the first that didn't
 abbrev pub PollsAs : {S : Type 0} → (S → SessionView) → Transaction → Result (Unit {0}) (ℕ × Cause) → List S → List S → Type 0
@@ -158,7 +190,12 @@ PollsAs view transaction (Ok _) old new = EachStore view (λ store. IsVoted (bra
 PollsAs view transaction (Err (store, cause)) old new =
     (takes_part transaction.participants store ≡ true)
     × EndsAt view (λ other. IsVoted (branch_of transaction other) (takes_part transaction.participants other))
-    store (IsStopped (Prepare (branch_of transaction store)) (branch_of transaction store) cause) old new
+    store (IsStopped true (Prepare (branch_of transaction store)) (branch_of transaction store) cause) old new
+
+-- the stores below this number were asked, if they take part
+abbrev pub asked_by_poll : Result (Unit {0}) (ℕ × Cause) → ℕ
+asked_by_poll (Ok _) = 16
+asked_by_poll (Err (store, cause)) = store + 1
 
 -- the decisions allow that a transaction is finished so
 abbrev pub Allows : List Standing → ℕ → Closing → Type 0

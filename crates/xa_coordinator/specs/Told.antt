@@ -3,9 +3,11 @@
 --     IsDone           it was carried out
 --     HasCause, IsUndone      why it wasn't;  and nothing was added
 --     Says             whether it was, by the answer
---     IsStopped        one of two statements, of which the first is XA END, wasn't
+--     IsUndoneBehind   it wasn't, and XA END before it was
+--     IsStopped        it wasn't, or XA END before it wasn't
 --     IsMissing        the branch wasn't known
-use Rattle.std.specs.Prelude.{◌≡◌, ℕ, false, [], ◌∷◌, Result, Ok, Err}
+--     IsUnfinished     it wasn't, for another cause than that the branch wasn't known, or XA END before it wasn't
+use Rattle.std.specs.Prelude.{◌≡◌, ◌≢◌, ◌⊎◌, ℕ, Bool, true, false, [], ◌∷◌, Result, Ok, Err}
 use Rattle.xa_xid.specs.declared.xid.Xid.{Xid}
 use Rattle.xa_xid.specs.declared.statement.Statement.{Statement}
 use Rattle.xa_xid.specs.declared.statement.Statement.TheVariants.{Start, End, Prepare, Commit, Rollback, Recover, Unsupported, Get, Put, Del, Disconnect}
@@ -61,13 +63,23 @@ abbrev pub Says : Statement → Result (Unit {0}) Cause → SessionView → Sess
 Says statement (Ok _) old new = IsDone statement old new
 Says statement (Err cause) old new = IsUndone statement cause old new
 
--- XA END of the branch or, without it or behind it, the statement wasn't carried out
-pub data IsStopped (statement : Statement) (xid : Xid) (cause : Cause) (old new : SessionView) : Type 0 where
-  at_end : IsUndone (End xid) cause old new → IsStopped statement xid cause old new
-  at_once : IsUndone statement cause old new → IsStopped statement xid cause old new
-  behind_end : (mid : SessionView) → IsDone (End xid) old mid → IsUndone statement cause mid new → IsStopped statement xid cause old new
+-- XA END of the branch was carried out, and the statement behind it wasn't
+pub record IsUndoneBehind (statement : Statement) (xid : Xid) (cause : Cause) (old new : SessionView) : Type 0 where
+  pub mid : SessionView
+  pub ends : IsDone (End xid) old mid
+  pub undone : IsUndone statement cause mid new
 
--- the statement, maybe behind XA END of the branch, was answered XAER_NOTA
-pub data IsMissing (statement : Statement) (xid : Xid) (old new : SessionView) : Type 0 where
-  unknown_at_once : IsUndone statement (RefusedBy Nota) old new → IsMissing statement xid old new
-  unknown_behind_end : (mid : SessionView) → IsDone (End xid) old mid → IsUndone statement (RefusedBy Nota) mid new → IsMissing statement xid old new
+-- the statement, which XA END of the branch comes before or not, wasn't carried out, or that XA END wasn't
+abbrev pub IsStopped : (ends : Bool) → Statement → Xid → Cause → SessionView → SessionView → Type 0
+IsStopped false statement xid cause old new = IsUndone statement cause old new
+IsStopped true statement xid cause old new = IsUndone (End xid) cause old new ⊎ IsUndoneBehind statement xid cause old new
+
+-- the statement, which XA END of the branch comes before or not, was answered XAER_NOTA
+abbrev pub IsMissing : (ends : Bool) → Statement → Xid → SessionView → SessionView → Type 0
+IsMissing false statement xid old new = IsUndone statement (RefusedBy Nota) old new
+IsMissing true statement xid old new = IsUndoneBehind statement xid (RefusedBy Nota) old new
+
+-- the statement, which XA END of the branch comes before or not, wasn't carried out, and wasn't answered XAER_NOTA, or that XA END wasn't carried out
+abbrev pub IsUnfinished : (ends : Bool) → Statement → Xid → Cause → SessionView → SessionView → Type 0
+IsUnfinished false statement xid cause old new = (cause ≢ RefusedBy Nota) × IsUndone statement cause old new
+IsUnfinished true statement xid cause old new = IsUndone (End xid) cause old new ⊎ ((cause ≢ RefusedBy Nota) × IsUndoneBehind statement xid cause old new)

@@ -9,7 +9,7 @@
 --     WorksWithin      what a row statement came to in an open branch
 --     Keeps            the transaction is the same but for one store
 --     WorksAs          what work came to, by the answer
-use Rattle.std.specs.Prelude.{◌≡◌, ◌≢◌, ◌⊎◌, ℕ, true, List, [], ◌∷◌, ◌++◌, Result, Ok, Err}
+use Rattle.std.specs.Prelude.{◌≡◌, ◌≢◌, ◌⊎◌, ℕ, true, false, List, [], ◌∷◌, ◌++◌, Option, Result, Ok, Err}
 use Rattle.xa_xid.specs.declared.xid.Xid.{Xid}
 use Rattle.xa_xid.specs.declared.statement.Statement.{Statement}
 use Rattle.xa_xid.specs.declared.statement.Statement.TheVariants.{Start, End, Prepare, Commit, Rollback, Recover, Unsupported, Get, Put, Del, Disconnect}
@@ -25,7 +25,8 @@ use Rattle.xa_coordinator.specs.declared.work_fault.WorkFault.TheVariants.{Sessi
 use Rattle.xa_coordinator.specs.declared.transaction.Transaction.{Transaction}
 use Rattle.xa_coordinator.specs.View.{SessionView, StaysOfLog}
 use Rattle.xa_coordinator.specs.Agreement.{Adds}
-use Rattle.xa_coordinator.specs.OpenBranches.{seat_seen}
+use Rattle.xa_coordinator.specs.OpenBranches.{seat_seen, HasOpen, is_working, IsWorking}
+use Rattle.xa_coordinator.specs.declared.open_branch.OpenBranch.{OpenBranch}
 use Rattle.xa_coordinator.specs.Outcomes.{branch_of}
 use Rattle.xa_coordinator.specs.Participants.{takes_part}
 use Rattle.xa_coordinator.specs.Stores.{AtStore}
@@ -95,13 +96,14 @@ pub record Keeps (store : ℕ) (old new : Transaction) : Type 0 where
   pub stores : new.stores ≡ old.stores
   pub others : (other : ℕ) → other ≢ store → takes_part new.participants other ≡ takes_part old.participants other
 
--- what work came to in its store, and whether the store takes part then
-abbrev pub WorksAs : {S : Type 0} → (S → SessionView) → (lost : Type 0) → Transaction → Transaction → ℕ → Statement → Result Reply WorkFault → List S → List S → Type 0
-WorksAs view lost old new store row (Ok reply) before after =
-    (takes_part new.participants store ≡ true) × AtStore view store (IsWorked row reply (branch_of old store)) before after
-WorksAs view lost old new store row (Err (Session fault)) before after =
-    ((takes_part new.participants store ≡ true) × AtStore view store (IsCut row (CauseSession fault) (branch_of old store)) before after)
-    ⊎ ((new ≡ old) × AtStore view store (IsUndone (Start (branch_of old store)) (CauseSession fault)) before after)
-WorksAs view lost old new store row (Err (Refused error)) before after =
-    (new ≡ old) × AtStore view store (IsUndone (Start (branch_of old store)) (CauseRefused error)) before after
-WorksAs view lost old new store row (Err Lost) before after = (new ≡ old) × (takes_part old.participants store ≡ true) × lost × (after ≡ before)
+-- what work came to in its store, whether the store takes part then, and what the coordinator has open in its stores
+abbrev pub WorksAs : {S : Type 0} → (S → SessionView) → (open open' : List (Option OpenBranch)) → Transaction → Transaction → ℕ → Statement → Result Reply WorkFault → List S → List S → Type 0
+WorksAs view open open' old new store row (Ok reply) before after =
+    (takes_part new.participants store ≡ true) × IsWorking open' store old.number × AtStore view store (IsWorked row reply (branch_of old store)) before after
+WorksAs view open open' old new store row (Err (Session fault)) before after =
+    ((takes_part new.participants store ≡ true) × IsWorking open' store old.number × AtStore view store (IsCut row (CauseSession fault) (branch_of old store)) before after)
+    ⊎ ((new ≡ old) × (open' ≡ open) × (is_working open store old.number ≡ false) × AtStore view store (IsUndone (Start (branch_of old store)) (CauseSession fault)) before after)
+WorksAs view open open' old new store row (Err (Refused error)) before after =
+    (new ≡ old) × (open' ≡ open) × (is_working open store old.number ≡ false) × AtStore view store (IsUndone (Start (branch_of old store)) (CauseRefused error)) before after
+WorksAs view open open' old new store row (Err Lost) before after =
+    (new ≡ old) × (open' ≡ open) × (takes_part old.participants store ≡ true) × (HasOpen open store old.number → ⊥) × (after ≡ before)

@@ -1,13 +1,13 @@
 //! The branch of a transaction in one store, from its start to its end.
-ghost use Rattle.std.specs.Prelude.{◌≡◌, ◌<◌, Some, OnOk, IfSome, IfNone, slice_get, vec_len};
+ghost use Rattle.std.specs.Prelude.{◌≡◌, ◌<◌, Some, None, false, OnOk, OnErr, slice_get, vec_len};
 ghost use Rattle.xa_coordinator.specs.Branch.{branch_xid};
-ghost use Rattle.xa_coordinator.specs.OpenBranches.{HasOpen};
-ghost use Rattle.xa_coordinator.specs.Outcomes.{closing_of, SaysAs, ClosesAs, PreparesAs};
+ghost use Rattle.xa_coordinator.specs.OpenBranches.{HasOpen, is_working as is_working_in};
+ghost use Rattle.xa_coordinator.specs.Outcomes.{closing_of, ends_first, SaysAs, ClosesAs, PreparesAs};
 ghost use Rattle.xa_coordinator.specs.Stores.{AtStore, ChangesAt};
 ghost use Rattle.xa_coordinator.specs.Told.{Says};
 ghost use Rattle.xa_coordinator.specs.View.{SessionView};
 ghost use Rattle.xa_xid.specs.declared.statement.Statement.{Statement};
-ghost use Rattle.xa_xid.specs.declared.statement.Statement.TheVariants.{Start, End, Prepare};
+ghost use Rattle.xa_xid.specs.declared.statement.Statement.TheVariants.{Start, End, Prepare, Rollback};
 
 use crate::closing::{Closing, Found};
 use crate::open_branch::{OpenBranch, Phase};
@@ -39,7 +39,9 @@ impl<S: Speak> Coordinator<S> {
         requires { store < vec_len self.old.stores }
         ensures name { self.new.name ≡ self.old.name }
         ensures frame { ChangesAt store self.old.stores.items self.new.stores.items }
+        ensures marks { ChangesAt store self.old.branches self.new.branches }
         ensures mark { OnOk result (slice_get self.new.branches store ≡ Some (Some (record { number = number; phase = Phase.Active }))) }
+        ensures unsaid { OnErr result (self.new.branches ≡ self.old.branches) }
         ensures says { AtStore S.view store (Says (Start (branch_xid self.old.name.items number store)) result) self.old.stores.items self.new.stores.items }
     {
         let statement = Statement::Start(self.branch(number, store));
@@ -60,6 +62,7 @@ impl<S: Speak> Coordinator<S> {
         requires { store < vec_len self.old.stores }
         ensures name { self.new.name ≡ self.old.name }
         ensures frame { ChangesAt store self.old.stores.items self.new.stores.items }
+        ensures marks { ChangesAt store self.old.branches self.new.branches }
         ensures says { AtStore S.view store (Says (End (branch_xid self.old.name.items number store)) result) self.old.stores.items self.new.stores.items }
     {
         let statement = Statement::End(self.branch(number, store));
@@ -75,6 +78,7 @@ impl<S: Speak> Coordinator<S> {
         requires { store < vec_len self.old.stores }
         ensures name { self.new.name ≡ self.old.name }
         ensures frame { ChangesAt store self.old.stores.items self.new.stores.items }
+        ensures marks { ChangesAt store self.old.branches self.new.branches }
         ensures says { AtStore S.view store (Says (Prepare (branch_xid self.old.name.items number store)) result) self.old.stores.items self.new.stores.items }
     {
         let statement = Statement::Prepare(self.branch(number, store));
@@ -91,6 +95,7 @@ impl<S: Speak> Coordinator<S> {
         requires { store < vec_len self.old.stores }
         ensures name { self.new.name ≡ self.old.name }
         ensures frame { ChangesAt store self.old.stores.items self.new.stores.items }
+        ensures marks { ChangesAt store self.old.branches self.new.branches }
         ensures prepares { AtStore S.view store (PreparesAs (branch_xid self.old.name.items number store) result) self.old.stores.items self.new.stores.items }
     {
         match self.end_branch(rt, store, number) {
@@ -100,7 +105,7 @@ impl<S: Speak> Coordinator<S> {
     }
 
     /// Gives the statement that finishes a branch.
-    fn finish_branch<R: Wait>(
+    pub(crate) fn finish_branch<R: Wait>(
         &mut self,
         rt: &R,
         store: u8,
@@ -110,6 +115,8 @@ impl<S: Speak> Coordinator<S> {
         requires { store < vec_len self.old.stores }
         ensures name { self.new.name ≡ self.old.name }
         ensures frame { ChangesAt store self.old.stores.items self.new.stores.items }
+        ensures marks { ChangesAt store self.old.branches self.new.branches }
+        ensures free { slice_get self.old.branches store ≡ Some None → slice_get self.new.branches store ≡ Some None }
         ensures finishes { AtStore S.view store (SaysAs (closing_of closing (branch_xid self.old.name.items number store)) result) self.old.stores.items self.new.stores.items }
     {
         let statement = closing.statement(self.branch(number, store));
@@ -121,7 +128,8 @@ impl<S: Speak> Coordinator<S> {
         requires { store < vec_len self.old.stores }
         ensures name { self.new.name ≡ self.old.name }
         ensures frame { ChangesAt store self.old.stores.items self.new.stores.items }
-        ensures closes { AtStore S.view store (ClosesAs Closing.RollBack (branch_xid self.old.name.items number store) result) self.old.stores.items self.new.stores.items }
+        ensures marks { ChangesAt store self.old.branches self.new.branches }
+        ensures closes { AtStore S.view store (ClosesAs true (Rollback (branch_xid self.old.name.items number store)) (branch_xid self.old.name.items number store) result) self.old.stores.items self.new.stores.items }
     {
         match self.end_branch(rt, store, number) {
             Ok(()) => self.finish_branch(rt, store, number, Closing::RollBack),
@@ -129,29 +137,27 @@ impl<S: Speak> Coordinator<S> {
         }
     }
 
-    /// The phase of the transaction's branch in a store, where the coordinator has it open there.
-    pub(crate) fn phase_of(&self, store: u8, number: u64) -> Option<Phase>
+    /// Whether the coordinator has the transaction's branch open in a store.
+    pub(crate) fn has_open(&self, store: u8, number: u64) -> bool
         requires { store < 16 }
-        ensures some { IfSome result (λ phase. slice_get self.now.branches store ≡ Some (Some (record { number = number; phase = phase }))) }
-        ensures none { IfNone result (HasOpen self.now.branches store number → ⊥) }
+        ensures { result ≡ false → HasOpen self.now.branches store number → ⊥ }
     {
         match self.branches[store as usize] {
-            Some(branch) => {
-                if branch.number == number {
-                    Some(branch.phase)
-                } else {
-                    None
-                }
-            }
-            None => None,
+            Some(branch) => branch.number == number,
+            None => false,
         }
     }
 
     /// Whether the coordinator has the transaction's branch open in a store, and it takes work.
-    fn is_working(&self, store: u8, number: u64) -> bool
+    #[tactic(auto, unfolding(crate::specs::OpenBranches::is_working))]
+    pub(crate) fn is_working(&self, store: u8, number: u64) -> bool
         requires { store < 16 }
+        ensures { result ≡ is_working_in self.now.branches store number }
     {
-        matches!(self.phase_of(store, number), Some(Phase::Active))
+        match self.branches[store as usize] {
+            Some(branch) => branch.phase == Phase::Active && branch.number == number,
+            None => false,
+        }
     }
 
     /// Finishes a branch; one that takes work and is to be rolled back is ended first.
@@ -165,7 +171,8 @@ impl<S: Speak> Coordinator<S> {
         requires { store < vec_len self.old.stores }
         ensures name { self.new.name ≡ self.old.name }
         ensures frame { ChangesAt store self.old.stores.items self.new.stores.items }
-        ensures closes { AtStore S.view store (ClosesAs closing (branch_xid self.old.name.items number store) result) self.old.stores.items self.new.stores.items }
+        ensures marks { ChangesAt store self.old.branches self.new.branches }
+        ensures closes { AtStore S.view store (ClosesAs (ends_first closing (is_working_in self.old.branches store number)) (closing_of closing (branch_xid self.old.name.items number store)) (branch_xid self.old.name.items number store) result) self.old.stores.items self.new.stores.items }
     {
         match closing {
             Closing::RollBack if self.is_working(store, number) => {

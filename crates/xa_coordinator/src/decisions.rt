@@ -1,7 +1,7 @@
 //! The decisions of a coordinator.
-ghost use Rattle.std.specs.Prelude.{ℕ, ◌≡◌, ◌≤◌, ◌<◌, ◌+◌, [], ◌∷◌, ◌++◌, true, false, length, OnOk, OnErr, IfOk, IfSome, IfNone};
+ghost use Rattle.std.specs.Prelude.{ℕ, ◌≡◌, ◌≤◌, ◌<◌, ◌+◌, [], ◌∷◌, ◌++◌, true, false, length, map, OnOk, OnErr, IfOk, IfSome, IfNone};
 ghost use Rattle.xa_coordinator.specs.declared.standing.Standing.TheVariants.{Undecided as StandsUndecided};
-ghost use Rattle.xa_coordinator.specs.Decisions.{standing_of, is_decided as is_decided_by, may_be_decided, with_decided};
+ghost use Rattle.xa_coordinator.specs.Decisions.{standing_of, is_decided as is_decided_by, may_be_decided, with_decided, closed_of};
 
 use crate::Standing;
 use crate::begin_fault::BeginFault;
@@ -111,6 +111,15 @@ impl Decisions {
             return Err(BeginFault::NoMemory);
         };
         Ok(self.standings.len() as u64)
+    }
+
+    /// Closes every undecided number.
+    pub(crate) fn close_all(&mut self)
+        ensures { self.new ≡ map closed_of self.old }
+    {
+        for standing in self.standings.iter_mut() {
+            *standing = standing.closed();
+        }
     }
 
     /// Records that the transaction of a vote of Ready commits, before any of its branches does.

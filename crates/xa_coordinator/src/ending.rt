@@ -1,4 +1,6 @@
 //! How a transaction ended.
+ghost use Rattle.std.specs.Prelude.{◌≡◌};
+ghost use Rattle.xa_coordinator.specs.Faults.{number_of_ending};
 
 use crate::Cause;
 use arrayvec::ArrayVec;
@@ -22,4 +24,21 @@ pub enum Ending {
         /// Why it wasn't.
         cause: Cause,
     },
+}
+
+impl Ending {
+    /// The ending's number, in `[1, 4]`.
+    ///
+    /// Takes no memory. Doesn't wait.
+    /// Own rule: docs/COORDINATOR.md, 'The second phase'.
+    pub fn number(&self) -> u64
+        ensures { result ≡ number_of_ending self.now }
+    {
+        match self {
+            Ending::Committed => 1,
+            Ending::RolledBack => 2,
+            Ending::Hazard { .. } => 3,
+            Ending::Unfinished { .. } => 4,
+        }
+    }
 }

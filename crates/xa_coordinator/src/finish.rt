@@ -3,10 +3,11 @@ ghost use Rattle.std.specs.Prelude.{◌≡◌, ◌<◌, List, false, OnOk, IfErr
 ghost use Rattle.xa_coordinator.specs.Agreement.{Agrees};
 ghost use Rattle.xa_coordinator.specs.Decisions.{is_decided};
 ghost use Rattle.xa_coordinator.specs.Stores.{AtStore, EachStore, ChangesAt};
-ghost use Rattle.xa_coordinator.specs.Told.{IsStopped};
+ghost use Rattle.xa_coordinator.specs.Told.{IsUnfinished};
 ghost use Rattle.xa_coordinator.specs.Branch.{branch_xid};
 ghost use Rattle.arrayvec.specs.ArrayVec.{array_vec_len};
-ghost use Rattle.xa_coordinator.specs.Outcomes.{EndsAs, ClosesNext, closing_of, closing_for as closing_of_vote};
+ghost use Rattle.xa_coordinator.specs.OpenBranches.{is_working, KeepsOpen};
+ghost use Rattle.xa_coordinator.specs.Outcomes.{EndsAs, ClosesNext, closing_of, ends_first, asked_by_ending, closing_for as closing_of_vote};
 ghost use Rattle.xa_coordinator.specs.declared.standing.Standing.{Standing};
 
 use crate::closing::{Closing, Found};
@@ -43,8 +44,9 @@ impl<S: Speak> Coordinator<S> {
         requires room { array_vec_len missing.old < 16 }
         ensures name { self.new.name ≡ self.old.name }
         ensures frame { ChangesAt store self.old.stores.items self.new.stores.items }
-        ensures closed { OnOk result (ClosesNext S.view closing (branch_xid self.old.name.items number store) store missing.old.items missing.new.items self.old.stores.items self.new.stores.items) }
-        ensures stopped { IfErr result (λ cause. AtStore S.view store (IsStopped (closing_of closing (branch_xid self.old.name.items number store)) (branch_xid self.old.name.items number store) cause) self.old.stores.items self.new.stores.items) }
+        ensures marks { ChangesAt store self.old.branches self.new.branches }
+        ensures closed { OnOk result (ClosesNext S.view (ends_first closing (is_working self.old.branches store number)) (closing_of closing (branch_xid self.old.name.items number store)) (branch_xid self.old.name.items number store) store missing.old.items missing.new.items self.old.stores.items self.new.stores.items) }
+        ensures stopped { IfErr result (λ cause. AtStore S.view store (IsUnfinished (ends_first closing (is_working self.old.branches store number)) (closing_of closing (branch_xid self.old.name.items number store)) (branch_xid self.old.name.items number store) cause) self.old.stores.items self.new.stores.items) }
     {
         match self.close_branch(rt, store, number, closing) {
             Ok(Found::Closed) => Ok(()),
@@ -62,7 +64,8 @@ impl<S: Speak> Coordinator<S> {
         requires stores { transaction.now.stores ≡ vec_len self.old.stores }
         ensures name { self.new.name ≡ self.old.name }
         ensures count { vec_len self.new.stores ≡ vec_len self.old.stores }
-        ensures ends { EndsAs S.view transaction.now closing result self.old.stores.items self.new.stores.items }
+        ensures open { KeepsOpen transaction.now.participants (asked_by_ending result) self.old.branches self.new.branches }
+        ensures ends { EndsAs S.view self.old.branches transaction.now closing result self.old.stores.items self.new.stores.items }
     {
         let mut missing = ArrayVec::<u8, 16>::new();
         for store in 0..transaction.stores {
@@ -98,7 +101,8 @@ impl<S: Speak> Coordinator<S> {
         requires stores { prepared.transaction.stores ≡ vec_len self.old.stores }
         ensures name { self.new.name ≡ self.old.name }
         ensures count { vec_len self.new.stores ≡ vec_len self.old.stores }
-        ensures ends { EndsAs S.view prepared.transaction (closing_of_vote (is_decided decisions.now prepared.transaction.number) prepared.ballot) result self.old.stores.items self.new.stores.items }
+        ensures open { KeepsOpen prepared.transaction.participants (asked_by_ending result) self.old.branches self.new.branches }
+        ensures ends { EndsAs S.view self.old.branches prepared.transaction (closing_of_vote (is_decided decisions.now prepared.transaction.number) prepared.ballot) result self.old.stores.items self.new.stores.items }
         ensures agrees { EachStore S.view (Agrees decisions.now self.old.name.items) self.old.stores.items self.new.stores.items }
     {
         let Prepared {
@@ -123,7 +127,8 @@ impl<S: Speak> Coordinator<S> {
         requires stores { transaction.stores ≡ vec_len self.old.stores }
         ensures name { self.new.name ≡ self.old.name }
         ensures count { vec_len self.new.stores ≡ vec_len self.old.stores }
-        ensures ends { EndsAs S.view transaction Closing.RollBack result self.old.stores.items self.new.stores.items }
+        ensures open { KeepsOpen transaction.participants (asked_by_ending result) self.old.branches self.new.branches }
+        ensures ends { EndsAs S.view self.old.branches transaction Closing.RollBack result self.old.stores.items self.new.stores.items }
         ensures agrees { (decisions : List Standing) → is_decided decisions transaction.number ≡ false → EachStore S.view (Agrees decisions self.old.name.items) self.old.stores.items self.new.stores.items }
     {
         self.close(rt, &transaction, Closing::RollBack)

@@ -2,7 +2,8 @@
 ghost use Rattle.std.specs.Prelude.{◌≡◌, List, vec_len};
 ghost use Rattle.xa_coordinator.specs.Agreement.{Agrees};
 ghost use Rattle.xa_coordinator.specs.Stores.{EachStore};
-ghost use Rattle.xa_coordinator.specs.Outcomes.{VotesAs, PollsAs};
+ghost use Rattle.xa_coordinator.specs.OpenBranches.{KeepsOpen};
+ghost use Rattle.xa_coordinator.specs.Outcomes.{VotesAs, PollsAs, asked_by_vote, asked_by_poll};
 ghost use Rattle.xa_coordinator.specs.Participants.{TwoTakePart, OnlyTakesPart};
 ghost use Rattle.xa_coordinator.specs.declared.standing.Standing.{Standing};
 
@@ -33,6 +34,7 @@ impl<S: Speak> Coordinator<S> {
         requires stores { transaction.now.stores ≡ vec_len self.old.stores }
         ensures name { self.new.name ≡ self.old.name }
         ensures count { vec_len self.new.stores ≡ vec_len self.old.stores }
+        ensures open { KeepsOpen transaction.now.participants (asked_by_poll result) self.old.branches self.new.branches }
         ensures polls { PollsAs S.view transaction.now result self.old.stores.items self.new.stores.items }
     {
         for store in 0..transaction.stores {
@@ -53,6 +55,7 @@ impl<S: Speak> Coordinator<S> {
         requires only { OnlyTakesPart transaction.participants store }
         ensures name { self.new.name ≡ self.old.name }
         ensures count { vec_len self.new.stores ≡ vec_len self.old.stores }
+        ensures open { KeepsOpen transaction.participants (asked_by_vote result) self.old.branches self.new.branches }
         ensures vote { VotesAs S.view transaction result self.old.stores.items self.new.stores.items }
     {
         match self.end_branch(rt, store, transaction.number) {
@@ -74,6 +77,7 @@ impl<S: Speak> Coordinator<S> {
         requires several { TwoTakePart transaction.participants }
         ensures name { self.new.name ≡ self.old.name }
         ensures count { vec_len self.new.stores ≡ vec_len self.old.stores }
+        ensures open { KeepsOpen transaction.participants (asked_by_vote result) self.old.branches self.new.branches }
         ensures vote { VotesAs S.view transaction result self.old.stores.items self.new.stores.items }
     {
         match self.poll(rt, &transaction) {
@@ -101,6 +105,7 @@ impl<S: Speak> Coordinator<S> {
         requires stores { transaction.stores ≡ vec_len self.old.stores }
         ensures name { self.new.name ≡ self.old.name }
         ensures count { vec_len self.new.stores ≡ vec_len self.old.stores }
+        ensures open { KeepsOpen transaction.participants (asked_by_vote result) self.old.branches self.new.branches }
         ensures vote { VotesAs S.view transaction result self.old.stores.items self.new.stores.items }
         ensures agrees { (decisions : List Standing) → EachStore S.view (Agrees decisions self.old.name.items) self.old.stores.items self.new.stores.items }
     {

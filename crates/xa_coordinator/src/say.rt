@@ -1,5 +1,5 @@
 //! What a coordinator says to the session of one store.
-ghost use Rattle.std.specs.Prelude.{◌≡◌, ◌<◌, Some, OnOk, slice_get, vec_len};
+ghost use Rattle.std.specs.Prelude.{◌≡◌, ◌<◌, Some, OnOk, OnErr, slice_get, vec_len};
 ghost use Rattle.xa_coordinator.specs.Branch.{branch_xid as xid_of_branch};
 ghost use Rattle.xa_coordinator.specs.OpenBranches.{LeavesOpen};
 ghost use Rattle.xa_coordinator.specs.Stores.{AtStore, ChangesAt};
@@ -36,7 +36,9 @@ impl<S: Speak> Coordinator<S> {
         requires leaves { LeavesOpen self.old.name.items store statement.now then }
         ensures name { self.new.name ≡ self.old.name }
         ensures frame { ChangesAt store self.old.stores.items self.new.stores.items }
+        ensures marks { ChangesAt store self.old.branches self.new.branches }
         ensures mark { OnOk result (slice_get self.new.branches store ≡ Some then) }
+        ensures unsaid { OnErr result (self.new.branches ≡ self.old.branches) }
         ensures says { AtStore S.view store (Says statement.now result) self.old.stores.items self.new.stores.items }
     {
         match tell(rt, &mut self.stores[store as usize], statement) {

@@ -18,7 +18,6 @@ pub trait Speak {
     /// Answers a statement from the whole history, as it is at one step of the call, and adds it there if it enters.
     fn attempt(&mut self, statement: &Statement) -> Result<Answer, Fault>
         ensures stays { StaysOfLog (view self.old) (view self.new) }
-        ensures lawful { LockLaw (view self.new).base }
         ensures answered { IfOk result (λ answer. IsAnswered (view self.old).base statement.now answer (view self.old).known (view self.new).known) }
         ensures fails { IfErr result (λ fault. Fails (view self.old).turns (view self.old).place.capacity (view self.old).base statement.now fault (view self.old).known (view self.new).known) }
         ensures tries { (view self.new).known.tries ≤ (view self.old).known.tries + 1 };
@@ -26,13 +25,15 @@ pub trait Speak {
     /// Answers a statement as `attempt` does, trying again after `Overtaken` and `Busy`.
     fn execute<R: Wait>(&mut self, rt: &R, statement: &Statement) -> Result<Answer, Fault>
         ensures stays { StaysOfLog (view self.old) (view self.new) }
-        ensures lawful { LockLaw (view self.new).base }
         ensures answered { IfOk result (λ answer. IsAnswered (view self.old).base statement.now answer (view self.old).known (view self.new).known) }
         ensures fails { IfErr result (λ fault. Fails (view self.old).turns (view self.old).place.capacity (view self.old).base statement.now fault (view self.old).known (view self.new).known) }
         ensures lasts { IfErr result IsFinal };
 
     // the entries of its own number in what it has seen are its own
     ghost own_part: { (session : Self) → entries_of (view session).known.number (view session).known.seen ≡ (view session).known.mine };
+
+    // the state in which its history begins keeps the lock law
+    ghost lawful: { (session : Self) → LockLaw (view session).base };
 }
 
 impl<'a, L: DecisionLog> Speak for Session<'a, L> {
@@ -40,15 +41,13 @@ impl<'a, L: DecisionLog> Speak for Session<'a, L> {
 
     ghost own_part = { λ session. L.own_part session.pass };
 
+    ghost lawful = { λ session. session.lawful };
+
     fn attempt(&mut self, statement: &Statement) -> Result<Answer, Fault> {
-        let answered = Session::attempt(self, statement);
-        self.base_keeps_lock_law();
-        answered
+        Session::attempt(self, statement)
     }
 
     fn execute<R: Wait>(&mut self, rt: &R, statement: &Statement) -> Result<Answer, Fault> {
-        let answered = Session::execute(self, rt, statement);
-        self.base_keeps_lock_law();
-        answered
+        Session::execute(self, rt, statement)
     }
 }

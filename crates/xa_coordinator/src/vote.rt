@@ -1,4 +1,6 @@
 //! What the stores of a transaction voted.
+ghost use Rattle.std.specs.Prelude.{◌≡◌};
+ghost use Rattle.xa_coordinator.specs.Faults.{number_of_vote};
 
 use crate::{Cause, Prepared};
 
@@ -20,4 +22,21 @@ pub enum Vote {
     },
     /// No store takes part.
     Nothing,
+}
+
+impl Vote {
+    /// The vote's number, in `[1, 4]`.
+    ///
+    /// Takes no memory. Doesn't wait.
+    /// Own rule: docs/COORDINATOR.md, 'The vote'.
+    pub fn number(&self) -> u64
+        ensures { result ≡ number_of_vote self.now }
+    {
+        match self {
+            Vote::Ready(_) => 1,
+            Vote::OnePhase(_) => 2,
+            Vote::No { .. } => 3,
+            Vote::Nothing => 4,
+        }
+    }
 }

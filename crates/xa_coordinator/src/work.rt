@@ -2,7 +2,7 @@
 ghost use Rattle.std.specs.Prelude.{◌≡◌, ◌≢◌, ◌<◌, ℕ, List, Some, true, IfOk, IfErr, slice_get, vec_len};
 ghost use Rattle.xa_coordinator.specs.Agreement.{Agrees};
 ghost use Rattle.xa_coordinator.specs.Branch.{branch_xid};
-ghost use Rattle.xa_coordinator.specs.OpenBranches.{HasOpen};
+ghost use Rattle.xa_coordinator.specs.OpenBranches.{is_working};
 ghost use Rattle.xa_coordinator.specs.Outcomes.{branch_of};
 ghost use Rattle.xa_coordinator.specs.Participants.{takes_part};
 ghost use Rattle.xa_coordinator.specs.Stores.{AtStore, EachStore, ChangesAt};
@@ -11,7 +11,6 @@ ghost use Rattle.xa_coordinator.specs.Work.{IsRow, IsReplied, AddsWork, Keeps, W
 ghost use Rattle.xa_coordinator.specs.declared.standing.Standing.{Standing};
 ghost use Rattle.xa_coordinator.specs.declared.open_branch.Phase.TheVariants.{Active as PhaseActive};
 
-use crate::open_branch::Phase;
 use crate::{Cause, Coordinator, Speak, Transaction, WorkFault};
 use std::sync::Wait;
 use xa_server::Reply;
@@ -32,6 +31,7 @@ impl<S: Speak> Coordinator<S> {
         requires working { slice_get self.old.branches store ≡ Some (Some (record { number = number; phase = PhaseActive })) }
         ensures name { self.new.name ≡ self.old.name }
         ensures frame { ChangesAt store self.old.stores.items self.new.stores.items }
+        ensures marks { self.new.branches ≡ self.old.branches }
         ensures replied { IfOk result (λ reply. AtStore S.view store (IsReplied statement.now reply (branch_xid self.old.name.items number store)) self.old.stores.items self.new.stores.items) }
         ensures undone { IfErr result (λ fault. AtStore S.view store (IsUndone statement.now (Cause.Session fault)) self.old.stores.items self.new.stores.items) }
     {
@@ -56,6 +56,7 @@ impl<S: Speak> Coordinator<S> {
         requires working { slice_get self.old.branches store ≡ Some (Some (record { number = transaction.old.number; phase = PhaseActive })) }
         ensures name { self.new.name ≡ self.old.name }
         ensures frame { ChangesAt store self.old.stores.items self.new.stores.items }
+        ensures marks { self.new.branches ≡ self.old.branches }
         ensures keeps { Keeps store transaction.old transaction.new }
         ensures part { takes_part transaction.new.participants store ≡ true }
         ensures works { WorksWithin S.view (branch_of transaction.old store) store statement.now result self.old.stores.items self.new.stores.items }
@@ -79,10 +80,12 @@ impl<S: Speak> Coordinator<S> {
         requires stores { transaction.old.stores ≡ vec_len self.old.stores }
         requires store { store < vec_len self.old.stores }
         requires row { IsRow statement.now }
+        requires idle { is_working self.old.branches store transaction.old.number ≡ false }
         ensures name { self.new.name ≡ self.old.name }
         ensures frame { ChangesAt store self.old.stores.items self.new.stores.items }
+        ensures marks { ChangesAt store self.old.branches self.new.branches }
         ensures keeps { Keeps store transaction.old transaction.new }
-        ensures works { WorksAs S.view (HasOpen self.old.branches store transaction.old.number → ⊥) transaction.old transaction.new store statement.now result self.old.stores.items self.new.stores.items }
+        ensures works { WorksAs S.view self.old.branches self.new.branches transaction.old transaction.new store statement.now result self.old.stores.items self.new.stores.items }
     {
         match self.start_branch(rt, store, transaction.number) {
             Ok(()) => self.work_within(rt, transaction, store, statement),
@@ -105,20 +108,19 @@ impl<S: Speak> Coordinator<S> {
         requires row { IsRow statement.now }
         ensures name { self.new.name ≡ self.old.name }
         ensures frame { ChangesAt store self.old.stores.items self.new.stores.items }
+        ensures marks { ChangesAt store self.old.branches self.new.branches }
         ensures keeps { Keeps store transaction.old transaction.new }
-        ensures works { WorksAs S.view (HasOpen self.old.branches store transaction.old.number → ⊥) transaction.old transaction.new store statement.now result self.old.stores.items self.new.stores.items }
+        ensures works { WorksAs S.view self.old.branches self.new.branches transaction.old transaction.new store statement.now result self.old.stores.items self.new.stores.items }
     {
-        match self.phase_of(store, transaction.number) {
-            Some(Phase::Active) => self.work_within(rt, transaction, store, statement),
-            Some(Phase::Idle) => self.start_and_work(rt, transaction, store, statement),
-            None => {
-                if transaction.has(store) {
-                    return Err(WorkFault::Lost);
-                }
-                self.start_and_work(rt, transaction, store, statement)
-            }
+        if self.is_working(store, transaction.number) {
+            return self.work_within(rt, transaction, store, statement);
         }
+        if transaction.has(store) && !self.has_open(store, transaction.number) {
+            return Err(WorkFault::Lost);
+        }
+        self.start_and_work(rt, transaction, store, statement)
     }
+
     /// Gives a `GET`, `PUT` or `DEL` of a transaction to a store, in `[0, number of stores)`, which takes part from its first work on: its
     /// branch is started by `XA START`. A row statement that is refused is a reply.
     ///
@@ -142,8 +144,9 @@ impl<S: Speak> Coordinator<S> {
         requires row { IsRow statement.now }
         ensures name { self.new.name ≡ self.old.name }
         ensures frame { ChangesAt store self.old.stores.items self.new.stores.items }
+        ensures marks { ChangesAt store self.old.branches self.new.branches }
         ensures keeps { Keeps store transaction.old transaction.new }
-        ensures works { WorksAs S.view (HasOpen self.old.branches store transaction.old.number → ⊥) transaction.old transaction.new store statement.now result self.old.stores.items self.new.stores.items }
+        ensures works { WorksAs S.view self.old.branches self.new.branches transaction.old transaction.new store statement.now result self.old.stores.items self.new.stores.items }
         ensures adds { AtStore S.view store (AddsWork (branch_of transaction.old store) statement.now) self.old.stores.items self.new.stores.items }
         ensures agrees { (decisions : List Standing) → EachStore S.view (Agrees decisions self.old.name.items) self.old.stores.items self.new.stores.items }
     {

@@ -23,6 +23,7 @@ pub struct Session<'a, L: DecisionLog> {
     pub(crate) replica: Replica,
     ghost home: { L.home pass ≡ L.place log.now },
     ghost stands: { Stands base.now (L.known pass).seen replica },
+    ghost lawful: { LockLaw base.now },
 }
 
 impl<'a, L: DecisionLog> Session<'a, L> {
@@ -42,6 +43,7 @@ impl<'a, L: DecisionLog> Session<'a, L> {
         ensures base { IfOk result (λ session. session.base.now ≡ base.now) }
         ensures err { IfErr result (λ refused. refused.0 ≡ pass) }
     {
+        base.keeps_lock_law();
         match Replica::of(base) {
             Ok(replica) => Ok(Session {
                 log,

@@ -1,4 +1,5 @@
 use Rattle.std.proofs.Common.{◌≡◌}
+use Rattle.xa_coordinator.specs.OpenBranches.{KeepsOpen}
 use Rattle.xa_coordinator.specs.Stores.{Reached}
 use Rattle.xa_coordinator.proofs.Hazards.{IsListed, SettledBy}
 use Rattle.xa_coordinator.proofs.coordinator.Coordinator.close.Given as goal
@@ -6,6 +7,7 @@ use Rattle.xa_coordinator.proofs.coordinator.Coordinator.close.Given as goal
 abbrev pub invariant-loop-store : goal.invariant-loop-store
 invariant-loop-store g l = record {
   name : l.self.name ≡ l.fn.self.name;
+  keeps : KeepsOpen l.transaction.participants l.store l.fn.self.branches l.self.branches;
   listed : IsListed l.transaction.participants l.store l.missing.items;
-  reached : Reached g.S.Speak.view (SettledBy l.transaction l.closing l.missing.items) l.store l.fn.self.stores.items l.self.stores.items;
+  reached : Reached g.S.Speak.view (SettledBy l.fn.self.branches l.transaction l.closing l.missing.items) l.store l.fn.self.stores.items l.self.stores.items;
 }

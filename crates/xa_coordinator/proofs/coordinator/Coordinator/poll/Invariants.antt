@@ -1,4 +1,5 @@
 use Rattle.std.proofs.Common.{◌≡◌}
+use Rattle.xa_coordinator.specs.OpenBranches.{KeepsOpen}
 use Rattle.xa_coordinator.specs.Stores.{Reached}
 use Rattle.xa_coordinator.specs.Participants.{takes_part}
 use Rattle.xa_coordinator.specs.Outcomes.{branch_of, IsVoted}
@@ -7,5 +8,6 @@ use Rattle.xa_coordinator.proofs.coordinator.Coordinator.poll.Given as goal
 abbrev pub invariant-loop-store : goal.invariant-loop-store
 invariant-loop-store g l = record {
   name : l.self.name ≡ l.fn.self.name;
+  keeps : KeepsOpen l.transaction.participants l.store l.fn.self.branches l.self.branches;
   reached : Reached g.S.Speak.view (λ store. IsVoted (branch_of l.transaction store) (takes_part l.transaction.participants store)) l.store l.fn.self.stores.items l.self.stores.items;
 }

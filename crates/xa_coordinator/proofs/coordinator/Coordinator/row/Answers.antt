@@ -27,7 +27,7 @@ invariant_of-self g c =
       named = me.named;
       sized = me.sized;
       open_there = unmarked view me.name.items me.stores.items me.branches c.args.store old new c.index_mut.ensures.value me.open_there
-          (active_still c.args.statement.now c.execute.result xid (view old) (view new) c.execute.ensures.lawful c.execute.ensures.stays (g.met.S.Speak.own_part old) (g.met.S.Speak.own_part new) seat c.requires.row
+          (active_still c.args.statement.now c.execute.result xid (view old) (view new) (g.met.S.Speak.lawful new) c.execute.ensures.stays (g.met.S.Speak.own_part old) (g.met.S.Speak.own_part new) seat c.requires.row
           c.execute.ensures.answered c.execute.ensures.fails c.execute.ensures.lasts);
     }
 
@@ -48,7 +48,7 @@ returns-in-Ok-clause-replied g c =
       log = c.in-Ok.ensures.stays;
       place = c.in-Ok.answer.place;
       answered = c.in-Ok.ensures.answered;
-      active = active_there c.args.statement.now c.in-Ok.answer xid (view old) (view new) c.in-Ok.ensures.lawful c.in-Ok.ensures.stays (g.met.S.Speak.own_part old) (g.met.S.Speak.own_part new) seat c.in-Ok.ensures.answered;
+      active = active_there c.args.statement.now c.in-Ok.answer xid (view old) (view new) (g.met.S.Speak.lawful new) c.in-Ok.ensures.stays (g.met.S.Speak.own_part old) (g.met.S.Speak.own_part new) seat c.in-Ok.ensures.answered;
     })
 
 pub returns-in-Err-clause-frame : goal.returns-in-Err-clause-frame

@@ -13,7 +13,7 @@ invariant_of-self g c =
       named = me.named;
       sized = me.sized;
       open_there = marked view me.name.items me.stores.items me.branches c.args.store new c.args.then me.open_there
-          (leaves_seat me.name.items c.args.store c.args.statement.now c.args.then (view old) (view new) c.requires.leaves c.in-Ok.ensures.lawful
+          (leaves_seat me.name.items c.args.store c.args.statement.now c.args.then (view old) (view new) c.requires.leaves (g.met.S.Speak.lawful new)
           (g.met.S.Speak.own_part old) (g.met.S.Speak.own_part new) c.in-Ok.ensures.says);
     }
 
@@ -27,12 +27,15 @@ invariant_of-self-in-Err-1 g c =
       named = me.named;
       sized = me.sized;
       open_there = unmarked view me.name.items me.stores.items me.branches c.args.store old new c.index_mut.ensures.value me.open_there
-          (seat_refused c.args.statement.now c.in-Err.cause (view old) (view new) c.in-Err.ensures.lawful
+          (seat_refused c.args.statement.now c.in-Err.cause (view old) (view new) (g.met.S.Speak.lawful new)
           (g.met.S.Speak.own_part old) (g.met.S.Speak.own_part new) c.in-Err.ensures.says);
     }
 
 pub returns-in-Ok-clause-frame : goal.returns-in-Ok-clause-frame
 returns-in-Ok-clause-frame g c = changes_at c.args.self.now.stores.items c.args.store c.tell.new.session
+
+pub returns-in-Ok-clause-marks : goal.returns-in-Ok-clause-marks
+returns-in-Ok-clause-marks g c = changes_at c.args.self.now.branches c.args.store c.args.then
 
 pub returns-in-Ok-clause-says : goal.returns-in-Ok-clause-says
 returns-in-Ok-clause-says g c =

@@ -1,19 +1,21 @@
-use Rattle.std.proofs.Common.{◌≡◌, ℕ, List, sym, subst, Some}
+use Rattle.std.proofs.Common.{◌≡◌, ℕ, List, Option, Some, ap, sym, ◌∙◌, subst}
 use Rattle.std.specs.Prelude.{slice_get}
 use Rattle.xa_server.specs.declared.seat.Seat.TheVariants.{Active}
 use Rattle.xa_coordinator.specs.Branch.{branch_xid}
-use Rattle.xa_coordinator.specs.OpenBranches.{seat_seen, HasOpen}
+use Rattle.xa_coordinator.specs.OpenBranches.{seat_seen, IsWorking}
+use Rattle.xa_coordinator.specs.declared.open_branch.OpenBranch.{OpenBranch}
 use Rattle.xa_coordinator.specs.declared.open_branch.Phase.TheVariants.{Active as PhaseActive}
+use Rattle.xa_coordinator.proofs.Opening.{working}
 use Rattle.xa_coordinator.proofs.Works.{works_open}
 use Rattle.xa_coordinator.proofs.coordinator.Coordinator.work_at.Goals as goal
 
-pub returns-in-Some-Active-clause-works : goal.returns-in-Some-Active-clause-works
-returns-in-Some-Active-clause-works g c =
+pub returns-then-is_working-clause-works : goal.returns-then-is_working-clause-works
+returns-then-is_working-clause-works g c =
     let me = c.args.self.now in
     let transaction = c.args.transaction.now in
-    works_open g.S.Speak.view (HasOpen me.branches c.args.store transaction.number → ⊥) transaction c.work_within.new.transaction c.args.store c.args.statement.now c.work_within.result
+    let mark : IsWorking me.branches c.args.store transaction.number = working me.branches c.args.store transaction.number (sym c.if-is_working.ensures) in
+    works_open g.S.Speak.view me.branches c.work_within.new.self.branches transaction c.work_within.new.transaction c.args.store c.args.statement.now c.work_within.result
     me.stores.items c.work_within.new.self.stores.items
     (λ s is_s. subst (λ (name : List ℕ). seat_seen (g.S.Speak.view s) ≡ Active (branch_xid name transaction.number c.args.store)) (sym c.requires.name)
-    (me.open_there c.args.store s (record { number = transaction.number; phase = PhaseActive }) is_s
-    (subst (λ phase. slice_get me.branches c.args.store ≡ Some (Some (record { number = transaction.number; phase = phase }))) c.in-Some-Active.field-0-is c.in-Some-Active.ensures.some)))
-    c.work_within.ensures.part c.work_within.ensures.works
+    (me.open_there c.args.store s (record { number = transaction.number; phase = PhaseActive }) is_s mark))
+    c.work_within.ensures.part (ap (λ (list : List (Option OpenBranch)). slice_get list c.args.store) c.work_within.ensures.marks ∙ mark) c.work_within.ensures.works

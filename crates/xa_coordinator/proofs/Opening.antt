@@ -1,0 +1,47 @@
+-- What a coordinator has open, before and after calls.
+use Rattle.std.proofs.Common.{◌≡◌, ◌≢◌, ◌≤◌, ◌+◌, ℕ, Bool, true, false, List, Option, Some, None, refl, ap, sym, ◌∙◌, subst, inl, inr, arith, length, eqb-true}
+use Rattle.std.specs.Prelude.{slice_get, ◌&&◌, ◌==◌}
+use Rattle.xa_coordinator.specs.declared.open_branch.OpenBranch.{OpenBranch}
+use Rattle.xa_coordinator.specs.declared.open_branch.Phase.{Phase}
+use Rattle.xa_coordinator.specs.declared.open_branch.Phase.TheVariants.{Active, Idle}
+use Rattle.xa_coordinator.specs.declared.participants.Participants.{Participants}
+use Rattle.xa_coordinator.specs.Participants.{takes_part, OnlyTakesPart}
+use Rattle.xa_coordinator.specs.Stores.{ChangesAt}
+use Rattle.xa_coordinator.specs.OpenBranches.{is_active, works_for, is_working, IsWorking, KeepsOpen}
+
+-- the branch that takes work is open there
+pub working : (branches : List (Option OpenBranch)) (store number : ℕ) → is_working branches store number ≡ true → IsWorking branches store number
+unfolding is_working
+working branches store number is = by (slice_get branches store) refl is
+  where
+    of_phase : (phase : Phase) (n : ℕ) → (is_active phase && (n == number)) ≡ true → (record { number = n; phase = phase }) ≡ (record { number = number; phase = Active })
+    of_phase Active n e = ap (λ m. record { number = m; phase = Active }) (eqb-true n number e)
+    of_phase Idle n e = absurd (cc)
+
+    by : (found : Option (Option OpenBranch)) → slice_get branches store ≡ found → works_for number found ≡ true → slice_get branches store ≡ Some (Some (record { number = number; phase = Active }))
+    by None there e = absurd (cc)
+    by (Some None) there e = absurd (cc)
+    by (Some (Some branch)) there e = there ∙ ap (λ (b : OpenBranch). Some (Some b)) (of_phase branch.phase branch.number e)
+
+-- what is open in another store tells nothing of it
+pub working_kept : (old new : List (Option OpenBranch)) (store number : ℕ) → slice_get new store ≡ slice_get old store → is_working new store number ≡ is_working old store number
+unfolding is_working
+working_kept old new store number same = ap (works_for number) same
+
+pub keeps_none : (participants : Participants) (branches : List (Option OpenBranch)) (place : ℕ) → KeepsOpen participants place branches branches
+keeps_none participants branches place = record { apart = λ store out. refl; behind = λ store from. refl }
+
+-- as far as a later store
+pub keeps_farther : (participants : Participants) (place farther : ℕ) (old new : List (Option OpenBranch)) → place ≤ farther → KeepsOpen participants place old new → KeepsOpen participants farther old new
+keeps_farther participants place farther old new less keeps = record { apart = keeps.apart; behind = λ store from. keeps.behind store (omega arith) }
+
+-- a store that takes part was spoken to
+pub keeps_next : (participants : Participants) (place : ℕ) (old now next : List (Option OpenBranch)) → KeepsOpen participants place old now → takes_part participants place ≡ true → ChangesAt place now next →
+    KeepsOpen participants (place + 1) old next
+keeps_next participants place old now next keeps takes changes = record {
+  apart = λ store out. changes.others store (λ (same : store ≡ place). absurd (true_is_false (sym takes ∙ ap (takes_part participants) (sym same) ∙ out))) ∙ keeps.apart store out;
+  behind = λ store from. changes.others store (omega arith) ∙ keeps.behind store (omega arith);
+}
+  where
+    true_is_false : true ≡ false → ⊥
+    true_is_false e = cc

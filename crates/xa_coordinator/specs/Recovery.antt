@@ -1,0 +1,211 @@
+-- What a recovery does, in one store and in all.
+--     IsDisconnected   a session let go of what it had open
+--     IsListed         XA RECOVER answered this list
+--     IsNamed          a branch is of the coordinator's naming
+--     NamedIn          how many branches of a list are
+--     SettlesOne, Settled      what became of one listed branch;  of all
+--     IsSettled        what became of a store's prepared branches
+--     IsRecovered      what the recovery of a store came to
+--     IsBroken         a statement of the recovery wasn't carried out
+--     IsStillPrepared  a branch of the coordinator's naming is prepared afterwards
+--     BreaksHere       the recovery of a store came to no end
+--     Recovers         what the recovery of all stores came to
+--     BreaksOff        it came to no end
+use Rattle.std.specs.Prelude.{◌≡◌, ◌≢◌, ◌<◌, ◌≤◌, ◌+◌, ◌^◌, ℕ, Bool, true, false, List, [], ◌∷◌, ◌++◌, length, map, slice_get, Some, All}
+use Rattle.std.specs.List.{count_by, sum_by}
+use Rattle.xa_xid.specs.declared.xid.Xid.{Xid}
+use Rattle.xa_xid.specs.declared.statement.Statement.{Statement}
+use Rattle.xa_xid.specs.declared.statement.Statement.TheVariants.{Start, End, Prepare, Commit, Rollback, Recover, Unsupported, Get, Put, Del, Disconnect}
+use Rattle.xa_server.specs.State.{is_prepared, prepared_xids}
+use Rattle.xa_server.specs.declared.seat.Seat.TheVariants.{Free}
+use Rattle.xa_server.specs.declared.xa_error.XaError.TheVariants.{Nota}
+use Rattle.xa_session.specs.Replay.{state_after, state_at}
+use Rattle.xa_coordinator.specs.declared.cause.Cause.{Cause}
+use Rattle.xa_coordinator.specs.declared.cause.Cause.TheVariants.{Session as CauseSession, Refused as CauseRefused}
+use Rattle.xa_coordinator.specs.declared.closing.Closing.{Closing}
+use Rattle.xa_coordinator.specs.declared.closing.Closing.TheVariants.{InTwoPhases, RollBack}
+use Rattle.xa_coordinator.specs.declared.closing.Found.{Found}
+use Rattle.xa_coordinator.specs.declared.closing.Found.TheVariants.{Closed, Missing}
+use Rattle.xa_coordinator.specs.declared.standing.Standing.{Standing}
+use Rattle.xa_coordinator.specs.declared.tally.Tally.{Tally}
+use Rattle.xa_coordinator.specs.declared.report.Report.{Report}
+use Rattle.xa_coordinator.specs.declared.recover_fault.RecoverFault.{RecoverFault}
+use Rattle.xa_coordinator.specs.declared.recover_fault.RecoverFault.TheVariants.{Session, StillPrepared, NoMemory, Refused}
+use Rattle.xa_coordinator.specs.View.{SessionView}
+use Rattle.xa_coordinator.specs.Agreement.{Adds, AgreesWith, Agrees}
+use Rattle.xa_coordinator.specs.Branch.{branch_xid, IsBranchOf}
+use Rattle.xa_coordinator.specs.Decisions.{is_decided}
+use Rattle.xa_coordinator.specs.OpenBranches.{seat_seen}
+use Rattle.xa_coordinator.specs.Outcomes.{closing_of}
+use Rattle.xa_coordinator.specs.Stores.{AtStore, EachStore, EndsAt}
+use Rattle.xa_coordinator.specs.Told.{IsUndone}
+use Rattle.xa_coordinator.specs.Work.{MayBe}
+
+-- the session was told DISCONNECT, which enters where it has a branch open, and has none open then
+pub record IsDisconnected (old new : SessionView) : Type 0 where
+  pub statements : List Statement
+  pub is : MayBe Disconnect statements
+  pub adds : Adds statements old new
+  pub free : seat_seen new ≡ Free
+
+-- the list is that of the prepared branches at this place, the end of all that the session sees then, and it has looked
+pub record IsListed (xids : List Xid) (place : ℕ) (old new : SessionView) : Type 0 where
+  pub adds : Adds [] old new
+  pub looked : old.known.looks < new.known.looks
+  pub front : place ≡ length new.known.seen
+  pub list : xids ≡ prepared_xids (state_after new.base new.known.seen)
+
+-- the branch is of a coordinator of this name, in this store
+abbrev pub IsNamed : List ℕ → ℕ → Xid → Type 0
+IsNamed name store xid = (number : ℕ) × IsBranchOf name number store xid
+
+-- so many branches of the list are of a coordinator of this name, in this store
+pub data NamedIn (name : List ℕ) (store : ℕ) : List Xid → ℕ → Type 0 where
+  none_named : NamedIn name store [] 0
+  one_named : (xids : List Xid) (xid : Xid) (count : ℕ) → NamedIn name store xids count → IsNamed name store xid → NamedIn name store (xids ++ xid ∷ []) (count + 1)
+  one_foreign : (xids : List Xid) (xid : Xid) (count : ℕ) → NamedIn name store xids count → (IsNamed name store xid → ⊥) → NamedIn name store (xids ++ xid ∷ []) count
+
+-- a decided branch is committed, another one is rolled back (presumed abort)
+abbrev pub closing_by : Bool → Closing
+closing_by true = InTwoPhases
+closing_by false = RollBack
+
+-- what became of a listed branch, and what is counted then: nothing is said of one that isn't of this coordinator's naming; another one is committed or rolled back as the decisions say, or was answered XAER_NOTA
+pub data SettlesOne (decisions : List Standing) (name : List ℕ) (store : ℕ) (xid : Xid) (tally : Tally) (old : SessionView) : Tally → SessionView → Type 0 where
+  foreign : (IsNamed name store xid → ⊥) → SettlesOne decisions name store xid tally old tally old
+  committed : (number : ℕ) → IsBranchOf name number store xid → is_decided decisions number ≡ true → (new : SessionView) → Adds (Commit xid false ∷ []) old new →
+      SettlesOne decisions name store xid tally old (record tally { committed = tally.committed + 1 }) new
+  rolled_back : (number : ℕ) → IsBranchOf name number store xid → is_decided decisions number ≡ false → (new : SessionView) → Adds (Rollback xid ∷ []) old new →
+      SettlesOne decisions name store xid tally old (record tally { rolled_back = tally.rolled_back + 1 }) new
+  missing : (number : ℕ) → IsBranchOf name number store xid → (new : SessionView) → IsUndone (closing_of (closing_by (is_decided decisions number)) xid) (CauseRefused Nota) old new →
+      SettlesOne decisions name store xid tally old (record tally { missing = tally.missing + 1 }) new
+
+-- all that was counted
+abbrev pub total : Tally → ℕ
+total tally = tally.committed + tally.rolled_back + tally.missing
+
+-- the tally with one branch more
+abbrev pub counted : Tally → (decided : Bool) → Found → Tally
+counted tally true Closed = record tally { committed = tally.committed + 1 }
+counted tally false Closed = record tally { rolled_back = tally.rolled_back + 1 }
+counted tally decided Missing = record tally { missing = tally.missing + 1 }
+
+-- what became of the branches of a list, one after another
+pub data Settled (decisions : List Standing) (name : List ℕ) (store : ℕ) (old : SessionView) : List Xid → Tally → SessionView → Type 0 where
+  nothing : Settled decisions name store old [] (record { committed = 0; rolled_back = 0; missing = 0 }) old
+  one_more : (xids : List Xid) (before : Tally) (mid : SessionView) → Settled decisions name store old xids before mid → (xid : Xid) (after : Tally) (new : SessionView) →
+      SettlesOne decisions name store xid before mid after new → Settled decisions name store old (xids ++ xid ∷ []) after new
+
+-- the session let go of what it had open, listed the prepared branches, and each of them was settled
+pub record IsSettled (decisions : List Standing) (name : List ℕ) (store : ℕ) (tally : Tally) (old new : SessionView) : Type 0 where
+  pub freed : SessionView
+  pub disconnected : IsDisconnected old freed
+  pub listing : SessionView
+  pub xids : List Xid
+  pub place : ℕ
+  pub listed : IsListed xids place freed listing
+  pub settled : Settled decisions name store listing xids tally new
+
+-- an XA COMMIT of a prepared branch
+abbrev pub is_commit : Statement → Bool
+is_commit (Start xid) = false
+is_commit (End xid) = false
+is_commit (Prepare xid) = false
+is_commit (Commit xid false) = true
+is_commit (Commit xid true) = false
+is_commit (Rollback xid) = false
+is_commit (Recover convert) = false
+is_commit Unsupported = false
+is_commit (Get key) = false
+is_commit (Put key value) = false
+is_commit (Del key) = false
+is_commit Disconnect = false
+
+-- an XA ROLLBACK
+abbrev pub is_rollback : Statement → Bool
+is_rollback (Start xid) = false
+is_rollback (End xid) = false
+is_rollback (Prepare xid) = false
+is_rollback (Commit xid one_phase) = false
+is_rollback (Rollback xid) = true
+is_rollback (Recover convert) = false
+is_rollback Unsupported = false
+is_rollback (Get key) = false
+is_rollback (Put key value) = false
+is_rollback (Del key) = false
+is_rollback Disconnect = false
+
+-- what a recovery added is counted, and with the missing branches that is what was prepared at one place, not before what had been seen
+pub record IsCounted (decisions : List Standing) (name : List ℕ) (store : ℕ) (tally : Tally) (old new : SessionView) : Type 0 where
+  pub statements : List Statement
+  pub adds : Adds statements old new
+  pub each : All (AgreesWith decisions name store) statements
+  pub committed : tally.committed ≡ count_by is_commit statements
+  pub rolled_back : tally.rolled_back ≡ count_by is_rollback statements
+  pub place : ℕ
+  pub not_before : length old.known.seen ≤ place
+  pub within : place ≤ length new.known.seen
+  pub found : NamedIn name store (prepared_xids (state_at new.base new.known.seen place)) (total tally)
+
+-- no branch of this coordinator's naming is prepared, as far as the session has seen
+abbrev pub NoneLeft : List ℕ → ℕ → SessionView → Type 0
+NoneLeft name store session = (number : ℕ) → number < 2 ^ 64 → is_prepared (state_after session.base session.known.seen) (branch_xid name number store) ≡ false
+
+-- what the recovery of a store came to, with the place of its last list
+pub record IsRecovered (decisions : List Standing) (name : List ℕ) (store : ℕ) (tally : Tally) (front : ℕ) (old new : SessionView) : Type 0 where
+  pub finished : SessionView
+  pub settled : IsSettled decisions name store tally old finished
+  pub counted : IsCounted decisions name store tally old new
+  pub looked : old.known.looks < new.known.looks
+  pub front : front ≡ length new.known.seen
+  pub none_left : NoneLeft name store new
+
+-- a statement of the recovery of a store wasn't carried out for this cause, which isn't that the branch wasn't known
+pub record IsBroken (decisions : List Standing) (name : List ℕ) (store : ℕ) (cause : Cause) (old new : SessionView) : Type 0 where
+  pub mid : SessionView
+  pub before : Agrees decisions name store old mid
+  pub statement : Statement
+  pub agrees : AgreesWith decisions name store statement
+  pub undone : IsUndone statement cause mid new
+  pub known : cause ≢ CauseRefused Nota
+
+-- the prepared branches were settled, and one of this coordinator's naming is prepared, as far as the session has seen
+pub record IsStillPrepared (decisions : List Standing) (name : List ℕ) (store : ℕ) (old new : SessionView) : Type 0 where
+  pub before : Agrees decisions name store old new
+  pub looked : old.known.looks < new.known.looks
+  pub number : ℕ
+  pub fits : number < 2 ^ 64
+  pub prepared : is_prepared (state_after new.base new.known.seen) (branch_xid name number store) ≡ true
+
+-- a store of which this tally and this place were found
+abbrev pub RecoveredBy : List Standing → List ℕ → List (Tally × ℕ) → ℕ → SessionView → SessionView → Type 0
+RecoveredBy decisions name found store old new = (one : Tally × ℕ) × (slice_get found store ≡ Some one) × IsRecovered decisions name store one.0 one.1 old new
+
+-- each store was recovered, and the report has the places and the sums of what was counted
+pub record Recovers {S : Type 0} (view : S → SessionView) (decisions : List Standing) (name : List ℕ) (report : Report) (old new : List S) : Type 0 where
+  pub found : List (Tally × ℕ)
+  pub count : length found ≡ length old
+  pub each : EachStore view (RecoveredBy decisions name found) old new
+  pub fronts : report.fronts.items ≡ map (λ one. one.1) found
+  pub committed : report.committed ≡ sum_by (λ one. one.0.committed) found
+  pub rolled_back : report.rolled_back ≡ sum_by (λ one. one.0.rolled_back) found
+  pub missing : report.missing ≡ sum_by (λ one. one.0.missing) found
+
+-- the recovery of a store came to no end
+abbrev pub BreaksHere : {S : Type 0} → (S → SessionView) → List Standing → List ℕ → ℕ → RecoverFault → List S → List S → Type 0
+BreaksHere view decisions name store (Session at fault) old new = (at ≡ store) × AtStore view store (IsBroken decisions name store (CauseSession fault)) old new
+BreaksHere view decisions name store (StillPrepared at) old new = (at ≡ store) × AtStore view store (IsStillPrepared decisions name store) old new
+BreaksHere view decisions name store NoMemory old new = ⊥
+BreaksHere view decisions name store (Refused at error) old new = (at ≡ store) × AtStore view store (IsBroken decisions name store (CauseRefused error)) old new
+
+-- the recovery came to an end at a store: those below are recovered, and this one fared so
+abbrev pub BreaksAt : {S : Type 0} → (S → SessionView) → List Standing → List ℕ → ℕ → (SessionView → SessionView → Type 0) → List S → List S → Type 0
+BreaksAt view decisions name store last old new =
+    (store < length old) × EndsAt view (λ other before after. (one : Tally × ℕ) × IsRecovered decisions name other one.0 one.1 before after) store last old new
+
+-- why the recovery came to no end
+abbrev pub BreaksOff : {S : Type 0} → (S → SessionView) → List Standing → List ℕ → RecoverFault → List S → List S → Type 0
+BreaksOff view decisions name (Session store fault) old new = BreaksAt view decisions name store (IsBroken decisions name store (CauseSession fault)) old new
+BreaksOff view decisions name (StillPrepared store) old new = BreaksAt view decisions name store (IsStillPrepared decisions name store) old new
+BreaksOff view decisions name NoMemory old new = new ≡ old
+BreaksOff view decisions name (Refused store error) old new = BreaksAt view decisions name store (IsBroken decisions name store (CauseRefused error)) old new

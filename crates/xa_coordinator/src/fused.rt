@@ -1,0 +1,72 @@
+//! A session that fails from a certain call on.
+ghost use Rattle.std.specs.Prelude.{◌≡◌};
+
+use crate::Speak;
+use std::sync::Wait;
+use xa_session::{Answer, Fault};
+use xa_xid::Statement;
+
+/// A session that passes so many calls on, and then answers NoMemory to all, though no growth was refused.
+///
+/// A contract sees it as the session within, so it keeps every promise of one.
+#[derive(Drop)]
+pub struct Fused<S: Speak> {
+    pub(crate) inner: S,
+    pub(crate) left: u64,
+}
+
+impl<S: Speak> Fused<S> {
+    /// The session that passes `calls` calls on, in `[0, 2^64)`.
+    ///
+    /// Takes no memory. Doesn't wait.
+    /// Own rule: docs/COORDINATOR.md, 'Who speaks'.
+    pub fn new(inner: S, calls: u64) -> Fused<S>
+        ensures inner { result.inner ≡ inner }
+        ensures left { result.left ≡ calls }
+    {
+        Fused { inner, left: calls }
+    }
+
+    /// The session within, as the calls left it.
+    ///
+    /// Takes no memory. Doesn't wait.
+    pub fn into_inner(self) -> S
+        ensures { result ≡ self.inner }
+    {
+        let Fused { inner, left: _ } = self;
+        inner
+    }
+
+    /// Whether one more call is passed on.
+    fn passes(&mut self) -> bool
+        ensures { self.new.inner ≡ self.old.inner }
+    {
+        if self.left == 0 {
+            return false;
+        }
+        self.left -= 1;
+        true
+    }
+}
+
+impl<S: Speak> Speak for Fused<S> {
+    ghost view = { λ fused. S.view fused.inner };
+
+    ghost own_part = { λ fused. S.own_part fused.inner };
+
+    ghost lawful = { λ fused. S.lawful fused.inner };
+
+    fn attempt(&mut self, statement: &Statement) -> Result<Answer, Fault> {
+        if !self.passes() {
+            return Err(Fault::NoMemory);
+        }
+        self.inner.attempt(statement)
+    }
+
+    fn execute<R: Wait>(&mut self, rt: &R, statement: &Statement) -> Result<Answer, Fault> {
+        if !self.passes() {
+            return Err(Fault::NoMemory);
+        }
+        self.inner.execute(rt, statement)
+    }
+}

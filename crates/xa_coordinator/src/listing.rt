@@ -1,0 +1,57 @@
+//! What a recovery asks of a store: to let go of what is open, and to list what is prepared.
+ghost use Rattle.std.specs.Prelude.{◌≡◌, ◌<◌, Some, None, IfOk, IfErr, OnOk, OnErr, slice_get, vec_len};
+ghost use Rattle.xa_coordinator.specs.Stores.{AtStore, ChangesAt};
+ghost use Rattle.xa_coordinator.specs.Recovery.{IsDisconnected, IsListed};
+ghost use Rattle.xa_coordinator.specs.Told.{IsUndone};
+ghost use Rattle.xa_xid.specs.declared.statement.Statement.TheVariants.{Recover as RecoverStatement, Disconnect as DisconnectStatement};
+
+use crate::{Cause, Coordinator, Speak};
+use std::sync::Wait;
+use xa_server::{Reply, XidList};
+use xa_session::{Answer, Fault};
+use xa_xid::Statement;
+
+impl<S: Speak> Coordinator<S> {
+    /// Has the session of a store let go of what it has open.
+    pub(crate) fn disconnect<R: Wait>(&mut self, rt: &R, store: u8) -> Result<(), Fault>
+        requires { store < vec_len self.old.stores }
+        ensures name { self.new.name ≡ self.old.name }
+        ensures frame { ChangesAt store self.old.stores.items self.new.stores.items }
+        ensures marks { ChangesAt store self.old.branches self.new.branches }
+        ensures mark { OnOk result (slice_get self.new.branches store ≡ Some None) }
+        ensures unsaid { OnErr result (self.new.branches ≡ self.old.branches) }
+        ensures done { OnOk result (AtStore S.view store IsDisconnected self.old.stores.items self.new.stores.items) }
+        ensures undone { IfErr result (λ fault. AtStore S.view store (IsUndone DisconnectStatement (Cause.Session fault)) self.old.stores.items self.new.stores.items) }
+    {
+        match self.stores[store as usize].execute(rt, &Statement::Disconnect) {
+            Ok(_) => {
+                self.branches[store as usize] = None;
+                Ok(())
+            }
+            Err(fault) => Err(fault),
+        }
+    }
+
+    /// The prepared branches of a store.
+    pub(crate) fn prepared_in<R: Wait>(&mut self, rt: &R, store: u8) -> Result<(XidList, u64), Fault>
+        requires { store < vec_len self.old.stores }
+        ensures name { self.new.name ≡ self.old.name }
+        ensures frame { ChangesAt store self.old.stores.items self.new.stores.items }
+        ensures marks { self.new.branches ≡ self.old.branches }
+        ensures listed { IfOk result (λ found. AtStore S.view store (IsListed found.0 found.1) self.old.stores.items self.new.stores.items) }
+        ensures undone { IfErr result (λ fault. AtStore S.view store (IsUndone (RecoverStatement false) (Cause.Session fault)) self.old.stores.items self.new.stores.items) }
+    {
+        let answered =
+            self.stores[store as usize].execute(rt, &Statement::Recover { convert: false });
+        match answered {
+            Ok(
+                Answer {
+                    place,
+                    reply: Reply::Recovered(xids),
+                },
+            ) => Ok((xids, place)),
+            Ok(_) => unreachable!(),
+            Err(fault) => Err(fault),
+        }
+    }
+}

@@ -1,0 +1,120 @@
+//! What a recovery does with the prepared branches of one store.
+ghost use Rattle.std.specs.Prelude.{◌≡◌, ◌<◌, ◌≤◌, ◌+◌, ◌^◌, ℕ, true, false, IfOk, IfErr, slice_get, Some, None, vec_len};
+ghost use Rattle.std.specs.List.{list_any};
+ghost use Rattle.xa_xid.specs.Xid.{same_xid};
+ghost use Rattle.xa_coordinator.specs.Branch.{branch_xid};
+ghost use Rattle.xa_coordinator.specs.Recovery.{closing_by as closing_by_decision, counted, total, SettlesOne, Settled, IsBroken};
+ghost use Rattle.xa_coordinator.specs.Stores.{AtStore, ChangesAt};
+
+use crate::closing::{Closing, Found};
+use crate::named::number_of_branch;
+use crate::tally::Tally;
+use crate::{Cause, Coordinator, Decisions, Speak};
+use std::sync::Wait;
+use xa_xid::Xid;
+
+/// How a recovery finishes a branch.
+fn closing_by(decided: bool) -> Closing
+    ensures { result ≡ closing_by_decision decided }
+{
+    if decided {
+        Closing::InTwoPhases
+    } else {
+        Closing::RollBack
+    }
+}
+
+/// The tally with one branch more.
+fn with_one(tally: Tally, decided: bool, found: Found) -> Tally
+    requires { total tally < 18446744073709551615 }
+    ensures counted { result ≡ counted tally decided found }
+    ensures total { total result ≡ total tally + 1 }
+{
+    match found {
+        Found::Missing => Tally {
+            missing: tally.missing + 1,
+            ..tally
+        },
+        Found::Closed if decided => Tally {
+            committed: tally.committed + 1,
+            ..tally
+        },
+        Found::Closed => Tally {
+            rolled_back: tally.rolled_back + 1,
+            ..tally
+        },
+    }
+}
+
+impl<S: Speak> Coordinator<S> {
+    /// Finishes a prepared branch of this coordinator's naming as the decisions say, and leaves another one.
+    fn settle<R: Wait>(
+        &mut self,
+        rt: &R,
+        decisions: &Decisions,
+        store: u8,
+        xid: &Xid,
+        tally: Tally,
+    ) -> Result<Tally, Cause>
+        requires store { store < vec_len self.old.stores }
+        requires room { total tally < 18446744073709551615 }
+        requires free { slice_get self.old.branches store ≡ Some None }
+        ensures name { self.new.name ≡ self.old.name }
+        ensures frame { ChangesAt store self.old.stores.items self.new.stores.items }
+        ensures marks { ChangesAt store self.old.branches self.new.branches }
+        ensures free { slice_get self.new.branches store ≡ Some None }
+        ensures more { IfOk result (λ after. total after ≤ total tally + 1) }
+        ensures settled { IfOk result (λ after. AtStore S.view store (λ old new. SettlesOne decisions.now self.old.name.items store xid.now tally old after new) self.old.stores.items self.new.stores.items) }
+        ensures broken { IfErr result (λ cause. AtStore S.view store (IsBroken decisions.now self.old.name.items store cause) self.old.stores.items self.new.stores.items) }
+    {
+        let Some(number) = number_of_branch(&self.name, store, xid) else {
+            return Ok(tally);
+        };
+        let decided = decisions.is_decided(number);
+        match self.finish_branch(rt, store, number, closing_by(decided)) {
+            Ok(found) => Ok(with_one(tally, decided, found)),
+            Err(cause) => Err(cause),
+        }
+    }
+
+    /// Finishes each listed branch of this coordinator's naming, in order, up to the first that isn't finished.
+    pub(crate) fn settle_each<R: Wait>(
+        &mut self,
+        rt: &R,
+        decisions: &Decisions,
+        store: u8,
+        xids: &[Xid],
+    ) -> Result<Tally, Cause>
+        requires store { store < vec_len self.old.stores }
+        requires free { slice_get self.old.branches store ≡ Some None }
+        ensures name { self.new.name ≡ self.old.name }
+        ensures frame { ChangesAt store self.old.stores.items self.new.stores.items }
+        ensures marks { ChangesAt store self.old.branches self.new.branches }
+        ensures free { slice_get self.new.branches store ≡ Some None }
+        ensures settled { IfOk result (λ tally. AtStore S.view store (λ old new. Settled decisions.now self.old.name.items store old xids.now tally new) self.old.stores.items self.new.stores.items) }
+        ensures broken { IfErr result (λ cause. AtStore S.view store (IsBroken decisions.now self.old.name.items store cause) self.old.stores.items self.new.stores.items) }
+    {
+        let mut tally = Tally {
+            committed: 0,
+            rolled_back: 0,
+            missing: 0,
+        };
+        for xid in xids {
+            tally = self.settle(rt, decisions, store, xid, tally)?;
+        }
+        Ok(tally)
+    }
+
+    /// Whether a listed branch is of this coordinator's naming.
+    pub(crate) fn has_own(&self, store: u8, xids: &[Xid]) -> bool
+        ensures some { result ≡ true → (number : ℕ) × (number < 2 ^ 64) × (list_any (same_xid (branch_xid self.now.name.items number store)) xids.now ≡ true) }
+        ensures none { result ≡ false → (number : ℕ) → number < 2 ^ 64 → list_any (same_xid (branch_xid self.now.name.items number store)) xids.now ≡ false }
+    {
+        for xid in xids {
+            if number_of_branch(&self.name, store, xid).is_some() {
+                return true;
+            }
+        }
+        false
+    }
+}
