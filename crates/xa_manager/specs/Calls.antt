@@ -2,6 +2,7 @@
 --     number_named     the number that a word names
 --     takes_rows       the statements that a transaction gives: GET, PUT and DEL
 --     call_of          what a line tells
+--     IsWritten        a call that a line can tell
 use Rattle.std.specs.Prelude.{◌≡◌, ℕ, ◌==◌, Bool, true, false, bytes_eq, if◌then◌else◌, Option, Some, None, Result, Ok, Err, List, [], ◌∷◌, codes}
 use Rattle.xa_xid.specs.Literal.{Reading}
 use Rattle.xa_xid.specs.Number.{number_at}
@@ -13,7 +14,7 @@ use Rattle.xa_manager.specs.declared.call.Call.{Call}
 use Rattle.xa_manager.specs.declared.call.Call.TheVariants.{Silent, Unread, Begin, Work, Prepare as PrepareCall, Decide, Finish, Abandon, Fail, Stop, Recover as RecoverCall, At, Show}
 
 -- a number that is the whole of a word
-abbrev pub whole : Result (ℕ × List ℕ) _ → Option ℕ
+abbrev pub whole : Reading ℕ → Option ℕ
 whole (Err fault) = None
 whole (Ok (number, [])) = Some number
 whole (Ok (number, byte ∷ rest)) = None
@@ -114,3 +115,19 @@ filled_call (first ∷ rest) = if first == 35 then Silent else call_named (first
 -- what a line tells: its words are cut at blanks, and written as they stand here
 unfoldable pub call_of : List ℕ → Call
 call_of line = filled_call (without_blanks line)
+
+-- work gives GET, PUT or DEL, as in each call that a line tells
+abbrev pub IsWritten : Call → Type 0
+IsWritten Silent = Unit {0}
+IsWritten (Unread place) = Unit {0}
+IsWritten Begin = Unit {0}
+IsWritten (Work number store statement) = takes_rows statement ≡ true
+IsWritten (PrepareCall number) = Unit {0}
+IsWritten (Decide number) = Unit {0}
+IsWritten (Finish number) = Unit {0}
+IsWritten (Abandon number) = Unit {0}
+IsWritten (Fail store calls) = Unit {0}
+IsWritten Stop = Unit {0}
+IsWritten RecoverCall = Unit {0}
+IsWritten (At store statement) = Unit {0}
+IsWritten Show = Unit {0}

@@ -144,7 +144,7 @@ response_text decisions Limited = codes "OK"
 response_text decisions Stopped = codes "STOPPED"
 response_text decisions (Recovered recovered) = recovered_text recovered
 response_text decisions (Replied convert answer) = replied_text convert answer
-response_text decisions (Shown answers) = stores_shown_text 0 answers.items ++ standings_text decisions
+response_text decisions (Shown listing) = stores_shown_text 0 listing.answers.items ++ standings_text decisions
 
 -- nothing is written for a line that tells nothing
 abbrev pub is_silent : Response → Bool

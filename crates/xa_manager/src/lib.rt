@@ -4,10 +4,11 @@
 mod answer;
 mod call;
 mod ledger;
+mod listing;
 mod manager;
 mod poll;
 mod print;
-mod read_call;
+mod reading;
 mod response;
 mod run;
 mod stage;
@@ -16,10 +17,11 @@ mod tests;
 
 pub use call::Call;
 pub use ledger::Ledger;
+pub use listing::Listing;
 pub use manager::Manager;
 pub use poll::Poll;
 pub use print::write_response;
-pub use read_call::read_call;
+pub use reading::read_call;
 pub use response::Response;
 pub use run::coordinate;
 pub use stage::Stage;

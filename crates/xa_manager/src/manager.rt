@@ -1,9 +1,15 @@
 //! A transaction manager.
-ghost use Rattle.std.specs.Prelude.{◌≡◌, ◌≤◌, ◌<◌, vec_len, length, codes};
+ghost use Rattle.std.specs.Prelude.{◌≡◌, ◌≤◌, ℕ, Some, [], vec_len, length, codes};
+ghost use Rattle.xa_manager.specs.Ledger.{stage_of, transaction_in, IsOf};
+ghost use Rattle.xa_coordinator.specs.declared.prepared.Ballot.TheVariants.{Ready as BallotReady};
+ghost use Rattle.xa_coordinator.specs.declared.prepared.Prepared.{Prepared};
+ghost use Rattle.xa_coordinator.specs.declared.transaction.Transaction.{Transaction};
+ghost use Rattle.xa_manager.specs.declared.stage.Stage.{Stage};
+ghost use Rattle.xa_manager.specs.declared.stage.Stage.TheVariants.{Ready as StageReady};
 
 use crate::Ledger;
 use std::alloc::Global;
-use xa_coordinator::{Coordinator, Decisions, Fused, Speak};
+use xa_coordinator::{Coordinator, Decisions, Speak};
 use xa_xid::Bytes;
 
 /// The name of the coordinator: the one byte `c`.
@@ -15,24 +21,35 @@ pub(crate) fn name() -> Bytes
     name
 }
 
-/// A transaction manager: a coordinator with a session in each store, which can be made to fail, a stranger's session in each
+/// A transaction manager: a coordinator with a session in each store, a stranger's session in each
 /// store, the decisions, and how far each transaction has come.
 #[derive(Drop)]
-pub struct Manager<S: Speak, T: Speak> {
-    pub(crate) coordinator: Coordinator<Fused<S>>,
+pub struct Manager<C: Speak, T: Speak> {
+    pub(crate) coordinator: Coordinator<C>,
     pub(crate) strangers: Vec<T>,
     pub(crate) decisions: Decisions,
     pub(crate) ledger: Ledger,
+    ghost named: { coordinator.name.items ≡ codes "c" },
+    ghost pairs: { vec_len strangers ≡ vec_len coordinator.stores },
+    ghost counted: { length ledger ≡ length decisions },
+    ghost kept: { (number : ℕ) (stage : Stage) (transaction : Transaction) → stage_of ledger number ≡ Some stage → transaction_in stage ≡ Some transaction → IsOf (vec_len coordinator.stores) number transaction },
+    ghost ready: { (number : ℕ) (prepared : Prepared) → stage_of ledger number ≡ Some (StageReady prepared) → prepared.ballot ≡ BallotReady },
 }
 
-impl<S: Speak, T: Speak> Manager<S, T> {
+impl<C: Speak, T: Speak> Manager<C, T> {
+    ghost use Rattle.xa_manager.specs.Answers.{Desk, new_desk};
+
     /// A manager over these sessions, two in each store: the coordinator's and a stranger's. Nothing has begun.
     ///
     /// Takes no memory. Doesn't wait.
-    pub fn new(alloc: Global, sessions: Vec<Fused<S>>, strangers: Vec<T>) -> Manager<S, T>
+    #[tactic(auto, unfolding(crate::specs::Ledger::stage_of))]
+    pub fn new(alloc: Global, sessions: Vec<C>, strangers: Vec<T>) -> Manager<C, T>
         requires some { 1 ≤ vec_len sessions }
         requires most { vec_len sessions ≤ 16 }
         requires pairs { vec_len strangers ≡ vec_len sessions }
+        ensures stores { vec_len result.coordinator.stores ≡ vec_len sessions }
+        ensures decisions { result.decisions ≡ [] }
+        ensures ledger { result.ledger ≡ [] }
     {
         Manager {
             coordinator: Coordinator::new(name(), sessions),

@@ -282,8 +282,8 @@ fn push_response(
         Response::Recovered(Ok(report)) => push_report(text, report),
         Response::Recovered(Err(fault)) => push_recover_fault(alloc, text, fault),
         Response::Replied { convert, answer } => push_replied(alloc, text, *convert, answer),
-        Response::Shown(answers) => {
-            push_each_store(alloc, text, answers.as_slice())?;
+        Response::Shown(listing) => {
+            push_each_store(alloc, text, listing.answers.as_slice())?;
             push_standings(text, decisions.as_slice())
         }
     }

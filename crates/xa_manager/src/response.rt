@@ -1,6 +1,6 @@
 //! What a call is answered.
 
-use crate::Poll;
+use crate::{Listing, Poll};
 use xa_coordinator::{Ending, RecoverFault, Report, WorkFault};
 use xa_server::Reply;
 use xa_session::Fault;
@@ -46,5 +46,5 @@ pub enum Response {
         answer: Result<Reply, Fault>,
     },
     /// What each store's stranger was answered to `XA RECOVER CONVERT XID`. The decisions are told after that.
-    Shown(Vec<Result<Reply, Fault>>),
+    Shown(Listing),
 }

@@ -1,7 +1,7 @@
 //! Lines, read as calls.
 ghost use Rattle.std.specs.Prelude.{◌≡◌, Some, None, MatchOption};
 ghost use Rattle.xa_transcript.specs.Script.{first_word};
-ghost use Rattle.xa_manager.specs.Calls.{number_named, lone_number, takes_rows, behind, alone as alone_call, work_of, at_of, fail_of, plain_call, call_named, call_of};
+ghost use Rattle.xa_manager.specs.Calls.{number_named, lone_number, takes_rows, behind, alone as alone_call, work_of, at_of, fail_of, plain_call, call_named, call_of, IsWritten};
 
 use crate::Call;
 use xa_statement::read_statement;
@@ -66,7 +66,9 @@ fn is_row(statement: &Statement) -> bool
 
 /// The call, where nothing stands behind it.
 fn alone(call: Call, rest: &[u8]) -> Call
-    ensures { result ≡ alone_call call rest.now }
+    requires { IsWritten call }
+    ensures call { result ≡ alone_call call rest.now }
+    ensures written { IsWritten result }
 {
     if rest.is_empty() {
         call
@@ -78,7 +80,8 @@ fn alone(call: Call, rest: &[u8]) -> Call
 /// `n k STATEMENT`.
 #[tactic(auto, unfolding(crate::specs::Calls::work_of))]
 fn work(text: &[u8]) -> Call
-    ensures { result ≡ work_of text.now }
+    ensures call { result ≡ work_of text.now }
+    ensures written { IsWritten result }
 {
     let Some((number, text)) = number_then(text) else {
         return Call::Unread(0);
@@ -105,7 +108,8 @@ fn work(text: &[u8]) -> Call
 /// `k STATEMENT`.
 #[tactic(auto, unfolding(crate::specs::Calls::at_of))]
 fn at(text: &[u8]) -> Call
-    ensures { result ≡ at_of text.now }
+    ensures call { result ≡ at_of text.now }
+    ensures written { IsWritten result }
 {
     let Some((store, text)) = number_then(text) else {
         return Call::Unread(0);
@@ -119,7 +123,8 @@ fn at(text: &[u8]) -> Call
 /// `k AFTER j`.
 #[tactic(auto, unfolding(crate::specs::Calls::fail_of))]
 fn fail(text: &[u8]) -> Call
-    ensures { result ≡ fail_of text.now }
+    ensures call { result ≡ fail_of text.now }
+    ensures written { IsWritten result }
 {
     let Some((store, text)) = number_then(text) else {
         return Call::Unread(0);
@@ -137,7 +142,8 @@ fn fail(text: &[u8]) -> Call
 /// A call that is about no transaction.
 #[tactic(auto, unfolding(crate::specs::Calls::plain_call))]
 fn plain(word: &[u8], rest: &[u8]) -> Call
-    ensures { result ≡ plain_call word.now rest.now }
+    ensures call { result ≡ plain_call word.now rest.now }
+    ensures written { IsWritten result }
 {
     match word {
         b"BEGIN" => alone(Call::Begin, rest),
@@ -153,15 +159,27 @@ fn plain(word: &[u8], rest: &[u8]) -> Call
 /// A call by its first word.
 #[tactic(auto, unfolding(crate::specs::Calls::call_named))]
 fn named(word: &[u8], rest: &[u8]) -> Call
-    ensures { result ≡ call_named word.now rest.now }
+    ensures call { result ≡ call_named word.now rest.now }
+    ensures written { IsWritten result }
 {
-    let unread = Call::Unread(0);
     match word {
         b"WORK" => work(rest),
-        b"PREPARE" => number_alone(rest).map_or(unread, |number| Call::Prepare(number)),
-        b"DECIDE" => number_alone(rest).map_or(unread, |number| Call::Decide(number)),
-        b"FINISH" => number_alone(rest).map_or(unread, |number| Call::Finish(number)),
-        b"ABANDON" => number_alone(rest).map_or(unread, |number| Call::Abandon(number)),
+        b"PREPARE" => match number_alone(rest) {
+            Some(number) => Call::Prepare(number),
+            None => Call::Unread(0),
+        },
+        b"DECIDE" => match number_alone(rest) {
+            Some(number) => Call::Decide(number),
+            None => Call::Unread(0),
+        },
+        b"FINISH" => match number_alone(rest) {
+            Some(number) => Call::Finish(number),
+            None => Call::Unread(0),
+        },
+        b"ABANDON" => match number_alone(rest) {
+            Some(number) => Call::Abandon(number),
+            None => Call::Unread(0),
+        },
         _ => plain(word, rest),
     }
 }
@@ -172,7 +190,8 @@ fn named(word: &[u8], rest: &[u8]) -> Call
 /// Own rule: docs/COORDINATOR.md, 'At the command line'.
 #[tactic(auto, unfolding(crate::specs::Calls::call_of))]
 pub fn read_call(line: &[u8]) -> Call
-    ensures { result ≡ call_of line.now }
+    ensures call { result ≡ call_of line.now }
+    ensures written { IsWritten result }
 {
     let text = skip_blanks(line);
     match text {
