@@ -142,10 +142,10 @@ fn blanks_stand_round_words(rt: HostRuntime) {
 
 #[test]
 fn transactions_and_votes_outlive_the_coordinator(rt: HostRuntime) {
-    let calls = b"BEGIN\nWORK 1 0 PUT 'k','v'\nWORK 1 1 PUT 'k','v'\nPREPARE 1\nDECIDE 1\nBEGIN\nSTOP\nWORK 2 0 PUT 'm','w'\nWORK 2 1 GET 'm'\n\
-FINISH 1\nSTOP\nWORK 2 0 GET 'm'\nPREPARE 2\nFINISH 2\n";
-    let wanted = b"TRANSACTION 1\nOK\nOK\nREADY\nDECIDED\nTRANSACTION 2\nSTOPPED\nOK\nNONE\n\
-COMMITTED\nSTOPPED\nLOST\nREADY\nROLLED BACK\n";
+    let calls = b"BEGIN\nWORK 1 0 PUT 'k','v'\nWORK 1 1 PUT 'k','v'\nPREPARE 1\nDECIDE 1\nBEGIN\nSTOP\nFINISH 1\nWORK 2 0 PUT 'm','w'\nWORK 2 1 GET 'm'\n\
+STOP\nWORK 2 0 GET 'm'\nPREPARE 2\nFINISH 2\n";
+    let wanted = b"TRANSACTION 1\nOK\nOK\nREADY\nDECIDED\nTRANSACTION 2\nSTOPPED\nCOMMITTED\nOK\nNONE\n\
+STOPPED\nLOST\nREADY\nROLLED BACK\n";
     assert!(rt; answers(&rt, rt.alloc(), 2, 1024, calls, wanted));
 }
 
@@ -201,7 +201,18 @@ NOT STARTED: ERROR 1440 (XAE08): XAER_DUPID xid already exists\nNONE\nONE PHASE\
 }
 
 #[test]
-fn sixteen_stores_are_shown(rt: HostRuntime) {
+fn other_branches_are_in_the_way(rt: HostRuntime) {
+    // a session has one branch open: the second phase of another one waits for its end, here by a recovery
+    let calls = b"BEGIN\nWORK 1 0 PUT 'k','v'\nWORK 1 1 PUT 'k','v'\nPREPARE 1\nDECIDE 1\nBEGIN\nWORK 2 0 PUT 'm','w'\n\
+FINISH 1\nRECOVER\nPREPARE 2\nFINISH 2\nWORK 1 0 GET 'k'\nAT 0 GET 'k'\n";
+    let wanted = b"TRANSACTION 1\nOK\nOK\nREADY\nDECIDED\nTRANSACTION 2\nOK\n\
+UNFINISHED 0: ERROR 1399 (XAE07): XAER_RMFAIL state ACTIVE\nRECOVERED committed 2 rolled back 0 missing 0\n\
+NO 0: ERROR 1399 (XAE07): XAER_RMFAIL state NON-EXISTING\nHAZARD 0\nWRONG STAGE 1\nVALUE 0x76\n";
+    assert!(rt; answers(&rt, rt.alloc(), 2, 1024, calls, wanted));
+}
+
+#[test]
+fn sixteen_stores_have_work(rt: HostRuntime) {
     let calls = b"BEGIN\nWORK 1 15 PUT 'k','v'\nWORK 1 16 PUT 'k','v'\nPREPARE 1\nFINISH 1\n";
     let wanted = b"TRANSACTION 1\nOK\nUNKNOWN STORE 16\nONE PHASE\nCOMMITTED\n";
     assert!(rt; answers(&rt, rt.alloc(), 16, 8, calls, wanted));
