@@ -1,5 +1,5 @@
 -- What one statement, or two, make of a branch that is prepared or finished.
-use Rattle.std.proofs.Common.{◌≡◌, false, true, refl, inr, [], ◌∷◌, Result, Ok, Err}
+use Rattle.std.proofs.Common.{◌≡◌, Bool, false, true, refl, inr, [], ◌∷◌, Result, Ok, Err}
 use Rattle.xa_xid.specs.declared.statement.Statement.{Statement}
 use Rattle.xa_xid.specs.declared.xid.Xid.{Xid}
 use Rattle.xa_xid.specs.declared.statement.Statement.TheVariants.{End, Prepare}
@@ -35,8 +35,8 @@ pub prepared_behind : (xid : Xid) (said : Result (Unit {0}) Cause) (old mid new 
 prepared_behind xid (Ok _) old mid new ends is = ended_prepared xid old mid new ends is
 prepared_behind xid (Err cause) old mid new ends is = inr (record { mid = mid; ends = ends; undone = is })
 
--- where the branch takes no work, XA END comes before no statement
-pub not_ended : (closing : Closing) → ends_first closing false ≡ false
-not_ended InTwoPhases = refl
-not_ended InOnePhase = refl
-not_ended RollBack = refl
+-- XA END comes before a rollback alone
+pub ends_roll_back : (closing : Closing) (working : Bool) → ends_first closing working ≡ true → closing ≡ RollBack
+ends_roll_back InTwoPhases working is = absurd (cc)
+ends_roll_back InOnePhase working is = absurd (cc)
+ends_roll_back RollBack working is = refl

@@ -13,3 +13,7 @@ pub mod Ended
 pub mod Hazards
 pub mod Working
 pub mod Works
+pub mod LettingGo
+pub mod Listed
+pub mod Settling
+pub mod Recovering

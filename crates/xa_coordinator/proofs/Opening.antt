@@ -1,5 +1,6 @@
 -- What a coordinator has open, before and after calls.
-use Rattle.std.proofs.Common.{◌≡◌, ◌≢◌, ◌≤◌, ◌+◌, ℕ, Bool, true, false, List, Option, Some, None, refl, ap, sym, ◌∙◌, subst, inl, inr, arith, length, eqb-true}
+use Rattle.std.proofs.Common.{◌≡◌, ◌≢◌, ◌≤◌, ◌+◌, ℕ, Bool, true, false, List, Option, Some, None, refl, ap, sym, ◌∙◌, subst, inl, inr, arith, length}
+use Rattle.std.proofs.lemmas.Bool.{eqb-true}
 use Rattle.std.specs.Prelude.{slice_get, ◌&&◌, ◌==◌}
 use Rattle.xa_coordinator.specs.declared.open_branch.OpenBranch.{OpenBranch}
 use Rattle.xa_coordinator.specs.declared.open_branch.Phase.{Phase}
@@ -9,16 +10,19 @@ use Rattle.xa_coordinator.specs.Participants.{takes_part, OnlyTakesPart}
 use Rattle.xa_coordinator.specs.Stores.{ChangesAt}
 use Rattle.xa_coordinator.specs.OpenBranches.{is_active, works_for, is_working, IsWorking, KeepsOpen}
 
+abbrev branch_with : ℕ → Phase → OpenBranch
+branch_with number phase = record { number = number; phase = phase }
+
 -- the branch that takes work is open there
 pub working : (branches : List (Option OpenBranch)) (store number : ℕ) → is_working branches store number ≡ true → IsWorking branches store number
 unfolding is_working
 working branches store number is = by (slice_get branches store) refl is
   where
-    of_phase : (phase : Phase) (n : ℕ) → (is_active phase && (n == number)) ≡ true → (record { number = n; phase = phase }) ≡ (record { number = number; phase = Active })
-    of_phase Active n e = ap (λ m. record { number = m; phase = Active }) (eqb-true n number e)
+    of_phase : (phase : Phase) (n : ℕ) → (is_active phase && (n == number)) ≡ true → branch_with n phase ≡ branch_with number Active
+    of_phase Active n e = ap (λ m. branch_with m Active) (eqb-true n number e)
     of_phase Idle n e = absurd (cc)
 
-    by : (found : Option (Option OpenBranch)) → slice_get branches store ≡ found → works_for number found ≡ true → slice_get branches store ≡ Some (Some (record { number = number; phase = Active }))
+    by : (found : Option (Option OpenBranch)) → slice_get branches store ≡ found → works_for number found ≡ true → IsWorking branches store number
     by None there e = absurd (cc)
     by (Some None) there e = absurd (cc)
     by (Some (Some branch)) there e = there ∙ ap (λ (b : OpenBranch). Some (Some b)) (of_phase branch.phase branch.number e)

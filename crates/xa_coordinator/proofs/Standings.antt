@@ -1,12 +1,14 @@
 -- How numbers stand, before and after a decision.
-use Rattle.std.proofs.Common.{◌≡◌, ◌<◌, ◌+◌, ◌-◌, ℕ, Bool, true, false, List, length, refl, ap, ◌∙◌, Option, Some, None, cond, arith, ne_eqb, subst, inl, inr}
+use Rattle.std.proofs.Common.{◌≡◌, ◌≢◌, ◌<◌, ◌≤◌, ◌+◌, ◌-◌, ℕ, zero, suc, Bool, true, false, List, [], ◌∷◌, ◌++◌, take, drop, get_or, add-one, append-nil, sym, length, refl, ap, ◌∙◌, Option, Some, None, cond, arith, ne_eqb, subst, inl, inr}
 use Rattle.std.proofs.lemmas.Bool.{eqb-false}
 use Rattle.std.proofs.lemmas.Bool.Decides.{eqb_tells}
 use Rattle.std.proofs.lemmas.Option.{slice_get_within}
-use Rattle.std.specs.Prelude.{◌==◌, slice_get, slice_set}
+use Rattle.std.specs.Prelude.{◌==◌, slice_get, slice_set, map}
+use Rattle.std.specs.Option.{option_map}
+use Rattle.std.proofs.lemmas.List.{take_all}
 use Rattle.xa_coordinator.specs.declared.standing.Standing.{Standing}
-use Rattle.xa_coordinator.specs.declared.standing.Standing.TheVariants.{Decided}
-use Rattle.xa_coordinator.specs.Decisions.{standing_of, is_open, decides, may_be_decided, is_decided, with_decided}
+use Rattle.xa_coordinator.specs.declared.standing.Standing.TheVariants.{Undecided, Decided, Closed}
+use Rattle.xa_coordinator.specs.Decisions.{standing_of, is_open, decides, may_be_decided, is_decided, with_decided, closed_of}
 use Rattle.xa_coordinator.proofs.Places.{get_set_same, get_set_other}
 
 -- a number that was given has its place in the list
@@ -57,3 +59,62 @@ decided_kept decisions place other is = by (other == 0) is
           ∙ ap decides (get_set_same decisions place Decided (subst (λ at. at < length decisions) here (decided_in decisions (other - 1) (slice_get decisions (other - 1)) refl was)))
       | inr (_, apart) ↦ ap decides (get_set_other decisions place (other - 1) Decided apart) ∙ was
     ]
+
+-- one number more is closed, where a list is closed from its head on
+pub closed_next : (xs now : List Standing) (place : ℕ) (d : Standing) → now ≡ map closed_of (take place xs) ++ drop place xs → place < length now →
+    slice_set now place (closed_of (get_or now place d)) ≡ map closed_of (take (place + 1) xs) ++ drop (place + 1) xs
+closed_next xs now place d is below =
+    ap (λ list. slice_set list place (closed_of (get_or list place d))) is
+    ∙ by xs place (subst (λ (list : List Standing). place < length list) is below)
+    ∙ ap (λ n. map closed_of (take n xs) ++ drop n xs) (sym (add-one place))
+  where
+    by : (ys : List Standing) (n : ℕ) → n < length (map closed_of (take n ys) ++ drop n ys) →
+        slice_set (map closed_of (take n ys) ++ drop n ys) n (closed_of (get_or (map closed_of (take n ys) ++ drop n ys) n d)) ≡ map closed_of (take (suc n) ys) ++ drop (suc n) ys
+    by [] zero less = absurd (omega arith)
+    by [] (suc n) less = absurd (omega arith)
+    by (y ∷ ys) zero less = refl
+    by (y ∷ ys) (suc n) less = ap (λ rest. closed_of y ∷ rest) (by ys n (omega arith))
+
+pub closed_all : (xs now : List Standing) (place : ℕ) → now ≡ map closed_of (take place xs) ++ drop place xs → length xs ≤ place → now ≡ map closed_of xs
+closed_all xs now place is whole =
+    is ∙ ap (λ list. map closed_of list ++ drop place xs) (take_all place xs whole) ∙ ap (λ list. map closed_of xs ++ list) (drop_all place xs whole) ∙ append-nil (map closed_of xs)
+  where
+    drop_all : (n : ℕ) (ys : List Standing) → length ys ≤ n → drop n ys ≡ []
+    drop_all zero [] less = refl
+    drop_all (suc n) [] less = refl
+    drop_all zero (y ∷ ys) less = absurd (omega arith)
+    drop_all (suc n) (y ∷ ys) less = drop_all n ys (omega arith)
+
+-- ---- what closing makes of how numbers stand
+
+get_closed : (xs : List Standing) (place : ℕ) → slice_get (map closed_of xs) place ≡ option_map closed_of (slice_get xs place)
+get_closed [] place = refl
+get_closed (x ∷ xs) zero = refl
+get_closed (x ∷ xs) (suc place) = get_closed xs place
+
+closed_standing : (decisions : List Standing) (number : ℕ) → standing_of (map closed_of decisions) number ≡ option_map closed_of (standing_of decisions number)
+unfolding standing_of
+closed_standing decisions number = by (number == 0) (get_closed decisions (number - 1))
+  where
+    by : (b : Bool) → slice_get (map closed_of decisions) (number - 1) ≡ option_map closed_of (slice_get decisions (number - 1)) →
+        cond b None (slice_get (map closed_of decisions) (number - 1)) ≡ option_map closed_of (cond b None (slice_get decisions (number - 1)))
+    by true e = refl
+    by false e = e
+
+pub closed_decides : (decisions : List Standing) (number : ℕ) → is_decided (map closed_of decisions) number ≡ is_decided decisions number
+closed_decides decisions number = ap decides (closed_standing decisions number) ∙ by (standing_of decisions number)
+  where
+    by : (found : Option Standing) → decides (option_map closed_of found) ≡ decides found
+    by None = refl
+    by (Some Undecided) = refl
+    by (Some Decided) = refl
+    by (Some Closed) = refl
+
+pub closed_none : (decisions : List Standing) (number : ℕ) → standing_of (map closed_of decisions) number ≢ Some Undecided
+closed_none decisions number is = by (standing_of decisions number) (sym (closed_standing decisions number) ∙ is)
+  where
+    by : (found : Option Standing) → option_map closed_of found ≡ Some Undecided → ⊥
+    by None e = cc
+    by (Some Undecided) e = cc
+    by (Some Decided) e = cc
+    by (Some Closed) e = cc

@@ -97,10 +97,10 @@ module _ {S : Type 0} (view : S → SessionView) where
 
   -- ---- what work came to
 
-  module _ (open open' : List (Option OpenBranch)) (old new : Transaction) (store : ℕ) (row : Statement) where
+  module _ (marks marks' : List (Option OpenBranch)) (old new : Transaction) (store : ℕ) (row : Statement) where
     -- the branch was open
     pub works_open : (result : Result Reply WorkFault) (before after : List S) → ((s : S) → slice_get before store ≡ Some s → seat_seen (view s) ≡ Active (branch_of old store)) → takes_part new.participants store ≡ true →
-        IsWorking open' store old.number → WorksWithin view (branch_of old store) store row result before after → WorksAs view open open' old new store row result before after
+        IsWorking marks' store old.number → WorksWithin view (branch_of old store) store row result before after → WorksAs view marks marks' old new store row result before after
     works_open (Ok reply) before after seat takes mark is =
         (takes, mark, λ a b is_a is_b. record { mid = view a; opened = was_open (seat a is_a); replied = is a b is_a is_b })
     works_open (Err (Session fault)) before after seat takes mark is =
@@ -110,8 +110,8 @@ module _ {S : Type 0} (view : S → SessionView) where
 
     -- it was started
     pub works_started : (result : Result Reply WorkFault) (before mid after : List S) → length mid ≡ length before →
-        AtStore view store (IsDone (Start (branch_of old store))) before mid → takes_part new.participants store ≡ true → IsWorking open' store old.number →
-        WorksWithin view (branch_of old store) store row result mid after → WorksAs view open open' old new store row result before after
+        AtStore view store (IsDone (Start (branch_of old store))) before mid → takes_part new.participants store ≡ true → IsWorking marks' store old.number →
+        WorksWithin view (branch_of old store) store row result mid after → WorksAs view marks marks' old new store row result before after
     works_started (Ok reply) before mid after count started takes mark is = (
       takes,
       mark,
@@ -129,7 +129,7 @@ module _ {S : Type 0} (view : S → SessionView) where
     works_started (Err Lost) before mid after count started takes mark is = absurd is
 
     -- in every case at most two statements were added
-    pub works_add : (result : Result Reply WorkFault) (before after : List S) → WorksAs view open open' old new store row result before after → AtStore view store (AddsWork (branch_of old store) row) before after
+    pub works_add : (result : Result Reply WorkFault) (before after : List S) → WorksAs view marks marks' old new store row result before after → AtStore view store (AddsWork (branch_of old store) row) before after
     works_add (Ok reply) before after is =
         at_weaker view store (IsWorked row reply (branch_of old store)) (AddsWork (branch_of old store) row) (worked_adds row reply (branch_of old store)) before after is.2
     works_add (Err (Session fault)) before after (inl is) =

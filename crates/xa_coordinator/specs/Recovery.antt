@@ -4,15 +4,17 @@
 --     IsNamed          a branch is of the coordinator's naming
 --     NamedIn          how many branches of a list are
 --     SettlesOne, Settled      what became of one listed branch;  of all
---     IsSettled        what became of a store's prepared branches
+--     IsFinished, IsSettled       what became of a store's prepared branches;  once the session had let go
+--     IsClear          none of the coordinator's naming is prepared afterwards
 --     IsRecovered      what the recovery of a store came to
 --     IsBroken         a statement of the recovery wasn't carried out
 --     IsStillPrepared  a branch of the coordinator's naming is prepared afterwards
 --     BreaksHere       the recovery of a store came to no end
 --     Recovers         what the recovery of all stores came to
 --     BreaksOff        it came to no end
-use Rattle.std.specs.Prelude.{◌≡◌, ◌≢◌, ◌<◌, ◌≤◌, ◌+◌, ◌^◌, ℕ, Bool, true, false, List, [], ◌∷◌, ◌++◌, length, map, slice_get, Some, All}
-use Rattle.std.specs.List.{count_by, sum_by}
+--     asked_by_fault   how far it came
+use Rattle.std.specs.Prelude.{◌≡◌, ◌≢◌, ◌<◌, ◌≤◌, ◌+◌, ◌^◌, ℕ, Bool, true, false, List, [], ◌∷◌, ◌++◌, length, map, filter, slice_get, Some, All}
+use Rattle.std.specs.List.{sum_by}
 use Rattle.xa_xid.specs.declared.xid.Xid.{Xid}
 use Rattle.xa_xid.specs.declared.statement.Statement.{Statement}
 use Rattle.xa_xid.specs.declared.statement.Statement.TheVariants.{Start, End, Prepare, Commit, Rollback, Recover, Unsupported, Get, Put, Del, Disconnect}
@@ -96,15 +98,19 @@ pub data Settled (decisions : List Standing) (name : List ℕ) (store : ℕ) (ol
   one_more : (xids : List Xid) (before : Tally) (mid : SessionView) → Settled decisions name store old xids before mid → (xid : Xid) (after : Tally) (new : SessionView) →
       SettlesOne decisions name store xid before mid after new → Settled decisions name store old (xids ++ xid ∷ []) after new
 
--- the session let go of what it had open, listed the prepared branches, and each of them was settled
-pub record IsSettled (decisions : List Standing) (name : List ℕ) (store : ℕ) (tally : Tally) (old new : SessionView) : Type 0 where
-  pub freed : SessionView
-  pub disconnected : IsDisconnected old freed
+-- the prepared branches were listed, and each of them was settled
+pub record IsFinished (decisions : List Standing) (name : List ℕ) (store : ℕ) (tally : Tally) (old new : SessionView) : Type 0 where
   pub listing : SessionView
   pub xids : List Xid
   pub place : ℕ
-  pub listed : IsListed xids place freed listing
+  pub listed : IsListed xids place old listing
   pub settled : Settled decisions name store listing xids tally new
+
+-- the session let go of what it had open, and then the prepared branches were finished
+pub record IsSettled (decisions : List Standing) (name : List ℕ) (store : ℕ) (tally : Tally) (old new : SessionView) : Type 0 where
+  pub freed : SessionView
+  pub disconnected : IsDisconnected old freed
+  pub rest : IsFinished decisions name store tally freed new
 
 -- an XA COMMIT of a prepared branch
 abbrev pub is_commit : Statement → Bool
@@ -140,8 +146,8 @@ pub record IsCounted (decisions : List Standing) (name : List ℕ) (store : ℕ)
   pub statements : List Statement
   pub adds : Adds statements old new
   pub each : All (AgreesWith decisions name store) statements
-  pub committed : tally.committed ≡ count_by is_commit statements
-  pub rolled_back : tally.rolled_back ≡ count_by is_rollback statements
+  pub committed : tally.committed ≡ length (filter is_commit statements)
+  pub rolled_back : tally.rolled_back ≡ length (filter is_rollback statements)
   pub place : ℕ
   pub not_before : length old.known.seen ≤ place
   pub within : place ≤ length new.known.seen
@@ -151,13 +157,19 @@ pub record IsCounted (decisions : List Standing) (name : List ℕ) (store : ℕ)
 abbrev pub NoneLeft : List ℕ → ℕ → SessionView → Type 0
 NoneLeft name store session = (number : ℕ) → number < 2 ^ 64 → is_prepared (state_after session.base session.known.seen) (branch_xid name number store) ≡ false
 
+-- XA RECOVER was answered at this place, where no branch of this coordinator's naming is prepared
+pub record IsClear (name : List ℕ) (store front : ℕ) (old new : SessionView) : Type 0 where
+  pub xids : List Xid
+  pub listed : IsListed xids front old new
+  pub none_left : NoneLeft name store new
+
 -- what the recovery of a store came to, with the place of its last list
 pub record IsRecovered (decisions : List Standing) (name : List ℕ) (store : ℕ) (tally : Tally) (front : ℕ) (old new : SessionView) : Type 0 where
   pub finished : SessionView
   pub settled : IsSettled decisions name store tally old finished
   pub counted : IsCounted decisions name store tally old new
   pub looked : old.known.looks < new.known.looks
-  pub front : front ≡ length new.known.seen
+  pub at_end : front ≡ length new.known.seen
   pub none_left : NoneLeft name store new
 
 -- a statement of the recovery of a store wasn't carried out for this cause, which isn't that the branch wasn't known
@@ -191,6 +203,11 @@ pub record Recovers {S : Type 0} (view : S → SessionView) (decisions : List St
   pub rolled_back : report.rolled_back ≡ sum_by (λ one. one.0.rolled_back) found
   pub missing : report.missing ≡ sum_by (λ one. one.0.missing) found
 
+-- the fault of a store, by its cause
+abbrev pub fault_by : ℕ → Cause → RecoverFault
+fault_by store (CauseSession fault) = Session store fault
+fault_by store (CauseRefused error) = Refused store error
+
 -- the recovery of a store came to no end
 abbrev pub BreaksHere : {S : Type 0} → (S → SessionView) → List Standing → List ℕ → ℕ → RecoverFault → List S → List S → Type 0
 BreaksHere view decisions name store (Session at fault) old new = (at ≡ store) × AtStore view store (IsBroken decisions name store (CauseSession fault)) old new
@@ -209,3 +226,10 @@ BreaksOff view decisions name (Session store fault) old new = BreaksAt view deci
 BreaksOff view decisions name (StillPrepared store) old new = BreaksAt view decisions name store (IsStillPrepared decisions name store) old new
 BreaksOff view decisions name NoMemory old new = new ≡ old
 BreaksOff view decisions name (Refused store error) old new = BreaksAt view decisions name store (IsBroken decisions name store (CauseRefused error)) old new
+
+-- the stores below this number were spoken to
+abbrev pub asked_by_fault : RecoverFault → ℕ
+asked_by_fault (Session store fault) = store + 1
+asked_by_fault (StillPrepared store) = store + 1
+asked_by_fault NoMemory = 0
+asked_by_fault (Refused store error) = store + 1

@@ -1,5 +1,5 @@
 //! The branch of a transaction in one store, from its start to its end.
-ghost use Rattle.std.specs.Prelude.{◌≡◌, ◌<◌, Some, None, false, OnOk, OnErr, slice_get, vec_len};
+ghost use Rattle.std.specs.Prelude.{◌≡◌, ◌<◌, Some, None, true, false, OnOk, OnErr, slice_get, vec_len};
 ghost use Rattle.xa_coordinator.specs.Branch.{branch_xid};
 ghost use Rattle.xa_coordinator.specs.OpenBranches.{HasOpen, is_working as is_working_in};
 ghost use Rattle.xa_coordinator.specs.Outcomes.{closing_of, ends_first, SaysAs, ClosesAs, PreparesAs};
@@ -174,11 +174,10 @@ impl<S: Speak> Coordinator<S> {
         ensures marks { ChangesAt store self.old.branches self.new.branches }
         ensures closes { AtStore S.view store (ClosesAs (ends_first closing (is_working_in self.old.branches store number)) (closing_of closing (branch_xid self.old.name.items number store)) (branch_xid self.old.name.items number store) result) self.old.stores.items self.new.stores.items }
     {
-        match closing {
-            Closing::RollBack if self.is_working(store, number) => {
-                self.end_and_roll_back(rt, store, number)
-            }
-            _ => self.finish_branch(rt, store, number, closing),
+        let ends = closing.ends_first(self.is_working(store, number));
+        if ends {
+            return self.end_and_roll_back(rt, store, number);
         }
+        self.finish_branch(rt, store, number, closing)
     }
 }

@@ -24,7 +24,7 @@ pub enum Found {
 }
 
 impl Closing {
-    ghost use Rattle.xa_coordinator.specs.Outcomes.{closing_of};
+    ghost use Rattle.xa_coordinator.specs.Outcomes.{closing_of, ends_first as ends_first_by};
 
     /// The statement that finishes a branch so.
     pub(crate) fn statement(self, xid: Xid) -> Statement
@@ -40,6 +40,17 @@ impl Closing {
                 one_phase: true,
             },
             Closing::RollBack => Statement::Rollback(xid),
+        }
+    }
+
+    /// Whether `XA END` comes before that statement, by whether the branch takes work.
+    pub(crate) fn ends_first(self, working: bool) -> bool
+        ensures { result ≡ ends_first_by self working }
+    {
+        match self {
+            Closing::InTwoPhases => false,
+            Closing::InOnePhase => false,
+            Closing::RollBack => working,
         }
     }
 }

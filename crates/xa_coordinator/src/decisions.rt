@@ -32,6 +32,15 @@ impl Model for Decisions {
     ghost invariant = { λ decisions. length decisions.standings.items ≤ 1000000 };
 }
 
+/// Closes each number that is undecided.
+fn close_each(standings: &mut [Standing])
+    ensures { standings.new ≡ map closed_of standings.old }
+{
+    for standing in standings.iter_mut() {
+        *standing = standing.closed();
+    }
+}
+
 impl Decisions {
     /// How many numbers can be given.
     pub const MOST: usize = 1_000_000;
@@ -126,9 +135,7 @@ impl Decisions {
     pub(crate) fn close_all(&mut self)
         ensures { self.new ≡ map closed_of self.old }
     {
-        for standing in self.standings.iter_mut() {
-            *standing = standing.closed();
-        }
+        close_each(self.standings.as_mut_slice());
     }
 
     /// Records that the transaction of a vote of Ready commits, before any of its branches does.

@@ -64,7 +64,7 @@ impl<S: Speak> Coordinator<S> {
         requires stores { transaction.now.stores ≡ vec_len self.old.stores }
         ensures name { self.new.name ≡ self.old.name }
         ensures count { vec_len self.new.stores ≡ vec_len self.old.stores }
-        ensures open { KeepsOpen transaction.now.participants (asked_by_ending result) self.old.branches self.new.branches }
+        ensures elsewhere { KeepsOpen transaction.now.participants (asked_by_ending result) self.old.branches self.new.branches }
         ensures ends { EndsAs S.view self.old.branches transaction.now closing result self.old.stores.items self.new.stores.items }
     {
         let mut missing = ArrayVec::<u8, 16>::new();
@@ -101,7 +101,7 @@ impl<S: Speak> Coordinator<S> {
         requires stores { prepared.transaction.stores ≡ vec_len self.old.stores }
         ensures name { self.new.name ≡ self.old.name }
         ensures count { vec_len self.new.stores ≡ vec_len self.old.stores }
-        ensures open { KeepsOpen prepared.transaction.participants (asked_by_ending result) self.old.branches self.new.branches }
+        ensures elsewhere { KeepsOpen prepared.transaction.participants (asked_by_ending result) self.old.branches self.new.branches }
         ensures ends { EndsAs S.view self.old.branches prepared.transaction (closing_of_vote (is_decided decisions.now prepared.transaction.number) prepared.ballot) result self.old.stores.items self.new.stores.items }
         ensures agrees { EachStore S.view (Agrees decisions.now self.old.name.items) self.old.stores.items self.new.stores.items }
     {
@@ -127,7 +127,7 @@ impl<S: Speak> Coordinator<S> {
         requires stores { transaction.stores ≡ vec_len self.old.stores }
         ensures name { self.new.name ≡ self.old.name }
         ensures count { vec_len self.new.stores ≡ vec_len self.old.stores }
-        ensures open { KeepsOpen transaction.participants (asked_by_ending result) self.old.branches self.new.branches }
+        ensures elsewhere { KeepsOpen transaction.participants (asked_by_ending result) self.old.branches self.new.branches }
         ensures ends { EndsAs S.view self.old.branches transaction Closing.RollBack result self.old.stores.items self.new.stores.items }
         ensures agrees { (decisions : List Standing) → is_decided decisions transaction.number ≡ false → EachStore S.view (Agrees decisions self.old.name.items) self.old.stores.items self.new.stores.items }
     {

@@ -1,5 +1,5 @@
 //! A session that fails from a certain call on.
-ghost use Rattle.std.specs.Prelude.{◌≡◌};
+ghost use Rattle.std.specs.Prelude.{◌≡◌, ◌+◌, true, false};
 
 use crate::Speak;
 use std::sync::Wait;
@@ -39,7 +39,9 @@ impl<S: Speak> Fused<S> {
 
     /// Whether one more call is passed on.
     fn passes(&mut self) -> bool
-        ensures { self.new.inner ≡ self.old.inner }
+        ensures inner { self.new.inner ≡ self.old.inner }
+        ensures passed { result ≡ true → self.new.left + 1 ≡ self.old.left }
+        ensures spent { result ≡ false → (self.old.left ≡ 0) × (self.new.left ≡ 0) }
     {
         if self.left == 0 {
             return false;

@@ -1,8 +1,6 @@
 //! Two-phase commit over several stores, with presumed abort.
 #![tactic(auto)]
 
-#[cfg(test)]
-mod acts;
 mod begin_fault;
 mod branch_xid;
 mod branches;
@@ -24,15 +22,11 @@ mod recover;
 mod recover_fault;
 mod report;
 mod say;
-#[cfg(test)]
-mod scenes;
 mod settle;
 mod speak;
 mod standing;
 mod tally;
 mod tell;
-#[cfg(test)]
-mod tests;
 mod transaction;
 mod vote;
 mod work;

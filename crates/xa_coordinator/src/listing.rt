@@ -1,5 +1,6 @@
 //! What a recovery asks of a store: to let go of what is open, and to list what is prepared.
-ghost use Rattle.std.specs.Prelude.{◌≡◌, ◌<◌, Some, None, IfOk, IfErr, OnOk, OnErr, slice_get, vec_len};
+ghost use Rattle.std.specs.Prelude.{◌≡◌, ◌<◌, Some, None, false, IfOk, IfErr, OnOk, OnErr, slice_get, vec_len};
+ghost use Rattle.xa_coordinator.specs.OpenBranches.{seat_seen};
 ghost use Rattle.xa_coordinator.specs.Stores.{AtStore, ChangesAt};
 ghost use Rattle.xa_coordinator.specs.Recovery.{IsDisconnected, IsListed};
 ghost use Rattle.xa_coordinator.specs.Told.{IsUndone};
@@ -11,6 +12,32 @@ use xa_server::{Reply, XidList};
 use xa_session::{Answer, Fault};
 use xa_xid::Statement;
 
+/// Has a session let go of what it has open. No server refuses that.
+fn let_go<S: Speak, R: Wait>(rt: &R, session: &mut S) -> Result<(), Fault>
+    ensures done { OnOk result (IsDisconnected (S.view session.old) (S.view session.new)) }
+    ensures undone { IfErr result (λ fault. IsUndone DisconnectStatement (Cause.Session fault) (S.view session.old) (S.view session.new)) }
+{
+    match session.execute(rt, &Statement::Disconnect) {
+        Ok(_answer) => Ok(()),
+        Err(fault) => Err(fault),
+    }
+}
+
+/// The prepared branches of a session's store, and the place at which they are.
+fn list_prepared<S: Speak, R: Wait>(rt: &R, session: &mut S) -> Result<(XidList, u64), Fault>
+    ensures seat { seat_seen (S.view session.new) ≡ seat_seen (S.view session.old) }
+    ensures listed { IfOk result (λ found. IsListed found.0 found.1 (S.view session.old) (S.view session.new)) }
+    ensures undone { IfErr result (λ fault. IsUndone (RecoverStatement false) (Cause.Session fault) (S.view session.old) (S.view session.new)) }
+{
+    match session.execute(rt, &Statement::Recover { convert: false }) {
+        Ok(Answer { place, reply }) => match reply {
+            Reply::Recovered(xids) => Ok((xids, place)),
+            _ => unreachable!(),
+        },
+        Err(fault) => Err(fault),
+    }
+}
+
 impl<S: Speak> Coordinator<S> {
     /// Has the session of a store let go of what it has open.
     pub(crate) fn disconnect<R: Wait>(&mut self, rt: &R, store: u8) -> Result<(), Fault>
@@ -19,12 +46,11 @@ impl<S: Speak> Coordinator<S> {
         ensures frame { ChangesAt store self.old.stores.items self.new.stores.items }
         ensures marks { ChangesAt store self.old.branches self.new.branches }
         ensures mark { OnOk result (slice_get self.new.branches store ≡ Some None) }
-        ensures unsaid { OnErr result (self.new.branches ≡ self.old.branches) }
         ensures done { OnOk result (AtStore S.view store IsDisconnected self.old.stores.items self.new.stores.items) }
         ensures undone { IfErr result (λ fault. AtStore S.view store (IsUndone DisconnectStatement (Cause.Session fault)) self.old.stores.items self.new.stores.items) }
     {
-        match self.stores[store as usize].execute(rt, &Statement::Disconnect) {
-            Ok(_) => {
+        match let_go(rt, &mut self.stores[store as usize]) {
+            Ok(()) => {
                 self.branches[store as usize] = None;
                 Ok(())
             }
@@ -41,16 +67,8 @@ impl<S: Speak> Coordinator<S> {
         ensures listed { IfOk result (λ found. AtStore S.view store (IsListed found.0 found.1) self.old.stores.items self.new.stores.items) }
         ensures undone { IfErr result (λ fault. AtStore S.view store (IsUndone (RecoverStatement false) (Cause.Session fault)) self.old.stores.items self.new.stores.items) }
     {
-        let answered =
-            self.stores[store as usize].execute(rt, &Statement::Recover { convert: false });
-        match answered {
-            Ok(
-                Answer {
-                    place,
-                    reply: Reply::Recovered(xids),
-                },
-            ) => Ok((xids, place)),
-            Ok(_) => unreachable!(),
+        match list_prepared(rt, &mut self.stores[store as usize]) {
+            Ok(found) => Ok(found),
             Err(fault) => Err(fault),
         }
     }

@@ -34,7 +34,7 @@ impl<S: Speak> Coordinator<S> {
         requires stores { transaction.now.stores ≡ vec_len self.old.stores }
         ensures name { self.new.name ≡ self.old.name }
         ensures count { vec_len self.new.stores ≡ vec_len self.old.stores }
-        ensures open { KeepsOpen transaction.now.participants (asked_by_poll result) self.old.branches self.new.branches }
+        ensures elsewhere { KeepsOpen transaction.now.participants (asked_by_poll result) self.old.branches self.new.branches }
         ensures polls { PollsAs S.view transaction.now result self.old.stores.items self.new.stores.items }
     {
         for store in 0..transaction.stores {
@@ -55,7 +55,7 @@ impl<S: Speak> Coordinator<S> {
         requires only { OnlyTakesPart transaction.participants store }
         ensures name { self.new.name ≡ self.old.name }
         ensures count { vec_len self.new.stores ≡ vec_len self.old.stores }
-        ensures open { KeepsOpen transaction.participants (asked_by_vote result) self.old.branches self.new.branches }
+        ensures elsewhere { KeepsOpen transaction.participants (asked_by_vote result) self.old.branches self.new.branches }
         ensures vote { VotesAs S.view transaction result self.old.stores.items self.new.stores.items }
     {
         match self.end_branch(rt, store, transaction.number) {
@@ -77,7 +77,7 @@ impl<S: Speak> Coordinator<S> {
         requires several { TwoTakePart transaction.participants }
         ensures name { self.new.name ≡ self.old.name }
         ensures count { vec_len self.new.stores ≡ vec_len self.old.stores }
-        ensures open { KeepsOpen transaction.participants (asked_by_vote result) self.old.branches self.new.branches }
+        ensures elsewhere { KeepsOpen transaction.participants (asked_by_vote result) self.old.branches self.new.branches }
         ensures vote { VotesAs S.view transaction result self.old.stores.items self.new.stores.items }
     {
         match self.poll(rt, &transaction) {
@@ -105,7 +105,7 @@ impl<S: Speak> Coordinator<S> {
         requires stores { transaction.stores ≡ vec_len self.old.stores }
         ensures name { self.new.name ≡ self.old.name }
         ensures count { vec_len self.new.stores ≡ vec_len self.old.stores }
-        ensures open { KeepsOpen transaction.participants (asked_by_vote result) self.old.branches self.new.branches }
+        ensures elsewhere { KeepsOpen transaction.participants (asked_by_vote result) self.old.branches self.new.branches }
         ensures vote { VotesAs S.view transaction result self.old.stores.items self.new.stores.items }
         ensures agrees { (decisions : List Standing) → EachStore S.view (Agrees decisions self.old.name.items) self.old.stores.items self.new.stores.items }
     {

@@ -1,9 +1,8 @@
 //! Recovery: what a coordinator that was stopped left behind is finished as the decisions say.
-ghost use Rattle.std.specs.Prelude.{◌≡◌, ◌≢◌, ◌<◌, ◌≤◌, ℕ, Some, None, IfOk, IfErr, OnOk, slice_get, map, vec_len, vec_capacity};
+ghost use Rattle.std.specs.Prelude.{◌≡◌, ◌≢◌, ◌<◌, ◌≤◌, ℕ, List, [], Some, None, IfOk, IfErr, OnOk, slice_get, map, vec_len, vec_capacity};
 ghost use Rattle.xa_coordinator.specs.Agreement.{Agrees};
 ghost use Rattle.xa_coordinator.specs.Decisions.{closed_of, is_decided, standing_of};
-ghost use Rattle.xa_coordinator.specs.OpenBranches.{HasOpen};
-ghost use Rattle.xa_coordinator.specs.Recovery.{IsSettled, IsRecovered, IsBroken, BreaksHere, Recovers, BreaksOff};
+ghost use Rattle.xa_coordinator.specs.Recovery.{IsFinished, IsSettled, IsClear, IsRecovered, IsBroken, BreaksHere, Recovers, BreaksOff, asked_by_fault, fault_by};
 ghost use Rattle.xa_coordinator.specs.Stores.{AtStore, EachStore, ChangesAt};
 ghost use Rattle.xa_coordinator.specs.declared.standing.Standing.{Standing};
 
@@ -13,7 +12,9 @@ use std::alloc::Global;
 use std::sync::Wait;
 
 /// The fault of a store, by its cause.
-fn fault_of(store: u8, cause: Cause) -> RecoverFault {
+fn fault_of(store: u8, cause: Cause) -> RecoverFault
+    ensures { result ≡ fault_by store cause }
+{
     match cause {
         Cause::Session(fault) => RecoverFault::Session { store, fault },
         Cause::Refused(error) => RecoverFault::Refused { store, error },
@@ -21,6 +22,28 @@ fn fault_of(store: u8, cause: Cause) -> RecoverFault {
 }
 
 impl<S: Speak> Coordinator<S> {
+    /// Finishes what is prepared in a store in which nothing is open.
+    fn list_and_finish<R: Wait>(
+        &mut self,
+        rt: &R,
+        decisions: &Decisions,
+        store: u8,
+    ) -> Result<Tally, Cause>
+        requires store { store < vec_len self.old.stores }
+        requires free { slice_get self.old.branches store ≡ Some None }
+        ensures name { self.new.name ≡ self.old.name }
+        ensures frame { ChangesAt store self.old.stores.items self.new.stores.items }
+        ensures marks { ChangesAt store self.old.branches self.new.branches }
+        ensures free { slice_get self.new.branches store ≡ Some None }
+        ensures finished { IfOk result (λ tally. AtStore S.view store (IsFinished decisions.now self.old.name.items store tally) self.old.stores.items self.new.stores.items) }
+        ensures broken { IfErr result (λ cause. AtStore S.view store (IsBroken decisions.now self.old.name.items store cause) self.old.stores.items self.new.stores.items) }
+    {
+        match self.prepared_in(rt, store) {
+            Ok(found) => self.settle_each(rt, decisions, store, found.0.as_slice()),
+            Err(fault) => Err(Cause::Session(fault)),
+        }
+    }
+
     /// Lets go of what is open in a store, and finishes what is prepared there.
     fn finish_prepared<R: Wait>(
         &mut self,
@@ -36,12 +59,27 @@ impl<S: Speak> Coordinator<S> {
         ensures settled { IfOk result (λ tally. AtStore S.view store (IsSettled decisions.now self.old.name.items store tally) self.old.stores.items self.new.stores.items) }
         ensures broken { IfErr result (λ cause. AtStore S.view store (IsBroken decisions.now self.old.name.items store cause) self.old.stores.items self.new.stores.items) }
     {
-        if let Err(fault) = self.disconnect(rt, store) {
-            return Err(Cause::Session(fault));
-        }
-        match self.prepared_in(rt, store) {
-            Ok((xids, _)) => self.settle_each(rt, decisions, store, xids.as_slice()),
+        match self.disconnect(rt, store) {
+            Ok(()) => self.list_and_finish(rt, decisions, store),
             Err(fault) => Err(Cause::Session(fault)),
+        }
+    }
+
+    /// The place at which no branch of this coordinator's naming is prepared in a store.
+    fn look_again<R: Wait>(&mut self, rt: &R, store: u8) -> Result<u64, RecoverFault>
+        requires store { store < vec_len self.old.stores }
+        ensures name { self.new.name ≡ self.old.name }
+        ensures frame { ChangesAt store self.old.stores.items self.new.stores.items }
+        ensures marks { self.new.branches ≡ self.old.branches }
+        ensures clear { IfOk result (λ front. AtStore S.view store (IsClear self.old.name.items store front) self.old.stores.items self.new.stores.items) }
+        ensures fails { IfErr result (λ fault. (decisions : List Standing) → BreaksHere S.view decisions self.old.name.items store fault self.old.stores.items self.new.stores.items) }
+    {
+        match self.prepared_in(rt, store) {
+            Ok(found) => match self.own_number(store, found.0.as_slice()) {
+                Some(_number) => Err(RecoverFault::StillPrepared { store }),
+                None => Ok(found.1),
+            },
+            Err(fault) => Err(RecoverFault::Session { store, fault }),
         }
     }
 
@@ -60,18 +98,12 @@ impl<S: Speak> Coordinator<S> {
         ensures recovered { IfOk result (λ one. AtStore S.view store (IsRecovered decisions.now self.old.name.items store one.0 one.1) self.old.stores.items self.new.stores.items) }
         ensures fails { IfErr result (λ fault. BreaksHere S.view decisions.now self.old.name.items store fault self.old.stores.items self.new.stores.items) }
     {
-        let tally = match self.finish_prepared(rt, decisions, store) {
-            Ok(tally) => tally,
-            Err(cause) => return Err(fault_of(store, cause)),
-        };
-        match self.prepared_in(rt, store) {
-            Ok((xids, front)) => {
-                if self.has_own(store, xids.as_slice()) {
-                    return Err(RecoverFault::StillPrepared { store });
-                }
-                Ok((tally, front))
-            }
-            Err(fault) => Err(RecoverFault::Session { store, fault }),
+        match self.finish_prepared(rt, decisions, store) {
+            Ok(tally) => match self.look_again(rt, store) {
+                Ok(front) => Ok((tally, front)),
+                Err(fault) => Err(fault),
+            },
+            Err(cause) => Err(fault_of(store, cause)),
         }
     }
 
@@ -82,11 +114,13 @@ impl<S: Speak> Coordinator<S> {
         decisions: &Decisions,
         fronts: Vec<u64>,
     ) -> Result<Report, RecoverFault>
-        requires none { vec_len fronts ≡ 0 }
+        requires none { fronts.items ≡ [] }
+        requires empty { vec_len fronts ≡ 0 }
         requires room { vec_len self.old.stores ≤ vec_capacity fronts }
         ensures name { self.new.name ≡ self.old.name }
         ensures count { vec_len self.new.stores ≡ vec_len self.old.stores }
-        ensures free { OnOk result ((store number : ℕ) → HasOpen self.new.branches store number → ⊥) }
+        ensures free { OnOk result ((store : ℕ) → store < vec_len self.new.stores → slice_get self.new.branches store ≡ Some None) }
+        ensures marks { IfErr result (λ fault. (store : ℕ) → asked_by_fault fault ≤ store → slice_get self.new.branches store ≡ slice_get self.old.branches store) }
         ensures recovers { IfOk result (λ report. Recovers S.view decisions.now self.old.name.items report self.old.stores.items self.new.stores.items) }
         ensures breaks { IfErr result (λ fault. BreaksOff S.view decisions.now self.old.name.items fault self.old.stores.items self.new.stores.items) }
     {
@@ -98,11 +132,10 @@ impl<S: Speak> Coordinator<S> {
         };
         let count = self.stores.len() as u8;
         for store in 0..count {
-            let (tally, front) = self.recover_store(rt, decisions, store)?;
-            report.fronts.push_reserved(front);
-            report.committed += u128::from(tally.committed);
-            report.rolled_back += u128::from(tally.rolled_back);
-            report.missing += u128::from(tally.missing);
+            match self.recover_store(rt, decisions, store) {
+                Ok((tally, front)) => report.add(tally, front),
+                Err(fault) => return Err(fault),
+            }
         }
         Ok(report)
     }
@@ -129,7 +162,8 @@ impl<S: Speak> Coordinator<S> {
         ensures closed { decisions.new ≡ map closed_of decisions.old }
         ensures none_undecided { (number : ℕ) → standing_of decisions.new number ≢ Some Standing.Undecided }
         ensures kept { (number : ℕ) → is_decided decisions.new number ≡ is_decided decisions.old number }
-        ensures free { OnOk result ((store number : ℕ) → HasOpen self.new.branches store number → ⊥) }
+        ensures free { OnOk result ((store : ℕ) → store < vec_len self.new.stores → slice_get self.new.branches store ≡ Some None) }
+        ensures marks { IfErr result (λ fault. (store : ℕ) → asked_by_fault fault ≤ store → slice_get self.new.branches store ≡ slice_get self.old.branches store) }
         ensures recovers { IfOk result (λ report. Recovers S.view decisions.new self.old.name.items report self.old.stores.items self.new.stores.items) }
         ensures breaks { IfErr result (λ fault. BreaksOff S.view decisions.new self.old.name.items fault self.old.stores.items self.new.stores.items) }
         ensures agrees { EachStore S.view (Agrees decisions.new self.old.name.items) self.old.stores.items self.new.stores.items }

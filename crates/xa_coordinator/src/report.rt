@@ -1,4 +1,7 @@
 //! What a recovery found and did.
+ghost use Rattle.std.specs.Prelude.{◌≡◌, ◌<◌, ◌+◌, ◌^◌, ◌++◌, ◌∷◌, [], vec_len, vec_capacity};
+
+use crate::tally::Tally;
 
 /// What a recovery found and did, in all stores.
 #[derive(Debug, Drop)]
@@ -12,4 +15,28 @@ pub struct Report {
     pub rolled_back: u128,
     /// How many were answered XAER_NOTA: somebody else had finished them.
     pub missing: u128,
+}
+
+impl Report {
+    /// One store more.
+    pub(crate) fn add(&mut self, tally: Tally, front: u64)
+        requires room { vec_len self.old.fronts < vec_capacity self.old.fronts }
+        requires committed_fits { self.old.committed + tally.committed < 2 ^ 128 }
+        requires rolled_back_fits { self.old.rolled_back + tally.rolled_back < 2 ^ 128 }
+        requires missing_fits { self.old.missing + tally.missing < 2 ^ 128 }
+        ensures fronts { self.new.fronts.items ≡ self.old.fronts.items ++ front ∷ [] }
+        ensures capacity { vec_capacity self.new.fronts ≡ vec_capacity self.old.fronts }
+        ensures length { vec_len self.new.fronts ≡ vec_len self.old.fronts + 1 }
+        ensures committed { self.new.committed ≡ self.old.committed + tally.committed }
+        ensures rolled_back { self.new.rolled_back ≡ self.old.rolled_back + tally.rolled_back }
+        ensures missing { self.new.missing ≡ self.old.missing + tally.missing }
+        ensures committed_within { self.new.committed < self.old.committed + 2 ^ 64 }
+        ensures rolled_back_within { self.new.rolled_back < self.old.rolled_back + 2 ^ 64 }
+        ensures missing_within { self.new.missing < self.old.missing + 2 ^ 64 }
+    {
+        self.fronts.push_reserved(front);
+        self.committed += u128::from(tally.committed);
+        self.rolled_back += u128::from(tally.rolled_back);
+        self.missing += u128::from(tally.missing);
+    }
 }

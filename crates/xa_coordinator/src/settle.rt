@@ -1,5 +1,5 @@
 //! What a recovery does with the prepared branches of one store.
-ghost use Rattle.std.specs.Prelude.{◌≡◌, ◌<◌, ◌≤◌, ◌+◌, ◌^◌, ℕ, true, false, IfOk, IfErr, slice_get, Some, None, vec_len};
+ghost use Rattle.std.specs.Prelude.{◌≡◌, ◌<◌, ◌≤◌, ◌+◌, ◌^◌, ℕ, true, false, IfOk, IfErr, IfSome, IfNone, slice_get, Some, None, vec_len};
 ghost use Rattle.std.specs.List.{list_any};
 ghost use Rattle.xa_xid.specs.Xid.{same_xid};
 ghost use Rattle.xa_coordinator.specs.Branch.{branch_xid};
@@ -26,7 +26,7 @@ fn closing_by(decided: bool) -> Closing
 
 /// The tally with one branch more.
 fn with_one(tally: Tally, decided: bool, found: Found) -> Tally
-    requires { total tally < 18446744073709551615 }
+    requires { total tally + 1 < 2 ^ 64 }
     ensures counted { result ≡ counted tally decided found }
     ensures total { total result ≡ total tally + 1 }
 {
@@ -57,7 +57,7 @@ impl<S: Speak> Coordinator<S> {
         tally: Tally,
     ) -> Result<Tally, Cause>
         requires store { store < vec_len self.old.stores }
-        requires room { total tally < 18446744073709551615 }
+        requires room { total tally + 1 < 2 ^ 64 }
         requires free { slice_get self.old.branches store ≡ Some None }
         ensures name { self.new.name ≡ self.old.name }
         ensures frame { ChangesAt store self.old.stores.items self.new.stores.items }
@@ -100,21 +100,25 @@ impl<S: Speak> Coordinator<S> {
             missing: 0,
         };
         for xid in xids {
-            tally = self.settle(rt, decisions, store, xid, tally)?;
+            match self.settle(rt, decisions, store, xid, tally) {
+                Ok(after) => tally = after,
+                Err(cause) => return Err(cause),
+            }
         }
         Ok(tally)
     }
 
-    /// Whether a listed branch is of this coordinator's naming.
-    pub(crate) fn has_own(&self, store: u8, xids: &[Xid]) -> bool
-        ensures some { result ≡ true → (number : ℕ) × (number < 2 ^ 64) × (list_any (same_xid (branch_xid self.now.name.items number store)) xids.now ≡ true) }
-        ensures none { result ≡ false → (number : ℕ) → number < 2 ^ 64 → list_any (same_xid (branch_xid self.now.name.items number store)) xids.now ≡ false }
+    /// The number of a listed branch of this coordinator's naming, where there is one.
+    pub(crate) fn own_number(&self, store: u8, xids: &[Xid]) -> Option<u64>
+        ensures fits { IfSome result (λ number. number < 2 ^ 64) }
+        ensures some { IfSome result (λ number. list_any (same_xid (branch_xid self.now.name.items number store)) xids.now ≡ true) }
+        ensures none { IfNone result ((number : ℕ) → number < 2 ^ 64 → list_any (same_xid (branch_xid self.now.name.items number store)) xids.now ≡ false) }
     {
         for xid in xids {
-            if number_of_branch(&self.name, store, xid).is_some() {
-                return true;
+            if let Some(number) = number_of_branch(&self.name, store, xid) {
+                return Some(number);
             }
         }
-        false
+        None
     }
 }

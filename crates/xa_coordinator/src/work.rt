@@ -1,5 +1,5 @@
 //! Work of a transaction in a store.
-ghost use Rattle.std.specs.Prelude.{◌≡◌, ◌≢◌, ◌<◌, ℕ, List, Some, true, IfOk, IfErr, slice_get, vec_len};
+ghost use Rattle.std.specs.Prelude.{◌≡◌, ◌≢◌, ◌<◌, ℕ, List, Some, true, false, IfOk, IfErr, slice_get, vec_len};
 ghost use Rattle.xa_coordinator.specs.Agreement.{Agrees};
 ghost use Rattle.xa_coordinator.specs.Branch.{branch_xid};
 ghost use Rattle.xa_coordinator.specs.OpenBranches.{is_working};

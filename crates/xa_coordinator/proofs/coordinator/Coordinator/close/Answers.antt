@@ -11,8 +11,8 @@ use Rattle.xa_coordinator.proofs.Walk.{ended_at, reached_all, reached_weaker}
 use Rattle.xa_coordinator.proofs.Hazards.{SettledBy, settled_next, settled_none}
 use Rattle.xa_coordinator.proofs.coordinator.Coordinator.close.Goals as goal
 
-pub returns-in-Err-clause-open : goal.returns-in-Err-clause-open
-returns-in-Err-clause-open g c =
+pub returns-in-Err-clause-elsewhere : goal.returns-in-Err-clause-elsewhere
+returns-in-Err-clause-elsewhere g c =
     keeps_next c.args.transaction.now.participants c.loop-store.store c.args.self.now.branches c.loop-store.self.branches c.close_next.new.self.branches
     c.loop-store.invariant.keeps (sym (c.if-not-has.ensures)) c.in-Err.ensures.marks
 
@@ -64,8 +64,8 @@ loop-store-preserved g c =
       reached = next.1;
     }
 
-pub returns-in-InTwoPhases-clause-open : goal.returns-in-InTwoPhases-clause-open
-returns-in-InTwoPhases-clause-open g c =
+pub returns-in-InTwoPhases-clause-elsewhere : goal.returns-in-InTwoPhases-clause-elsewhere
+returns-in-InTwoPhases-clause-elsewhere g c =
     keeps_farther c.args.transaction.now.participants c.loop-store.store 16 c.args.self.now.branches c.loop-store.self.branches (omega (arith, c.requires.stores, c.loop-store-test.false, c.args.self.now.sized)) c.loop-store.invariant.keeps
 
 pub returns-in-InTwoPhases-clause-ends : goal.returns-in-InTwoPhases-clause-ends
@@ -78,8 +78,8 @@ returns-in-InTwoPhases-clause-ends g c =
           (omega (arith, c.requires.stores, c.loop-store-test.false))),
     )
 
-pub returns-in-InOnePhase-clause-open : goal.returns-in-InOnePhase-clause-open
-returns-in-InOnePhase-clause-open g c =
+pub returns-in-InOnePhase-clause-elsewhere : goal.returns-in-InOnePhase-clause-elsewhere
+returns-in-InOnePhase-clause-elsewhere g c =
     keeps_farther c.args.transaction.now.participants c.loop-store.store 16 c.args.self.now.branches c.loop-store.self.branches (omega (arith, c.requires.stores, c.loop-store-test.false, c.args.self.now.sized)) c.loop-store.invariant.keeps
 
 pub returns-in-InOnePhase-clause-ends : goal.returns-in-InOnePhase-clause-ends
@@ -92,8 +92,8 @@ returns-in-InOnePhase-clause-ends g c =
           (omega (arith, c.requires.stores, c.loop-store-test.false))),
     )
 
-pub returns-in-RollBack-clause-open : goal.returns-in-RollBack-clause-open
-returns-in-RollBack-clause-open g c =
+pub returns-in-RollBack-clause-elsewhere : goal.returns-in-RollBack-clause-elsewhere
+returns-in-RollBack-clause-elsewhere g c =
     keeps_farther c.args.transaction.now.participants c.loop-store.store 16 c.args.self.now.branches c.loop-store.self.branches (omega (arith, c.requires.stores, c.loop-store-test.false, c.args.self.now.sized)) c.loop-store.invariant.keeps
 
 pub returns-in-RollBack-clause-ends : goal.returns-in-RollBack-clause-ends

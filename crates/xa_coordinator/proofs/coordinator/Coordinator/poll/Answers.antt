@@ -10,13 +10,13 @@ use Rattle.xa_coordinator.proofs.Walk.{ended_at}
 use Rattle.xa_coordinator.proofs.Opening.{keeps_next, keeps_farther}
 use Rattle.xa_coordinator.proofs.coordinator.Coordinator.poll.Goals as goal
 
-pub returns-in-Err-clause-open : goal.returns-in-Err-clause-open
-returns-in-Err-clause-open g c =
+pub returns-in-Err-clause-elsewhere : goal.returns-in-Err-clause-elsewhere
+returns-in-Err-clause-elsewhere g c =
     keeps_next c.args.transaction.now.participants c.loop-store.store c.args.self.now.branches c.loop-store.self.branches c.prepare_branch.new.self.branches
     c.loop-store.invariant.keeps (sym (c.if-not-has.ensures)) c.in-Err.ensures.marks
 
-pub returns-clause-open : goal.returns-clause-open
-returns-clause-open g c =
+pub returns-clause-elsewhere : goal.returns-clause-elsewhere
+returns-clause-elsewhere g c =
     keeps_farther c.args.transaction.now.participants c.loop-store.store 16 c.args.self.now.branches c.loop-store.self.branches (omega (arith, c.requires.stores, c.loop-store-test.false, c.args.self.now.sized)) c.loop-store.invariant.keeps
 
 pub returns-in-Err-clause-polls : goal.returns-in-Err-clause-polls

@@ -19,3 +19,6 @@ returns-then-is_working-clause-works g c =
     (λ s is_s. subst (λ (name : List ℕ). seat_seen (g.S.Speak.view s) ≡ Active (branch_xid name transaction.number c.args.store)) (sym c.requires.name)
     (me.open_there c.args.store s (record { number = transaction.number; phase = PhaseActive }) is_s mark))
     c.work_within.ensures.part (ap (λ (list : List (Option OpenBranch)). slice_get list c.args.store) c.work_within.ensures.marks ∙ mark) c.work_within.ensures.works
+
+pub work_within-requires-clause-working : goal.work_within-requires-clause-working
+work_within-requires-clause-working g c = working c.args.self.now.branches c.args.store c.args.transaction.now.number (sym c.if-is_working.ensures)

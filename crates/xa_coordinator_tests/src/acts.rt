@@ -3,7 +3,7 @@ ghost use Rattle.std.specs.Prelude.{◌≡◌, ◌<◌, ◌∷◌, [], vec_len};
 ghost use Rattle.xa_coordinator.specs.Work.{IsRow};
 ghost use Rattle.xa_coordinator.specs.declared.prepared.Ballot.TheVariants.{Ready as BallotReady};
 
-use crate::{Coordinator, Decisions, Prepared, Speak, Transaction, Vote, WorkFault};
+use xa_coordinator::{Coordinator, Decisions, Prepared, Speak, Transaction, Vote, WorkFault};
 use std::process::Abort;
 use std::sync::Wait;
 use xa_server::Reply;
@@ -153,6 +153,7 @@ pub(crate) fn ready<S: Speak, R: Abort + Wait>(
     ensures name { result.transaction.name.items ≡ coordinator.new.name.items }
     ensures stores { result.transaction.stores ≡ vec_len coordinator.new.stores }
     ensures ballot { result.ballot ≡ BallotReady }
+    ensures count { vec_len coordinator.new.stores ≡ 3 }
 {
     let mut transaction = begun(rt, coordinator, decisions);
     let worked = puts(rt, coordinator, &mut transaction, 0)

@@ -2,7 +2,7 @@
 ghost use Rattle.std.specs.Prelude.{◌≡◌, ◌≤◌, vec_len};
 
 use crate::acts::{begun, does, get, has_none_prepared, put, puts, reads, ready, text, works};
-use crate::{
+use xa_coordinator::{
     BeginFault, Cause, Coordinator, Decisions, Ending, Speak, Vote, WorkFault, xid_of_branch,
 };
 use std::alloc::Global;

@@ -1,57 +1,12 @@
 //! The scenes over sessions of real stores.
-ghost use Rattle.std.specs.Prelude.{◌≡◌, vec_len};
 
 use crate::acts::text;
-use crate::{BeginFault, Coordinator, Decisions, WorkFault, scenes, xid_of_branch};
-use decision_log::DecisionLog;
-use std::alloc::Global;
-use std::process::Abort;
+use crate::opened::{connected, opened, over_three};
+use crate::scenes;
+use xa_coordinator::{BeginFault, Decisions, RecoverFault, WorkFault, xid_of_branch};
 use xa_server::XaError;
-use xa_session::{Fault, Session};
-use xa_store::{Log, Pass, Store};
+use xa_session::Fault;
 use xa_xid::write_xid;
-
-/// A store with room for so many entries, and its two passes.
-fn opened(rt: &impl Abort, alloc: Global, capacity: u64) -> (Store, Pass, Pass)
-    ensures first { ⟦<Log as DecisionLog>⟧.home result.1 ≡ ⟦<Log as DecisionLog>⟧.place result.0.log }
-    ensures second { ⟦<Log as DecisionLog>⟧.home result.2 ≡ ⟦<Log as DecisionLog>⟧.place result.0.log }
-{
-    let Ok((store, mut passes)) = Store::open(alloc, capacity, 2) else {
-        panic!(rt; "not opened")
-    };
-    let (Some(second), Some(first)) = (passes.pop(), passes.pop()) else {
-        panic!(rt; "two passes")
-    };
-    (store, first, second)
-}
-
-/// A session of a store.
-fn connected<'a>(rt: &impl Abort, store: &'a Store, pass: Pass) -> Session<'a, Log>
-    requires { ⟦<Log as DecisionLog>⟧.home pass ≡ ⟦<Log as DecisionLog>⟧.place store.now.log }
-{
-    let Ok(session) = store.connect(pass) else {
-        panic!(rt; "not connected")
-    };
-    session
-}
-
-/// A coordinator of the name `c` over sessions of three stores.
-fn over_three<'a>(
-    rt: &impl Abort,
-    alloc: Global,
-    first: Session<'a, Log>,
-    second: Session<'a, Log>,
-    third: Session<'a, Log>,
-) -> Coordinator<Session<'a, Log>>
-    ensures { vec_len result.stores ≡ 3 }
-{
-    let mut stores = Vec::new(alloc);
-    let (Ok(()), Ok(()), Ok(())) = (stores.push(first), stores.push(second), stores.push(third))
-    else {
-        panic!(rt; "three sessions")
-    };
-    Coordinator::new(text(b'c'), stores)
-}
 
 #[test]
 fn decided_transaction_commits(rt: HostRuntime) {
@@ -244,4 +199,10 @@ fn faults_have_their_numbers(rt: HostRuntime) {
     assert_eq!(rt; WorkFault::Session(Fault::Full).number(), 1);
     assert_eq!(rt; WorkFault::Refused(XaError::Nota).number(), 2);
     assert_eq!(rt; WorkFault::Lost.number(), 3);
+    let fault = Fault::Full;
+    assert_eq!(rt; RecoverFault::Session { store: 0, fault }.number(), 1);
+    assert_eq!(rt; RecoverFault::StillPrepared { store: 0 }.number(), 2);
+    assert_eq!(rt; RecoverFault::NoMemory.number(), 3);
+    let error = XaError::Inval;
+    assert_eq!(rt; RecoverFault::Refused { store: 0, error }.number(), 4);
 }

@@ -1,0 +1,52 @@
+use Rattle.std.proofs.Common.{◌≡◌, ℕ, List, Option, Some, None, false, ap, sym, ◌∙◌, subst, refl, arith}
+use Rattle.std.specs.Prelude.{slice_get, IfOk, IfErr}
+use Rattle.xa_xid.specs.declared.xid.Xid.{Xid}
+use Rattle.xa_coordinator.specs.Agreement.{Agrees}
+use Rattle.xa_xid.specs.Xid.{Text}
+use Rattle.xa_xid.specs.declared.statement.Statement.TheVariants.{Recover, Disconnect}
+use Rattle.xa_coordinator.specs.declared.cause.Cause.TheVariants.{Session}
+use Rattle.xa_coordinator.specs.declared.open_branch.OpenBranch.{OpenBranch}
+use Rattle.xa_coordinator.specs.View.{SessionView}
+use Rattle.xa_coordinator.specs.Recovery.{IsListed, IsFinished, IsBroken, Settled}
+use Rattle.xa_coordinator.specs.Stores.{AtStore, ChangesAt}
+use Rattle.xa_coordinator.specs.Told.{IsUndone}
+use Rattle.xa_coordinator.proofs.Walk.{at_weaker, changes_then}
+use Rattle.xa_coordinator.proofs.Settling.{listed_agrees, broken_by, listed_finished, broken_behind}
+use Rattle.xa_coordinator.proofs.coordinator.Coordinator.list_and_finish.Goals as goal
+
+pub settle_each-requires-clause-store : goal.settle_each-requires-clause-store
+settle_each-requires-clause-store g c = omega (arith, c.in-Ok.ensures.frame.count, c.requires.store)
+
+pub settle_each-requires-clause-free : goal.settle_each-requires-clause-free
+settle_each-requires-clause-free g c = ap (λ (list : List (Option OpenBranch)). slice_get list c.args.store) c.in-Ok.ensures.marks ∙ c.requires.free
+
+pub returns-in-Ok-clause-frame : goal.returns-in-Ok-clause-frame
+returns-in-Ok-clause-frame g c = changes_then c.args.store _ _ _ c.in-Ok.ensures.frame c.settle_each.ensures.frame
+
+pub returns-in-Ok-clause-marks : goal.returns-in-Ok-clause-marks
+returns-in-Ok-clause-marks g c =
+    subst (λ (list : List (Option OpenBranch)). ChangesAt c.args.store list c.settle_each.new.self.branches) c.in-Ok.ensures.marks c.settle_each.ensures.marks
+
+pub returns-in-Ok-clause-finished : goal.returns-in-Ok-clause-finished
+returns-in-Ok-clause-finished g c =
+    let me = c.args.self.now in
+    listed_finished g.S.Speak.view c.args.decisions.now me.name.items c.args.store c.settle_each.result c.in-Ok.found.0 c.in-Ok.found.1 me.stores.items c.prepared_in.new.self.stores.items c.settle_each.new.self.stores.items
+    c.in-Ok.ensures.frame.count c.in-Ok.ensures.listed
+    (subst (λ (xids : List Xid). IfOk c.settle_each.result (λ tally. AtStore g.S.Speak.view c.args.store (λ a b. Settled c.args.decisions.now me.name.items c.args.store a xids tally b) c.prepared_in.new.self.stores.items c.settle_each.new.self.stores.items))
+    c.as_slice.ensures
+    (subst (λ (name : Text). IfOk c.settle_each.result (λ tally. AtStore g.S.Speak.view c.args.store (λ a b. Settled c.args.decisions.now name.items c.args.store a c.as_slice.result.now tally b) c.prepared_in.new.self.stores.items c.settle_each.new.self.stores.items))
+    c.in-Ok.ensures.name c.settle_each.ensures.settled))
+
+pub returns-in-Ok-clause-broken : goal.returns-in-Ok-clause-broken
+returns-in-Ok-clause-broken g c =
+    let me = c.args.self.now in
+    broken_behind g.S.Speak.view c.args.decisions.now me.name.items c.args.store c.settle_each.result me.stores.items c.prepared_in.new.self.stores.items c.settle_each.new.self.stores.items c.in-Ok.ensures.frame.count
+    (at_weaker g.S.Speak.view c.args.store (IsListed c.in-Ok.found.0 c.in-Ok.found.1) (Agrees c.args.decisions.now me.name.items c.args.store) (listed_agrees c.args.decisions.now me.name.items c.args.store c.in-Ok.found.0 c.in-Ok.found.1)
+    me.stores.items c.prepared_in.new.self.stores.items c.in-Ok.ensures.listed)
+    (subst (λ (name : Text). IfErr c.settle_each.result (λ cause. AtStore g.S.Speak.view c.args.store (IsBroken c.args.decisions.now name.items c.args.store cause) c.prepared_in.new.self.stores.items c.settle_each.new.self.stores.items))
+    c.in-Ok.ensures.name c.settle_each.ensures.broken)
+
+pub returns-in-Err-clause-broken : goal.returns-in-Err-clause-broken
+returns-in-Err-clause-broken g c =
+    at_weaker g.S.Speak.view c.args.store (IsUndone (Recover false) (Session c.in-Err.fault)) (IsBroken c.args.decisions.now c.args.self.now.name.items c.args.store (Session c.in-Err.fault))
+    (λ a b undone. broken_by c.args.decisions.now c.args.self.now.name.items c.args.store (Recover false) c.in-Err.fault a b tt undone) c.args.self.now.stores.items c.prepared_in.new.self.stores.items c.in-Err.ensures.undone

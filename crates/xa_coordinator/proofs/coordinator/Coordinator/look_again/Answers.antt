@@ -1,0 +1,55 @@
+use Rattle.std.proofs.Common.{◌≡◌, ℕ, List, Option, Some, None, false, ap, sym, ◌∙◌, subst, refl, arith}
+use Rattle.std.specs.Prelude.{slice_get}
+use Rattle.std.proofs.Common.{◌<◌, ◌^◌, true}
+use Rattle.std.specs.List.{list_any}
+use Rattle.xa_xid.specs.declared.xid.Xid.{Xid}
+use Rattle.xa_xid.specs.Xid.{Text, same_xid}
+use Rattle.xa_xid.specs.declared.statement.Statement.TheVariants.{Recover, Disconnect}
+use Rattle.xa_coordinator.specs.declared.cause.Cause.TheVariants.{Session}
+use Rattle.xa_coordinator.specs.declared.open_branch.OpenBranch.{OpenBranch}
+use Rattle.xa_coordinator.specs.View.{SessionView}
+use Rattle.xa_coordinator.specs.Agreement.{Agrees}
+use Rattle.xa_coordinator.specs.Branch.{branch_xid}
+use Rattle.xa_coordinator.specs.Recovery.{IsListed, IsClear, IsBroken, IsStillPrepared, BreaksHere}
+use Rattle.xa_coordinator.specs.Stores.{AtStore, ChangesAt}
+use Rattle.xa_coordinator.specs.Told.{IsUndone}
+use Rattle.xa_coordinator.proofs.Walk.{at_weaker}
+use Rattle.xa_coordinator.proofs.Listed.{listed_prepared, none_left_there}
+use Rattle.xa_coordinator.proofs.Settling.{listed_agrees, broken_by}
+use Rattle.xa_coordinator.proofs.coordinator.Coordinator.look_again.Goals as goal
+
+pub returns-in-Ok-clause-clear : goal.returns-in-Ok-clause-clear
+returns-in-Ok-clause-clear g c =
+    let me = c.args.self.now in
+    at_weaker g.S.Speak.view c.args.store (IsListed c.in-Ok.found.0 c.in-Ok.found.1) (IsClear me.name.items c.args.store c.in-Ok.found.1)
+    (λ a b is. record {
+      xids = c.in-Ok.found.0;
+      listed = is;
+      none_left = none_left_there me.name.items c.args.store c.in-Ok.found.0 c.in-Ok.found.1 a b is
+          (subst (λ (xids : List Xid). (number : ℕ) → number < 2 ^ 64 → list_any (same_xid (branch_xid me.name.items number c.args.store)) xids ≡ false) c.as_slice.ensures
+          (subst (λ (name : Text). (number : ℕ) → number < 2 ^ 64 → list_any (same_xid (branch_xid name.items number c.args.store)) c.as_slice.result.now ≡ false) c.in-Ok.ensures.name c.in-None.ensures.none));
+    }) me.stores.items c.prepared_in.new.self.stores.items c.in-Ok.ensures.listed
+
+pub returns-in-Some-clause-fails : goal.returns-in-Some-clause-fails
+returns-in-Some-clause-fails g c = λ decisions.
+    let me = c.args.self.now in (
+      refl,
+      at_weaker g.S.Speak.view c.args.store (IsListed c.in-Ok.found.0 c.in-Ok.found.1) (IsStillPrepared decisions me.name.items c.args.store)
+          (λ a b is. record {
+            before = listed_agrees decisions me.name.items c.args.store c.in-Ok.found.0 c.in-Ok.found.1 a b is;
+            looked = is.looked;
+            number = c.in-Some._number;
+            fits = c.in-Some.ensures.fits;
+            prepared = listed_prepared c.in-Ok.found.0 c.in-Ok.found.1 a b is (branch_xid me.name.items c.in-Some._number c.args.store)
+                ∙ subst (λ (xids : List Xid). list_any (same_xid (branch_xid me.name.items c.in-Some._number c.args.store)) xids ≡ true) c.as_slice.ensures
+                (subst (λ (name : Text). list_any (same_xid (branch_xid name.items c.in-Some._number c.args.store)) c.as_slice.result.now ≡ true) c.in-Ok.ensures.name c.in-Some.ensures.some);
+          }) me.stores.items c.prepared_in.new.self.stores.items c.in-Ok.ensures.listed,
+    )
+
+pub returns-clause-fails : goal.returns-clause-fails
+returns-clause-fails g c = λ decisions.
+    let me = c.args.self.now in (
+      refl,
+      at_weaker g.S.Speak.view c.args.store (IsUndone (Recover false) (Session c.in-Err.fault)) (IsBroken decisions me.name.items c.args.store (Session c.in-Err.fault))
+          (λ a b undone. broken_by decisions me.name.items c.args.store (Recover false) c.in-Err.fault a b tt undone) me.stores.items c.prepared_in.new.self.stores.items c.in-Err.ensures.undone,
+    )

@@ -1,0 +1,58 @@
+use Rattle.std.proofs.Common.{◌≡◌, ◌<◌, ◌≤◌, ◌+◌, ℕ, refl, ap, ◌∙◌, subst, arith}
+use Rattle.xa_xid.specs.Xid.{Text}
+use Rattle.xa_coordinator.specs.View.{SessionView}
+use Rattle.xa_coordinator.specs.declared.tally.Tally.{Tally}
+use Rattle.xa_coordinator.specs.Recovery.{IsRecovered, BreaksHere}
+use Rattle.xa_coordinator.specs.Stores.{AtStore}
+use Rattle.xa_coordinator.proofs.Recovering.{frees_none, frees_next, recovers_none, recovers_next, recovers_all, breaks_at}
+use Rattle.xa_coordinator.proofs.coordinator.Coordinator.recover_each.Goals as goal
+
+pub loop-store-init : goal.loop-store-init
+loop-store-init g c =
+    let me = c.args.self.now in
+    record {
+      name = refl;
+      frees = frees_none me.branches;
+      recovers = recovers_none g.S.Speak.view c.args.decisions.now me.name.items _ me.stores.items c.requires.none refl refl refl;
+      length = c.requires.empty;
+      room = c.requires.room;
+      committed = omega arith;
+      rolled_back = omega arith;
+      missing = omega arith;
+    }
+
+pub loop-store-preserved : goal.loop-store-preserved
+loop-store-preserved g c =
+    let me = c.args.self.now in
+    let view = g.S.Speak.view in
+    let d = c.args.decisions.now in
+    let store : ℕ = c.loop-store.store in
+    let so_far = c.loop-store.invariant in
+    record {
+      name = c.in-Ok.ensures.name ∙ so_far.name;
+      frees = frees_next store me.branches c.loop-store.self.branches c.recover_store.new.self.branches so_far.frees c.in-Ok.ensures.marks c.in-Ok.ensures.free;
+      recovers = recovers_next view d me.name.items store c.loop-store.report c.add.new.self (c.in-Ok.tally, c.in-Ok.front) me.stores.items c.loop-store.self.stores.items c.recover_store.new.self.stores.items so_far.recovers c.in-Ok.ensures.frame
+          (subst (λ (name : Text). AtStore view store (IsRecovered d name.items store c.in-Ok.tally c.in-Ok.front) c.loop-store.self.stores.items c.recover_store.new.self.stores.items) so_far.name c.in-Ok.ensures.recovered)
+          c.add.ensures.fronts c.add.ensures.committed c.add.ensures.rolled_back c.add.ensures.missing;
+      length = c.add.ensures.length ∙ ap (λ n. n + 1) so_far.length;
+      room = omega (arith, so_far.room, c.add.ensures.capacity);
+      committed = omega (arith, so_far.committed, c.add.ensures.committed_within);
+      rolled_back = omega (arith, so_far.rolled_back, c.add.ensures.rolled_back_within);
+      missing = omega (arith, so_far.missing, c.add.ensures.missing_within);
+    }
+
+pub returns-in-Err-clause-breaks : goal.returns-in-Err-clause-breaks
+returns-in-Err-clause-breaks g c =
+    let me = c.args.self.now in
+    let view = g.S.Speak.view in
+    let d = c.args.decisions.now in
+    let store : ℕ = c.loop-store.store in
+    breaks_at view d me.name.items store c.loop-store.report c.in-Err.fault me.stores.items c.loop-store.self.stores.items c.recover_store.new.self.stores.items (omega (arith, c.loop-store-test.true, me.sized))
+    c.loop-store.invariant.recovers c.in-Err.ensures.frame
+    (subst (λ (name : Text). BreaksHere view d name.items store c.in-Err.fault c.loop-store.self.stores.items c.recover_store.new.self.stores.items) c.loop-store.invariant.name c.in-Err.ensures.fails)
+
+pub returns-clause-recovers : goal.returns-clause-recovers
+returns-clause-recovers g c =
+    let me = c.args.self.now in
+    recovers_all g.S.Speak.view c.args.decisions.now me.name.items c.loop-store.store c.loop-store.report me.stores.items c.loop-store.self.stores.items c.loop-store.invariant.recovers
+    (omega (arith, c.loop-store-test.false, me.sized))

@@ -1,0 +1,87 @@
+//! Stores with room, their sessions, and coordinators over them.
+ghost use Rattle.std.specs.Prelude.{◌≡◌, vec_len};
+
+use crate::acts::text;
+use decision_log::DecisionLog;
+use std::alloc::Global;
+use std::process::Abort;
+use xa_coordinator::{Coordinator, Speak};
+use xa_session::Session;
+use xa_store::{Log, Pass, Store};
+
+/// A store with room for so many entries, and its two passes.
+pub(crate) fn opened(rt: &impl Abort, alloc: Global, capacity: u64) -> (Store, Pass, Pass)
+    ensures first { ⟦<Log as DecisionLog>⟧.home result.1 ≡ ⟦<Log as DecisionLog>⟧.place result.0.log }
+    ensures second { ⟦<Log as DecisionLog>⟧.home result.2 ≡ ⟦<Log as DecisionLog>⟧.place result.0.log }
+{
+    let Ok((store, mut passes)) = Store::open(alloc, capacity, 2) else {
+        panic!(rt; "not opened")
+    };
+    let (Some(second), Some(first)) = (passes.pop(), passes.pop()) else {
+        panic!(rt; "two passes")
+    };
+    (store, first, second)
+}
+
+/// A session of a store.
+pub(crate) fn connected<'a>(rt: &impl Abort, store: &'a Store, pass: Pass) -> Session<'a, Log>
+    requires { ⟦<Log as DecisionLog>⟧.home pass ≡ ⟦<Log as DecisionLog>⟧.place store.now.log }
+{
+    let Ok(session) = store.connect(pass) else {
+        panic!(rt; "not connected")
+    };
+    session
+}
+
+/// A coordinator of the name `c` over sessions of three stores.
+pub(crate) fn over_three<S: Speak>(
+    rt: &impl Abort,
+    alloc: Global,
+    first: S,
+    second: S,
+    third: S,
+) -> Coordinator<S>
+where
+    S: Drop,
+    ensures { vec_len result.stores ≡ 3 }
+{
+    let mut stores = Vec::new(alloc);
+    let (Ok(()), Ok(()), Ok(())) = (stores.push(first), stores.push(second), stores.push(third))
+    else {
+        panic!(rt; "three sessions")
+    };
+    Coordinator::new(text(b'c'), stores)
+}
+
+/// A store with room for so many entries, and its three passes.
+pub(crate) fn opened_for_three(
+    rt: &impl Abort,
+    alloc: Global,
+    capacity: u64,
+) -> (Store, Pass, Pass, Pass)
+    ensures first { ⟦<Log as DecisionLog>⟧.home result.1 ≡ ⟦<Log as DecisionLog>⟧.place result.0.log }
+    ensures second { ⟦<Log as DecisionLog>⟧.home result.2 ≡ ⟦<Log as DecisionLog>⟧.place result.0.log }
+    ensures third { ⟦<Log as DecisionLog>⟧.home result.3 ≡ ⟦<Log as DecisionLog>⟧.place result.0.log }
+{
+    let Ok((store, mut passes)) = Store::open(alloc, capacity, 3) else {
+        panic!(rt; "not opened")
+    };
+    let (Some(third), Some(second), Some(first)) = (passes.pop(), passes.pop(), passes.pop())
+    else {
+        panic!(rt; "three passes")
+    };
+    (store, first, second, third)
+}
+
+/// The sessions of a coordinator over three stores, back.
+pub(crate) fn stopped<S: Speak>(rt: &impl Abort, coordinator: Coordinator<S>) -> (S, S, S)
+where
+    S: Drop,
+{
+    let mut sessions = coordinator.stop();
+    let (Some(third), Some(second), Some(first)) = (sessions.pop(), sessions.pop(), sessions.pop())
+    else {
+        panic!(rt; "three sessions")
+    };
+    (first, second, third)
+}
