@@ -17,10 +17,14 @@ run-more start now next [] text line response run answered =
     let P : Desk → Type 0 = λ desk. Answers desk (call_of line) response next in
     (next, response, [], subst P run.1 answered, ap (λ t. t ++ answer_text next.decisions response) run.0 ∙ sym (append-nil (answer_text next.decisions response)), (refl, refl))
 run-more start now next (first ∷ more) text line response run answered =
-    let rest = run.2 in
-    (run.0, run.1, rest ++ answer_text next.decisions response, run.3,
-    ap (λ t. t ++ answer_text next.decisions response) run.4 ∙ append_assoc (answer_text (run.0).decisions run.1) rest (answer_text next.decisions response),
-    run-more run.0 now next more rest line response run.5 answered)
+    let rest = run.2 in (
+      run.0,
+      run.1,
+      rest ++ answer_text next.decisions response,
+      run.3,
+      ap (λ t. t ++ answer_text next.decisions response) run.4 ∙ append_assoc (answer_text (run.0).decisions run.1) rest (answer_text next.decisions response),
+      run-more run.0 now next more rest line response run.5 answered,
+    )
 
 -- the lines that were answered, what was written for them, and the lines that are left
 pub record IsSoFar (start now : Desk) (lines left : List (List ℕ)) (old new : Option (List ℕ)) : Type 0 where

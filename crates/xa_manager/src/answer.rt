@@ -64,13 +64,7 @@ impl<C: Speak, T: Speak> Manager<C, T> {
     }
 
     /// Gives a row statement of a transaction to a store.
-    fn work<R: Wait>(
-        &mut self,
-        rt: &R,
-        number: u64,
-        store: u64,
-        statement: &Statement,
-    ) -> Response
+    fn work<R: Wait>(&mut self, rt: &R, number: u64, store: u64, statement: &Statement) -> Response
         requires { takes_rows statement.now ≡ true }
         ensures { Answers (record { stores = vec_len self.old.coordinator.stores; decisions = self.old.decisions; stages = self.old.ledger })
             (Call.Work number store statement.now) result

@@ -71,7 +71,9 @@ fn coordinate_command<'a>(alloc: Global) -> Result<Command<'a>, AllocError>
     ensures { IfOk result (λ command. app_of command ≡ coordinate_app) }
 {
     Command::new(alloc, "coordinate")
-        .about("Carries the calls of the standard input out, by a coordinator over stores of its own")
+        .about(
+            "Carries the calls of the standard input out, by a coordinator over stores of its own",
+        )
         .after_help(CALLS)
         .arg(stores_option(alloc))?
         .arg(capacity_option(alloc))
@@ -292,10 +294,7 @@ mod tests {
             Some(0)
         );
         assert_eq!(rt;
-            refusal(
-                rt.alloc(),
-                ["xa_script", "coordinate", "--help"].as_slice()
-            ),
+            refusal(rt.alloc(), ["xa_script", "coordinate", "--help"].as_slice()),
             Some(0)
         );
     }
