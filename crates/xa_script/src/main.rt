@@ -1,5 +1,6 @@
 //! Runs scripts of XA statements: `xa_script run` reads a script from the standard input, and writes what answers it;
-//! `xa_script race` gives each session's statements to a thread of its own, and writes the history that explains the answers.
+//! `xa_script race` gives each session's statements to a thread of its own, and writes the history that explains the answers;
+//! `xa_script coordinate` carries the calls of a transaction manager out, over stores of its own.
 #![tactic(auto)]
 
 ghost use Rattle.std.specs.Prelude.{◌≡◌};
@@ -18,6 +19,7 @@ use std::process::ExitCode;
 use std::sync::Wait;
 use std::thread::Threads;
 use std::{env, io};
+use xa_manager::coordinate;
 use xa_store::OpenGate;
 pub use xa_transcript::{CutReader, CutWriter, ScriptFault, race_script, run_script};
 
@@ -72,7 +74,7 @@ fn refuse_words<R: Eprint>(rt: &R, error: &io::Error) -> u8 {
     COMMAND_FAULT
 }
 
-/// Runs or races the script of the standard input.
+/// Runs or races the script of the standard input, or carries its calls out.
 fn carry_out<R: Input + Print + Alloc<A = Global> + Threads + Wait + Sync>(
     rt: &R,
     job: Job,
@@ -89,6 +91,14 @@ fn carry_out<R: Input + Print + Alloc<A = Global> + Threads + Wait + Sync>(
             let gate = OpenGate;
             race_script(rt, rt.alloc(), &mut input, &mut output, capacity, &gate)
         }
+        Job::Coordinate { stores, capacity } => coordinate(
+            rt,
+            rt.alloc(),
+            &mut input,
+            &mut output,
+            stores,
+            capacity,
+        ),
     };
     if output.flush().is_err() {
         return Err(ScriptFault::Write);

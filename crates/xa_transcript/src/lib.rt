@@ -17,10 +17,12 @@ mod streams;
 #[cfg(test)]
 mod tests;
 
-pub use answer::answer_line;
+pub use answer::{answer_line, converts};
 pub use cut_reader::CutReader;
 pub use cut_writer::CutWriter;
+pub use lines::{skip_blanks, split_line, split_word};
+pub use print::{push_number, push_reply, push_syntax_fault};
 pub use racing::race_script;
 pub use run::run_script;
 pub use script_fault::ScriptFault;
-pub use streams::script_limits;
+pub use streams::{read_all, script_limits, write_whole};
