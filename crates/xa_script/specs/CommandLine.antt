@@ -12,7 +12,7 @@ use Rattle.clap.specs.declared.builder.value_parser.ValueParser.TheVariants as p
 use Rattle.clap.specs.declared.error.Error.{Error}
 use Rattle.decision_log.specs.Opens.{IsCapacity}
 use Rattle.xa_script.specs.declared.command.Job.{Job}
-use Rattle.xa_script.specs.declared.command.Job.TheVariants.{Run, Race, Coordinate}
+use Rattle.xa_script.specs.declared.command.Job.TheVariants.{Run, Race, Coordinate, Serve}
 
 -- `--capacity N`, a number from 1 to 1024, and 1024 where it isn't given
 abbrev pub capacity_rule : Rule
@@ -30,11 +30,11 @@ stores_rule = record (new_rule (codes "stores")) { long = Some (codes "stores");
 abbrev pub coordinate_app : App
 coordinate_app = with_rule (with_rule (new_app (codes "coordinate")) stores_rule) capacity_rule
 
--- `xa_script run`, `xa_script race` and `xa_script coordinate`: a subcommand is required
+-- `xa_script run`, `race`, `coordinate` and `serve`: a subcommand is required
 abbrev pub script_app : App
 script_app =
-    with_subcommand (with_subcommand (on_top (λ shape. record shape { subcommand_required = true }) (with_subcommand (new_app (codes "xa_script")) (new_app (codes "run")).top)) race_app.top)
-    coordinate_app.top
+    with_subcommand (with_subcommand (with_subcommand (on_top (λ shape. record shape { subcommand_required = true }) (with_subcommand (new_app (codes "xa_script")) (new_app (codes "run")).top)) race_app.top)
+    coordinate_app.top) (new_app (codes "serve")).top
 
 -- the text of a value is this number, which a log can have as its capacity
 abbrev pub IsCapacityText : ℕ → Text → Type 0
@@ -53,16 +53,19 @@ abbrev pub IsRaceOf : Option Text → Job → Type 0
 IsRaceOf text Run = ⊥
 IsRaceOf text (Race capacity) = IsSomeAnd text (IsCapacityText capacity)
 IsRaceOf text (Coordinate stores capacity) = ⊥
+IsRaceOf text Serve = ⊥
 
 -- the job is of calls over as many stores, with as much room in each, as two values' texts are
 abbrev pub IsCoordinateOf : (stores capacity : Option Text) → Job → Type 0
 IsCoordinateOf stores capacity Run = ⊥
+IsCoordinateOf stores capacity Serve = ⊥
 IsCoordinateOf stores capacity (Race room) = ⊥
 IsCoordinateOf stores capacity (Coordinate count room) = IsSomeAnd stores (IsStoresText count) × IsSomeAnd capacity (IsCapacityText room)
 
 -- the job of a subcommand, with what `clap` found for its arguments
 abbrev pub IsJob : Job → Text × List Row → Type 0
 IsJob Run found = found.0 ≡ codes "run"
+IsJob Serve found = found.0 ≡ codes "serve"
 IsJob (Race capacity) found = (found.0 ≡ codes "race") × IsSomeAnd (one_of (codes "capacity") found.1) (IsCapacityText capacity)
 IsJob (Coordinate stores capacity) found =
     (found.0 ≡ codes "coordinate") × IsCoordinateOf (one_of (codes "stores") found.1) (one_of (codes "capacity") found.1) (Coordinate stores capacity)
@@ -81,3 +84,4 @@ abbrev pub CanBeDone : Job → Type 0
 CanBeDone Run = Unit {0}
 CanBeDone (Race capacity) = IsCapacity capacity
 CanBeDone (Coordinate stores capacity) = IsStoreCount stores × IsCapacity capacity
+CanBeDone Serve = Unit {0}

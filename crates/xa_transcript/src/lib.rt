@@ -17,10 +17,10 @@ mod streams;
 #[cfg(test)]
 mod tests;
 
-pub use answer::{answer_line, converts};
+pub use answer::{answer_line, answer_statement, converts};
 pub use cut_reader::CutReader;
 pub use cut_writer::CutWriter;
-pub use lines::{skip_blanks, split_line, split_word};
+pub use lines::{ScriptLine, read_line, skip_blanks, split_line, split_word};
 pub use print::{push_number, push_reply, push_syntax_fault};
 pub use racing::race_script;
 pub use run::run_script;
