@@ -1,11 +1,11 @@
 -- Printing lists one element after another.
-use Rattle.std.proofs.Common.{◌≡◌, ℕ, ◌+◌, ◌<◌, List, [], ◌∷◌, ◌++◌, Result, length, get_or, take, refl, sym, ◌∙◌, ap, append_assoc, append-nil, add-zero, codes, decimal, arith}
-use Rattle.std.proofs.lemmas.List.{take_more}
+use Rattle.std.proofs.Common.{◌≡◌, ℕ, ◌+◌, ◌<◌, ◌⊎◌, inl, inr, Bool, true, false, cond, List, [], ◌∷◌, ◌++◌, Result, length, get_or, take, refl, sym, ◌∙◌, ap, append_assoc, append-nil, add-zero, codes, decimal, arith}
+use Rattle.std.proofs.lemmas.List.{take_more, get_or_default}
 use Rattle.std.proofs.lemmas.List.{length-take}
 use Rattle.xa_server.specs.declared.reply.Reply.{Reply}
 use Rattle.xa_session.specs.declared.fault.Fault.{Fault}
 use Rattle.xa_coordinator.specs.declared.standing.Standing.{Standing}
-use Rattle.xa_manager.specs.Texts.{stores_text, store_text, stores_shown_text, number_text, numbers_text}
+use Rattle.xa_manager.specs.Texts.{stores_text, store_text, stores_shown_text, number_text, numbers_text, stands_as}
 
 -- one element more, of a text that grows by each element
 grown : {A : Type 0} (all : List A → List ℕ) (one : List ℕ) (xs : List A) (i : ℕ) (x : A) (begin before now : List ℕ) → i < length xs → x ≡ get_or xs i x
@@ -47,3 +47,20 @@ pub numbers_grown : (wanted : Standing) (xs : List Standing) (i : ℕ) (x : Stan
 numbers_grown wanted xs i x begin before now within is was step =
     let count : 1 + length (take i xs) ≡ i + 1 = omega (arith, length-take {A = Standing}) in
     grown (numbers_text wanted 1) (number_text wanted (i + 1) x) xs i x begin before now within is (numbers-more wanted 1 (take i xs) x ∙ ap (λ k. numbers_text wanted 1 (take i xs) ++ number_text wanted k x) count) was step
+
+-- a number is told where it stands as wanted, and nothing is where it doesn't
+pub numbers_grown_if : (wanted : Standing) (xs : List Standing) (i : ℕ) (d : Standing) (stands : Bool) (begin before now : List ℕ) → i < length xs → stands ≡ stands_as wanted (get_or xs i d)
+    → before ≡ begin ++ numbers_text wanted 1 (take i xs) → ((stands ≡ true) × (now ≡ before ++ (codes " " ++ decimal (i + 1)))) ⊎ ((stands ≡ false) × (now ≡ before))
+    → now ≡ begin ++ numbers_text wanted 1 (take (i + 1) xs)
+numbers_grown_if wanted xs i d stands begin before now within is was step =
+    numbers_grown wanted xs i (get_or xs i d) begin before now within (get_or_default xs i d (get_or xs i d) within) was (by (stands_as wanted (get_or xs i d)) is step)
+  where
+    by : (b : Bool) → stands ≡ b → ((stands ≡ true) × (now ≡ before ++ (codes " " ++ decimal (i + 1)))) ⊎ ((stands ≡ false) × (now ≡ before)) → now ≡ before ++ cond b (codes " " ++ decimal (i + 1)) []
+    by true so (inl told) = told.1
+    by true so (inr silent) = let no = silent.0 in absurd (cc)
+    by false so (inl told) = let yes = told.0 in absurd (cc)
+    by false so (inr silent) = silent.1 ∙ sym (append-nil before)
+
+-- three words and their counts
+pub three_grown : (begin first second now a b c d e f : List ℕ) → first ≡ begin ++ (a ++ b) → second ≡ first ++ (c ++ d) → now ≡ second ++ (e ++ f) → now ≡ begin ++ (a ++ b ++ c ++ d ++ e ++ f)
+three_grown begin first second now a b c d e f p q r = r ∙ ap (λ text. text ++ (e ++ f)) (q ∙ ap (λ text. text ++ (c ++ d)) p) ∙ simp append_assoc

@@ -1,5 +1,5 @@
 //! Calls, carried out.
-ghost use Rattle.std.specs.Prelude.{◌≡◌, true, nat_lt, IfOk, vec_len};
+ghost use Rattle.std.specs.Prelude.{◌≡◌, true, nat_lt, IfOk, vec_len, length};
 ghost use Rattle.xa_manager.specs.Answers.{Answers, poll_of, stage_after as stage_with};
 ghost use Rattle.xa_manager.specs.Calls.{takes_rows, IsWritten};
 
@@ -21,6 +21,16 @@ fn reply_in(answered: Result<Answer, Fault>) -> Result<Reply, Fault> {
     }
 }
 
+/// What is told of a transaction that doesn't begin.
+fn not_begun(fault: BeginFault) -> Result<Response, NoMemory>
+    ensures { IfOk result (λ response. (fault ≡ BeginFault.NumbersSpent) × (response ≡ Response.NumbersSpent)) }
+{
+    match fault {
+        BeginFault::NumbersSpent => Ok(Response::NumbersSpent),
+        BeginFault::NoMemory => Err(AllocError),
+    }
+}
+
 /// What is told of a vote, and how far the transaction has come.
 fn told_of(vote: Vote) -> (Poll, Stage)
     ensures poll { result.0 ≡ poll_of vote }
@@ -38,6 +48,32 @@ fn told_of(vote: Vote) -> (Poll, Stage)
     }
 }
 
+/// What each stranger is answered to `XA RECOVER CONVERT XID`.
+fn listed_by_each<T: Speak, R: Wait>(
+    rt: &R,
+    alloc: Global,
+    strangers: &mut [T],
+) -> Result<Vec<Result<Reply, Fault>>, NoMemory>
+    ensures each { IfOk result (λ answers. vec_len answers ≡ length strangers.old) }
+    ensures count { length strangers.new ≡ length strangers.old }
+{
+    let mut answers = Vec::new(alloc);
+    let listing = Statement::Recover { convert: true };
+    for stranger in strangers.iter_mut() {
+        answers.push(reply_in(stranger.execute(rt, &listing)))?;
+    }
+    Ok(answers)
+}
+
+/// Lets each session pass every call on.
+fn allow_all<S: Speak>(sessions: &mut [Fused<S>])
+    ensures { length sessions.new ≡ length sessions.old }
+{
+    for session in sessions.iter_mut() {
+        session.allow(u64::MAX);
+    }
+}
+
 impl<C: Speak, T: Speak> Manager<C, T> {
     /// Whether there is a store of this number.
     fn has_store(&self, store: u64) -> bool
@@ -52,14 +88,17 @@ impl<C: Speak, T: Speak> Manager<C, T> {
             (Call.Begin) response
             (record { stores = vec_len self.new.coordinator.stores; decisions = self.new.decisions; stages = self.new.ledger })) }
     {
+        self.ledger.add(Stage::Over)?;
         match self.coordinator.begin(&mut self.decisions) {
             Ok(transaction) => {
                 let number = transaction.number();
-                self.ledger.add(Stage::Working(transaction))?;
+                self.ledger.put(number, Stage::Working(transaction));
                 Ok(Response::Begun(number))
             }
-            Err(BeginFault::NumbersSpent) => Ok(Response::NumbersSpent),
-            Err(BeginFault::NoMemory) => Err(AllocError),
+            Err(fault) => {
+                self.ledger.forget_last();
+                not_begun(fault)
+            }
         }
     }
 
@@ -177,11 +216,7 @@ impl<C: Speak, T: Speak> Manager<C, T> {
             (Call.Show) response
             (record { stores = vec_len self.new.coordinator.stores; decisions = self.new.decisions; stages = self.new.ledger })) }
     {
-        let mut answers = Vec::new(alloc);
-        let listing = Statement::Recover { convert: true };
-        for stranger in self.strangers.iter_mut() {
-            answers.push(reply_in(stranger.execute(rt, &listing)))?;
-        }
+        let answers = listed_by_each(rt, alloc, self.strangers.as_mut_slice())?;
         Ok(Response::Shown(Listing { answers }))
     }
 }
@@ -213,9 +248,7 @@ impl<S: Speak, T: Speak> Manager<Fused<S>, T> {
             ledger,
         } = self;
         let mut sessions = coordinator.stop();
-        for session in sessions.iter_mut() {
-            session.allow(u64::MAX);
-        }
+        allow_all(sessions.as_mut_slice());
         Manager {
             coordinator: Coordinator::new(name(), sessions),
             strangers,

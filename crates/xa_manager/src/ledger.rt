@@ -1,5 +1,5 @@
 //! The transactions that were begun.
-ghost use Rattle.std.specs.Prelude.{◌≡◌, ◌≢◌, ◌<◌, ◌+◌, ◌++◌, ◌∷◌, [], ◌⊎◌, length, Some, None, OnOk, OnErr, IfOk, IfErr, IfSome};
+ghost use Rattle.std.specs.Prelude.{◌≡◌, ◌≢◌, ◌<◌, ◌+◌, ◌-◌, ◌++◌, ◌∷◌, [], ◌⊎◌, length, take, Some, None, OnOk, OnErr, IfOk, IfErr, IfSome};
 ghost use Rattle.xa_manager.specs.Ledger.{stage_of, with_stage};
 ghost use Rattle.xa_manager.specs.Answers.{refusal_of_work, refusal_of_decision, refusal_of_finish};
 
@@ -50,6 +50,15 @@ impl Ledger {
             Ok(()) => Ok(()),
             Err(_) => Err(AllocError),
         }
+    }
+
+    /// Takes the last transaction away.
+    ///
+    /// Takes no memory. Doesn't wait.
+    pub fn forget_last(&mut self)
+        ensures { self.new ≡ take (length self.old - 1) self.old }
+    {
+        let _last = self.stages.pop();
     }
 
     /// Where a transaction stands in the list, if it was begun.

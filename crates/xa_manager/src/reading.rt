@@ -1,7 +1,7 @@
 //! Lines, read as calls.
 ghost use Rattle.std.specs.Prelude.{◌≡◌, Some, None, MatchOption};
 ghost use Rattle.xa_transcript.specs.Script.{first_word};
-ghost use Rattle.xa_manager.specs.Calls.{number_named, lone_number, takes_rows, behind, alone as alone_call, work_of, at_of, fail_of, plain_call, call_named, call_of, IsWritten};
+ghost use Rattle.xa_manager.specs.Calls.{number_named, lone_number, takes_rows, behind, alone as alone_call, work_of, at_of, fail_of, plain_call, call_named, call_of, numbered, IsWritten};
 
 use crate::Call;
 use xa_statement::read_statement;
@@ -145,14 +145,64 @@ fn plain(word: &[u8], rest: &[u8]) -> Call
     ensures call { result ≡ plain_call word.now rest.now }
     ensures written { IsWritten result }
 {
-    match word {
-        b"BEGIN" => alone(Call::Begin, rest),
-        b"AT" => at(rest),
-        b"FAIL" => fail(rest),
-        b"STOP" => alone(Call::Stop, rest),
-        b"RECOVER" => alone(Call::Recover, rest),
-        b"SHOW" => alone(Call::Show, rest),
-        _ => Call::Unread(0),
+    if word == b"BEGIN".as_slice() {
+        alone(Call::Begin, rest)
+    } else if word == b"AT".as_slice() {
+        at(rest)
+    } else if word == b"FAIL".as_slice() {
+        fail(rest)
+    } else if word == b"STOP".as_slice() {
+        alone(Call::Stop, rest)
+    } else if word == b"RECOVER".as_slice() {
+        alone(Call::Recover, rest)
+    } else if word == b"SHOW".as_slice() {
+        alone(Call::Show, rest)
+    } else {
+        Call::Unread(0)
+    }
+}
+
+/// `n`, behind `PREPARE`.
+fn prepare(text: &[u8]) -> Call
+    ensures call { result ≡ numbered (λ number. Call.Prepare number) (lone_number text.now) }
+    ensures written { IsWritten result }
+{
+    match number_alone(text) {
+        Some(number) => Call::Prepare(number),
+        None => Call::Unread(0),
+    }
+}
+
+/// `n`, behind `DECIDE`.
+fn decide(text: &[u8]) -> Call
+    ensures call { result ≡ numbered (λ number. Call.Decide number) (lone_number text.now) }
+    ensures written { IsWritten result }
+{
+    match number_alone(text) {
+        Some(number) => Call::Decide(number),
+        None => Call::Unread(0),
+    }
+}
+
+/// `n`, behind `FINISH`.
+fn finish(text: &[u8]) -> Call
+    ensures call { result ≡ numbered (λ number. Call.Finish number) (lone_number text.now) }
+    ensures written { IsWritten result }
+{
+    match number_alone(text) {
+        Some(number) => Call::Finish(number),
+        None => Call::Unread(0),
+    }
+}
+
+/// `n`, behind `ABANDON`.
+fn abandon(text: &[u8]) -> Call
+    ensures call { result ≡ numbered (λ number. Call.Abandon number) (lone_number text.now) }
+    ensures written { IsWritten result }
+{
+    match number_alone(text) {
+        Some(number) => Call::Abandon(number),
+        None => Call::Unread(0),
     }
 }
 
@@ -162,25 +212,18 @@ fn named(word: &[u8], rest: &[u8]) -> Call
     ensures call { result ≡ call_named word.now rest.now }
     ensures written { IsWritten result }
 {
-    match word {
-        b"WORK" => work(rest),
-        b"PREPARE" => match number_alone(rest) {
-            Some(number) => Call::Prepare(number),
-            None => Call::Unread(0),
-        },
-        b"DECIDE" => match number_alone(rest) {
-            Some(number) => Call::Decide(number),
-            None => Call::Unread(0),
-        },
-        b"FINISH" => match number_alone(rest) {
-            Some(number) => Call::Finish(number),
-            None => Call::Unread(0),
-        },
-        b"ABANDON" => match number_alone(rest) {
-            Some(number) => Call::Abandon(number),
-            None => Call::Unread(0),
-        },
-        _ => plain(word, rest),
+    if word == b"WORK".as_slice() {
+        work(rest)
+    } else if word == b"PREPARE".as_slice() {
+        prepare(rest)
+    } else if word == b"DECIDE".as_slice() {
+        decide(rest)
+    } else if word == b"FINISH".as_slice() {
+        finish(rest)
+    } else if word == b"ABANDON".as_slice() {
+        abandon(rest)
+    } else {
+        plain(word, rest)
     }
 }
 

@@ -1,6 +1,7 @@
 //! Calls of a coordinator over stores of its own, line by line.
 ghost use Rattle.std.specs.Prelude.{◌≡◌, ◌≤◌, length, vec_len, OnOk, IfOk, OnErr, IfErr, IfSome, Err};
 ghost use Rattle.std.specs.Io.KnownBytes.{IsAtEnd};
+ghost use Rattle.chain_log.specs.ChainPass.{home_of, place_of};
 ghost use Rattle.xa_transcript.specs.Limits.{script_bytes};
 ghost use Rattle.xa_transcript.specs.Transcript.{ConsumesMoreThan, IsOfRun};
 ghost use Rattle.xa_manager.specs.Answers.{new_desk};
@@ -51,6 +52,19 @@ fn answer_lines<S: Speak + Drop, T: Speak + Drop, W: Write, R: Wait>(
     Ok(())
 }
 
+/// Opens a store, and gives the passes of its two sessions.
+fn open_store(alloc: Global, capacity: u64) -> Result<(Store, Pass, Pass), NoMemory>
+    ensures { IfOk result (λ opened. (home_of opened.1 ≡ place_of opened.0.log) × (home_of opened.2 ≡ place_of opened.0.log)) }
+{
+    let Ok((store, mut passes)) = Store::open(alloc, capacity, 2) else {
+        return Err(AllocError);
+    };
+    let (Some(second), Some(first)) = (passes.pop(), passes.pop()) else {
+        return Err(AllocError);
+    };
+    Ok((store, first, second))
+}
+
 /// Opens so many stores, and gives the passes of their two sessions.
 fn open_stores(
     alloc: Global,
@@ -64,19 +78,11 @@ fn open_stores(
     let mut stores = Vec::new(alloc);
     let mut firsts = Vec::new(alloc);
     let mut seconds = Vec::new(alloc);
-    for _ in 0..count {
-        let Ok((store, mut passes)) = Store::open(alloc, capacity, 2) else {
-            return Err(AllocError);
-        };
-        let (Some(second), Some(first)) = (passes.pop(), passes.pop()) else {
-            return Err(AllocError);
-        };
-        if stores.push(store).is_err()
-            || firsts.push(first).is_err()
-            || seconds.push(second).is_err()
-        {
-            return Err(AllocError);
-        }
+    while (stores.len() as u64) < count {
+        let (store, first, second) = open_store(alloc, capacity)?;
+        stores.push(store)?;
+        firsts.push(first)?;
+        seconds.push(second)?;
     }
     Ok((stores, firsts, seconds))
 }
@@ -91,13 +97,12 @@ fn connect_each<'a>(
     ensures { IfOk result (λ sessions. vec_len sessions ≡ length stores.now) }
 {
     let mut sessions = Vec::new(alloc);
-    for (store, pass) in stores.iter().zip(passes) {
+    for pass in passes {
+        let store = &stores[sessions.len()];
         let Ok(session) = store.connect(pass) else {
             return Err(AllocError);
         };
-        if sessions.push(session).is_err() {
-            return Err(AllocError);
-        }
+        sessions.push(session)?;
     }
     Ok(sessions)
 }
@@ -108,9 +113,7 @@ fn fuse_each<S: Speak + Drop>(alloc: Global, sessions: Vec<S>) -> Result<Vec<Fus
 {
     let mut fused = Vec::new(alloc);
     for session in sessions {
-        if fused.push(Fused::new(session, u64::MAX)).is_err() {
-            return Err(AllocError);
-        }
+        fused.push(Fused::new(session, u64::MAX))?;
     }
     Ok(fused)
 }
@@ -170,6 +173,8 @@ pub fn coordinate<R: Wait, I: Read, W: Write>(
     ensures fault { IfErr result (λ fault. AfterFault stores fault (I.remaining reader.old) (W.contents writer.old) (W.contents writer.new)) }
     ensures too_long { result ≡ Err ScriptFault.TooLong → ConsumesMoreThan script_bytes (I.remaining reader.old) (I.remaining reader.new) }
 {
-    let script = read_all(alloc, reader)?;
-    over_stores(rt, alloc, stores, capacity, script.as_slice(), writer)
+    match read_all(alloc, reader) {
+        Ok(script) => over_stores(rt, alloc, stores, capacity, script.as_slice(), writer),
+        Err(fault) => Err(fault),
+    }
 }
