@@ -5,18 +5,26 @@ ghost use Rattle.chain_log.specs.ChainPass.{home_of, place_of};
 ghost use Rattle.xa_transcript.specs.Limits.{script_bytes};
 ghost use Rattle.xa_transcript.specs.Transcript.{ConsumesMoreThan, IsOfRun};
 ghost use Rattle.xa_manager.specs.Answers.{new_desk};
+ghost use Rattle.xa_manager.specs.Texts.{answer_text};
 ghost use Rattle.xa_manager.specs.Written.{AreOf, IsWhole, IsCut, AfterFault};
 
 use crate::print::write_response;
-use crate::{Manager, read_call};
+use crate::{Manager, Response, read_call};
 use std::alloc::{AllocError, Global};
 use std::io::{Read, Write};
 use std::sync::Wait;
-use xa_coordinator::{Fused, Speak};
+use xa_coordinator::{Decisions, Fused, Speak};
 use xa_session::Session;
 use xa_store::{Log, Pass, Store};
 use xa_transcript::{ScriptFault, read_all, split_line, write_whole};
 use xa_xid::NoMemory;
+
+/// The text of a response, which isn't kept.
+fn text_of(alloc: Global, decisions: &Decisions, response: Response) -> Result<Vec<u8>, NoMemory>
+    ensures { IfOk result (λ text. text.items ≡ answer_text decisions.now response) }
+{
+    write_response(alloc, decisions, &response)
+}
 
 /// Carries the calls of a script out, and writes each answer as it is found.
 fn answer_lines<S: Speak + Drop, T: Speak + Drop, W: Write, R: Wait>(
@@ -43,7 +51,7 @@ fn answer_lines<S: Speak + Drop, T: Speak + Drop, W: Write, R: Wait>(
             return Err(ScriptFault::NoMemory);
         };
         manager = next;
-        let Ok(text) = write_response(alloc, manager.decisions(), &response) else {
+        let Ok(text) = text_of(alloc, manager.decisions(), response) else {
             return Err(ScriptFault::NoMemory);
         };
         write_whole(writer, text.as_slice())?;

@@ -10,4 +10,4 @@ loop-store-preserved c =
     let step : c.push_numbered.new.text.items ≡ c.loop-store.text.items ++ (codes " " ++ decimal store) =
     told ∙ ap (λ n. c.loop-store.text.items ++ (codes " " ++ decimal n)) c.from.ensures in
     stores_grown c.args.stores.now c.loop-store.store-index store c.args.text.now.items c.loop-store.text.items c.push_numbered.new.text.items
-        c.loop-store-test.true (get_or_default c.args.stores.now c.loop-store.store-index 0 store c.loop-store-test.true) c.loop-store.invariant step
+    c.loop-store-test.true (get_or_default c.args.stores.now c.loop-store.store-index 0 store c.loop-store-test.true) c.loop-store.invariant step

@@ -15,7 +15,7 @@ invariant_of-self g c =
       named = was.named;
       pairs = was.pairs;
       counted = ap length back ∙ was.counted
-      ∙ sym (after_decision c.decide-decided.result was.decisions c.decide-decided.new.self c.in-Ok.prepared.transaction.number c.decide-decided.ensures.ok c.decide-decided.ensures.err);
+          ∙ sym (after_decision c.decide-decided.result was.decisions c.decide-decided.new.self c.in-Ok.prepared.transaction.number c.decide-decided.ensures.ok c.decide-decided.ensures.err);
       kept = kept_as _ _ _ _ refl back was.kept;
       ready = ready_as _ _ back was.ready;
     }
