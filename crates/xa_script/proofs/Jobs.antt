@@ -66,6 +66,7 @@ races_if m found name (Some job) is race of = races m found name job is race of
 pub coordinates : (m found : ArgMatches) (name : Text) (job : Job) → subcommand_rows_of m ≡ Some (name, rows_of (found_of found)) → name ≡ codes "coordinate"
     → IsCoordinateOf (one_text (found_of found) (codes "stores")) (one_text (found_of found) (codes "capacity")) job → IsSomeAnd (subcommand_rows_of m) (IsJob job)
 coordinates m found name Run is named of = absurd of
+coordinates m found name Serve is named of = absurd of
 coordinates m found name (Race capacity) is named of = absurd of
 coordinates m found name (Coordinate stores capacity) is named of =
     let P : Option (Text × List Row) → Type 0 = λ s. IsSomeAnd s (IsJob (Coordinate stores capacity)) in
@@ -83,6 +84,9 @@ pub no_coordinates : (m found : ArgMatches) (name : Text) → subcommand_rows_of
     → ((job : Job) → IsCoordinateOf (one_text (found_of found) (codes "stores")) (one_text (found_of found) (codes "capacity")) job → ⊥) → (job : Job) → IsSomeAnd (subcommand_rows_of m) (IsJob job) → ⊥
 no_coordinates m found name is named none Run h =
     let e : codes "coordinate" ≡ codes "run" = sym named ∙ at_found m name (rows_of (found_of found)) Run is h in
+    absurd (omega (arith, ap length e))
+no_coordinates m found name is named none Serve h =
+    let e : codes "coordinate" ≡ codes "serve" = sym named ∙ at_found m name (rows_of (found_of found)) Serve is h in
     absurd (omega (arith, ap length e))
 no_coordinates m found name is named none (Race capacity) h =
     let e : codes "coordinate" ≡ codes "race" = sym named ∙ (at_found m name (rows_of (found_of found)) (Race capacity) is h).0 in
