@@ -1,14 +1,17 @@
 -- The command line of the program.
 --     script_app      the command and its subcommands
+--     IsLocal         a command none of whose options is global
 --     IsJob           the job of a subcommand
 --     Names           the job that the words of a command line name
 --     ReadsCommand    when a command line is read, and why not
-use Rattle.std.specs.Prelude.{◌≡◌, ◌≤◌, ◌⊎◌, ℕ, true, Option, Some, Result, MatchResult, List, [], ◌∷◌, codes}
+use Rattle.std.specs.Prelude.{◌≡◌, ◌≤◌, ◌⊎◌, ℕ, true, false, Option, Some, Result, MatchResult, List, [], ◌∷◌, codes}
 use Rattle.std.specs.Option.{IsSomeAnd}
 use Rattle.std.specs.Str.Parse.{IsNumeral, digits_value, without_leading_plus}
 use Rattle.clap.specs.Words.{App, Text, Row, Rule, new_app, new_rule, one_of, subcommand_of, with_rule, with_subcommand, fault_of, HasKind}
 use Rattle.clap.specs.Simple.{on_top}
 use Rattle.clap.specs.declared.builder.value_parser.ValueParser.TheVariants as parser
+use Rattle.clap.specs.declared.builder.command.Command.{Command}
+use Rattle.clap.specs.declared.builder.command.Command.TheViews.{out-Command}
 use Rattle.clap.specs.declared.error.Error.{Error}
 use Rattle.decision_log.specs.Opens.{IsCapacity}
 use Rattle.xa_script.specs.declared.command.Job.{Job}
@@ -29,6 +32,10 @@ stores_rule = record (new_rule (codes "stores")) { long = Some (codes "stores");
 -- `coordinate [--stores N] [--capacity C]`
 abbrev pub coordinate_app : App
 coordinate_app = with_rule (with_rule (new_app (codes "coordinate")) stores_rule) capacity_rule
+
+-- no option of the command is one of its subcommands too
+abbrev pub IsLocal : Command → Type 0
+IsLocal command = (out-Command command).has_globals ≡ false
 
 -- `xa_script run`, `race`, `coordinate` and `serve`: a subcommand is required
 abbrev pub script_app : App

@@ -1,8 +1,8 @@
 //! The command line.
 ghost use Rattle.std.specs.Prelude.{◌≡◌, ◌≤◌, ℕ, Some, None, IfOk, IfSome, false, map, codes};
 ghost use Rattle.std.specs.Option.{IsSomeAnd};
-ghost use Rattle.clap.specs.Words.{app_of, fields_of, found_of, one_text, rule_of, subcommand_rows_of};
-ghost use Rattle.xa_script.specs.CommandLine.{coordinate_app, capacity_rule, stores_rule, script_app, IsCapacityText, IsStoresText, IsRaceOf, IsCoordinateOf, IsJob, Names, CanBeDone, ReadsCommand};
+ghost use Rattle.clap.specs.Words.{app_of, found_of, one_text, rule_of, subcommand_rows_of};
+ghost use Rattle.xa_script.specs.CommandLine.{coordinate_app, IsLocal, capacity_rule, stores_rule, script_app, IsCapacityText, IsStoresText, IsRaceOf, IsCoordinateOf, IsJob, Names, CanBeDone, ReadsCommand};
 
 use clap::error::ErrorKind;
 use clap::{Arg, ArgMatches, Command, Error, value_parser};
@@ -71,7 +71,7 @@ fn stores_option<'a>(alloc: Global) -> Arg<'a>
 /// The subcommand that carries calls out.
 fn coordinate_command<'a>(alloc: Global) -> Result<Command<'a>, AllocError>
     ensures app { IfOk result (λ command. app_of command ≡ coordinate_app) }
-    ensures local { IfOk result (λ command. (fields_of command).has_globals ≡ false) }
+    ensures local { IfOk result IsLocal }
 {
     Command::new(alloc, "coordinate")
         .about(
