@@ -9,8 +9,8 @@ use std::alloc::Global;
 use std::process::Abort;
 use std::sync::Wait;
 use xa_coordinator::{
-    BeginFault, Cause, Coordinator, Decisions, Ending, Speak, Transaction, Vote, WorkFault,
-    xid_of_branch,
+    BeginFault, Cause, Coordinator, Decisions, Ending, RecoverFault, Speak, Transaction, Vote,
+    WorkFault,
 };
 use xa_server::Reply;
 use xa_session::{Answer, Fault, Session};
@@ -114,6 +114,7 @@ fn votes<S: Speak, R: Abort + Wait>(
     decisions: &mut Decisions,
 ) -> bool
     requires { vec_len coordinator.old.stores ≡ 2 }
+    ensures { vec_len coordinator.new.stores ≡ 2 }
 {
     let transaction = worked(rt, coordinator, decisions);
     match coordinator.prepare(rt, transaction) {
@@ -144,6 +145,7 @@ fn abandons<S: Speak, R: Abort + Wait>(
     decisions: &mut Decisions,
 )
     requires { vec_len coordinator.old.stores ≡ 2 }
+    ensures { vec_len coordinator.new.stores ≡ 2 }
 {
     let transaction = worked(rt, coordinator, decisions);
     let ending = coordinator.abandon(rt, transaction);
@@ -161,24 +163,29 @@ fn reply_of<S: Speak, R: Abort + Wait>(rt: &R, session: &mut S, statement: &Stat
     reply
 }
 
-/// Ends what a coordinator left in a store, as a recovery does: its session disconnects, and a branch that is still prepared is
-/// committed where that was decided, and else rolled back.
-fn recovers<S: Speak, R: Abort + Wait>(rt: &R, session: &mut S, store: u8, decided: bool) {
-    let reply = reply_of(rt, session, &Statement::Disconnect);
-    assert!(rt; is_wanted(&reply, Wanted::Done));
-    let xid = xid_of_branch(&text(b'c'), 1, store);
-    let end = if decided {
-        Statement::Commit {
-            xid,
-            one_phase: false,
-        }
-    } else {
-        Statement::Rollback(xid)
+/// A second coordinator of the name ends what the first left in its stores. Where there was no memory, it recovers again.
+fn recovers<S: Speak, R: Abort + Wait>(
+    rt: &R,
+    alloc: Global,
+    coordinator: &mut Coordinator<S>,
+    decisions: &mut Decisions,
+)
+    ensures { vec_len coordinator.new.stores ≡ vec_len coordinator.old.stores }
+{
+    let Err(fault) = coordinator.recover(rt, alloc, decisions) else {
+        return;
     };
-    let reply = reply_of(rt, session, &end);
-    assert!(rt; is_wanted(&reply, Wanted::Done) || is_wanted(&reply, Wanted::Refused(1397)));
-    let reply = reply_of(rt, session, &Statement::Recover { convert: false });
-    assert!(rt; is_wanted(&reply, Wanted::Listed(b"")));
+    assert!(rt;
+        matches!(
+            fault,
+            RecoverFault::NoMemory
+                | RecoverFault::Session {
+                    fault: Fault::NoMemory,
+                    ..
+                }
+        )
+    );
+    assert!(rt; coordinator.recover(rt, alloc, decisions).is_ok());
 }
 
 /// Asks for the row `k` of a store, which is to be written where the transaction was decided, and to be held by nobody.
@@ -188,6 +195,8 @@ fn agrees<S: Speak, R: Abort + Wait>(rt: &R, session: &mut S, decided: bool) {
     } else {
         Wanted::NoValue
     };
+    let reply = reply_of(rt, session, &Statement::Recover { convert: false });
+    assert!(rt; is_wanted(&reply, Wanted::Listed(b"")));
     let reply = reply_of(rt, session, &said(rt, b"GET 'k'"));
     assert!(rt; is_wanted(&reply, wanted));
     let reply = reply_of(rt, session, &said(rt, b"DEL 'k'"));
@@ -201,7 +210,7 @@ enum Course {
     Abandons,
 }
 
-/// A coordinator takes this course. Then its sessions end what is left, and what each store has agrees with the decision.
+/// A coordinator takes this course. Then a second one recovers what is left, and what each store has agrees with the decision.
 fn runs<S: Speak + Drop, R: Abort + Wait>(rt: &R, alloc: Global, stores: Vec<S>, course: Course)
     requires { vec_len stores ≡ 2 }
 {
@@ -215,12 +224,11 @@ fn runs<S: Speak + Drop, R: Abort + Wait>(rt: &R, alloc: Global, stores: Vec<S>,
         }
     };
     assert_eq!(rt; decisions.is_decided(1), decided);
-    let mut stores = coordinator.stop();
-    for store in 0..2 {
-        let Some(session) = stores.get_mut(store as usize) else {
-            panic!(rt; "a session")
-        };
-        recovers(rt, session, store, decided);
+    let mut second = Coordinator::new(text(b'c'), coordinator.stop());
+    recovers(rt, alloc, &mut second, &mut decisions);
+    assert_eq!(rt; decisions.is_decided(1), decided);
+    let mut stores = second.stop();
+    for session in stores.iter_mut() {
         agrees(rt, session, decided);
     }
 }
