@@ -1,7 +1,7 @@
 -- The steps of a chain that change a word keep the rule.
 use Rattle.std.proofs.Common.{◌≡◌, ◌≢◌, ℕ, ◌+◌, ◌-◌, ◌<◌, ◌≤◌, List, [], ◌∷◌, ◌++◌, length, take, set, get_or, refl, ap, sym, ◌∙◌, subst, ⊎_elim, Some, arith, eqb, length-append}
 use Rattle.std.specs.Prelude.{slice_get}
-use mathlib.Core.Option.{some, some-injective}
+use mathlib.Core.Option.{some}
 use mathlib.Core.Logic.{dite}
 use native.Mathlib.Decide.{ℕ_discrete, dec_le}
 use lib.ListN.{get_elem?}

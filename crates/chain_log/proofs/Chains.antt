@@ -1,17 +1,14 @@
 -- The chain is the history: the walk along the links meets its entries, newest first.
-use Rattle.std.proofs.Common.{◌≡◌, ◌≢◌, ℕ, zero, suc, ◌+◌, ◌≤◌, List, [], ◌∷◌, ◌++◌, length, take, drop, get_or, refl, ap, sym, ◌∙◌, subst, Some, None, arith, eq-eqb, ne_eqb}
-use Rattle.std.specs.Prelude.{slice_get, slice_index, reverse}
-use mathlib.Core.Logic.{dite}
-use native.Mathlib.Decide.{ℕ_discrete}
+use Rattle.std.proofs.Common.{◌≡◌, ℕ, zero, suc, ◌+◌, ◌≤◌, List, [], ◌∷◌, length, take, get_or, refl, ap, sym, ◌∙◌, subst, arith}
+use Rattle.std.specs.Prelude.{slice_index, reverse}
 use Rattle.std.proofs.lemmas.List.{reverse-append, reverse-reverse, take_all, ext_get_or}
 use Rattle.xa_words.specs.Entry.{Entry}
 use Rattle.xa_words.specs.Words.{words_of}
 use Rattle.xa_words.proofs.Spelling.{one_entry, length-words_of}
 use Rattle.decision_log.specs.declared.sizes.Sizes.{Sizes}
 use Rattle.decision_log.specs.declared.view.View.{View}
-use Rattle.decision_log.specs.History.{Begins, entries_of}
 use Rattle.decision_log.specs.Draft.{Holds}
-use Rattle.decision_log.proofs.Histories.{some_injective, take_next}
+use Rattle.decision_log.proofs.Histories.{take_next}
 use Rattle.chain_log.specs.Cells.{name_at, cell_at, name_before, newest_of}
 use Rattle.chain_log.specs.Chain.{Walk, Chain}
 use Rattle.chain_log.specs.ChainRule.{ChainRule}

@@ -1,6 +1,6 @@
 -- A seat at a chain.
 --     IsSeat          it is a seat of this log, and knows one pass
---     IsTwo, IsRest   the same with two passes, and with those that were not given out
+--     IsRest          the same with the passes that were not issued
 --     IsOurs          the pass has this log's sizes, one of its numbers, and has seen what it can have
 use Rattle.std.specs.Prelude.{◌≡◌, ◌≤◌, length}
 use Rattle.atomic_table.specs.declared.shared.Seat.{Seat}
@@ -8,23 +8,16 @@ use Rattle.xa_words.specs.Entry.{Entry}
 use Rattle.decision_log.specs.declared.view.View.{View}
 use Rattle.decision_log.specs.declared.view.Hand.{Hand}
 use Rattle.decision_log.specs.Known.{AllOf}
-use Rattle.decision_log.specs.Seats.{hand_of, second_of, seated, seated_two, seated_rest}
+use Rattle.decision_log.specs.AtTable.{KnowsOne, KnowsRest}
 use Rattle.chain_log.specs.declared.chain.ChainLog.{ChainLog}
 
 -- it is a seat of this log, and knows one pass
-pub record IsSeat (log : ChainLog) (seat : Seat Entry View) : Type 0 where
-  pub table : seat.table_id ≡ log.table.inner.shared.table_id
-  pub held : seat.me ≡ seated (hand_of seat.me.0)
+abbrev pub IsSeat : ChainLog → Seat Entry View → Type 0
+IsSeat log seat = KnowsOne log.table.inner.shared.table_id seat
 
--- it is a seat of this log, and knows two passes
-pub record IsTwo (log : ChainLog) (seat : Seat Entry View) : Type 0 where
-  pub table : seat.table_id ≡ log.table.inner.shared.table_id
-  pub held : seat.me ≡ seated_two (hand_of seat.me.0) (second_of seat.me.0)
-
--- it is a seat of this log, and knows the passes that weren't given out
-pub record IsRest (log : ChainLog) (seat : Seat Entry View) : Type 0 where
-  pub table : seat.table_id ≡ log.table.inner.shared.table_id
-  pub held : seat.me ≡ seated_rest (hand_of seat.me.0)
+-- it is a seat of this log, and knows the passes that weren't issued
+abbrev pub IsRest : ChainLog → Seat Entry View → Type 0
+IsRest log seat = KnowsRest log.table.inner.shared.table_id seat
 
 -- what is so of each of the log's passes, also within a call
 pub record IsOurs (log : ChainLog) (hand : Hand) : Type 0 where

@@ -74,11 +74,11 @@ impl DecisionLog for ChainLog {
     }
 
     fn meet(&self, first: &mut ChainPass, second: &mut ChainPass) {
-        let spare = self.spare(&mut first.seat);
+        let spare = self.table.spare(&mut first.seat);
         let other = std::mem::replace(&mut second.seat, spare);
-        self.join(&mut first.seat, other);
-        let newest = self.load_both(&mut first.seat);
-        second.seat = self.split(&mut first.seat);
+        self.table.join(&mut first.seat, other);
+        let newest = self.table.load_both(&mut first.seat);
+        second.seat = self.table.split(&mut first.seat);
         let second_count = row_count(self.sessions, second.newest);
         if second_count < row_count(self.sessions, first.newest) {
             self.fill(&mut second.seat, &mut second.columns, second_count, newest);

@@ -10,7 +10,6 @@ mod open;
 mod pass;
 mod plays;
 mod rule;
-mod seats;
 mod steps;
 #[cfg(test)]
 mod tests;

@@ -1,4 +1,15 @@
 //! The steps of a chain on its words, one function each.
+//!
+//! All are sequentially consistent, and between two steps of a pass any other pass may step. By role:
+//!
+//! 1. Who looks loads word 0 (`load_newest`). What the pass has seen stays a prefix of the history, which grows only at its end.
+//! 2. Who reads loads words of a cell whose name it found before (`load_word`). A cell of the history is never written again: its
+//!    session stores in later rows alone, and no other session stores in its column.
+//! 3. Who adds stores its own cell (`store_word`) and then exchanges word 0 from the last name it has seen to its own (`exchange`).
+//!    The cell was whole before it became the newest. A name has one row and one column, so an equal name in word 0 means that
+//!    exactly what the pass has seen is the history; the exchange tests it and adds at one step.
+//! 4. Who meets joins two seats, loads word 0 there, and splits them (`LogTable::join`, `load_both`, `split`). Each pass has seen a
+//!    prefix of one history, so the longer begins with the shorter.
 ghost use Rattle.std.specs.Prelude.{◌≡◌, ◌≢◌, ◌<◌, ◌≤◌, ◌+◌, ℕ, List, ◌∷◌, length, slice_get, slice_index, Some};
 ghost use Rattle.xa_words.specs.Entry.{Entry, IsEntry};
 ghost use Rattle.xa_words.specs.Words.{words_of};
@@ -23,6 +34,7 @@ impl ChainLog {
         ensures seat { IsSeat self.now seat.new }
         ensures seen { (seen : List Entry) × (hand seat.new ≡ looked (hand seat.old) seen) × (result ≡ newest_of (hand seat.old).sessions seen) × HistoryIs (hand seat.old) seen }
     {
+        // Nothing was loaded before that this load rests on.
         self.table.load::<SeeAll>(seat, NEWEST)
     }
 
@@ -37,6 +49,7 @@ impl ChainLog {
         ensures read { (row : ℕ) (entry : Entry) → name ≡ name_before (hand seat.old).sessions (hand seat.old).known.seen (row + 1) → slice_get (hand seat.old).known.seen row ≡ Some entry → IsEntry entry × (result ≡ slice_index (name_before (hand seat.old).sessions (hand seat.old).known.seen row ∷ words_of entry) index) }
     {
         let word = cell_start(name) + index;
+        // The name still leads to that cell, with the same words: no cell of the history is written again.
         self.table.load::<ReadWord>(seat, word)
     }
 
@@ -52,6 +65,7 @@ impl ChainLog {
         ensures stored { hand seat.new ≡ drafted (hand seat.old) index new }
     {
         let word = cell_start(name) + index;
+        // The own cell is in no history yet: what was added since stands in other columns, and nobody else stores in this one.
         self.table.store::<DraftWord>(seat, word, new)
     }
 
@@ -75,6 +89,7 @@ impl ChainLog {
         ensures lost { result ≢ old → (seen : List Entry) × (hand seat.new ≡ lost (hand seat.old) seen) × (result ≡ newest_of (hand seat.old).sessions seen) × HistoryIs (hand seat.old) seen × (length (hand seat.old).known.seen < length seen) }
     {
         let _session = entry.session();
+        // The exchange itself tests whether `old` is still the newest, and with it whether all that was seen is the history.
         self.table
             .compare_exchange_with::<Publish>(seat, NEWEST, old, own, entry)
     }

@@ -1,5 +1,7 @@
 pub mod Histories
 pub mod SeatLemmas
+pub mod SeatRule
+pub mod SeatSteps
 pub mod MachineLaw
 pub mod MachineReach
 pub mod MachineSeats

@@ -9,6 +9,7 @@ pub mod Passes
 pub mod Draft
 pub mod Observed
 pub mod Atomic
+pub mod AtTable
 pub mod TurnRule
 pub mod TurnPlays
 pub mod TurnCounts

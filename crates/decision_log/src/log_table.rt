@@ -1,7 +1,7 @@
 //! The words of a log, and the only steps that its passes take on them.
 //!
 //! No other file reaches the table: so a view changes by these steps alone, and its counts as `Counts` says.
-ghost use Rattle.std.specs.Prelude.{◌≡◌, [], length, IfOk};
+ghost use Rattle.std.specs.Prelude.{◌≡◌, ◌<◌, [], length, IfOk};
 ghost use Rattle.atomic_table.specs.Table.{opening};
 
 mod plays;
@@ -17,6 +17,7 @@ use xa_words::Entry;
 #[derive(Drop)]
 pub struct LogTable<R: LogWords> {
     inner: Table<Entry, View, Sizes, R, Global>,
+    ghost some: { 0 < inner.shared.table_id.words },
 }
 
 impl<R: LogWords> LogTable<R> {
@@ -28,7 +29,8 @@ impl<R: LogWords> LogTable<R> {
         words: &[u64],
         sizes: &Sizes,
     ) -> Result<(LogTable<R>, Seat<Entry, View>), AllocError>
-        requires { R.holds sizes.now (opening words.now [] (R.first sizes.now)) }
+        requires some { 0 < length words.now }
+        requires rule { R.holds sizes.now (opening words.now [] (R.first sizes.now)) }
         ensures { IfOk result (λ made. (made.0.inner.shared.table_id.words ≡ length words.now) × (made.0.inner.shared.key ≡ sizes.now) × (made.1.table_id ≡ made.0.inner.shared.table_id) × (made.1.me ≡ (R.first sizes.now, []))) }
     {
         let (inner, seat) = Table::of_words(alloc, words, sizes)?;

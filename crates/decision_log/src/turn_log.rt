@@ -9,7 +9,6 @@ mod pass;
 mod plays;
 mod rows;
 mod rule;
-mod seats;
 mod steps;
 
 use crate::LogTable;

@@ -59,7 +59,11 @@ impl<S: Speak> Coordinator<S> {
     }
 
     /// The prepared branches of a store.
-    pub(crate) fn prepared_in<R: Wait>(&mut self, rt: &R, store: u8) -> Result<(XidList, u64), Fault>
+    pub(crate) fn prepared_in<R: Wait>(
+        &mut self,
+        rt: &R,
+        store: u8,
+    ) -> Result<(XidList, u64), Fault>
         requires { store < vec_len self.old.stores }
         ensures name { self.new.name ≡ self.old.name }
         ensures frame { ChangesAt store self.old.stores.items self.new.stores.items }

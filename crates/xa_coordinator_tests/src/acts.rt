@@ -3,9 +3,9 @@ ghost use Rattle.std.specs.Prelude.{◌≡◌, ◌<◌, ◌∷◌, [], vec_len};
 ghost use Rattle.xa_coordinator.specs.Work.{IsRow};
 ghost use Rattle.xa_coordinator.specs.declared.prepared.Ballot.TheVariants.{Ready as BallotReady};
 
-use xa_coordinator::{Coordinator, Decisions, Prepared, Speak, Transaction, Vote, WorkFault};
 use std::process::Abort;
 use std::sync::Wait;
+use xa_coordinator::{Coordinator, Decisions, Prepared, Speak, Transaction, Vote, WorkFault};
 use xa_server::Reply;
 use xa_session::{Answer, Fault};
 use xa_xid::{Bytes, Key, Statement};

@@ -123,7 +123,10 @@ fn numbers_stand_apart<S: Speak, R: Abort + Wait>(
     let second = ready_beside(rt, coordinator, &mut decisions);
     assert!(rt; second.number() == 2 && prepared_count(rt, reader) == 2);
     assert!(rt; decisions.decide(&second).is_ok());
-    let committed = matches!(coordinator.finish(rt, &decisions, second), Ending::Committed);
+    let committed = matches!(
+        coordinator.finish(rt, &decisions, second),
+        Ending::Committed
+    );
     assert!(rt; committed && prepared_count(rt, reader) == 1);
     let Ok(report) = coordinator.recover(rt, alloc, &mut decisions) else {
         panic!(rt; "not recovered")
@@ -173,7 +176,12 @@ fn works_stand_apart<S: Speak, R: Abort + Wait>(
     let Vote::OnePhase(prepared) = coordinator.prepare(rt, other) else {
         panic!(rt; "not in one phase")
     };
-    assert!(rt; matches!(coordinator.finish(rt, &decisions, prepared), Ending::Committed));
+    assert!(rt;
+        matches!(
+            coordinator.finish(rt, &decisions, prepared),
+            Ending::Committed
+        )
+    );
     assert!(rt; reads(rt, second, Some(b'v')));
 }
 

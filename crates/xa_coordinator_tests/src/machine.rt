@@ -100,15 +100,18 @@ fn agrees<S: Speak, R: Abort + Wait>(
     account: Account,
     decided: bool,
 ) -> bool {
-    let committed =
-        account.committed_by_stranger || (decided && !account.rolled_back_by_stranger);
+    let committed = account.committed_by_stranger || (decided && !account.rolled_back_by_stranger);
     let value = if committed { Some(b'v') } else { None };
     reads(rt, reader, value)
 }
 
 /// Whether the counts are those of the account.
 fn counts(report: &Report, decided: bool, prepared: u128, others: u128) -> bool {
-    let (committed, rolled_back) = if decided { (prepared, 0) } else { (0, prepared) };
+    let (committed, rolled_back) = if decided {
+        (prepared, 0)
+    } else {
+        (0, prepared)
+    };
     report.committed == committed
         && report.rolled_back == rolled_back.saturating_add(others)
         && report.missing == 0
@@ -129,7 +132,8 @@ fn combination<S: Speak, R: Abort + Wait>(
     first: Site<S>,
     second: Site<S>,
     third: Site<S>,
-) where
+)
+where
     S: Drop,
 {
     let Site {
@@ -154,8 +158,11 @@ fn combination<S: Speak, R: Abort + Wait>(
     let mut decisions = Decisions::new(alloc);
     let decided = drive(rt, &mut coordinator, &mut decisions, plan.decides);
     let (one, two, three) = stopped(rt, coordinator);
-    let ((one, _, at_0), (two, _, at_1), (three, _, at_2)) =
-        (one.into_parts(), two.into_parts(), three.into_parts());
+    let ((one, _, at_0), (two, _, at_1), (three, _, at_2)) = (
+        one.into_parts(),
+        two.into_parts(),
+        three.into_parts(),
+    );
     let every = at_0.was_prepared && at_1.was_prepared && at_2.was_prepared;
     assert!(rt; !decided || every, "decided and not prepared at {plan:?}");
     assert!(rt; decisions.is_decided(1) == decided);
@@ -164,7 +171,10 @@ fn combination<S: Speak, R: Abort + Wait>(
         Ok(report) => {
             let prepared = sum(at_0.prepared, at_1.prepared, at_2.prepared);
             let others = sum(at_0.another, at_1.another, at_2.another);
-            assert!(rt; counts(&report, decided, prepared, others), "counts at {plan:?}");
+            assert!(rt;
+                counts(&report, decided, prepared, others),
+                "counts at {plan:?}"
+            );
             let empty = has_none_prepared(rt, &mut reader_0)
                 && has_none_prepared(rt, &mut reader_1)
                 && has_none_prepared(rt, &mut reader_2);

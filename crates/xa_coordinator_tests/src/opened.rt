@@ -66,8 +66,7 @@ pub(crate) fn opened_for_three(
     let Ok((store, mut passes)) = Store::open(alloc, capacity, 3) else {
         panic!(rt; "not opened")
     };
-    let (Some(third), Some(second), Some(first)) = (passes.pop(), passes.pop(), passes.pop())
-    else {
+    let (Some(third), Some(second), Some(first)) = (passes.pop(), passes.pop(), passes.pop()) else {
         panic!(rt; "three passes")
     };
     (store, first, second, third)

@@ -16,7 +16,8 @@ fn forestalled_branch_is_missing<S: Speak, R: Abort + Wait>(
     alloc: Global,
     sessions: (S, S, S),
     strangers: (S, S, S),
-) where
+)
+where
     S: Drop,
 {
     let (first, second, third) = sessions;
@@ -76,7 +77,8 @@ fn outrun_recovery_is_told<S: Speak, R: Abort + Wait>(
     alloc: Global,
     sessions: (S, S, S),
     strangers: (S, S, S),
-) where
+)
+where
     S: Drop,
 {
     let (first, second, third) = sessions;

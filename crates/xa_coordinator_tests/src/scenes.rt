@@ -2,12 +2,12 @@
 ghost use Rattle.std.specs.Prelude.{◌≡◌, ◌≤◌, vec_len};
 
 use crate::acts::{begun, does, get, has_none_prepared, put, puts, reads, ready, text, works};
-use xa_coordinator::{
-    BeginFault, Cause, Coordinator, Decisions, Ending, Speak, Vote, WorkFault, xid_of_branch,
-};
 use std::alloc::Global;
 use std::process::Abort;
 use std::sync::Wait;
+use xa_coordinator::{
+    BeginFault, Cause, Coordinator, Decisions, Ending, Speak, Vote, WorkFault, xid_of_branch,
+};
 use xa_server::{Reply, XaError};
 use xa_session::Fault;
 use xa_xid::Statement;

@@ -86,7 +86,8 @@ fn stop_and_recover<S: Speak, R: Abort + Wait>(
     expected: Expected,
     sessions: (S, S, S),
     readers: (S, S, S),
-) where
+)
+where
     S: Drop,
 {
     let (first, second, third) = sessions;
@@ -108,8 +109,14 @@ fn stop_and_recover<S: Speak, R: Abort + Wait>(
         third.into_inner(),
     );
     let counts = (expected.committed, expected.rolled_back, 0);
-    assert!(rt; recovers(rt, alloc, &mut anew, &mut decisions, counts), "{stop:?}");
-    assert!(rt; recovers(rt, alloc, &mut anew, &mut decisions, (0, 0, 0)), "{stop:?} again");
+    assert!(rt;
+        recovers(rt, alloc, &mut anew, &mut decisions, counts),
+        "{stop:?}"
+    );
+    assert!(rt;
+        recovers(rt, alloc, &mut anew, &mut decisions, (0, 0, 0)),
+        "{stop:?} again"
+    );
     let (mut one, mut two, mut three) = readers;
     let read = reads(rt, &mut one, expected.value)
         && reads(rt, &mut two, expected.value)
@@ -215,7 +222,8 @@ fn failing_calls_are_told<S: Speak, R: Abort + Wait>(
     alloc: Global,
     sessions: (S, S, S),
     last: u64,
-) where
+)
+where
     S: Drop,
 {
     let (first, second, third) = sessions;
@@ -244,8 +252,7 @@ fn failing_calls_are_told<S: Speak, R: Abort + Wait>(
         Vote::Ready(prepared) => {
             assert!(rt; last == 4);
             assert!(rt; decisions.decide(&prepared).is_ok());
-            let Ending::Unfinished { store, cause } =
-                coordinator.finish(rt, &decisions, prepared)
+            let Ending::Unfinished { store, cause } = coordinator.finish(rt, &decisions, prepared)
             else {
                 panic!(rt; "finished")
             };
@@ -276,7 +283,8 @@ fn strangers_before_a_recovery<S: Speak, R: Abort + Wait>(
     alloc: Global,
     sessions: (S, S, S),
     strangers: (S, S, S),
-) where
+)
+where
     S: Drop,
 {
     let (first, second, third) = sessions;

@@ -9,7 +9,7 @@ use Rattle.clap.proofs.WalkLemmas.{one_text-rows}
 use Rattle.std.specs.Box.{box_value}
 use Rattle.xa_script.specs.CommandLine.{IsCapacityText, IsRaceOf, IsJob}
 use Rattle.xa_script.specs.declared.command.Job.{Job}
-use Rattle.xa_script.specs.declared.command.Job.TheVariants.{Run, Race}
+use Rattle.xa_script.specs.declared.command.Job.TheVariants.{Run, Race, Serve}
 
 map_first : {S A B : Type 0} (f : S → A) (g : S → B) (s : Option S) → option_map f s ≡ option_map (λ p. p.0) (let pairs : Option (A × B) = option_map (λ b. (f b, g b)) s in pairs)
 map_first f g None = refl
@@ -31,6 +31,7 @@ rows_are m name rows e f =
 races : (m found : ArgMatches) (name : Text) (job : Job) → subcommand_rows_of m ≡ Some (name, rows_of (found_of found)) → name ≡ codes "race" → IsRaceOf (one_text (found_of found) (codes "capacity")) job
     → IsSomeAnd (subcommand_rows_of m) (IsJob job)
 races m found name Run is race of = absurd of
+races m found name Serve is race of = absurd of
 races m found name (Race capacity) is race of =
     let P : Option (Text × List Row) → Type 0 = λ s. IsSomeAnd s (IsJob (Race capacity)) in
     let Q : Option Text → Type 0 = λ t. IsSomeAnd t (IsCapacityText capacity) in
@@ -44,6 +45,9 @@ pub no_race : (m found : ArgMatches) (name : Text) → subcommand_rows_of m ≡ 
     → ((capacity : ℕ) → IsSomeAnd (one_text (found_of found) (codes "capacity")) (IsCapacityText capacity) → ⊥) → (job : Job) → IsSomeAnd (subcommand_rows_of m) (IsJob job) → ⊥
 no_race m found name is race none Run h =
     let e : codes "race" ≡ codes "run" = sym race ∙ at_found m name (rows_of (found_of found)) Run is h in
+    absurd (omega (arith, ap length e))
+no_race m found name is race none Serve h =
+    let e : codes "race" ≡ codes "serve" = sym race ∙ at_found m name (rows_of (found_of found)) Serve is h in
     absurd (omega (arith, ap length e))
 no_race m found name is race none (Race capacity) h =
     let Q : Option Text → Type 0 = λ t. IsSomeAnd t (IsCapacityText capacity) in

@@ -12,7 +12,7 @@ use Rattle.clap.specs.declared.builder.value_parser.ValueParser.TheVariants as p
 use Rattle.clap.specs.declared.error.Error.{Error}
 use Rattle.decision_log.specs.Opens.{IsCapacity}
 use Rattle.xa_script.specs.declared.command.Job.{Job}
-use Rattle.xa_script.specs.declared.command.Job.TheVariants.{Run, Race}
+use Rattle.xa_script.specs.declared.command.Job.TheVariants.{Run, Race, Serve}
 
 -- `--capacity N`, a number from 1 to 1024, and 1024 where it isn't given
 abbrev pub capacity_rule : Rule
@@ -22,9 +22,9 @@ capacity_rule = record (new_rule (codes "capacity")) { long = Some (codes "capac
 abbrev pub race_app : App
 race_app = with_rule (new_app (codes "race")) capacity_rule
 
--- `xa_script run` and `xa_script race`: a subcommand is required
+-- `xa_script run`, `xa_script race` and `xa_script serve`: a subcommand is required
 abbrev pub script_app : App
-script_app = with_subcommand (on_top (λ shape. record shape { subcommand_required = true }) (with_subcommand (new_app (codes "xa_script")) (new_app (codes "run")).top)) race_app.top
+script_app = with_subcommand (with_subcommand (on_top (λ shape. record shape { subcommand_required = true }) (with_subcommand (new_app (codes "xa_script")) (new_app (codes "run")).top)) race_app.top) (new_app (codes "serve")).top
 
 -- the text of a value is this number, which a log can have as its capacity
 abbrev pub IsCapacityText : ℕ → Text → Type 0
@@ -34,10 +34,12 @@ IsCapacityText capacity text = IsNumeral 10 (without_leading_plus text) × (capa
 abbrev pub IsRaceOf : Option Text → Job → Type 0
 IsRaceOf text Run = ⊥
 IsRaceOf text (Race capacity) = IsSomeAnd text (IsCapacityText capacity)
+IsRaceOf text Serve = ⊥
 
 -- the job of a subcommand, with what `clap` found for its arguments
 abbrev pub IsJob : Job → Text × List Row → Type 0
 IsJob Run found = found.0 ≡ codes "run"
+IsJob Serve found = found.0 ≡ codes "serve"
 IsJob (Race capacity) found = (found.0 ≡ codes "race") × IsSomeAnd (one_of (codes "capacity") found.1) (IsCapacityText capacity)
 
 -- the words name this job, as `clap` matches them
@@ -53,3 +55,4 @@ ReadsCommand words answer = MatchResult answer (λ job. fault_of script_app word
 abbrev pub CanBeDone : Job → Type 0
 CanBeDone Run = Unit {0}
 CanBeDone (Race capacity) = IsCapacity capacity
+CanBeDone Serve = Unit {0}

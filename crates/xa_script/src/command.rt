@@ -16,6 +16,8 @@ pub enum Job {
     Run,
     /// Races the script of the standard input, over a log with room for so many entries, in `[1, 1024]`.
     Race(u64),
+    /// Answers each line of the standard input before it reads more.
+    Serve,
 }
 
 /// The option that says for how many entries a race's log has room.
@@ -39,11 +41,15 @@ fn script_command<'a>(alloc: Global) -> Result<Command<'a>, AllocError>
     let race = Command::new(alloc, "race")
         .about("Races the script of the standard input, each session on a thread of its own")
         .arg(capacity_option(alloc))?;
+    let serve = Command::new(alloc, "serve").about(
+        "Answers each line of the standard input before it reads more",
+    );
     Command::new(alloc, "xa_script")
         .about("Runs scripts of XA statements")
         .subcommand_required(true)
         .subcommand(run)?
-        .subcommand(race)
+        .subcommand(race)?
+        .subcommand(serve)
 }
 
 /// The capacity that was found for a race.
@@ -80,6 +86,8 @@ fn job_in(matches: &ArgMatches<'_>) -> Option<Job>
         Some(Job::Run)
     } else if name == "race" {
         race_in(found)
+    } else if name == "serve" {
+        Some(Job::Serve)
     } else {
         None
     }
@@ -122,6 +130,17 @@ mod tests {
             read_command(rt.alloc(), words.as_slice()).ok(),
             Some(Job::Run)
         );
+    }
+
+    #[test]
+    fn serve_is_a_job(rt: HostRuntime) {
+        let words = ["xa_script", "serve"];
+        assert_eq!(rt;
+            read_command(rt.alloc(), words.as_slice()).ok(),
+            Some(Job::Serve)
+        );
+        let words = ["xa_script", "serve", "now"];
+        assert_eq!(rt; refusal(rt.alloc(), words.as_slice()), Some(2));
     }
 
     #[test]

@@ -17,9 +17,10 @@ mod streams;
 #[cfg(test)]
 mod tests;
 
-pub use answer::answer_line;
+pub use answer::{answer_line, answer_statement};
 pub use cut_reader::CutReader;
 pub use cut_writer::CutWriter;
+pub use lines::{ScriptLine, read_line};
 pub use racing::race_script;
 pub use run::run_script;
 pub use script_fault::ScriptFault;

@@ -55,6 +55,8 @@ fn session_of(word: &[u8]) -> Option<SessionNo>
 }
 
 /// What a line of a script says.
+///
+/// Own rule: docs/BEHAVIOR.md, 'Scripts'.
 pub enum ScriptLine<'a> {
     /// Nothing: it has no answer.
     Blank,
@@ -94,6 +96,9 @@ fn split_word(text: &[u8]) -> (&[u8], &[u8])
 }
 
 /// What the line says.
+///
+/// The line is one of a script, without its line feed. Takes no memory. Doesn't wait.
+/// Own rule: docs/BEHAVIOR.md, 'Scripts'.
 pub fn read_line(line: &[u8]) -> ScriptLine<'_>
     ensures { line_seen result ≡ line_of line.now }
 {

@@ -1,9 +1,9 @@
 //! The steps at which seats are split and joined, and that of two passes which meet. They leave the counts.
-ghost use Rattle.std.specs.Prelude.{◌≡◌, ◌<◌, []};
-ghost use Rattle.atomic_table.specs.Table.{Allows, Splits, Joins};
-ghost use Rattle.decision_log.specs.Atomic.{Meets};
-ghost use Rattle.decision_log.specs.Seats.{hand, second, seated_two, left_of, right_of, both_of};
-ghost use Rattle.decision_log.specs.declared.view.View.TheVariants.{Spent};
+ghost use Rattle.std.specs.Prelude.{◌≡◌, ◌<◌, ◌≤◌, List, length};
+ghost use Rattle.xa_words.specs.Entry.{Entry};
+ghost use Rattle.decision_log.specs.AtTable.{KeepsSeats, KnowsOne, KnowsTwo, KnowsRest};
+ghost use Rattle.decision_log.specs.Observed.{met, MetAt};
+ghost use Rattle.decision_log.specs.Seats.{following, hand, second};
 
 use super::LogTable;
 use super::plays::Met;
@@ -12,45 +12,72 @@ use atomic_table::Seat;
 use xa_words::Entry;
 
 impl<R: LogWords> LogTable<R> {
-    /// Loads word 0 at a seat with two passes.
+    /// Splits a seat into itself and one that knows nothing.
     ///
     /// Takes no memory. Doesn't wait.
-    pub fn load_both(&self, seat: &mut Seat<Entry, View>) -> u64
-        requires table { seat.old.table_id ≡ self.now.inner.shared.table_id }
-        requires held { seat.old.me ≡ seated_two (hand seat.old) (second seat.old) }
-        requires word { 0 < self.now.inner.shared.table_id.words }
-        requires allowed { Allows (R.holds self.now.inner.shared.key) self.now.inner.shared.table_id.slots seat.old.id (seated_two (hand seat.old) (second seat.old)) 0 (λ n. n) (Meets R.newest (hand seat.old) (second seat.old)) }
-        ensures table { seat.new.table_id ≡ seat.old.table_id }
-        ensures told { Meets R.newest (hand seat.old) (second seat.old) result seat.new.me }
-    {
-        self.inner.shared.load::<Met<R>>(seat, 0)
-    }
-
-    /// Splits a seat as `Seating` says.
-    ///
-    /// Takes no memory. Doesn't wait.
-    pub fn split_seat(&self, seat: &mut Seat<Entry, View>) -> Seat<Entry, View>
-        requires table { seat.old.table_id ≡ self.now.inner.shared.table_id }
-        requires word { 0 < self.now.inner.shared.table_id.words }
-        requires allowed { Splits (R.holds self.now.inner.shared.key) seat.old.id seat.old.me.0 (left_of seat.old.me.0) (right_of seat.old.me.0) }
-        ensures tables { (seat.new.table_id ≡ seat.old.table_id) × (result.table_id ≡ seat.old.table_id) }
-        ensures left { seat.new.me ≡ (left_of seat.old.me.0, seat.old.me.1) }
-        ensures right { result.me ≡ (right_of seat.old.me.0, []) }
+    pub fn spare(&self, seat: &mut Seat<Entry, View>) -> Seat<Entry, View>
+        requires rule { KeepsSeats R.holds R.newest }
+        requires seat { KnowsOne self.now.inner.shared.table_id seat.old }
+        ensures seat { KnowsOne self.now.inner.shared.table_id seat.new }
+        ensures same { hand seat.new ≡ hand seat.old }
     {
         self.inner.shared.split_seat::<Seating>(seat)
     }
 
-    /// Joins another seat to a seat as `Seating` says.
+    /// Takes in the pass of another seat.
     ///
     /// Takes no memory. Doesn't wait.
-    pub fn join_seat(&self, seat: &mut Seat<Entry, View>, other: Seat<Entry, View>)
-        requires tables { (seat.old.table_id ≡ self.now.inner.shared.table_id) × (other.table_id ≡ self.now.inner.shared.table_id) }
-        requires word { 0 < self.now.inner.shared.table_id.words }
-        requires blank { other.me.1 ≡ [] }
-        requires allowed { Joins (R.holds self.now.inner.shared.key) seat.old.id seat.old.me.0 other.id other.me.0 (both_of seat.old.me.0 other.me.0) Spent }
-        ensures table { seat.new.table_id ≡ seat.old.table_id }
-        ensures both { seat.new.me ≡ (both_of seat.old.me.0 other.me.0, seat.old.me.1) }
+    pub fn join(&self, seat: &mut Seat<Entry, View>, other: Seat<Entry, View>)
+        requires rule { KeepsSeats R.holds R.newest }
+        requires seat { KnowsOne self.now.inner.shared.table_id seat.old }
+        requires other { KnowsOne self.now.inner.shared.table_id other }
+        ensures seat { KnowsTwo self.now.inner.shared.table_id seat.new }
+        ensures first { hand seat.new ≡ hand seat.old }
+        ensures second { second seat.new ≡ hand other }
     {
         self.inner.shared.join_seat::<Seating>(seat, other);
+    }
+
+    /// Loads word 0 at a seat with two passes: the second has then seen all that the first has.
+    ///
+    /// Takes no memory. Doesn't wait.
+    pub fn load_both(&self, seat: &mut Seat<Entry, View>) -> u64
+        requires rule { KeepsSeats R.holds R.newest }
+        requires seat { KnowsTwo self.now.inner.shared.table_id seat.old }
+        ensures seat { KnowsTwo self.now.inner.shared.table_id seat.new }
+        ensures first { hand seat.new ≡ hand seat.old }
+        ensures met { (seen : List Entry) × (second seat.new ≡ met (second seat.old) seen) × (length (second seat.old).known.seen < length (hand seat.old).known.seen → result ≡ R.newest (met (second seat.old) seen)) × MetAt (hand seat.old) (second seat.old) seen }
+    {
+        // Both passes have seen prefixes of one history, which only grew since.
+        self.inner.shared.load::<Met<R>>(seat, 0)
+    }
+
+    /// Splits a seat with two passes; the new seat has the second.
+    ///
+    /// Takes no memory. Doesn't wait.
+    pub fn split(&self, seat: &mut Seat<Entry, View>) -> Seat<Entry, View>
+        requires rule { KeepsSeats R.holds R.newest }
+        requires seat { KnowsTwo self.now.inner.shared.table_id seat.old }
+        ensures seat { KnowsOne self.now.inner.shared.table_id seat.new }
+        ensures first { hand seat.new ≡ hand seat.old }
+        ensures other { KnowsOne self.now.inner.shared.table_id result }
+        ensures second { hand result ≡ second seat.old }
+    {
+        self.inner.shared.split_seat::<Seating>(seat)
+    }
+
+    /// Issues the next pass.
+    ///
+    /// Takes no memory. Doesn't wait.
+    pub fn issue(&self, seat: &mut Seat<Entry, View>) -> Seat<Entry, View>
+        requires rule { KeepsSeats R.holds R.newest }
+        requires seat { KnowsRest self.now.inner.shared.table_id seat.old }
+        requires left { (hand seat.old).known.number ≤ (hand seat.old).sessions }
+        ensures seat { KnowsRest self.now.inner.shared.table_id seat.new }
+        ensures rest { hand seat.new ≡ following (hand seat.old) }
+        ensures pass { KnowsOne self.now.inner.shared.table_id result }
+        ensures given { hand result ≡ hand seat.old }
+    {
+        self.inner.shared.split_seat::<Seating>(seat)
     }
 }

@@ -61,11 +61,11 @@ impl DecisionLog for TurnLog {
     }
 
     fn meet(&self, first: &mut TurnPass, second: &mut TurnPass) {
-        let spare = self.spare(&mut first.seat);
+        let spare = self.table.spare(&mut first.seat);
         let other = std::mem::replace(&mut second.seat, spare);
-        self.join(&mut first.seat, other);
-        let count = self.load_both(&mut first.seat);
-        second.seat = self.split(&mut first.seat);
+        self.table.join(&mut first.seat, other);
+        let count = self.table.load_both(&mut first.seat);
+        second.seat = self.table.split(&mut first.seat);
         if second.front < first.front {
             second.front = count;
         }

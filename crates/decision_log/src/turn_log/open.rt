@@ -77,7 +77,7 @@ impl TurnLog {
     {
         let mut passes = Vec::with_capacity(alloc, self.sessions as usize)?;
         for index in 0..self.sessions {
-            let seat = self.deal(&mut rest);
+            let seat = self.table.issue(&mut rest);
             let number = SessionNo::of(index + 1).unwrap();
             passes.push(TurnPass {
                 seat,

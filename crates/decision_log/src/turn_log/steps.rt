@@ -1,4 +1,14 @@
 //! The steps of a log with a turn, one function each.
+//!
+//! All are sequentially consistent, and between two steps of a pass any other pass may step. By role:
+//!
+//! 1. Who looks loads the count (`load_count`). What the pass has seen stays a prefix of the history, which grows only at its end.
+//! 2. Who reads loads words of a row below the count (`load_word`). Such a row is never written again.
+//! 3. Who adds takes the turn (`take_turn`), loads the count, stores the words of the row at the count (`store_word`), stores the
+//!    count (`store_count`), and gives the turn back (`give_turn`). The count comes after the turn, so nobody can add between it
+//!    and the store of the count; that store comes after those of the words, so a row below the count is always whole.
+//! 4. Who meets joins two seats, loads the count there, and splits them (`LogTable::join`, `load_both`, `split`). Each pass has seen
+//!    a prefix of one history, so the longer begins with the shorter.
 ghost use Rattle.std.specs.Prelude.{◌≡◌, ◌≢◌, ◌<◌, ◌≤◌, ◌+◌, ℕ, List, length, slice_get, slice_index, Some};
 ghost use Rattle.xa_words.specs.Entry.{Entry, IsEntry};
 ghost use Rattle.xa_words.specs.Words.{words_of};
@@ -24,6 +34,7 @@ impl TurnLog {
         ensures seat { IsSeat self.now seat.new }
         ensures seen { (seen : List Entry) × (hand seat.new ≡ looked (hand seat.old) seen) × (result ≡ length seen) × HistoryIs (hand seat.old) seen }
     {
+        // Nothing was loaded before that this load rests on.
         self.table.load::<SeeAll>(seat, COUNT)
     }
 
@@ -35,6 +46,7 @@ impl TurnLog {
         ensures same { hand seat.new ≡ hand seat.old }
         ensures read { (place index : ℕ) (entry : Entry) → word ≡ row_at place + index → index < 21 → slice_get (hand seat.old).known.seen place ≡ Some entry → IsEntry entry × (result ≡ slice_index (words_of entry) index) }
     {
+        // The row was below the count when the count was loaded, and is so still: it has the same words.
         self.table.load::<ReadWord>(seat, word)
     }
 
@@ -46,6 +58,7 @@ impl TurnLog {
         ensures won { result ≡ 0 → hand seat.new ≡ tried (hand seat.old) Won }
         ensures lost { result ≢ 0 → hand seat.new ≡ tried (hand seat.old) Without }
     {
+        // Nothing was loaded before: the exchange itself tests whether the turn is free.
         self.table
             .compare_exchange::<TakeTurn>(seat, TURN, 0, number)
     }
@@ -60,6 +73,7 @@ impl TurnLog {
         ensures seat { IsSeat self.now seat.new }
         ensures stored { (index : ℕ) → word ≡ row_at (length (hand seat.old).known.seen) + index → hand seat.new ≡ drafted (hand seat.old) index new }
     {
+        // The count was loaded with the turn, so it is still the same, and nobody else stores in its row.
         self.table.store::<DraftWord>(seat, word, new)
     }
 
@@ -75,6 +89,7 @@ impl TurnLog {
         ensures added { hand seat.new ≡ published (hand seat.old) entry.now }
     {
         let _session = entry.session();
+        // The pass still has the turn, so the count is still what it has seen, and the row's words are its own.
         self.table.store::<Publish>(seat, COUNT, new)
     }
 
@@ -85,6 +100,7 @@ impl TurnLog {
         ensures seat { IsSeat self.now seat.new }
         ensures released { hand seat.new ≡ released (hand seat.old) }
     {
+        // The pass has the turn until this store: nobody else stores there while it isn't free.
         self.table.store::<Release>(seat, TURN, 0)
     }
 }

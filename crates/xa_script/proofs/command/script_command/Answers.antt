@@ -11,5 +11,7 @@ returns c =
     let race_is : app_of c.in_ok-race.race ≡ race_app = c.in_ok-race.ensures.shape c.capacity_option.ensures.global ∙ ap₂ with_rule race_base c.capacity_option.ensures.rule in
     let run_is : shape_of c.about-run.result ≡ (new_app (codes "run")).top = search rules in
     let top_is : app_of c.subcommand_required.result ≡ on_top (λ shape. record shape { subcommand_required = true }) (new_app (codes "xa_script")) = search rules in
+    let serve_is : shape_of c.about-serve.result ≡ (new_app (codes "serve")).top = search rules in
     let one = c.in_ok-subcommand.ensures.shape (search rules) ∙ ap₂ with_subcommand top_is run_is in
-    IfOk-weaker c.subcommand-2.result _ _ (λ command added. added.shape (search rules) ∙ ap₂ with_subcommand one (ap (λ (a : App). a.top) race_is)) c.subcommand-2.ensures
+    let two = c.in_ok-subcommand-2.ensures.shape (search rules) ∙ ap₂ with_subcommand one (ap (λ (a : App). a.top) race_is) in
+    IfOk-weaker c.subcommand-3.result _ _ (λ command added. added.shape (search rules) ∙ ap₂ with_subcommand two serve_is) c.subcommand-3.ensures

@@ -3,8 +3,11 @@ use Rattle.std.proofs.lemmas.List.{get_or-replicate}
 use Rattle.decision_log.proofs.TurnSeats.{at_opening}
 use Rattle.decision_log.proofs.turn_log.TurnLog.lay_out.Goals as goal
 
-pub of_words-requires : goal.of_words-requires
-of_words-requires c =
+pub of_words-requires-clause-some : goal.of_words-requires-clause-some
+of_words-requires-clause-some c = omega (arith, c.deref.ensures.len, c.in_ok-words.ensures.len)
+
+pub of_words-requires-clause-rule : goal.of_words-requires-clause-rule
+of_words-requires-clause-rule c =
     let zeros : c.in_ok-words.words.items ≡ replicate (2 + c.args.capacity * 21) 0 = c.in_ok-words.ensures.items_if_clones_equal (λ y is. is) in
     let items : c.deref.result.now ≡ replicate (2 + c.args.capacity * 21) 0 = c.deref.ensures.value ∙ zeros in
     at_opening (record { sessions = c.args.sessions; capacity = c.args.capacity }) c.deref.result.now

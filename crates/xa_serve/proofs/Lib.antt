@@ -1,0 +1,4 @@
+pub mod Cut
+pub mod Under
+pub mod Peers
+pub mod Told

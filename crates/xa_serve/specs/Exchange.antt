@@ -1,0 +1,57 @@
+-- What has passed between a server and its peer.
+--     Exchange        what was heard, and what was said
+--     IsFresh         nothing has passed yet
+--     Hears           what a read does to it
+--     Tells, Flushes  what a write and a flush do to it
+--     Keeps           nothing passes
+-- A peer that doesn't say what has passed is promised nothing; one that doesn't say it now won't say it later.
+use Rattle.std.specs.Prelude.{◌≡◌, ℕ, ◌==◌, cond, Option, Some, None, Result, MatchResult, List, [], ◌++◌, take, ⊤}
+use Rattle.xa_serve.specs.declared.stage.Stage.{Stage}
+use Rattle.xa_serve.specs.declared.stage.Stage.TheVariants.{Open, Ended, Deaf}
+
+-- what has passed
+pub record Exchange : Type 0 where
+  -- what was heard
+  pub heard : List ℕ
+  -- what was given to be said
+  pub given : List ℕ
+  -- as much of it as was surely said: what was given before the last flush
+  pub told : List ℕ
+  -- whether more may be heard
+  pub stage : Stage
+
+abbrev pub IsFresh : Exchange → Type 0
+IsFresh exchange = (exchange.heard ≡ []) × (exchange.given ≡ []) × (exchange.told ≡ []) × (exchange.stage ≡ Open)
+
+-- n bytes were heard; none only at the end
+abbrev pub with_heard : Exchange → ℕ → List ℕ → Exchange
+with_heard exchange n piece = record exchange { heard = exchange.heard ++ take n piece; stage = cond (n == 0) Ended Open }
+
+-- a read adds what it gives to what was heard, or else the peer is deaf from then on
+abbrev pub Hears : {E : Type 0} → Option Exchange → Option Exchange → Result ℕ E → List ℕ → Type 0
+Hears None None result piece = ⊤
+Hears None (Some new) result piece = ⊥
+Hears (Some old) None result piece = ⊥
+Hears (Some old) (Some new) result piece = MatchResult result (λ n. new ≡ with_heard old n piece) (λ _. new ≡ record old { stage = Deaf })
+
+-- a write adds all of the text to what is given, or at a fault a prefix of it
+abbrev pub Tells : {A E : Type 0} → Option Exchange → Option Exchange → Result A E → List ℕ → Type 0
+Tells None None result text = ⊤
+Tells None (Some new) result text = ⊥
+Tells (Some old) None result text = ⊥
+Tells (Some old) (Some new) result text =
+    MatchResult result (λ _. new ≡ record old { given = old.given ++ text }) (λ _. (n : ℕ) × (new ≡ record old { given = old.given ++ take n text }))
+
+-- a flush says all that was given; at a fault it isn't known how much
+abbrev pub Flushes : {A E : Type 0} → Option Exchange → Option Exchange → Result A E → Type 0
+Flushes None None result = ⊤
+Flushes None (Some new) result = ⊥
+Flushes (Some old) None result = ⊥
+Flushes (Some old) (Some new) result = MatchResult result (λ _. new ≡ record old { told = old.given }) (λ _. (told : List ℕ) × (new ≡ record old { told = told }))
+
+-- nothing passes
+abbrev pub Keeps : Option Exchange → Option Exchange → Type 0
+Keeps None None = ⊤
+Keeps None (Some new) = ⊥
+Keeps (Some old) None = ⊥
+Keeps (Some old) (Some new) = new ≡ old

@@ -1,0 +1,7 @@
+pub mod Heard
+pub mod Answer
+pub mod Exchange
+pub mod Served
+pub mod UnderWay
+pub mod Statements
+pub mod Recorded

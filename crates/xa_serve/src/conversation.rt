@@ -1,0 +1,136 @@
+//! Answers a peer, line by line.
+ghost use Rattle.std.specs.Prelude.{◌≡◌, ◌≤◌, ◌∷◌, [], ℕ, List, IfErr, IfSome, OnOk, OnErr};
+ghost use Rattle.xa_serve.specs.Answer.{bytes_of};
+ghost use Rattle.xa_serve.specs.Heard.{held_by, Whole};
+ghost use Rattle.xa_serve.specs.Exchange.{Exchange, IsFresh, Tells, Flushes};
+ghost use Rattle.xa_serve.specs.Served.{IsServed, IsBegunAnswer, AfterFault};
+ghost use Rattle.xa_serve.specs.declared.stage.Stage.{Stage};
+ghost use Rattle.xa_serve.specs.UnderWay.{UnderWay, IsAllAnswered};
+
+use crate::begun_line::BegunLine;
+use crate::{LineServer, Peer};
+use std::alloc::Global;
+use xa_transcript::ScriptFault;
+
+/// Says all that was given to the peer.
+fn flush<S: LineServer, P: Peer<S>>(peer: &mut P) -> Result<(), ScriptFault>
+    ensures flushed { Flushes (P.exchange peer.old) (P.exchange peer.new) result }
+    ensures fault { IfErr result (λ fault. fault ≡ ScriptFault.Write) }
+{
+    match peer.flush() {
+        Ok(()) => Ok(()),
+        Err(_) => Err(ScriptFault::Write),
+    }
+}
+
+/// Answers the line that has come, and begins the next.
+fn answer_begun<S: LineServer, P: Peer<S>>(
+    alloc: Global,
+    server: &mut S,
+    peer: &mut P,
+    line: &mut BegunLine,
+) -> Result<(), ScriptFault>
+    ensures answer { (answer : List ℕ) × S.answers server.old (held_by line.old) answer server.new × Tells (P.exchange peer.old) (P.exchange peer.new) result answer }
+    ensures next { held_by line.new ≡ Whole [] }
+    ensures fault { IfErr result (λ fault. fault ≡ ScriptFault.Write) }
+{
+    let answer = line.answer(alloc, server);
+    line.clear();
+    match peer.tell(answer.as_slice()) {
+        Ok(()) => Ok(()),
+        Err(_) => Err(ScriptFault::Write),
+    }
+}
+
+/// Takes a byte of what was heard: a line feed ends the line that has come, and has it answered.
+fn take_byte<S: LineServer, P: Peer<S>>(
+    alloc: Global,
+    server: &mut S,
+    peer: &mut P,
+    line: &mut BegunLine,
+    byte: u8,
+) -> Result<(), ScriptFault>
+    ensures ok { OnOk result ((reads : ℕ) (waiting : List ℕ) → UnderWay S.begins S.answers Stage.Open reads (P.exchange peer.old) (byte ∷ waiting) (held_by line.old) server.old → UnderWay S.begins S.answers Stage.Open reads (P.exchange peer.new) waiting (held_by line.new) server.new) }
+    ensures err { OnErr result ((reads : ℕ) (waiting : List ℕ) → UnderWay S.begins S.answers Stage.Open reads (P.exchange peer.old) (byte ∷ waiting) (held_by line.old) server.old → IfSome (P.exchange peer.new) (λ exchange. IsBegunAnswer S.begins S.answers exchange.heard exchange.given)) }
+    ensures fault { IfErr result (λ fault. fault ≡ ScriptFault.Write) }
+{
+    if byte == b'\n' {
+        answer_begun(alloc, server, peer, line)
+    } else {
+        line.put(byte);
+        Ok(())
+    }
+}
+
+/// Takes a piece of what was heard, and answers each line that ends in it.
+fn take_piece<S: LineServer, P: Peer<S>>(
+    alloc: Global,
+    server: &mut S,
+    peer: &mut P,
+    line: &mut BegunLine,
+    piece: &[u8],
+) -> Result<(), ScriptFault>
+    ensures ok { OnOk result ((reads : ℕ) → UnderWay S.begins S.answers Stage.Open reads (P.exchange peer.old) piece.now (held_by line.old) server.old → UnderWay S.begins S.answers Stage.Open reads (P.exchange peer.new) [] (held_by line.new) server.new) }
+    ensures err { OnErr result ((reads : ℕ) → UnderWay S.begins S.answers Stage.Open reads (P.exchange peer.old) piece.now (held_by line.old) server.old → IfSome (P.exchange peer.new) (λ exchange. IsBegunAnswer S.begins S.answers exchange.heard exchange.given)) }
+    ensures fault { IfErr result (λ fault. fault ≡ ScriptFault.Write) }
+{
+    for byte in piece {
+        take_byte(alloc, server, peer, line, *byte)?;
+    }
+    Ok(())
+}
+
+/// Answers the last line, where it has no line feed, when nothing more is to be heard.
+fn answer_last<S: LineServer, P: Peer<S>>(
+    alloc: Global,
+    server: &mut S,
+    peer: &mut P,
+    line: &mut BegunLine,
+) -> Result<(), ScriptFault>
+    ensures ok { OnOk result ((reads : ℕ) → UnderWay S.begins S.answers Stage.Ended reads (P.exchange peer.old) [] (held_by line.old) server.old → IfSome (P.exchange peer.new) (IsAllAnswered S.begins S.answers)) }
+    ensures err { OnErr result ((reads : ℕ) → UnderWay S.begins S.answers Stage.Ended reads (P.exchange peer.old) [] (held_by line.old) server.old → IfSome (P.exchange peer.new) (λ exchange. IsBegunAnswer S.begins S.answers exchange.heard exchange.given)) }
+    ensures fault { IfErr result (λ fault. fault ≡ ScriptFault.Write) }
+{
+    if line.is_empty() {
+        return Ok(());
+    }
+    answer_begun(alloc, server, peer, line)
+}
+
+/// Serves a peer to its end: hears a piece, answers each line that ends in it, flushes the answers, and only then hears more.
+///
+/// The server answers lines as they come, of any number; a line has at most 65,536 bytes without its line feed, and of a longer
+/// one no more is kept. Any fault of a read or a write, whatever its kind, ends it at once.
+/// Errors: `NoMemory` where the memory for a line was refused, before anything was heard; `Read` where a read failed, or after
+/// 2 ^ 64 - 1 reads; `Write` where a write or a flush failed. After `Read` all whole lines are answered; after `Write` a prefix
+/// of the answers was given.
+/// Takes memory for a line, once, and what the server's answers take. Doesn't wait, unless the peer does.
+/// Own rule: docs/BEHAVIOR.md, 'Serving'.
+pub fn serve<S: LineServer, P: Peer<S>>(
+    alloc: Global,
+    server: &mut S,
+    peer: &mut P,
+) -> Result<(), ScriptFault>
+    requires begins { S.begins server.old }
+    requires fresh { IfSome (P.exchange peer.old) IsFresh }
+    ensures ok { OnOk result (IfSome (P.exchange peer.new) (IsServed S.begins S.answers)) }
+    ensures fault { IfErr result (λ fault. IfSome (P.exchange peer.new) (AfterFault S.begins S.answers fault)) }
+{
+    let Ok(mut line) = BegunLine::new(alloc) else {
+        return Err(ScriptFault::NoMemory);
+    };
+    let mut piece = [0u8; 4096];
+    for _read in 0..u64::MAX {
+        let count = match peer.hear(&mut piece) {
+            Ok(count) => count,
+            Err(_) => return Err(ScriptFault::Read),
+        };
+        if count == 0 {
+            answer_last(alloc, server, peer, &mut line)?;
+            return flush(peer);
+        }
+        take_piece(alloc, server, peer, &mut line, &piece[..count])?;
+        flush(peer)?;
+    }
+    Err(ScriptFault::Read)
+}
