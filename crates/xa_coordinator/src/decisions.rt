@@ -56,6 +56,15 @@ impl Decisions {
         }
     }
 
+    /// How the numbers 1, 2, .. stand that were given.
+    ///
+    /// Takes no memory. Doesn't wait.
+    pub fn as_slice(&self) -> &[Standing]
+        ensures { result.now ≡ self.now }
+    {
+        self.standings.as_slice()
+    }
+
     /// How a number stands, where it was given.
     #[tactic(auto, unfolding(crate::specs::Decisions::standing_of))]
     fn standing(&self, number: u64) -> Option<Standing>

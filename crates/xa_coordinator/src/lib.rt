@@ -11,6 +11,7 @@ mod decisions;
 mod ending;
 mod finish;
 mod fused;
+mod fusing;
 mod listing;
 mod named;
 mod open_branch;

@@ -1,18 +1,21 @@
 -- The command line of the program.
 --     script_app      the command and its subcommands
+--     IsLocal         a command none of whose options is global
 --     IsJob           the job of a subcommand
 --     Names           the job that the words of a command line name
 --     ReadsCommand    when a command line is read, and why not
-use Rattle.std.specs.Prelude.{◌≡◌, ◌⊎◌, ℕ, true, Option, Some, Result, MatchResult, List, [], ◌∷◌, codes}
+use Rattle.std.specs.Prelude.{◌≡◌, ◌≤◌, ◌⊎◌, ℕ, true, false, Option, Some, Result, MatchResult, List, [], ◌∷◌, codes}
 use Rattle.std.specs.Option.{IsSomeAnd}
 use Rattle.std.specs.Str.Parse.{IsNumeral, digits_value, without_leading_plus}
 use Rattle.clap.specs.Words.{App, Text, Row, Rule, new_app, new_rule, one_of, subcommand_of, with_rule, with_subcommand, fault_of, HasKind}
 use Rattle.clap.specs.Simple.{on_top}
 use Rattle.clap.specs.declared.builder.value_parser.ValueParser.TheVariants as parser
+use Rattle.clap.specs.declared.builder.command.Command.{Command}
+use Rattle.clap.specs.declared.builder.command.Command.TheViews.{out-Command}
 use Rattle.clap.specs.declared.error.Error.{Error}
 use Rattle.decision_log.specs.Opens.{IsCapacity}
 use Rattle.xa_script.specs.declared.command.Job.{Job}
-use Rattle.xa_script.specs.declared.command.Job.TheVariants.{Run, Race, Serve}
+use Rattle.xa_script.specs.declared.command.Job.TheVariants.{Run, Race, Coordinate, Serve}
 
 -- `--capacity N`, a number from 1 to 1024, and 1024 where it isn't given
 abbrev pub capacity_rule : Rule
@@ -22,25 +25,57 @@ capacity_rule = record (new_rule (codes "capacity")) { long = Some (codes "capac
 abbrev pub race_app : App
 race_app = with_rule (new_app (codes "race")) capacity_rule
 
--- `xa_script run`, `xa_script race` and `xa_script serve`: a subcommand is required
+-- `--stores N`, a number from 1 to 16, and 3 where it isn't given
+abbrev pub stores_rule : Rule
+stores_rule = record (new_rule (codes "stores")) { long = Some (codes "stores"); value_names = 1; parser = Some (parser.Unsigned 1 16); defaults = codes "3" ∷ [] }
+
+-- `coordinate [--stores N] [--capacity C]`
+abbrev pub coordinate_app : App
+coordinate_app = with_rule (with_rule (new_app (codes "coordinate")) stores_rule) capacity_rule
+
+-- no option of the command is one of its subcommands too
+abbrev pub IsLocal : Command → Type 0
+IsLocal command = (out-Command command).has_globals ≡ false
+
+-- `xa_script run`, `race`, `coordinate` and `serve`: a subcommand is required
 abbrev pub script_app : App
-script_app = with_subcommand (with_subcommand (on_top (λ shape. record shape { subcommand_required = true }) (with_subcommand (new_app (codes "xa_script")) (new_app (codes "run")).top)) race_app.top) (new_app (codes "serve")).top
+script_app =
+    with_subcommand (with_subcommand (with_subcommand (on_top (λ shape. record shape { subcommand_required = true }) (with_subcommand (new_app (codes "xa_script")) (new_app (codes "run")).top)) race_app.top)
+    coordinate_app.top) (new_app (codes "serve")).top
 
 -- the text of a value is this number, which a log can have as its capacity
 abbrev pub IsCapacityText : ℕ → Text → Type 0
 IsCapacityText capacity text = IsNumeral 10 (without_leading_plus text) × (capacity ≡ digits_value 10 (without_leading_plus text)) × IsCapacity capacity
 
+-- from 1 to 16 stores (own rule)
+abbrev pub IsStoreCount : ℕ → Type 0
+IsStoreCount stores = (1 ≤ stores) × (stores ≤ 16)
+
+-- the text of a value is this number, from 1 to 16
+abbrev pub IsStoresText : ℕ → Text → Type 0
+IsStoresText stores text = IsNumeral 10 (without_leading_plus text) × (stores ≡ digits_value 10 (without_leading_plus text)) × IsStoreCount stores
+
 -- the job is a race of the capacity that a value's text is
 abbrev pub IsRaceOf : Option Text → Job → Type 0
 IsRaceOf text Run = ⊥
 IsRaceOf text (Race capacity) = IsSomeAnd text (IsCapacityText capacity)
+IsRaceOf text (Coordinate stores capacity) = ⊥
 IsRaceOf text Serve = ⊥
+
+-- the job is of calls over as many stores, with as much room in each, as two values' texts are
+abbrev pub IsCoordinateOf : (stores capacity : Option Text) → Job → Type 0
+IsCoordinateOf stores capacity Run = ⊥
+IsCoordinateOf stores capacity Serve = ⊥
+IsCoordinateOf stores capacity (Race room) = ⊥
+IsCoordinateOf stores capacity (Coordinate count room) = IsSomeAnd stores (IsStoresText count) × IsSomeAnd capacity (IsCapacityText room)
 
 -- the job of a subcommand, with what `clap` found for its arguments
 abbrev pub IsJob : Job → Text × List Row → Type 0
 IsJob Run found = found.0 ≡ codes "run"
 IsJob Serve found = found.0 ≡ codes "serve"
 IsJob (Race capacity) found = (found.0 ≡ codes "race") × IsSomeAnd (one_of (codes "capacity") found.1) (IsCapacityText capacity)
+IsJob (Coordinate stores capacity) found =
+    (found.0 ≡ codes "coordinate") × IsCoordinateOf (one_of (codes "stores") found.1) (one_of (codes "capacity") found.1) (Coordinate stores capacity)
 
 -- the words name this job, as `clap` matches them
 abbrev pub Names : List Text → Job → Type 0
@@ -51,8 +86,9 @@ Names words job = IsSomeAnd (subcommand_of script_app words) (IsJob job)
 abbrev pub ReadsCommand : List Text → Result Job Error → Type 0
 ReadsCommand words answer = MatchResult answer (λ job. fault_of script_app words ≡ []) (λ error. HasKind (fault_of script_app words) error ⊎ ((job : Job) → Names words job → ⊥))
 
--- a race has a capacity that a log can have
+-- a log can have the capacity, and there are 1 to 16 stores
 abbrev pub CanBeDone : Job → Type 0
 CanBeDone Run = Unit {0}
 CanBeDone (Race capacity) = IsCapacity capacity
+CanBeDone (Coordinate stores capacity) = IsStoreCount stores × IsCapacity capacity
 CanBeDone Serve = Unit {0}

@@ -2,7 +2,7 @@
 ghost use Rattle.std.specs.Prelude.{◌≡◌, ◌≤◌, ℕ, Some, None, IfOk, IfSome, false, map, codes};
 ghost use Rattle.std.specs.Option.{IsSomeAnd};
 ghost use Rattle.clap.specs.Words.{app_of, found_of, one_text, rule_of, subcommand_rows_of};
-ghost use Rattle.xa_script.specs.CommandLine.{capacity_rule, script_app, IsCapacityText, IsRaceOf, IsJob, Names, CanBeDone, ReadsCommand};
+ghost use Rattle.xa_script.specs.CommandLine.{coordinate_app, IsLocal, capacity_rule, stores_rule, script_app, IsCapacityText, IsStoresText, IsRaceOf, IsCoordinateOf, IsJob, Names, CanBeDone, ReadsCommand};
 
 use clap::error::ErrorKind;
 use clap::{Arg, ArgMatches, Command, Error, value_parser};
@@ -16,9 +16,31 @@ pub enum Job {
     Run,
     /// Races the script of the standard input, over a log with room for so many entries, in `[1, 1024]`.
     Race(u64),
+    /// Carries the calls of the standard input out over stores of its own.
+    Coordinate {
+        /// How many stores, in `[1, 16]`.
+        stores: u64,
+        /// How many entries each has room for, in `[1, 1024]`.
+        capacity: u64,
+    },
     /// Answers each line of the standard input before it reads more.
     Serve,
 }
+
+/// The calls that `coordinate` reads, as its help shows them.
+const CALLS: &str = "Calls, one a line; n is a transaction from 1 on, k a store from 0 on:
+  BEGIN                    begins a transaction
+  WORK n k STATEMENT       gives GET, PUT or DEL of the transaction to the store
+  PREPARE n                has the stores of the transaction vote
+  DECIDE n                 decides that the transaction commits
+  FINISH n                 commits what is decided or in one phase, and rolls back the rest
+  ABANDON n                rolls back a transaction that wasn't voted on
+  FAIL k AFTER j           the coordinator's session in the store answers j more calls, and then out of memory
+  STOP                     a new coordinator takes the place of the old one
+  RECOVER                  the coordinator finishes what was left prepared
+  AT k STATEMENT           gives the statement of a stranger to the store
+  SHOW                     shows what is prepared in each store, and the decisions
+Blank lines, and lines that begin with #, have no answer.";
 
 /// The option that says for how many entries a race's log has room.
 fn capacity_option<'a>(alloc: Global) -> Arg<'a>
@@ -31,6 +53,33 @@ fn capacity_option<'a>(alloc: Global) -> Arg<'a>
         .help("How many entries the history has room for")
         .value_parser(value_parser!(u64).range(1..=1024))
         .default_value("1024")
+}
+
+/// The option that says how many stores there are.
+fn stores_option<'a>(alloc: Global) -> Arg<'a>
+    ensures rule { rule_of result ≡ stores_rule }
+    ensures global { result.global ≡ false }
+{
+    Arg::new(alloc, "stores")
+        .long("stores")
+        .value_name("N")
+        .help("How many stores there are")
+        .value_parser(value_parser!(u64).range(1..=16))
+        .default_value("3")
+}
+
+/// The subcommand that carries calls out.
+fn coordinate_command<'a>(alloc: Global) -> Result<Command<'a>, AllocError>
+    ensures app { IfOk result (λ command. app_of command ≡ coordinate_app) }
+    ensures local { IfOk result IsLocal }
+{
+    Command::new(alloc, "coordinate")
+        .about(
+            "Carries the calls of the standard input out, by a coordinator over stores of its own",
+        )
+        .after_help(CALLS)
+        .arg(stores_option(alloc))?
+        .arg(capacity_option(alloc))
 }
 
 /// The command and its subcommands.
@@ -49,6 +98,7 @@ fn script_command<'a>(alloc: Global) -> Result<Command<'a>, AllocError>
         .subcommand_required(true)
         .subcommand(run)?
         .subcommand(race)?
+        .subcommand(coordinate_command(alloc)?)?
         .subcommand(serve)
 }
 
@@ -74,6 +124,28 @@ fn race_in(found: &ArgMatches<'_>) -> Option<Job>
     }
 }
 
+/// The number of stores that was found.
+fn stores_in(found: &ArgMatches<'_>) -> Option<u64>
+    ensures some { IfSome result (λ stores. IsSomeAnd (one_text (found_of found.now) (codes "stores")) (IsStoresText stores)) }
+    ensures none { result ≡ None → (stores : ℕ) → IsSomeAnd (one_text (found_of found.now) (codes "stores")) (IsStoresText stores) → ⊥ }
+{
+    match found.get_one::<u64>("stores") {
+        Some(stores) if 1 <= stores && stores <= 16 => Some(stores),
+        _ => None,
+    }
+}
+
+/// The calls over so many stores that were found.
+fn coordinate_in(found: &ArgMatches<'_>) -> Option<Job>
+    ensures some { IfSome result (λ job. IsCoordinateOf (one_text (found_of found.now) (codes "stores")) (one_text (found_of found.now) (codes "capacity")) job) }
+    ensures none { result ≡ None → (job : Job) → IsCoordinateOf (one_text (found_of found.now) (codes "stores")) (one_text (found_of found.now) (codes "capacity")) job → ⊥ }
+{
+    match (stores_in(found), capacity_in(found)) {
+        (Some(stores), Some(capacity)) => Some(Job::Coordinate { stores, capacity }),
+        _ => None,
+    }
+}
+
 /// The job of the subcommand that was found.
 fn job_in(matches: &ArgMatches<'_>) -> Option<Job>
     ensures some { IfSome result (λ job. IsSomeAnd (subcommand_rows_of matches.now) (IsJob job)) }
@@ -86,6 +158,8 @@ fn job_in(matches: &ArgMatches<'_>) -> Option<Job>
         Some(Job::Run)
     } else if name == "race" {
         race_in(found)
+    } else if name == "coordinate" {
+        coordinate_in(found)
     } else if name == "serve" {
         Some(Job::Serve)
     } else {
@@ -95,7 +169,7 @@ fn job_in(matches: &ArgMatches<'_>) -> Option<Job>
 
 /// The job that the words of a command line name. The first word is the program's own name.
 ///
-/// A race's capacity is in `[1, 1024]`, and 1024 where the words don't give it.
+/// A capacity is in `[1, 1024]`, and 1024 where the words don't give it; a number of stores in `[1, 16]`, and 3.
 /// Errors: what `clap` says of words that name no job, or that ask for help; want of memory is one of its kinds.
 /// May answer that memory ran out. Doesn't wait.
 /// Own rule: docs/BEHAVIOR.md, 'The program'.
@@ -170,6 +244,49 @@ mod tests {
     }
 
     #[test]
+    fn coordinate_is_a_job_with_stores_and_a_capacity(rt: HostRuntime) {
+        let words = ["xa_script", "coordinate"];
+        assert_eq!(rt;
+            read_command(rt.alloc(), words.as_slice()).ok(),
+            Some(Job::Coordinate {
+                stores: 3,
+                capacity: 1024
+            })
+        );
+        for (text, stores) in [("1", 1), ("7", 7), ("16", 16)] {
+            let words = [
+                "xa_script",
+                "coordinate",
+                "--capacity",
+                "9",
+                "--stores",
+                text,
+            ];
+            assert_eq!(rt;
+                read_command(rt.alloc(), words.as_slice()).ok(),
+                Some(Job::Coordinate {
+                    stores,
+                    capacity: 9
+                })
+            );
+        }
+    }
+
+    #[test]
+    fn stores_are_from_1_to_16(rt: HostRuntime) {
+        for text in ["0", "17", "-1", "all", ""] {
+            let words = ["xa_script", "coordinate", "--stores", text];
+            assert_eq!(rt; refusal(rt.alloc(), words.as_slice()), Some(2));
+        }
+        for text in ["0", "1025"] {
+            let words = ["xa_script", "coordinate", "--capacity", text];
+            assert_eq!(rt; refusal(rt.alloc(), words.as_slice()), Some(2));
+        }
+        let words = ["xa_script", "race", "--stores", "3"];
+        assert_eq!(rt; refusal(rt.alloc(), words.as_slice()), Some(2));
+    }
+
+    #[test]
     fn other_words_are_refused(rt: HostRuntime) {
         assert_eq!(rt; refusal(rt.alloc(), ["xa_script"].as_slice()), Some(2));
         assert_eq!(rt;
@@ -194,6 +311,10 @@ mod tests {
         );
         assert_eq!(rt;
             refusal(rt.alloc(), ["xa_script", "race", "--help"].as_slice()),
+            Some(0)
+        );
+        assert_eq!(rt;
+            refusal(rt.alloc(), ["xa_script", "coordinate", "--help"].as_slice()),
             Some(0)
         );
     }

@@ -1,5 +1,6 @@
 //! Runs scripts of XA statements: `xa_script run` reads a script from the standard input, and writes what answers it;
 //! `xa_script race` gives each session's statements to a thread of its own, and writes the history that explains the answers;
+//! `xa_script coordinate` carries the calls of a transaction manager out, over stores of its own.
 //! `xa_script serve` answers each line of the standard input before it reads more.
 #![tactic(auto)]
 
@@ -19,6 +20,7 @@ use std::process::ExitCode;
 use std::sync::Wait;
 use std::thread::Threads;
 use std::{env, io};
+use xa_manager::coordinate;
 use xa_serve::{Wire, serve_statements};
 use xa_store::OpenGate;
 pub use xa_transcript::{CutReader, CutWriter, ScriptFault, race_script, run_script};
@@ -74,7 +76,7 @@ fn refuse_words<R: Eprint>(rt: &R, error: &io::Error) -> u8 {
     COMMAND_FAULT
 }
 
-/// Runs or races the script of the standard input, or serves whoever speaks there.
+/// Runs or races the script of the standard input, carries its calls out, or serves whoever speaks there.
 fn carry_out<R: Input + Print + Alloc<A = Global> + Threads + Wait + Sync>(
     rt: &R,
     job: Job,
@@ -91,6 +93,14 @@ fn carry_out<R: Input + Print + Alloc<A = Global> + Threads + Wait + Sync>(
             let gate = OpenGate;
             race_script(rt, rt.alloc(), &mut input, &mut output, capacity, &gate)
         }
+        Job::Coordinate { stores, capacity } => coordinate(
+            rt,
+            rt.alloc(),
+            &mut input,
+            &mut output,
+            stores,
+            capacity,
+        ),
         Job::Serve => return serve_statements(rt.alloc(), &mut Wire::new(input, output)),
     };
     if output.flush().is_err() {

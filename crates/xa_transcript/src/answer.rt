@@ -16,7 +16,10 @@ use xa_statement::read_statement;
 use xa_xid::{NoMemory, SessionNo, Statement};
 
 /// Whether recovered identifiers are to be printed in digits.
-pub(crate) fn converts(statement: &Statement) -> bool
+///
+/// Takes no memory. Doesn't wait.
+/// Own rule: docs/BEHAVIOR.md, 'Scripts'.
+pub fn converts(statement: &Statement) -> bool
     ensures { result ≡ converts_of statement.now }
 {
     match statement {

@@ -17,11 +17,12 @@ mod streams;
 #[cfg(test)]
 mod tests;
 
-pub use answer::{answer_line, answer_statement};
+pub use answer::{answer_line, answer_statement, converts};
 pub use cut_reader::CutReader;
 pub use cut_writer::CutWriter;
-pub use lines::{ScriptLine, read_line};
+pub use lines::{ScriptLine, read_line, skip_blanks, split_line, split_word};
+pub use print::{push_number, push_reply, push_syntax_fault};
 pub use racing::race_script;
 pub use run::run_script;
 pub use script_fault::ScriptFault;
-pub use streams::script_limits;
+pub use streams::{read_all, script_limits, write_whole};

@@ -67,6 +67,9 @@ pub enum ScriptLine<'a> {
 }
 
 /// The text without the blanks at its beginning.
+///
+/// Takes no memory. Doesn't wait.
+/// Own rule: docs/BEHAVIOR.md, 'Scripts'.
 pub fn skip_blanks(text: &[u8]) -> &[u8]
     ensures value { result.now ≡ without_blanks text.now }
     ensures within { length result.now ≤ length text.now }
@@ -75,6 +78,9 @@ pub fn skip_blanks(text: &[u8]) -> &[u8]
 }
 
 /// The first line, without its line feed, and what stands after that.
+///
+/// Takes no memory. Doesn't wait.
+/// Own rule: docs/BEHAVIOR.md, 'Scripts'.
 pub fn split_line(text: &[u8]) -> (&[u8], &[u8])
     requires { 0 < length text.now }
     ensures lines { lines_of text.now ≡ result.0.now ∷ lines_of result.1.now }
@@ -88,7 +94,10 @@ pub fn split_line(text: &[u8]) -> (&[u8], &[u8])
 }
 
 /// The text up to its first blank, and from there on.
-fn split_word(text: &[u8]) -> (&[u8], &[u8])
+///
+/// Takes no memory. Doesn't wait.
+/// Own rule: docs/BEHAVIOR.md, 'Scripts'.
+pub fn split_word(text: &[u8]) -> (&[u8], &[u8])
     ensures word { result.0.now ≡ first_word text.now }
     ensures rest { result.1.now ≡ after_word text.now }
 {

@@ -9,6 +9,9 @@ use xa_server::{BranchState, Reply, XaError};
 use xa_xid::{NoMemory, Xid};
 
 /// Appends the number in decimal.
+///
+/// May answer `NoMemory`. Doesn't wait.
+/// Own rule: docs/BEHAVIOR.md, 'Scripts'.
 pub fn push_number(text: &mut Vec<u8>, number: u64) -> Result<(), NoMemory>
     ensures { OnOk result (text.new.items ≡ text.old.items ++ decimal number) }
 {
@@ -95,7 +98,10 @@ fn text_of(error: &XaError) -> &'static [u8]
     }
 }
 
-/// Appends the text of a reply, recovered identifiers in digits where `convert`.
+/// Appends the text of a reply, recovered identifiers in digits where `convert`. It doesn't end in a line feed.
+///
+/// May answer `NoMemory`; then some of the text may be appended. Doesn't wait.
+/// Own rule: docs/BEHAVIOR.md, 'Scripts'.
 pub fn push_reply(
     alloc: Global,
     text: &mut Vec<u8>,
@@ -122,6 +128,9 @@ pub fn push_reply(
 }
 
 /// Appends what answers a text that isn't a statement, with the place where it goes wrong.
+///
+/// May answer `NoMemory`; then some of the text may be appended. Doesn't wait.
+/// Own rule: docs/BEHAVIOR.md, 'Scripts'.
 pub fn push_syntax_fault(text: &mut Vec<u8>, at: u64) -> Result<(), NoMemory>
     ensures { OnOk result (text.new.items ≡ text.old.items ++ syntax_text at) }
 {

@@ -25,7 +25,11 @@ pub fn script_limits() -> (usize, u64)
     (SCRIPT_BYTES, SCRIPT_READS)
 }
 
-/// Reads all that the reader gives.
+/// Reads all that the reader gives: at most 1,048,576 bytes, in at most 2,097,152 reads.
+///
+/// Errors: `Read` where a read failed, or too many were needed; `TooLong` where the reader gives more; `NoMemory`.
+/// May answer `NoMemory`. Doesn't wait, unless the reader does.
+/// Own rule: docs/BEHAVIOR.md, 'Scripts'.
 pub fn read_all<R: Read>(alloc: Global, reader: &mut R) -> Result<Vec<u8>, ScriptFault>
     ensures all { IfOk result (λ script. Consumes (R.remaining reader.old) (R.remaining reader.new) script.items) }
     ensures end { OnOk result (IsAtEnd (R.remaining reader.new)) }
@@ -53,6 +57,10 @@ pub fn read_all<R: Read>(alloc: Global, reader: &mut R) -> Result<Vec<u8>, Scrip
 }
 
 /// Writes all of the bytes, or as many as the writer takes until a write fails.
+///
+/// Error: `Write` where a write failed or took nothing.
+/// Takes no memory. Doesn't wait, unless the writer does.
+/// Own rule: docs/BEHAVIOR.md, 'Scripts'.
 pub fn write_whole<W: Write>(writer: &mut W, bytes: &[u8]) -> Result<(), ScriptFault>
     ensures all { OnOk result (Appends (W.contents writer.old) (W.contents writer.new) bytes.now) }
     ensures fault { IfErr result (λ fault. fault ≡ ScriptFault.Write) }

@@ -14,4 +14,5 @@ returns c =
     let serve_is : shape_of c.about-serve.result ≡ (new_app (codes "serve")).top = search rules in
     let one = c.in_ok-subcommand.ensures.shape (search rules) ∙ ap₂ with_subcommand top_is run_is in
     let two = c.in_ok-subcommand-2.ensures.shape (search rules) ∙ ap₂ with_subcommand one (ap (λ (a : App). a.top) race_is) in
-    IfOk-weaker c.subcommand-3.result _ _ (λ command added. added.shape (search rules) ∙ ap₂ with_subcommand two serve_is) c.subcommand-3.ensures
+    let three = c.in_ok-subcommand-3.ensures.shape c.in_ok-coordinate_command.ensures.local ∙ ap₂ with_subcommand two (ap (λ (a : App). a.top) c.in_ok-coordinate_command.ensures.app) in
+    IfOk-weaker c.subcommand-4.result _ _ (λ command added. added.shape (search rules) ∙ ap₂ with_subcommand three serve_is) c.subcommand-4.ensures

@@ -1,0 +1,29 @@
+//! How long the sessions of a coordinator go on answering.
+ghost use Rattle.std.specs.Prelude.{◌≡◌, ◌<◌, map, vec_len};
+
+use crate::{Coordinator, Fused, Speak};
+
+impl<S: Speak> Fused<S> {
+    /// From now on it passes on `calls` calls, and then answers out of memory to all.
+    ///
+    /// Takes no memory. Doesn't wait.
+    pub fn allow(&mut self, calls: u64)
+        ensures { self.new.inner ≡ self.old.inner }
+    {
+        self.left = calls;
+    }
+}
+
+impl<S: Speak> Coordinator<Fused<S>> {
+    /// From now on the session of a store, in `[0, number of stores)`, passes on `calls` calls, and then answers out of memory to all.
+    /// The coordinator's branches stay as they are.
+    ///
+    /// Takes no memory. Doesn't wait.
+    pub fn allow(&mut self, store: u8, calls: u64)
+        requires { store < vec_len self.old.stores }
+        ensures name { self.new.name ≡ self.old.name }
+        ensures sessions { map (λ session. session.inner) self.new.stores.items ≡ map (λ session. session.inner) self.old.stores.items }
+    {
+        self.stores[usize::from(store)].allow(calls);
+    }
+}

@@ -1,0 +1,85 @@
+-- A transaction manager, as contracts see it, in its parts.
+use Rattle.std.proofs.Common.{◌≡◌, ℕ, ◌∙◌, ◌+◌, ◌-◌, ◌++◌, ◌∷◌, [], List, length, ap, refl, sym, subst, Result, Ok, Err, Some}
+use Rattle.std.specs.Prelude.{OnOk, OnErr}
+use Rattle.std.proofs.lemmas.List.{length-set}
+use Rattle.xa_coordinator.specs.declared.standing.Standing.{Standing}
+use Rattle.xa_coordinator.specs.declared.standing.Standing.TheVariants.{Decided}
+use Rattle.xa_coordinator.specs.Decisions.{with_decided}
+use Rattle.xa_coordinator.specs.View.{SessionView}
+use Rattle.xa_coordinator.specs.Outcomes.{VotesAs}
+use Rattle.xa_coordinator.specs.Work.{Keeps}
+use Rattle.xa_coordinator.specs.declared.transaction.Transaction.{Transaction}
+use Rattle.xa_coordinator.specs.declared.prepared.Prepared.{Prepared}
+use Rattle.xa_coordinator.specs.declared.prepared.Ballot.TheVariants.{Ready as BallotReady}
+use Rattle.xa_coordinator.specs.declared.vote.Vote.{Vote}
+use Rattle.xa_coordinator.specs.declared.vote.Vote.TheVariants.{Ready as VoteReady, OnePhase as VoteOnePhase, No as VoteNo, Nothing as VoteNothing}
+use Rattle.xa_manager.specs.declared.stage.Stage.{Stage}
+use Rattle.xa_manager.specs.declared.stage.Stage.TheVariants.{Working, Ready, Over}
+use Rattle.xa_manager.specs.Ledger.{IsOf, transaction_in, with_stage}
+use Rattle.xa_manager.specs.Answers.{Desk, stage_after}
+use Rattle.xa_manager.proofs.Stages.{Kept, AllReady, with_stage-last}
+
+abbrev pub desk : ℕ → List Standing → List Stage → Desk
+desk stores decisions stages = record { stores = stores; decisions = decisions; stages = stages }
+
+pub same_desk : (n m : ℕ) (d e : List Standing) (s t : List Stage) → n ≡ m → d ≡ e → s ≡ t → desk n d s ≡ desk m e t
+same_desk n m d e s t stores decisions stages = ap (λ k. desk k d s) stores ∙ ap (λ list. desk m list s) decisions ∙ ap (λ list. desk m e list) stages
+
+-- the same facts of the same stores and stages
+pub kept_as : (n m : ℕ) (s t : List Stage) → m ≡ n → t ≡ s → Kept n s → Kept m t
+kept_as n m s t stores stages kept =
+    let P : ℕ → Type 0 = λ k. Kept k t in
+    let Q : List Stage → Type 0 = λ list. Kept n list in
+    subst P (sym stores) (subst Q (sym stages) kept)
+
+pub ready_as : (s t : List Stage) → t ≡ s → AllReady s → AllReady t
+ready_as s t stages ready = let P : List Stage → Type 0 = λ list. AllReady list in subst P (sym stages) ready
+
+-- a decision changes how a number stands, not how many there are
+decided-length : (decisions : List Standing) (number : ℕ) → length (with_decided decisions number) ≡ length decisions
+unfolding with_decided
+decided-length decisions number = length-set decisions (number - 1) Decided
+
+pub after_decision : {A B : Type 0} (result : Result A B) (old new : List Standing) (number : ℕ) → OnOk result (new ≡ with_decided old number) → OnErr result (new ≡ old) → length new ≡ length old
+after_decision (Ok a) old new number decided kept = ap length decided ∙ decided-length old number
+after_decision (Err b) old new number decided kept = ap length kept
+
+-- a vote keeps its transaction
+pub voted_kept : {S : Type 0} (view : S → SessionView) (transaction : Transaction) (vote : Vote) (old new : List S) (count number : ℕ) → VotesAs view transaction vote old new → IsOf count number transaction
+    → (kept : Transaction) → transaction_in (stage_after vote) ≡ Some kept → IsOf count number kept
+voted_kept view transaction (VoteReady prepared) old new count number votes is kept keeps =
+    let same : kept ≡ transaction = let e = ap (λ (p : Prepared). p.transaction) votes.0 in cc in
+    let P : Transaction → Type 0 = λ t. IsOf count number t in subst P (sym same) is
+voted_kept view transaction (VoteOnePhase prepared) old new count number votes is kept keeps =
+    let same : kept ≡ transaction = let e = ap (λ (p : Prepared). p.transaction) votes.0 in cc in
+    let P : Transaction → Type 0 = λ t. IsOf count number t in subst P (sym same) is
+voted_kept view transaction (VoteNo prepared store cause) old new count number votes is kept keeps =
+    let same : kept ≡ transaction = let e = ap (λ (p : Prepared). p.transaction) votes.0 in cc in
+    let P : Transaction → Type 0 = λ t. IsOf count number t in subst P (sym same) is
+voted_kept view transaction VoteNothing old new count number votes is kept keeps = absurd (cc)
+
+-- a vote that is kept as Ready is of Ready
+pub voted_ready : {S : Type 0} (view : S → SessionView) (transaction : Transaction) (vote : Vote) (old new : List S) → VotesAs view transaction vote old new
+    → (kept : Prepared) → stage_after vote ≡ Ready kept → kept.ballot ≡ BallotReady
+voted_ready view transaction (VoteReady prepared) old new votes kept keeps =
+    let same : prepared ≡ kept = cc in ap (λ (p : Prepared). p.ballot) (sym same) ∙ ap (λ (p : Prepared). p.ballot) votes.0
+voted_ready view transaction (VoteOnePhase prepared) old new votes kept keeps = absurd (cc)
+voted_ready view transaction (VoteNo prepared store cause) old new votes kept keeps = absurd (cc)
+voted_ready view transaction VoteNothing old new votes kept keeps = absurd (cc)
+
+-- work keeps the transaction's number, name and count of stores
+pub worked_kept : (store count number : ℕ) (old new : Transaction) → Keeps store old new → IsOf count number old → (kept : Transaction) → transaction_in (Working new) ≡ Some kept → IsOf count number kept
+worked_kept store count number old new keeps is kept same =
+    let e : new ≡ kept = cc in
+    let P : Transaction → Type 0 = λ t. IsOf count number t in
+    subst P e (record { number = keeps.number ∙ is.number; name = (let e = keeps.name in let f = is.name in cc); stores = keeps.stores ∙ is.stores })
+
+-- the transaction that has begun
+pub working_kept : (count number : ℕ) (transaction : Transaction) → IsOf count number transaction → (kept : Transaction) → transaction_in (Working transaction) ≡ Some kept → IsOf count number kept
+working_kept count number transaction is kept same =
+    let e : transaction ≡ kept = cc in
+    let P : Transaction → Type 0 = λ t. IsOf count number t in
+    subst P e is
+
+pub begun_on : (stages : List Stage) (number : ℕ) (begun : Stage) (added now : List Stage) → number ≡ length stages + 1 → added ≡ stages ++ Over ∷ [] → now ≡ with_stage added number begun → now ≡ stages ++ begun ∷ []
+begun_on stages number begun added now is one put = put ∙ ap (λ list. with_stage list number begun) one ∙ with_stage-last stages Over begun number is

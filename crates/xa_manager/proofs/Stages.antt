@@ -1,0 +1,207 @@
+-- How far transactions have come, in a list.
+use Rattle.std.proofs.Common.{◌≡◌, ◌≢◌, ◌≤◌, ℕ, ◌<◌, ◌+◌, ◌-◌, ◌⊎◌, List, [], ◌∷◌, ◌++◌, zero, suc, length, take, length-append, arith, sym, refl, ap, subst, ◌∙◌, inl, inr, Option, Some, None, Bool, true, false, cond}
+use Rattle.std.proofs.lemmas.Bool.{eqb-false, eqb-true}
+use Rattle.std.proofs.Math.Seq.{set-append_seam, take-append_seam}
+use Rattle.std.specs.Prelude.{◌==◌, slice_get, slice_set, codes}
+use Rattle.std.proofs.lemmas.List.{set_past, length-set}
+use Rattle.std.proofs.lemmas.Bool.Decides.{eqb_tells}
+use Rattle.std.proofs.lemmas.Option.{slice_get_past}
+use Rattle.xa_xid.specs.declared.statement.Statement.{Statement}
+use Rattle.xa_xid.specs.declared.statement.Statement.TheVariants.{Start, End, Prepare, Commit, Rollback, Recover, Unsupported, Get, Put, Del, Disconnect}
+use Rattle.xa_coordinator.specs.Work.{IsRow}
+use Rattle.xa_coordinator.specs.declared.transaction.Transaction.{Transaction}
+use Rattle.xa_coordinator.specs.declared.prepared.Prepared.{Prepared}
+use Rattle.xa_coordinator.specs.declared.prepared.Ballot.TheVariants.{Ready as BallotReady}
+use Rattle.xa_coordinator.proofs.Places.{get_set_is, get_set_other}
+use Rattle.xa_manager.specs.declared.stage.Stage.{Stage}
+use Rattle.xa_manager.specs.declared.stage.Stage.TheVariants.{Working, Ready, Voted, Over}
+use Rattle.xa_manager.specs.Calls.{takes_rows}
+use Rattle.xa_manager.specs.Ledger.{stage_of, with_stage, transaction_in, IsOf}
+
+-- one that wasn't begun
+absent_past : (count number : ℕ) → (number ≡ 0) ⊎ (count < number) → number ≢ 0 → count ≤ number - 1
+absent_past count number (inl none) apart = absurd (apart none)
+absent_past count number (inr past) apart = omega arith
+
+pub with_stage-absent : (stages : List Stage) (number : ℕ) (stage : Stage) → (number ≡ 0) ⊎ (length stages < number) → stages ≡ with_stage stages number stage
+unfolding with_stage
+with_stage-absent stages number stage absent = by (number == 0) refl
+  where
+    by : (b : Bool) → (number == 0) ≡ b → stages ≡ cond b stages (slice_set stages (number - 1) stage)
+    by true none = refl
+    by false some = sym (set_past stages (number - 1) stage (absent_past (length stages) number absent (eqb-false number 0 some)))
+
+pub with_stage-length : (stages : List Stage) (number : ℕ) (stage : Stage) → length (with_stage stages number stage) ≡ length stages
+unfolding with_stage
+with_stage-length stages number stage = by (number == 0)
+  where
+    by : (b : Bool) → length (cond b stages (slice_set stages (number - 1) stage)) ≡ length stages
+    by true = refl
+    by false = length-set stages (number - 1) stage
+
+-- what is written last stands
+set-twice : {A : Type 0} (xs : List A) (place : ℕ) (x y : A) → slice_set (slice_set xs place x) place y ≡ slice_set xs place y
+set-twice [] place x y = refl
+set-twice (z ∷ zs) zero x y = refl
+set-twice (z ∷ zs) (suc n) x y = ap (λ rest. z ∷ rest) (set-twice zs n x y)
+
+pub with_stage-twice : (stages : List Stage) (number : ℕ) (before after : Stage) → with_stage (with_stage stages number before) number after ≡ with_stage stages number after
+unfolding with_stage
+with_stage-twice stages number before after = by (number == 0)
+  where
+    by : (b : Bool) →
+        cond b (cond b stages (slice_set stages (number - 1) before)) (slice_set (cond b stages (slice_set stages (number - 1) before)) (number - 1) after)
+        ≡ cond b stages (slice_set stages (number - 1) after)
+    by true = refl
+    by false = set-twice stages (number - 1) before after
+
+-- what stands there is written again
+set-same : {A : Type 0} (xs : List A) (place : ℕ) (x : A) → slice_get xs place ≡ Some x → slice_set xs place x ≡ xs
+set-same [] place x is = refl
+set-same (y ∷ ys) zero x is = let e : y ≡ x = cc in ap (λ first. first ∷ ys) (sym e)
+set-same (y ∷ ys) (suc n) x is = ap (λ rest. y ∷ rest) (set-same ys n x is)
+
+pub with_stage-same : (stages : List Stage) (number : ℕ) (stage : Stage) → stage_of stages number ≡ Some stage → with_stage stages number stage ≡ stages
+unfolding stage_of with_stage
+with_stage-same stages number stage is = by (number == 0) is
+  where
+    by : (b : Bool) → cond b None (slice_get stages (number - 1)) ≡ Some stage → cond b stages (slice_set stages (number - 1) stage) ≡ stages
+    by true none = refl
+    by false there = set-same stages (number - 1) stage there
+
+-- one that was taken out is put back
+pub put_back : (stages : List Stage) (number : ℕ) (between stage : Stage) (taken now : List Stage) → stage_of stages number ≡ Some stage → taken ≡ with_stage stages number between → now ≡ with_stage taken number stage
+    → now ≡ stages
+put_back stages number between stage taken now is out back =
+    back ∙ ap (λ list. with_stage list number stage) out ∙ with_stage-twice stages number between stage ∙ with_stage-same stages number stage is
+
+-- another stage is put in its place
+pub put_on : (stages : List Stage) (number : ℕ) (between stage : Stage) (taken now : List Stage) → taken ≡ with_stage stages number between → now ≡ with_stage taken number stage → now ≡ with_stage stages number stage
+put_on stages number between stage taken now out back = back ∙ ap (λ list. with_stage list number stage) out ∙ with_stage-twice stages number between stage
+
+-- a transaction that was put back with another stage, or another one
+pub stage_of-with : (stages : List Stage) (number other : ℕ) (stage found : Stage) → stage_of (with_stage stages number stage) other ≡ Some found
+    → ((other ≡ number) × (stage ≡ found)) ⊎ (stage_of stages other ≡ Some found)
+unfolding stage_of with_stage
+stage_of-with stages number other stage found is = by (number == 0) (other == 0) refl refl is
+  where
+    by : (b e : Bool) → (number == 0) ≡ b → (other == 0) ≡ e → cond e None (slice_get (cond b stages (slice_set stages (number - 1) stage)) (other - 1)) ≡ Some found
+        → ((other ≡ number) × (stage ≡ found)) ⊎ (cond e None (slice_get stages (other - 1)) ≡ Some found)
+    by true true nb ne there = absurd (cc)
+    by false true nb ne there = absurd (cc)
+    by true false nb ne there = inr there
+    by false false nb ne there = elim (eqb_tells (other - 1) (number - 1)) [
+      | inl (_, here) ↦
+          let P : ℕ → Type 0 = λ at. slice_get (slice_set stages (number - 1) stage) at ≡ Some found in
+          let first = eqb-false number 0 nb in
+          let second = eqb-false other 0 ne in
+          inl (omega arith, get_set_is stages (number - 1) stage found (subst P here there))
+      | inr (_, apart) ↦ inr (sym (get_set_other stages (number - 1) (other - 1) stage apart) ∙ there)
+    ]
+
+-- one transaction more
+get-append : (stages : List Stage) (last found : Stage) (place : ℕ) → slice_get (stages ++ last ∷ []) place ≡ Some found → ((place ≡ length stages) × (last ≡ found)) ⊎ (slice_get stages place ≡ Some found)
+get-append [] last found zero is = inl (refl, cc)
+get-append [] last found (suc n) is = absurd (cc)
+get-append (y ∷ ys) last found zero is = inr is
+get-append (y ∷ ys) last found (suc n) is = elim (get-append ys last found n is) [
+  | inl same ↦ inl (ap suc same.0, same.1)
+  | inr there ↦ inr there
+]
+
+pub stage_of-append : (stages : List Stage) (last found : Stage) (other : ℕ) → stage_of (stages ++ last ∷ []) other ≡ Some found
+    → ((other ≡ length stages + 1) × (last ≡ found)) ⊎ (stage_of stages other ≡ Some found)
+unfolding stage_of
+stage_of-append stages last found other is = by (other == 0) refl is
+  where
+    by : (e : Bool) → (other == 0) ≡ e → cond e None (slice_get (stages ++ last ∷ []) (other - 1)) ≡ Some found
+        → ((other ≡ length stages + 1) × (last ≡ found)) ⊎ (cond e None (slice_get stages (other - 1)) ≡ Some found)
+    by true ne there = absurd (cc)
+    by false ne there = elim (get-append stages last found (other - 1) there) [
+      | inl same ↦
+          let some = eqb-false other 0 ne in
+          let at = same.0 in
+          inl (omega arith, same.1)
+      | inr before ↦ inr before
+    ]
+
+-- the last one comes to another stage, or is taken away
+pub with_stage-last : (stages : List Stage) (before after : Stage) (number : ℕ) → number ≡ length stages + 1 → with_stage (stages ++ before ∷ []) number after ≡ stages ++ after ∷ []
+unfolding with_stage
+with_stage-last stages before after number is = by (number == 0) refl
+  where
+    by : (b : Bool) → (number == 0) ≡ b → cond b (stages ++ before ∷ []) (slice_set (stages ++ before ∷ []) (number - 1) after) ≡ stages ++ after ∷ []
+    by true none = let zeroth : number ≡ 0 = eqb-true number 0 none in absurd (omega arith)
+    by false some =
+        let place : number - 1 ≡ length stages = omega arith in
+        ap (λ at. slice_set (stages ++ before ∷ []) at after) place ∙ set-append_seam stages before [] after
+
+pub take-last : (stages : List Stage) (last : Stage) → take (length (stages ++ last ∷ []) - 1) (stages ++ last ∷ []) ≡ stages
+take-last stages last =
+    let count : length (stages ++ last ∷ []) - 1 ≡ length stages = omega (arith, length-append stages (last ∷ [])) in
+    ap (λ n. take n (stages ++ last ∷ [])) count ∙ take-append_seam stages (last ∷ [])
+
+abbrev pub Kept : ℕ → List Stage → Type 0
+Kept count stages = (number : ℕ) (stage : Stage) (transaction : Transaction) → stage_of stages number ≡ Some stage → transaction_in stage ≡ Some transaction → IsOf count number transaction
+
+abbrev pub AllReady : List Stage → Type 0
+AllReady stages = (number : ℕ) (prepared : Prepared) → stage_of stages number ≡ Some (Ready prepared) → prepared.ballot ≡ BallotReady
+
+pub kept_with : (count : ℕ) (stages : List Stage) (number : ℕ) (stage : Stage) → Kept count stages → ((transaction : Transaction) → transaction_in stage ≡ Some transaction → IsOf count number transaction)
+    → Kept count (with_stage stages number stage)
+kept_with count stages number stage kept is other found transaction there keeps = elim (stage_of-with stages number other stage found there) [
+  | inl same ↦
+      let P : ℕ → Type 0 = λ n. IsOf count n transaction in
+      subst P (sym same.0) (is transaction (ap transaction_in same.1 ∙ keeps))
+  | inr before ↦ kept other found transaction before keeps
+]
+
+pub ready_with : (stages : List Stage) (number : ℕ) (stage : Stage) → AllReady stages → ((prepared : Prepared) → stage ≡ Ready prepared → prepared.ballot ≡ BallotReady)
+    → AllReady (with_stage stages number stage)
+ready_with stages number stage ready is other prepared there = elim (stage_of-with stages number other stage (Ready prepared) there) [
+  | inl same ↦ is prepared same.1
+  | inr before ↦ ready other prepared before
+]
+
+-- one transaction more is kept, where it is that of the next number
+pub kept_more : (count : ℕ) (stages : List Stage) (last : Stage) → Kept count stages → ((transaction : Transaction) → transaction_in last ≡ Some transaction → IsOf count (length stages + 1) transaction)
+    → Kept count (stages ++ last ∷ [])
+kept_more count stages last kept is other found transaction there keeps = elim (stage_of-append stages last found other there) [
+  | inl same ↦
+      let P : ℕ → Type 0 = λ n. IsOf count n transaction in
+      subst P (sym same.0) (is transaction (ap transaction_in same.1 ∙ keeps))
+  | inr before ↦ kept other found transaction before keeps
+]
+
+pub ready_more : (stages : List Stage) (last : Stage) → AllReady stages → ((prepared : Prepared) → last ≡ Ready prepared → prepared.ballot ≡ BallotReady) → AllReady (stages ++ last ∷ [])
+ready_more stages last ready is other prepared there = elim (stage_of-append stages last (Ready prepared) other there) [
+  | inl same ↦ is prepared same.1
+  | inr before ↦ ready other prepared before
+]
+
+-- one that is over keeps nothing
+pub kept_over : (count : ℕ) (stages : List Stage) (number : ℕ) → Kept count stages → Kept count (with_stage stages number Over)
+kept_over count stages number kept = kept_with count stages number Over kept (λ transaction is. absurd (cc))
+
+pub ready_over : (stages : List Stage) (number : ℕ) → AllReady stages → AllReady (with_stage stages number Over)
+ready_over stages number ready = ready_with stages number Over ready (λ prepared is. absurd (cc))
+
+-- the transaction of a vote
+pub kept_voted : (count : ℕ) (stages : List Stage) (number : ℕ) (prepared : Prepared) → Kept count stages → (stage_of stages number ≡ Some (Ready prepared)) ⊎ (stage_of stages number ≡ Some (Voted prepared))
+    → IsOf count number prepared.transaction
+kept_voted count stages number prepared kept (inl ready) = kept number (Ready prepared) prepared.transaction ready refl
+kept_voted count stages number prepared kept (inr voted) = kept number (Voted prepared) prepared.transaction voted refl
+
+-- GET, PUT and DEL are row statements
+pub row : (statement : Statement) → takes_rows statement ≡ true → IsRow statement
+row (Start xid) is = absurd (cc)
+row (End xid) is = absurd (cc)
+row (Prepare xid) is = absurd (cc)
+row (Commit xid one_phase) is = absurd (cc)
+row (Rollback xid) is = absurd (cc)
+row (Recover convert) is = absurd (cc)
+row Unsupported is = absurd (cc)
+row (Get key) is = tt
+row (Put key value) is = tt
+row (Del key) is = tt
+row Disconnect is = absurd (cc)

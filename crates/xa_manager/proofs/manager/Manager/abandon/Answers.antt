@@ -1,0 +1,38 @@
+use Rattle.std.proofs.Common.{◌≡◌, ◌∙◌, length, vec_len, codes, ap, refl, sym, inl, inr}
+use Rattle.xa_coordinator.specs.declared.transaction.Transaction.{Transaction}
+use Rattle.xa_manager.specs.declared.stage.Stage.TheVariants.{Working, Ready, Voted, Over}
+use Rattle.xa_manager.specs.Ledger.{IsOf}
+use Rattle.xa_manager.proofs.Stages.{with_stage-length, kept_over, ready_over}
+use Rattle.xa_manager.proofs.Desks.{same_desk, kept_as, ready_as}
+use Rattle.xa_manager.proofs.manager.Manager.abandon.Goals as goal
+
+pub abandon-requires-clause-name : goal.abandon-requires-clause-name
+abandon-requires-clause-name g c =
+    let is = c.args.self.now.kept c.args.number (Working c.in-Ok.transaction) c.in-Ok.transaction c.in-Ok.ensures.taken refl in
+    is.name ∙ sym c.args.self.now.named
+
+pub abandon-requires-clause-stores : goal.abandon-requires-clause-stores
+abandon-requires-clause-stores g c =
+    let is = c.args.self.now.kept c.args.number (Working c.in-Ok.transaction) c.in-Ok.transaction c.in-Ok.ensures.taken refl in
+    is.stores
+
+pub invariant_of-self : goal.invariant_of-self
+invariant_of-self g c =
+    let was = c.args.self.now in
+    record {
+      named = ap (λ name. name.items) c.abandon.ensures.name ∙ was.named;
+      pairs = was.pairs ∙ sym c.abandon.ensures.count;
+      counted = ap length c.in-Ok.ensures.over ∙ with_stage-length was.ledger c.args.number Over ∙ was.counted;
+      kept = kept_as _ _ _ _ c.abandon.ensures.count c.in-Ok.ensures.over (kept_over (vec_len was.coordinator.stores) was.ledger c.args.number was.kept);
+      ready = ready_as _ _ c.in-Ok.ensures.over (ready_over was.ledger c.args.number was.ready);
+    }
+
+pub returns-in-Ok : goal.returns-in-Ok
+returns-in-Ok g c =
+    inr (record {
+      before = c.in-Ok.transaction;
+      ending = c.abandon.result;
+      works = c.in-Ok.ensures.taken;
+      told = refl;
+      stands = same_desk _ _ _ _ _ _ c.abandon.ensures.count refl c.in-Ok.ensures.over;
+    })

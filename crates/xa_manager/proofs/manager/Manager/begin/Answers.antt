@@ -1,0 +1,40 @@
+use Rattle.std.proofs.Common.{◌≡◌, ◌∙◌, ◌+◌, ◌++◌, ◌∷◌, [], List, length, length-append, vec_len, ap, refl, sym, inl, inr, arith}
+use Rattle.xa_coordinator.specs.declared.transaction.Transaction.{Transaction}
+use Rattle.xa_coordinator.specs.declared.standing.Standing.{Standing}
+use Rattle.xa_coordinator.specs.declared.standing.Standing.TheVariants.{Undecided}
+use Rattle.xa_manager.specs.declared.stage.Stage.{Stage}
+use Rattle.xa_manager.specs.declared.stage.Stage.TheVariants.{Working, Over}
+use Rattle.xa_manager.specs.declared.response.Response.TheVariants.{Begun}
+use Rattle.xa_manager.specs.Ledger.{IsOf}
+use Rattle.xa_manager.proofs.Stages.{kept_more, ready_more}
+use Rattle.xa_manager.proofs.Desks.{same_desk, kept_as, ready_as, working_kept, begun_on}
+use Rattle.xa_manager.proofs.manager.Manager.begin.Goals as goal
+
+pub invariant_of-self-in-Ok : goal.invariant_of-self-in-Ok
+invariant_of-self-in-Ok g c =
+    let was = c.args.self.now in
+    let begun = Working c.in-Ok.transaction in
+    let number : c.number-number.result ≡ length was.ledger + 1 = c.number-number.ensures ∙ c.in-Ok.ensures.number ∙ ap (λ n. n + 1) (sym was.counted) in
+    let on = begun_on was.ledger c.number-number.result begun c.add.new.self c.put.new.self number c.in_ok-add.ensures.ok c.put.ensures in
+    let one = c.in-Ok.ensures.number ∙ ap (λ n. n + 1) (sym was.counted) in
+    let is : IsOf (vec_len was.coordinator.stores) (length was.ledger + 1) c.in-Ok.transaction =
+    record { number = one; name = ap (λ name. name.items) c.in-Ok.ensures.name ∙ was.named; stores = c.in-Ok.ensures.stores } in
+    record {
+      named = was.named;
+      pairs = was.pairs;
+      counted = ap length on ∙ length-append was.ledger (begun ∷ []) ∙ ap (λ n. n + 1) was.counted ∙ sym (length-append was.decisions (Undecided ∷ [])) ∙ sym (ap length c.in-Ok.ensures.undecided);
+      kept = kept_as _ _ _ _ refl on (kept_more (vec_len was.coordinator.stores) was.ledger begun was.kept (working_kept _ _ _ is));
+      ready = ready_as _ _ on (ready_more was.ledger begun was.ready (λ prepared same. absurd (cc)));
+    }
+
+pub returns-in-Ok : goal.returns-in-Ok
+returns-in-Ok g c =
+    let was = c.args.self.now in
+    let begun = Working c.in-Ok.transaction in
+    let number : c.number-number.result ≡ length was.ledger + 1 = c.number-number.ensures ∙ c.in-Ok.ensures.number ∙ ap (λ n. n + 1) (sym was.counted) in
+    let on = begun_on was.ledger c.number-number.result begun c.add.new.self c.put.new.self number c.in_ok-add.ensures.ok c.put.ensures in
+    inr (inl (record {
+      transaction = c.in-Ok.transaction;
+      told = ap (λ n. Begun n) number;
+      stands = same_desk _ _ _ _ _ _ refl c.in-Ok.ensures.undecided on;
+    }))

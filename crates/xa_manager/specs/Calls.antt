@@ -1,0 +1,133 @@
+-- What a line tells a transaction manager. All of it is our own: docs/COORDINATOR.md, 'At the command line'.
+--     number_named     the number that a word names
+--     takes_rows       the statements that a transaction gives: GET, PUT and DEL
+--     call_of          what a line tells
+--     IsWritten        a call that a line can tell
+use Rattle.std.specs.Prelude.{◌≡◌, ℕ, ◌==◌, Bool, true, false, bytes_eq, if◌then◌else◌, Option, Some, None, Result, Ok, Err, List, [], ◌∷◌, codes}
+use Rattle.xa_xid.specs.Literal.{Reading}
+use Rattle.xa_xid.specs.Number.{number_at}
+use Rattle.xa_xid.specs.declared.statement.Statement.{Statement}
+use Rattle.xa_xid.specs.declared.statement.Statement.TheVariants.{Start, End, Prepare, Commit, Rollback, Recover, Unsupported, Get, Put, Del, Disconnect}
+use Rattle.xa_statement.specs.Reading.{read_of}
+use Rattle.xa_transcript.specs.Script.{is_empty, without_blanks, first_word, after_word}
+use Rattle.xa_manager.specs.declared.call.Call.{Call}
+use Rattle.xa_manager.specs.declared.call.Call.TheVariants.{Silent, Unread, Begin, Work, Prepare as PrepareCall, Decide, Finish, Abandon, Fail, Stop, Recover as RecoverCall, At, Show}
+
+-- a number that is the whole of a word
+abbrev pub whole : Reading ℕ → Option ℕ
+whole (Err fault) = None
+whole (Ok (number, [])) = Some number
+whole (Ok (number, byte ∷ rest)) = None
+
+-- the number that a word names: decimal, below 2^64, without leading zeros
+unfoldable pub number_named : List ℕ → Option ℕ
+number_named [] = None
+number_named (first ∷ []) = whole (number_at (first ∷ []))
+number_named (first ∷ second ∷ rest) = if first == 48 then None else whole (number_at (first ∷ second ∷ rest))
+
+-- GET, PUT and DEL
+abbrev pub takes_rows : Statement → Bool
+takes_rows (Start xid) = false
+takes_rows (End xid) = false
+takes_rows (Prepare xid) = false
+takes_rows (Commit xid one_phase) = false
+takes_rows (Rollback xid) = false
+takes_rows (Recover convert) = false
+takes_rows Unsupported = false
+takes_rows (Get key) = true
+takes_rows (Put key value) = true
+takes_rows (Del key) = true
+takes_rows Disconnect = false
+
+-- the text behind a word and the blanks after it
+abbrev pub behind : List ℕ → List ℕ
+behind text = without_blanks (after_word text)
+
+-- the number that is all of a text, but for blanks behind it
+unfoldable pub lone_number : List ℕ → Option ℕ
+lone_number text = if is_empty (behind text) then number_named (first_word text) else None
+
+-- a call that is all of its line
+abbrev pub alone : Call → List ℕ → Call
+alone call [] = call
+alone call (byte ∷ rest) = Unread 0
+
+-- a call of a transaction's number alone
+abbrev pub numbered : (ℕ → Call) → Option ℕ → Call
+numbered call None = Unread 0
+numbered call (Some number) = call number
+
+-- work, where its statement is read and is of its kinds; one of another kind goes wrong at its first byte
+abbrev pub work_call : ℕ → ℕ → Result Statement ℕ → Call
+work_call number store (Err place) = Unread place
+work_call number store (Ok statement) = if takes_rows statement then Work number store statement else Unread 0
+
+-- what the stranger says, where its statement is read
+abbrev pub at_call : ℕ → Result Statement ℕ → Call
+at_call store (Err place) = Unread place
+at_call store (Ok statement) = At store statement
+
+-- a number, and the call that the text behind it makes
+abbrev pub with_number : Option ℕ → (ℕ → Call) → Call
+with_number None call = Unread 0
+with_number (Some number) call = call number
+
+-- n k STATEMENT
+unfoldable pub work_of : List ℕ → Call
+work_of text =
+    with_number (number_named (first_word text)) (λ number.
+    with_number (number_named (first_word (behind text))) (λ store. work_call number store (read_of (behind (behind text)))))
+
+-- k STATEMENT
+unfoldable pub at_of : List ℕ → Call
+at_of text = with_number (number_named (first_word text)) (λ store. at_call store (read_of (behind text)))
+
+-- k AFTER j
+unfoldable pub fail_of : List ℕ → Call
+fail_of text =
+    with_number (number_named (first_word text)) (λ store.
+    if bytes_eq (first_word (behind text)) (codes "AFTER") then numbered (λ calls. Fail store calls) (lone_number (behind (behind text))) else Unread 0)
+
+-- the calls that are about no transaction, by their first word and the text behind it
+unfoldable pub plain_call : List ℕ → List ℕ → Call
+plain_call word text =
+    if bytes_eq word (codes "BEGIN") then alone Begin text else
+    if bytes_eq word (codes "AT") then at_of text else
+    if bytes_eq word (codes "FAIL") then fail_of text else
+    if bytes_eq word (codes "STOP") then alone Stop text else
+    if bytes_eq word (codes "RECOVER") then alone RecoverCall text else
+    if bytes_eq word (codes "SHOW") then alone Show text else Unread 0
+
+-- a call by its first word and the text behind it
+unfoldable pub call_named : List ℕ → List ℕ → Call
+call_named word text =
+    if bytes_eq word (codes "WORK") then work_of text else
+    if bytes_eq word (codes "PREPARE") then numbered (λ number. PrepareCall number) (lone_number text) else
+    if bytes_eq word (codes "DECIDE") then numbered (λ number. Decide number) (lone_number text) else
+    if bytes_eq word (codes "FINISH") then numbered (λ number. Finish number) (lone_number text) else
+    if bytes_eq word (codes "ABANDON") then numbered (λ number. Abandon number) (lone_number text) else plain_call word text
+
+-- a line that isn't blank at its first byte; `#` begins a comment
+abbrev pub filled_call : List ℕ → Call
+filled_call [] = Silent
+filled_call (first ∷ rest) = if first == 35 then Silent else call_named (first_word (first ∷ rest)) (behind (first ∷ rest))
+
+-- what a line tells: its words are cut at blanks, and written as they stand here
+unfoldable pub call_of : List ℕ → Call
+call_of line = filled_call (without_blanks line)
+
+-- work gives GET, PUT or DEL, as in each call that a line tells
+abbrev pub IsWritten : Call → Type 0
+IsWritten Silent = Unit {0}
+IsWritten (Unread place) = Unit {0}
+IsWritten Begin = Unit {0}
+IsWritten (Work number store statement) = takes_rows statement ≡ true
+IsWritten (PrepareCall number) = Unit {0}
+IsWritten (Decide number) = Unit {0}
+IsWritten (Finish number) = Unit {0}
+IsWritten (Abandon number) = Unit {0}
+IsWritten (Fail store calls) = Unit {0}
+IsWritten Stop = Unit {0}
+IsWritten RecoverCall = Unit {0}
+IsWritten (At store statement) = Unit {0}
+IsWritten Show = Unit {0}

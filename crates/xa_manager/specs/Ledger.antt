@@ -1,0 +1,30 @@
+-- The transactions that were begun, as the list of how far 1, 2, .. have come.
+--     stage_of         how far a transaction has come, where it was begun
+--     with_stage       the list with this one so far
+--     transaction_in   the transaction that is kept
+--     IsOf             the transaction of a number
+use Rattle.std.specs.Prelude.{◌≡◌, ℕ, Option, Some, None, if◌then◌else◌, ◌==◌, ◌-◌, List, slice_get, slice_set, codes}
+use Rattle.xa_coordinator.specs.declared.transaction.Transaction.{Transaction}
+use Rattle.xa_manager.specs.declared.stage.Stage.{Stage}
+use Rattle.xa_manager.specs.declared.stage.Stage.TheVariants.{Working, Ready, Voted, Over}
+
+-- how far the transaction of this number has come; numbers are given from 1 on
+unfoldable pub stage_of : List Stage → ℕ → Option Stage
+stage_of stages number = if number == 0 then None else slice_get stages (number - 1)
+
+-- the transaction of this number has come so far, the others as they had; nothing changes where it wasn't begun
+unfoldable pub with_stage : List Stage → ℕ → Stage → List Stage
+with_stage stages number stage = if number == 0 then stages else slice_set stages (number - 1) stage
+
+-- the transaction that is kept of one that isn't over
+abbrev pub transaction_in : Stage → Option Transaction
+transaction_in (Working transaction) = Some transaction
+transaction_in (Ready prepared) = Some prepared.transaction
+transaction_in (Voted prepared) = Some prepared.transaction
+transaction_in Over = None
+
+-- the transaction of this number, of the coordinator `c` over so many stores
+pub record IsOf (count place : ℕ) (transaction : Transaction) : Type 0 where
+  pub number : transaction.number ≡ place
+  pub name : transaction.name.items ≡ codes "c"
+  pub stores : transaction.stores ≡ count

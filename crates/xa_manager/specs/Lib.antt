@@ -1,0 +1,5 @@
+pub mod Calls
+pub mod Texts
+pub mod Ledger
+pub mod Answers
+pub mod Written

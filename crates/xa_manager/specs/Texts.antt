@@ -1,0 +1,171 @@
+-- What is written for a call, by what it was answered. All of it is our own: docs/COORDINATOR.md, 'At the command line'.
+--     fault_text, cause_text       why a statement wasn't answered, or carried out
+--     worked_text                  what work came to
+--     poll_text                    what the stores voted
+--     ending_text                  how a transaction ended
+--     recovered_text               what a recovery came to
+--     replied_text                 what a stranger was answered
+--     stores_shown_text            each store, and what its stranger was answered
+--     standings_text               the numbers by how they stand
+--     response_text                what a call was answered
+--     answer_text                  the same with its line feed, and nothing for a line that tells nothing
+use Rattle.std.specs.Prelude.{ℕ, ◌+◌, Bool, true, false, if◌then◌else◌, Result, Ok, Err, List, [], ◌∷◌, ◌++◌, codes, decimal}
+use Rattle.xa_server.specs.declared.reply.Reply.{Reply}
+use Rattle.xa_server.specs.declared.xa_error.XaError.{XaError}
+use Rattle.xa_session.specs.declared.fault.Fault.{Fault}
+use Rattle.xa_session.specs.declared.fault.Fault.TheVariants.{Overtaken, Full, NoMemory, Busy}
+use Rattle.xa_transcript.specs.Printed.{reply_text, error_text, syntax_text}
+use Rattle.xa_coordinator.specs.declared.cause.Cause.{Cause}
+use Rattle.xa_coordinator.specs.declared.cause.Cause.TheVariants.{Session as SessionCause, Refused as RefusedCause}
+use Rattle.xa_coordinator.specs.declared.work_fault.WorkFault.{WorkFault}
+use Rattle.xa_coordinator.specs.declared.work_fault.WorkFault.TheVariants.{Session as WorkSession, Refused as WorkRefused, Lost}
+use Rattle.xa_coordinator.specs.declared.ending.Ending.{Ending}
+use Rattle.xa_coordinator.specs.declared.ending.Ending.TheVariants.{Committed, RolledBack, Hazard, Unfinished}
+use Rattle.xa_coordinator.specs.declared.report.Report.{Report}
+use Rattle.xa_coordinator.specs.declared.recover_fault.RecoverFault.{RecoverFault}
+use Rattle.xa_coordinator.specs.declared.recover_fault.RecoverFault.TheVariants.{Session as RecoverSession, StillPrepared, NoMemory as RecoverNoMemory, Refused as RecoverRefused}
+use Rattle.xa_coordinator.specs.declared.standing.Standing.{Standing}
+use Rattle.xa_coordinator.specs.declared.standing.Standing.TheVariants.{Undecided, Decided, Closed}
+use Rattle.xa_manager.specs.declared.poll.Poll.{Poll}
+use Rattle.xa_manager.specs.declared.poll.Poll.TheVariants.{Ready, OnePhase, Nothing, No}
+use Rattle.xa_manager.specs.declared.response.Response.{Response}
+use Rattle.xa_manager.specs.declared.response.Response.TheVariants.{Silent, Unread, UnknownStore, UnknownTransaction, WrongStage, Begun, NumbersSpent, Worked, Voted, Decided as WasDecided, Closed as WasClosed, Ended, Limited, Stopped, Recovered, Replied, Shown}
+
+-- why a session didn't answer; one that tries again is never left overtaken or busy
+abbrev pub fault_text : Fault → List ℕ
+fault_text (Overtaken seen) = codes "overtaken"
+fault_text Full = codes "log full"
+fault_text NoMemory = codes "out of memory"
+fault_text Busy = codes "busy"
+
+-- why a store didn't carry a statement out
+abbrev pub cause_text : Cause → List ℕ
+cause_text (SessionCause fault) = fault_text fault
+cause_text (RefusedCause error) = error_text error
+
+-- what work came to
+abbrev pub worked_text : Result Reply WorkFault → List ℕ
+worked_text (Ok reply) = reply_text false reply
+worked_text (Err (WorkSession fault)) = codes "FAULT: " ++ fault_text fault
+worked_text (Err (WorkRefused error)) = codes "NOT STARTED: " ++ error_text error
+worked_text (Err Lost) = codes "LOST"
+
+-- what the stores voted
+abbrev pub poll_text : Poll → List ℕ
+poll_text Ready = codes "READY"
+poll_text OnePhase = codes "ONE PHASE"
+poll_text Nothing = codes "NOTHING"
+poll_text (No store cause) = codes "NO " ++ decimal store ++ codes ": " ++ cause_text cause
+
+-- the numbers of stores, each after a space
+abbrev pub stores_text : List ℕ → List ℕ
+stores_text [] = []
+stores_text (store ∷ stores) = codes " " ++ decimal store ++ stores_text stores
+
+-- how a transaction ended
+abbrev pub ending_text : Ending → List ℕ
+ending_text Committed = codes "COMMITTED"
+ending_text RolledBack = codes "ROLLED BACK"
+ending_text (Hazard stores) = codes "HAZARD" ++ stores_text stores.items
+ending_text (Unfinished store cause) = codes "UNFINISHED " ++ decimal store ++ codes ": " ++ cause_text cause
+
+-- why a recovery didn't come to its end
+abbrev pub recover_fault_text : RecoverFault → List ℕ
+recover_fault_text (RecoverSession store fault) = codes "UNRECOVERED " ++ decimal store ++ codes ": " ++ fault_text fault
+recover_fault_text (StillPrepared store) = codes "STILL PREPARED " ++ decimal store
+recover_fault_text RecoverNoMemory = codes "UNRECOVERED: out of memory"
+recover_fault_text (RecoverRefused store error) = codes "UNRECOVERED " ++ decimal store ++ codes ": " ++ error_text error
+
+-- what a recovery did
+abbrev pub report_text : Report → List ℕ
+report_text report =
+    codes "RECOVERED committed " ++ decimal report.committed ++ codes " rolled back " ++ decimal report.rolled_back ++ codes " missing " ++ decimal report.missing
+
+-- what a recovery came to
+abbrev pub recovered_text : Result Report RecoverFault → List ℕ
+recovered_text (Ok report) = report_text report
+recovered_text (Err fault) = recover_fault_text fault
+
+-- what a stranger was answered, recovered identifiers in digits where they are to be converted
+abbrev pub replied_text : Bool → Result Reply Fault → List ℕ
+replied_text convert (Ok reply) = reply_text convert reply
+replied_text convert (Err fault) = codes "FAULT: " ++ fault_text fault
+
+-- a store, and below it what its stranger was answered
+abbrev pub store_text : ℕ → Result Reply Fault → List ℕ
+store_text store answer = codes "STORE " ++ decimal store ++ codes "\n" ++ replied_text true answer ++ codes "\n"
+
+-- the stores from this number on
+abbrev pub stores_shown_text : ℕ → List (Result Reply Fault) → List ℕ
+stores_shown_text store [] = []
+stores_shown_text store (answer ∷ answers) = store_text store answer ++ stores_shown_text (store + 1) answers
+
+-- a number stands so
+abbrev pub stands_as : Standing → Standing → Bool
+stands_as Undecided Undecided = true
+stands_as Undecided Decided = false
+stands_as Undecided Closed = false
+stands_as Decided Undecided = false
+stands_as Decided Decided = true
+stands_as Decided Closed = false
+stands_as Closed Undecided = false
+stands_as Closed Decided = false
+stands_as Closed Closed = true
+
+-- a number after a space, where it stands as wanted
+abbrev pub number_text : Standing → ℕ → Standing → List ℕ
+number_text wanted number standing = if stands_as wanted standing then codes " " ++ decimal number else []
+
+-- the numbers from this one on that stand as wanted, ascending, each after a space
+abbrev pub numbers_text : Standing → ℕ → List Standing → List ℕ
+numbers_text wanted number [] = []
+numbers_text wanted number (standing ∷ standings) = number_text wanted number standing ++ numbers_text wanted (number + 1) standings
+
+-- the numbers by how they stand
+abbrev pub standings_text : List Standing → List ℕ
+standings_text standings =
+    codes "UNDECIDED" ++ numbers_text Undecided 1 standings ++ codes "\nDECIDED" ++ numbers_text Decided 1 standings ++ codes "\nCLOSED" ++ numbers_text Closed 1 standings
+
+-- what a call was answered, once the decisions are these
+abbrev pub response_text : List Standing → Response → List ℕ
+response_text decisions Silent = []
+response_text decisions (Unread place) = syntax_text place
+response_text decisions (UnknownStore store) = codes "UNKNOWN STORE " ++ decimal store
+response_text decisions (UnknownTransaction number) = codes "UNKNOWN TRANSACTION " ++ decimal number
+response_text decisions (WrongStage number) = codes "WRONG STAGE " ++ decimal number
+response_text decisions (Begun number) = codes "TRANSACTION " ++ decimal number
+response_text decisions NumbersSpent = codes "NUMBERS SPENT"
+response_text decisions (Worked worked) = worked_text worked
+response_text decisions (Voted poll) = poll_text poll
+response_text decisions WasDecided = codes "DECIDED"
+response_text decisions WasClosed = codes "CLOSED"
+response_text decisions (Ended ending) = ending_text ending
+response_text decisions Limited = codes "OK"
+response_text decisions Stopped = codes "STOPPED"
+response_text decisions (Recovered recovered) = recovered_text recovered
+response_text decisions (Replied convert answer) = replied_text convert answer
+response_text decisions (Shown listing) = stores_shown_text 0 listing.answers.items ++ standings_text decisions
+
+-- nothing is written for a line that tells nothing
+abbrev pub is_silent : Response → Bool
+is_silent Silent = true
+is_silent (Unread place) = false
+is_silent (UnknownStore store) = false
+is_silent (UnknownTransaction number) = false
+is_silent (WrongStage number) = false
+is_silent (Begun number) = false
+is_silent NumbersSpent = false
+is_silent (Worked worked) = false
+is_silent (Voted poll) = false
+is_silent WasDecided = false
+is_silent WasClosed = false
+is_silent (Ended ending) = false
+is_silent Limited = false
+is_silent Stopped = false
+is_silent (Recovered recovered) = false
+is_silent (Replied convert answer) = false
+is_silent (Shown answers) = false
+
+-- what is written for a call
+abbrev pub answer_text : List Standing → Response → List ℕ
+answer_text decisions response = if is_silent response then [] else response_text decisions response ++ codes "\n"

@@ -1,0 +1,299 @@
+//! Calls, carried out.
+ghost use Rattle.std.specs.Prelude.{◌≡◌, true, nat_lt, IfOk, vec_len, length};
+ghost use Rattle.xa_manager.specs.Answers.{Answers, poll_of, stage_after as stage_with};
+ghost use Rattle.xa_manager.specs.Calls.{takes_rows, IsWritten};
+
+use crate::manager::name;
+use crate::{Call, Listing, Manager, Poll, Response, Stage};
+use std::alloc::{AllocError, Global};
+use std::sync::Wait;
+use xa_coordinator::{BeginFault, Coordinator, Fused, Speak, Vote};
+use xa_server::Reply;
+use xa_session::{Answer, Fault};
+use xa_transcript::converts;
+use xa_xid::{NoMemory, Statement};
+
+/// The reply of an answer.
+fn reply_in(answered: Result<Answer, Fault>) -> Result<Reply, Fault> {
+    match answered {
+        Ok(Answer { reply, .. }) => Ok(reply),
+        Err(fault) => Err(fault),
+    }
+}
+
+/// What is told of a transaction that doesn't begin.
+fn not_begun(fault: BeginFault) -> Result<Response, NoMemory>
+    ensures { IfOk result (λ response. (fault ≡ BeginFault.NumbersSpent) × (response ≡ Response.NumbersSpent)) }
+{
+    match fault {
+        BeginFault::NumbersSpent => Ok(Response::NumbersSpent),
+        BeginFault::NoMemory => Err(AllocError),
+    }
+}
+
+/// What is told of a vote, and how far the transaction has come.
+fn told_of(vote: Vote) -> (Poll, Stage)
+    ensures poll { result.0 ≡ poll_of vote }
+    ensures stage { result.1 ≡ stage_with vote }
+{
+    match vote {
+        Vote::Ready(prepared) => (Poll::Ready, Stage::Ready(prepared)),
+        Vote::OnePhase(prepared) => (Poll::OnePhase, Stage::Voted(prepared)),
+        Vote::No {
+            prepared,
+            store,
+            cause,
+        } => (Poll::No { store, cause }, Stage::Voted(prepared)),
+        Vote::Nothing => (Poll::Nothing, Stage::Over),
+    }
+}
+
+/// What each stranger is answered to `XA RECOVER CONVERT XID`.
+fn listed_by_each<T: Speak, R: Wait>(
+    rt: &R,
+    alloc: Global,
+    strangers: &mut [T],
+) -> Result<Vec<Result<Reply, Fault>>, NoMemory>
+    ensures each { IfOk result (λ answers. vec_len answers ≡ length strangers.old) }
+    ensures count { length strangers.new ≡ length strangers.old }
+{
+    let mut answers = Vec::new(alloc);
+    let listing = Statement::Recover { convert: true };
+    for stranger in strangers.iter_mut() {
+        answers.push(reply_in(stranger.execute(rt, &listing)))?;
+    }
+    Ok(answers)
+}
+
+/// Lets each session pass every call on.
+fn allow_all<S: Speak>(sessions: &mut [Fused<S>])
+    ensures { length sessions.new ≡ length sessions.old }
+{
+    for session in sessions.iter_mut() {
+        session.allow(u64::MAX);
+    }
+}
+
+impl<C: Speak, T: Speak> Manager<C, T> {
+    /// Whether there is a store of this number.
+    fn has_store(&self, store: u64) -> bool
+        ensures { result ≡ nat_lt store (vec_len self.now.coordinator.stores) }
+    {
+        store < self.strangers.len() as u64
+    }
+
+    /// Begins a transaction.
+    fn begin(&mut self) -> Result<Response, NoMemory>
+        ensures { IfOk result (λ response. Answers (record { stores = vec_len self.old.coordinator.stores; decisions = self.old.decisions; stages = self.old.ledger })
+            (Call.Begin) response
+            (record { stores = vec_len self.new.coordinator.stores; decisions = self.new.decisions; stages = self.new.ledger })) }
+    {
+        self.ledger.add(Stage::Over)?;
+        match self.coordinator.begin(&mut self.decisions) {
+            Ok(transaction) => {
+                let number = transaction.number();
+                self.ledger.put(number, Stage::Working(transaction));
+                Ok(Response::Begun(number))
+            }
+            Err(fault) => {
+                self.ledger.forget_last();
+                not_begun(fault)
+            }
+        }
+    }
+
+    /// Gives a row statement of a transaction to a store.
+    fn work<R: Wait>(&mut self, rt: &R, number: u64, store: u64, statement: &Statement) -> Response
+        requires { takes_rows statement.now ≡ true }
+        ensures { Answers (record { stores = vec_len self.old.coordinator.stores; decisions = self.old.decisions; stages = self.old.ledger })
+            (Call.Work number store statement.now) result
+            (record { stores = vec_len self.new.coordinator.stores; decisions = self.new.decisions; stages = self.new.ledger }) }
+    {
+        if !self.has_store(store) {
+            return Response::UnknownStore(store);
+        }
+        match self.ledger.take_working(number) {
+            Ok(mut transaction) => {
+                let worked = self
+                    .coordinator
+                    .work(rt, &mut transaction, store as u8, statement);
+                self.ledger.put(number, Stage::Working(transaction));
+                Response::Worked(worked)
+            }
+            Err(refusal) => refusal,
+        }
+    }
+
+    /// Has the stores of a transaction vote.
+    fn prepare<R: Wait>(&mut self, rt: &R, number: u64) -> Response
+        ensures { Answers (record { stores = vec_len self.old.coordinator.stores; decisions = self.old.decisions; stages = self.old.ledger })
+            (Call.Prepare number) result
+            (record { stores = vec_len self.new.coordinator.stores; decisions = self.new.decisions; stages = self.new.ledger }) }
+    {
+        match self.ledger.take_working(number) {
+            Ok(transaction) => {
+                let vote = self.coordinator.prepare(rt, transaction);
+                let (poll, stage) = told_of(vote);
+                self.ledger.put(number, stage);
+                Response::Voted(poll)
+            }
+            Err(refusal) => refusal,
+        }
+    }
+
+    /// Decides a transaction.
+    fn decide(&mut self, number: u64) -> Response
+        ensures { Answers (record { stores = vec_len self.old.coordinator.stores; decisions = self.old.decisions; stages = self.old.ledger })
+            (Call.Decide number) result
+            (record { stores = vec_len self.new.coordinator.stores; decisions = self.new.decisions; stages = self.new.ledger }) }
+    {
+        match self.ledger.take_ready(number) {
+            Ok(prepared) => {
+                let decided = self.decisions.decide(&prepared);
+                self.ledger.put(number, Stage::Ready(prepared));
+                match decided {
+                    Ok(()) => Response::Decided,
+                    Err(_) => Response::Closed,
+                }
+            }
+            Err(refusal) => refusal,
+        }
+    }
+
+    /// Finishes a transaction that was voted on.
+    fn finish<R: Wait>(&mut self, rt: &R, number: u64) -> Response
+        ensures { Answers (record { stores = vec_len self.old.coordinator.stores; decisions = self.old.decisions; stages = self.old.ledger })
+            (Call.Finish number) result
+            (record { stores = vec_len self.new.coordinator.stores; decisions = self.new.decisions; stages = self.new.ledger }) }
+    {
+        match self.ledger.take_voted(number) {
+            Ok(prepared) => {
+                Response::Ended(self.coordinator.finish(rt, &self.decisions, prepared))
+            }
+            Err(refusal) => refusal,
+        }
+    }
+
+    /// Rolls a transaction back that wasn't voted on.
+    fn abandon<R: Wait>(&mut self, rt: &R, number: u64) -> Response
+        ensures { Answers (record { stores = vec_len self.old.coordinator.stores; decisions = self.old.decisions; stages = self.old.ledger })
+            (Call.Abandon number) result
+            (record { stores = vec_len self.new.coordinator.stores; decisions = self.new.decisions; stages = self.new.ledger }) }
+    {
+        match self.ledger.take_working(number) {
+            Ok(transaction) => Response::Ended(self.coordinator.abandon(rt, transaction)),
+            Err(refusal) => refusal,
+        }
+    }
+
+    /// Has the coordinator recover.
+    fn recover<R: Wait>(&mut self, rt: &R, alloc: Global) -> Response
+        ensures { Answers (record { stores = vec_len self.old.coordinator.stores; decisions = self.old.decisions; stages = self.old.ledger })
+            (Call.Recover) result
+            (record { stores = vec_len self.new.coordinator.stores; decisions = self.new.decisions; stages = self.new.ledger }) }
+    {
+        Response::Recovered(self.coordinator.recover(rt, alloc, &mut self.decisions))
+    }
+
+    /// Gives a statement of the stranger to a store.
+    fn at<R: Wait>(&mut self, rt: &R, store: u64, statement: &Statement) -> Response
+        ensures { Answers (record { stores = vec_len self.old.coordinator.stores; decisions = self.old.decisions; stages = self.old.ledger })
+            (Call.At store statement.now) result
+            (record { stores = vec_len self.new.coordinator.stores; decisions = self.new.decisions; stages = self.new.ledger }) }
+    {
+        if !self.has_store(store) {
+            return Response::UnknownStore(store);
+        }
+        Response::Replied {
+            convert: converts(statement),
+            answer: reply_in(self.strangers[store as usize].execute(rt, statement)),
+        }
+    }
+
+    /// Has each store's stranger list what is prepared there.
+    fn show<R: Wait>(&mut self, rt: &R, alloc: Global) -> Result<Response, NoMemory>
+        ensures { IfOk result (λ response. Answers (record { stores = vec_len self.old.coordinator.stores; decisions = self.old.decisions; stages = self.old.ledger })
+            (Call.Show) response
+            (record { stores = vec_len self.new.coordinator.stores; decisions = self.new.decisions; stages = self.new.ledger })) }
+    {
+        let answers = listed_by_each(rt, alloc, self.strangers.as_mut_slice())?;
+        Ok(Response::Shown(Listing { answers }))
+    }
+}
+
+impl<S: Speak, T: Speak> Manager<Fused<S>, T> {
+    /// Limits the calls that the coordinator's session in a store answers.
+    fn fail(&mut self, store: u64, calls: u64) -> Response
+        ensures { Answers (record { stores = vec_len self.old.coordinator.stores; decisions = self.old.decisions; stages = self.old.ledger })
+            (Call.Fail store calls) result
+            (record { stores = vec_len self.new.coordinator.stores; decisions = self.new.decisions; stages = self.new.ledger }) }
+    {
+        if !self.has_store(store) {
+            return Response::UnknownStore(store);
+        }
+        self.coordinator.allow(store as u8, calls);
+        Response::Limited
+    }
+
+    /// A new coordinator of the name takes the place of the old one, over the same sessions, which no longer fail.
+    fn stopped(self) -> Manager<Fused<S>, T>
+        ensures stores { vec_len result.coordinator.stores ≡ vec_len self.coordinator.stores }
+        ensures decisions { result.decisions ≡ self.decisions }
+        ensures ledger { result.ledger ≡ self.ledger }
+    {
+        let Manager {
+            coordinator,
+            strangers,
+            decisions,
+            ledger,
+        } = self;
+        let mut sessions = coordinator.stop();
+        allow_all(sessions.as_mut_slice());
+        Manager {
+            coordinator: Coordinator::new(name(), sessions),
+            strangers,
+            decisions,
+            ledger,
+        }
+    }
+
+    /// Carries a call out. The manager comes back with what the call is answered.
+    ///
+    /// Error: `NoMemory`, where a transaction can't be kept or a list of answers can't grow. May wait: no number of tries is promised.
+    /// Own rule: docs/COORDINATOR.md, 'At the command line'.
+    pub fn answer<R: Wait>(
+        mut self,
+        rt: &R,
+        alloc: Global,
+        call: &Call,
+    ) -> Result<(Manager<Fused<S>, T>, Response), NoMemory>
+    where
+        S: Drop,
+        T: Drop,
+        requires { IsWritten call.now }
+        ensures { IfOk result (λ next. Answers (record { stores = vec_len self.coordinator.stores; decisions = self.decisions; stages = self.ledger })
+            (call.now) next.1
+            (record { stores = vec_len next.0.coordinator.stores; decisions = next.0.decisions; stages = next.0.ledger })) }
+    {
+        let response = match call {
+            Call::Silent => Response::Silent,
+            Call::Unread(place) => Response::Unread(*place),
+            Call::Begin => self.begin()?,
+            Call::Work {
+                number,
+                store,
+                statement,
+            } => self.work(rt, *number, *store, statement),
+            Call::Prepare(number) => self.prepare(rt, *number),
+            Call::Decide(number) => self.decide(*number),
+            Call::Finish(number) => self.finish(rt, *number),
+            Call::Abandon(number) => self.abandon(rt, *number),
+            Call::Fail { store, calls } => self.fail(*store, *calls),
+            Call::Stop => return Ok((self.stopped(), Response::Stopped)),
+            Call::Recover => self.recover(rt, alloc),
+            Call::At { store, statement } => self.at(rt, *store, statement),
+            Call::Show => self.show(rt, alloc)?,
+        };
+        Ok((self, response))
+    }
+}

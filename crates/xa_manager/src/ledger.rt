@@ -1,0 +1,167 @@
+//! The transactions that were begun.
+ghost use Rattle.std.specs.Prelude.{◌≡◌, ◌≢◌, ◌<◌, ◌+◌, ◌-◌, ◌++◌, ◌∷◌, [], ◌⊎◌, length, take, Some, None, OnOk, OnErr, IfOk, IfErr, IfSome};
+ghost use Rattle.xa_manager.specs.Ledger.{stage_of, with_stage};
+ghost use Rattle.xa_manager.specs.Answers.{refusal_of_work, refusal_of_decision, refusal_of_finish};
+
+use crate::{Response, Stage};
+use std::alloc::{AllocError, Global};
+use std::marker::Model;
+use std::mem;
+use xa_coordinator::{Prepared, Transaction};
+use xa_xid::NoMemory;
+
+/// The transactions that were begun, 1, 2, .., and how far each has come.
+///
+/// A contract sees them as the list of how far they have come.
+#[derive(Drop)]
+pub struct Ledger {
+    stages: Vec<Stage>,
+}
+
+impl Model for Ledger {
+    ghost use Rattle.std.specs.Prelude.{List};
+    ghost use Rattle.xa_manager.specs.declared.stage.Stage.{Stage};
+
+    ghost Value = { List Stage };
+
+    ghost view = { λ ledger. ledger.stages.items };
+}
+
+impl Ledger {
+    /// No transaction.
+    ///
+    /// Takes no memory. Doesn't wait.
+    pub fn new(alloc: Global) -> Ledger
+        ensures { result ≡ [] }
+    {
+        Ledger {
+            stages: Vec::new(alloc),
+        }
+    }
+
+    /// Adds the next transaction.
+    ///
+    /// Error: `NoMemory`; the ledger is as before then. Doesn't wait.
+    pub fn add(&mut self, stage: Stage) -> Result<(), NoMemory>
+        ensures ok { OnOk result (self.new ≡ self.old ++ stage ∷ []) }
+        ensures err { OnErr result (self.new ≡ self.old) }
+    {
+        match self.stages.push(stage) {
+            Ok(()) => Ok(()),
+            Err(_) => Err(AllocError),
+        }
+    }
+
+    /// Takes the last transaction away.
+    ///
+    /// Takes no memory. Doesn't wait.
+    pub fn forget_last(&mut self)
+        ensures { self.new ≡ take (length self.old - 1) self.old }
+    {
+        let _last = self.stages.pop();
+    }
+
+    /// Where a transaction stands in the list, if it was begun.
+    #[tactic(auto, unfolding(crate::specs::Ledger::stage_of))]
+    fn place(&self, number: u64) -> Option<usize>
+        ensures some { IfSome result (λ place. number ≡ place + 1) }
+        ensures within { IfSome result (λ place. place < length self.now) }
+        ensures none { result ≡ None → stage_of self.now number ≡ None }
+        ensures absent { result ≡ None → (number ≡ 0) ⊎ (length self.now < number) }
+    {
+        if number == 0 || number > self.stages.len() as u64 {
+            return None;
+        }
+        Some((number - 1) as usize)
+    }
+
+    /// Takes out how far a transaction has come, which is over in its place; nothing where it wasn't begun.
+    #[tactic(auto, unfolding(crate::specs::Ledger::stage_of, crate::specs::Ledger::with_stage))]
+    fn take(&mut self, number: u64) -> Option<Stage>
+        ensures taken { result ≡ stage_of self.old number }
+        ensures some { result ≢ None → self.new ≡ with_stage self.old number Stage.Over }
+        ensures none { result ≡ None → self.new ≡ self.old }
+    {
+        let Some(place) = self.place(number) else {
+            return None;
+        };
+        Some(mem::replace(&mut self.stages[place], Stage::Over))
+    }
+
+    /// Puts back how far a transaction has come, where it was begun.
+    ///
+    /// Takes no memory. Doesn't wait.
+    #[tactic(auto, unfolding(crate::specs::Ledger::stage_of, crate::specs::Ledger::with_stage))]
+    pub fn put(&mut self, number: u64, stage: Stage)
+        ensures { self.new ≡ with_stage self.old number stage }
+    {
+        let Some(place) = self.place(number) else {
+            return;
+        };
+        self.stages[place] = stage;
+    }
+
+    /// Takes out a transaction that takes work; it is over in its place.
+    ///
+    /// Errors: `UnknownTransaction`, where it wasn't begun; `WrongStage`, where it doesn't take work any more. The ledger is as before
+    /// then. Takes no memory. Doesn't wait.
+    /// Own rule: docs/COORDINATOR.md, 'At the command line'.
+    pub fn take_working(&mut self, number: u64) -> Result<Transaction, Response>
+        ensures taken { IfOk result (λ transaction. stage_of self.old number ≡ Some (Stage.Working transaction)) }
+        ensures over { OnOk result (self.new ≡ with_stage self.old number Stage.Over) }
+        ensures refused { IfErr result (λ refusal. refusal_of_work number (stage_of self.old number) ≡ Some refusal) }
+        ensures kept { OnErr result (self.new ≡ self.old) }
+    {
+        match self.take(number) {
+            None => Err(Response::UnknownTransaction(number)),
+            Some(Stage::Working(transaction)) => Ok(transaction),
+            Some(stage) => {
+                self.put(number, stage);
+                Err(Response::WrongStage(number))
+            }
+        }
+    }
+
+    /// Takes out a transaction whose vote is Ready; it is over in its place.
+    ///
+    /// Errors: as those of `take_working`, `WrongStage` where its vote isn't Ready, or it was finished.
+    /// Takes no memory. Doesn't wait.
+    /// Own rule: docs/COORDINATOR.md, 'At the command line'.
+    pub fn take_ready(&mut self, number: u64) -> Result<Prepared, Response>
+        ensures taken { IfOk result (λ prepared. stage_of self.old number ≡ Some (Stage.Ready prepared)) }
+        ensures over { OnOk result (self.new ≡ with_stage self.old number Stage.Over) }
+        ensures refused { IfErr result (λ refusal. refusal_of_decision number (stage_of self.old number) ≡ Some refusal) }
+        ensures kept { OnErr result (self.new ≡ self.old) }
+    {
+        match self.take(number) {
+            None => Err(Response::UnknownTransaction(number)),
+            Some(Stage::Ready(prepared)) => Ok(prepared),
+            Some(stage) => {
+                self.put(number, stage);
+                Err(Response::WrongStage(number))
+            }
+        }
+    }
+
+    /// Takes out a transaction that has a vote to finish: Ready, One Phase or No; it is over in its place.
+    ///
+    /// Errors: as those of `take_working`, `WrongStage` where it has no such vote, or it was finished.
+    /// Takes no memory. Doesn't wait.
+    /// Own rule: docs/COORDINATOR.md, 'At the command line'.
+    pub fn take_voted(&mut self, number: u64) -> Result<Prepared, Response>
+        ensures taken { IfOk result (λ prepared. (stage_of self.old number ≡ Some (Stage.Ready prepared)) ⊎ (stage_of self.old number ≡ Some (Stage.Voted prepared))) }
+        ensures over { OnOk result (self.new ≡ with_stage self.old number Stage.Over) }
+        ensures refused { IfErr result (λ refusal. refusal_of_finish number (stage_of self.old number) ≡ Some refusal) }
+        ensures kept { OnErr result (self.new ≡ self.old) }
+    {
+        match self.take(number) {
+            None => Err(Response::UnknownTransaction(number)),
+            Some(Stage::Ready(prepared)) => Ok(prepared),
+            Some(Stage::Voted(prepared)) => Ok(prepared),
+            Some(stage) => {
+                self.put(number, stage);
+                Err(Response::WrongStage(number))
+            }
+        }
+    }
+}

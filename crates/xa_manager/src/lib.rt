@@ -1,0 +1,27 @@
+//! A transaction manager that is told its calls line by line: a coordinator over stores of its own, and a stranger in each store.
+#![tactic(auto)]
+
+mod answer;
+mod call;
+mod ledger;
+mod listing;
+mod manager;
+mod poll;
+mod print;
+mod reading;
+mod response;
+mod run;
+mod stage;
+#[cfg(test)]
+mod tests;
+
+pub use call::Call;
+pub use ledger::Ledger;
+pub use listing::Listing;
+pub use manager::Manager;
+pub use poll::Poll;
+pub use print::write_response;
+pub use reading::read_call;
+pub use response::Response;
+pub use run::coordinate;
+pub use stage::Stage;

@@ -1,0 +1,310 @@
+//! Prints responses.
+ghost use Rattle.std.specs.Prelude.{◌≡◌, ◌++◌, OnOk, IfOk, codes, decimal};
+ghost use Rattle.xa_transcript.specs.Printed.{error_text};
+ghost use Rattle.xa_manager.specs.Texts.{fault_text, cause_text, stores_text, worked_text, poll_text, ending_text, recover_fault_text, report_text, replied_text, store_text, stores_shown_text, stands_as, numbers_text, standings_text, response_text, answer_text};
+
+use crate::{Poll, Response};
+use std::alloc::{AllocError, Global};
+use std::io::Write;
+use xa_coordinator::{Cause, Decisions, Ending, RecoverFault, Report, Standing, WorkFault};
+use xa_server::{Reply, XaError};
+use xa_session::Fault;
+use xa_transcript::{push_number, push_reply, push_syntax_fault};
+use xa_xid::NoMemory;
+
+/// Appends a word and a number.
+fn push_numbered(text: &mut Vec<u8>, word: &[u8], number: u64) -> Result<(), NoMemory>
+    ensures { OnOk result (text.new.items ≡ text.old.items ++ (word.now ++ decimal number)) }
+{
+    text.extend_from_slice(word)?;
+    push_number(text, number)
+}
+
+/// Appends a word and a count.
+fn push_count(text: &mut Vec<u8>, word: &[u8], count: u128) -> Result<(), NoMemory>
+    ensures { OnOk result (text.new.items ≡ text.old.items ++ (word.now ++ decimal count)) }
+{
+    text.extend_from_slice(word)?;
+    write!(text, "{count}").map_err(|_| AllocError)
+}
+
+/// Appends why a session didn't answer.
+fn push_fault(text: &mut Vec<u8>, fault: &Fault) -> Result<(), NoMemory>
+    ensures { OnOk result (text.new.items ≡ text.old.items ++ fault_text fault.now) }
+{
+    match fault {
+        Fault::Full => text.extend_from_slice(b"log full"),
+        Fault::NoMemory => text.extend_from_slice(b"out of memory"),
+        Fault::Overtaken { .. } => text.extend_from_slice(b"overtaken"),
+        Fault::Busy => text.extend_from_slice(b"busy"),
+    }
+}
+
+/// Appends a refusal.
+fn push_refusal(alloc: Global, text: &mut Vec<u8>, error: XaError) -> Result<(), NoMemory>
+    ensures { OnOk result (text.new.items ≡ text.old.items ++ error_text error) }
+{
+    push_reply(alloc, text, false, &Reply::Refused(error))
+}
+
+/// Appends why a store didn't carry a statement out.
+fn push_cause(alloc: Global, text: &mut Vec<u8>, cause: &Cause) -> Result<(), NoMemory>
+    ensures { OnOk result (text.new.items ≡ text.old.items ++ cause_text cause.now) }
+{
+    match cause {
+        Cause::Session(fault) => push_fault(text, fault),
+        Cause::Refused(error) => push_refusal(alloc, text, *error),
+    }
+}
+
+/// Appends a word, a store's number, and why the store didn't carry a statement out.
+fn push_store_cause(
+    alloc: Global,
+    text: &mut Vec<u8>,
+    word: &[u8],
+    store: u8,
+    cause: &Cause,
+) -> Result<(), NoMemory>
+    ensures { OnOk result (text.new.items ≡ text.old.items ++ (word.now ++ decimal store ++ codes ": " ++ cause_text cause.now)) }
+{
+    push_numbered(text, word, u64::from(store))?;
+    text.extend_from_slice(b": ")?;
+    push_cause(alloc, text, cause)
+}
+
+/// Appends what work came to.
+fn push_worked(
+    alloc: Global,
+    text: &mut Vec<u8>,
+    worked: &Result<Reply, WorkFault>,
+) -> Result<(), NoMemory>
+    ensures { OnOk result (text.new.items ≡ text.old.items ++ worked_text worked.now) }
+{
+    match worked {
+        Ok(reply) => push_reply(alloc, text, false, reply),
+        Err(WorkFault::Session(fault)) => {
+            text.extend_from_slice(b"FAULT: ")?;
+            push_fault(text, fault)
+        }
+        Err(WorkFault::Refused(error)) => {
+            text.extend_from_slice(b"NOT STARTED: ")?;
+            push_refusal(alloc, text, *error)
+        }
+        Err(WorkFault::Lost) => text.extend_from_slice(b"LOST"),
+    }
+}
+
+/// Appends what the stores voted.
+fn push_poll(alloc: Global, text: &mut Vec<u8>, poll: &Poll) -> Result<(), NoMemory>
+    ensures { OnOk result (text.new.items ≡ text.old.items ++ poll_text poll.now) }
+{
+    match poll {
+        Poll::Ready => text.extend_from_slice(b"READY"),
+        Poll::OnePhase => text.extend_from_slice(b"ONE PHASE"),
+        Poll::Nothing => text.extend_from_slice(b"NOTHING"),
+        Poll::No { store, cause } => push_store_cause(alloc, text, b"NO ", *store, cause),
+    }
+}
+
+/// Appends the numbers of stores, each after a space.
+fn push_stores(text: &mut Vec<u8>, stores: &[u8]) -> Result<(), NoMemory>
+    ensures { OnOk result (text.new.items ≡ text.old.items ++ stores_text stores.now) }
+{
+    for store in stores {
+        push_numbered(text, b" ", u64::from(*store))?;
+    }
+    Ok(())
+}
+
+/// Appends how a transaction ended.
+fn push_ending(alloc: Global, text: &mut Vec<u8>, ending: &Ending) -> Result<(), NoMemory>
+    ensures { OnOk result (text.new.items ≡ text.old.items ++ ending_text ending.now) }
+{
+    match ending {
+        Ending::Committed => text.extend_from_slice(b"COMMITTED"),
+        Ending::RolledBack => text.extend_from_slice(b"ROLLED BACK"),
+        Ending::Hazard { stores } => {
+            text.extend_from_slice(b"HAZARD")?;
+            push_stores(text, stores.as_slice())
+        }
+        Ending::Unfinished { store, cause } => {
+            push_store_cause(alloc, text, b"UNFINISHED ", *store, cause)
+        }
+    }
+}
+
+/// Appends what a recovery did.
+fn push_report(text: &mut Vec<u8>, report: &Report) -> Result<(), NoMemory>
+    ensures { OnOk result (text.new.items ≡ text.old.items ++ report_text report.now) }
+{
+    push_count(text, b"RECOVERED committed ", report.committed)?;
+    push_count(text, b" rolled back ", report.rolled_back)?;
+    push_count(text, b" missing ", report.missing)
+}
+
+/// Appends why a recovery didn't come to its end.
+fn push_recover_fault(
+    alloc: Global,
+    text: &mut Vec<u8>,
+    fault: &RecoverFault,
+) -> Result<(), NoMemory>
+    ensures { OnOk result (text.new.items ≡ text.old.items ++ recover_fault_text fault.now) }
+{
+    match fault {
+        RecoverFault::Session { store, fault } => {
+            let cause = Cause::Session(*fault);
+            push_store_cause(alloc, text, b"UNRECOVERED ", *store, &cause)
+        }
+        RecoverFault::StillPrepared { store } => {
+            push_numbered(text, b"STILL PREPARED ", u64::from(*store))
+        }
+        RecoverFault::NoMemory => text.extend_from_slice(b"UNRECOVERED: out of memory"),
+        RecoverFault::Refused { store, error } => {
+            let cause = Cause::Refused(*error);
+            push_store_cause(alloc, text, b"UNRECOVERED ", *store, &cause)
+        }
+    }
+}
+
+/// Appends what a stranger was answered.
+fn push_replied(
+    alloc: Global,
+    text: &mut Vec<u8>,
+    convert: bool,
+    answer: &Result<Reply, Fault>,
+) -> Result<(), NoMemory>
+    ensures { OnOk result (text.new.items ≡ text.old.items ++ replied_text convert answer.now) }
+{
+    match answer {
+        Ok(reply) => push_reply(alloc, text, convert, reply),
+        Err(fault) => {
+            text.extend_from_slice(b"FAULT: ")?;
+            push_fault(text, fault)
+        }
+    }
+}
+
+/// Appends a store's number, and below it what its stranger was answered.
+fn push_store(
+    alloc: Global,
+    text: &mut Vec<u8>,
+    store: u64,
+    answer: &Result<Reply, Fault>,
+) -> Result<(), NoMemory>
+    ensures { OnOk result (text.new.items ≡ text.old.items ++ store_text store answer.now) }
+{
+    push_numbered(text, b"STORE ", store)?;
+    text.extend_from_slice(b"\n")?;
+    push_replied(alloc, text, true, answer)?;
+    text.extend_from_slice(b"\n")
+}
+
+/// Appends each store's number and answer, from store 0 on.
+fn push_each_store(
+    alloc: Global,
+    text: &mut Vec<u8>,
+    answers: &[Result<Reply, Fault>],
+) -> Result<(), NoMemory>
+    ensures { OnOk result (text.new.items ≡ text.old.items ++ stores_shown_text 0 answers.now) }
+{
+    for (store, answer) in answers.iter().enumerate() {
+        push_store(alloc, text, store as u64, answer)?;
+    }
+    Ok(())
+}
+
+/// Whether a number stands so.
+fn stands(standing: &Standing, wanted: Standing) -> bool
+    ensures { result ≡ stands_as wanted standing.now }
+{
+    match (wanted, standing) {
+        (Standing::Undecided, Standing::Undecided) => true,
+        (Standing::Decided, Standing::Decided) => true,
+        (Standing::Closed, Standing::Closed) => true,
+        _ => false,
+    }
+}
+
+/// Appends the numbers that stand so, ascending, each after a space.
+fn push_numbers(
+    text: &mut Vec<u8>,
+    wanted: Standing,
+    standings: &[Standing],
+) -> Result<(), NoMemory>
+    ensures { OnOk result (text.new.items ≡ text.old.items ++ numbers_text wanted 1 standings.now) }
+{
+    for (place, standing) in standings.iter().enumerate() {
+        if stands(standing, wanted) {
+            push_numbered(text, b" ", place as u64 + 1)?;
+        }
+    }
+    Ok(())
+}
+
+/// Appends the numbers by how they stand. It doesn't end in a line feed.
+fn push_standings(text: &mut Vec<u8>, standings: &[Standing]) -> Result<(), NoMemory>
+    ensures { OnOk result (text.new.items ≡ text.old.items ++ standings_text standings.now) }
+{
+    text.extend_from_slice(b"UNDECIDED")?;
+    push_numbers(text, Standing::Undecided, standings)?;
+    text.extend_from_slice(b"\nDECIDED")?;
+    push_numbers(text, Standing::Decided, standings)?;
+    text.extend_from_slice(b"\nCLOSED")?;
+    push_numbers(text, Standing::Closed, standings)
+}
+
+/// Appends a response, which doesn't end in a line feed.
+fn push_response(
+    alloc: Global,
+    text: &mut Vec<u8>,
+    decisions: &Decisions,
+    response: &Response,
+) -> Result<(), NoMemory>
+    ensures { OnOk result (text.new.items ≡ text.old.items ++ response_text decisions.now response.now) }
+{
+    match response {
+        Response::Silent => Ok(()),
+        Response::Unread(place) => push_syntax_fault(text, *place),
+        Response::UnknownStore(store) => push_numbered(text, b"UNKNOWN STORE ", *store),
+        Response::UnknownTransaction(number) => {
+            push_numbered(text, b"UNKNOWN TRANSACTION ", *number)
+        }
+        Response::WrongStage(number) => push_numbered(text, b"WRONG STAGE ", *number),
+        Response::Begun(number) => push_numbered(text, b"TRANSACTION ", *number),
+        Response::NumbersSpent => text.extend_from_slice(b"NUMBERS SPENT"),
+        Response::Worked(worked) => push_worked(alloc, text, worked),
+        Response::Voted(poll) => push_poll(alloc, text, poll),
+        Response::Decided => text.extend_from_slice(b"DECIDED"),
+        Response::Closed => text.extend_from_slice(b"CLOSED"),
+        Response::Ended(ending) => push_ending(alloc, text, ending),
+        Response::Limited => text.extend_from_slice(b"OK"),
+        Response::Stopped => text.extend_from_slice(b"STOPPED"),
+        Response::Recovered(Ok(report)) => push_report(text, report),
+        Response::Recovered(Err(fault)) => push_recover_fault(alloc, text, fault),
+        Response::Replied { convert, answer } => push_replied(alloc, text, *convert, answer),
+        Response::Shown(listing) => {
+            push_each_store(alloc, text, listing.answers.as_slice())?;
+            push_standings(text, decisions.as_slice())
+        }
+    }
+}
+
+/// The text of a response, each of its lines with a line feed; it is empty for a line that tells nothing.
+///
+/// Errors: `NoMemory`. Doesn't wait.
+/// Own rule: docs/COORDINATOR.md, 'At the command line'.
+pub fn write_response(
+    alloc: Global,
+    decisions: &Decisions,
+    response: &Response,
+) -> Result<Vec<u8>, NoMemory>
+    ensures { IfOk result (λ text. text.items ≡ answer_text decisions.now response.now) }
+{
+    let mut text = Vec::new(alloc);
+    if matches!(response, Response::Silent) {
+        return Ok(text);
+    }
+    push_response(alloc, &mut text, decisions, response)?;
+    text.extend_from_slice(b"\n")?;
+    Ok(text)
+}

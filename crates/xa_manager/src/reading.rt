@@ -1,0 +1,248 @@
+//! Lines, read as calls.
+ghost use Rattle.std.specs.Prelude.{◌≡◌, Some, None, MatchOption};
+ghost use Rattle.xa_transcript.specs.Script.{first_word};
+ghost use Rattle.xa_manager.specs.Calls.{number_named, lone_number, takes_rows, behind, alone as alone_call, work_of, at_of, fail_of, plain_call, call_named, call_of, numbered, IsWritten};
+
+use crate::Call;
+use xa_statement::read_statement;
+use xa_transcript::{skip_blanks, split_word};
+use xa_xid::{Statement, number_of};
+
+/// The number that the word names: decimal, below 2^64, without leading zeros.
+#[tactic(auto, unfolding(crate::specs::Calls::number_named))]
+fn number_in(word: &[u8]) -> Option<u64>
+    ensures { result ≡ number_named word.now }
+{
+    match word {
+        [] => return None,
+        [b'0', _, ..] => return None,
+        _ => {}
+    }
+    match number_of(word) {
+        Ok((number, [])) => Some(number),
+        _ => None,
+    }
+}
+
+/// The number that the text's first word names, and the text behind that word and its blanks.
+fn number_then(text: &[u8]) -> Option<(u64, &[u8])>
+    ensures { MatchOption result
+        (number_named (first_word text.now) ≡ None)
+        (λ found. (number_named (first_word text.now) ≡ Some found.0) × (found.1.now ≡ behind text.now)) }
+{
+    let (word, rest) = split_word(text);
+    match number_in(word) {
+        Some(number) => Some((number, skip_blanks(rest))),
+        None => None,
+    }
+}
+
+/// The number that is all of the text, but for blanks behind it.
+#[tactic(auto, unfolding(crate::specs::Calls::lone_number))]
+fn number_alone(text: &[u8]) -> Option<u64>
+    ensures { result ≡ lone_number text.now }
+{
+    let (word, rest) = split_word(text);
+    if skip_blanks(rest).is_empty() {
+        number_in(word)
+    } else {
+        None
+    }
+}
+
+/// Whether a transaction gives such a statement: `GET`, `PUT` or `DEL`.
+fn is_row(statement: &Statement) -> bool
+    ensures { result ≡ takes_rows statement.now }
+{
+    match statement {
+        Statement::Get(_) => true,
+        Statement::Put(_, _) => true,
+        Statement::Del(_) => true,
+        Statement::Start(_) | Statement::End(_) | Statement::Prepare(_) => false,
+        Statement::Commit { .. } | Statement::Rollback(_) => false,
+        Statement::Recover { .. } | Statement::Unsupported | Statement::Disconnect => false,
+    }
+}
+
+/// The call, where nothing stands behind it.
+fn alone(call: Call, rest: &[u8]) -> Call
+    requires { IsWritten call }
+    ensures call { result ≡ alone_call call rest.now }
+    ensures written { IsWritten result }
+{
+    if rest.is_empty() {
+        call
+    } else {
+        Call::Unread(0)
+    }
+}
+
+/// `n k STATEMENT`.
+#[tactic(auto, unfolding(crate::specs::Calls::work_of))]
+fn work(text: &[u8]) -> Call
+    ensures call { result ≡ work_of text.now }
+    ensures written { IsWritten result }
+{
+    let Some((number, text)) = number_then(text) else {
+        return Call::Unread(0);
+    };
+    let Some((store, text)) = number_then(text) else {
+        return Call::Unread(0);
+    };
+    match read_statement(text) {
+        Ok(statement) => {
+            if is_row(&statement) {
+                Call::Work {
+                    number,
+                    store,
+                    statement,
+                }
+            } else {
+                Call::Unread(0)
+            }
+        }
+        Err(fault) => Call::Unread(fault.at),
+    }
+}
+
+/// `k STATEMENT`.
+#[tactic(auto, unfolding(crate::specs::Calls::at_of))]
+fn at(text: &[u8]) -> Call
+    ensures call { result ≡ at_of text.now }
+    ensures written { IsWritten result }
+{
+    let Some((store, text)) = number_then(text) else {
+        return Call::Unread(0);
+    };
+    match read_statement(text) {
+        Ok(statement) => Call::At { store, statement },
+        Err(fault) => Call::Unread(fault.at),
+    }
+}
+
+/// `k AFTER j`.
+#[tactic(auto, unfolding(crate::specs::Calls::fail_of))]
+fn fail(text: &[u8]) -> Call
+    ensures call { result ≡ fail_of text.now }
+    ensures written { IsWritten result }
+{
+    let Some((store, text)) = number_then(text) else {
+        return Call::Unread(0);
+    };
+    let (word, rest) = split_word(text);
+    if word != b"AFTER".as_slice() {
+        return Call::Unread(0);
+    }
+    match number_alone(skip_blanks(rest)) {
+        Some(calls) => Call::Fail { store, calls },
+        None => Call::Unread(0),
+    }
+}
+
+/// A call that is about no transaction.
+#[tactic(auto, unfolding(crate::specs::Calls::plain_call))]
+fn plain(word: &[u8], rest: &[u8]) -> Call
+    ensures call { result ≡ plain_call word.now rest.now }
+    ensures written { IsWritten result }
+{
+    if word == b"BEGIN".as_slice() {
+        alone(Call::Begin, rest)
+    } else if word == b"AT".as_slice() {
+        at(rest)
+    } else if word == b"FAIL".as_slice() {
+        fail(rest)
+    } else if word == b"STOP".as_slice() {
+        alone(Call::Stop, rest)
+    } else if word == b"RECOVER".as_slice() {
+        alone(Call::Recover, rest)
+    } else if word == b"SHOW".as_slice() {
+        alone(Call::Show, rest)
+    } else {
+        Call::Unread(0)
+    }
+}
+
+/// `n`, behind `PREPARE`.
+fn prepare(text: &[u8]) -> Call
+    ensures call { result ≡ numbered (λ number. Call.Prepare number) (lone_number text.now) }
+    ensures written { IsWritten result }
+{
+    match number_alone(text) {
+        Some(number) => Call::Prepare(number),
+        None => Call::Unread(0),
+    }
+}
+
+/// `n`, behind `DECIDE`.
+fn decide(text: &[u8]) -> Call
+    ensures call { result ≡ numbered (λ number. Call.Decide number) (lone_number text.now) }
+    ensures written { IsWritten result }
+{
+    match number_alone(text) {
+        Some(number) => Call::Decide(number),
+        None => Call::Unread(0),
+    }
+}
+
+/// `n`, behind `FINISH`.
+fn finish(text: &[u8]) -> Call
+    ensures call { result ≡ numbered (λ number. Call.Finish number) (lone_number text.now) }
+    ensures written { IsWritten result }
+{
+    match number_alone(text) {
+        Some(number) => Call::Finish(number),
+        None => Call::Unread(0),
+    }
+}
+
+/// `n`, behind `ABANDON`.
+fn abandon(text: &[u8]) -> Call
+    ensures call { result ≡ numbered (λ number. Call.Abandon number) (lone_number text.now) }
+    ensures written { IsWritten result }
+{
+    match number_alone(text) {
+        Some(number) => Call::Abandon(number),
+        None => Call::Unread(0),
+    }
+}
+
+/// A call by its first word.
+#[tactic(auto, unfolding(crate::specs::Calls::call_named))]
+fn named(word: &[u8], rest: &[u8]) -> Call
+    ensures call { result ≡ call_named word.now rest.now }
+    ensures written { IsWritten result }
+{
+    if word == b"WORK".as_slice() {
+        work(rest)
+    } else if word == b"PREPARE".as_slice() {
+        prepare(rest)
+    } else if word == b"DECIDE".as_slice() {
+        decide(rest)
+    } else if word == b"FINISH".as_slice() {
+        finish(rest)
+    } else if word == b"ABANDON".as_slice() {
+        abandon(rest)
+    } else {
+        plain(word, rest)
+    }
+}
+
+/// The call that a line tells. Its words stand between blanks; a line of blanks, and one whose first byte that isn't blank is `#`, tells nothing.
+///
+/// Takes no memory. Doesn't wait.
+/// Own rule: docs/COORDINATOR.md, 'At the command line'.
+#[tactic(auto, unfolding(crate::specs::Calls::call_of))]
+pub fn read_call(line: &[u8]) -> Call
+    ensures call { result ≡ call_of line.now }
+    ensures written { IsWritten result }
+{
+    let text = skip_blanks(line);
+    match text {
+        [] => Call::Silent,
+        [b'#', ..] => Call::Silent,
+        _ => {
+            let (word, rest) = split_word(text);
+            named(word, skip_blanks(rest))
+        }
+    }
+}

@@ -1,0 +1,188 @@
+//! Calls of a coordinator over stores of its own, line by line.
+ghost use Rattle.std.specs.Prelude.{◌≡◌, ◌≤◌, length, vec_len, OnOk, IfOk, OnErr, IfErr, IfSome, Err};
+ghost use Rattle.std.specs.Io.KnownBytes.{IsAtEnd};
+ghost use Rattle.chain_log.specs.ChainPass.{home_of, place_of};
+ghost use Rattle.xa_transcript.specs.Limits.{script_bytes};
+ghost use Rattle.xa_transcript.specs.Transcript.{ConsumesMoreThan, IsOfRun};
+ghost use Rattle.xa_manager.specs.Answers.{new_desk};
+ghost use Rattle.xa_manager.specs.Texts.{answer_text};
+ghost use Rattle.xa_manager.specs.Written.{AreOf, IsWhole, IsCut, AfterFault};
+
+use crate::print::write_response;
+use crate::{Manager, Response, read_call};
+use std::alloc::{AllocError, Global};
+use std::io::{Read, Write};
+use std::sync::Wait;
+use xa_coordinator::{Decisions, Fused, Speak};
+use xa_session::Session;
+use xa_store::{Log, Pass, Store};
+use xa_transcript::{ScriptFault, read_all, split_line, write_whole};
+use xa_xid::NoMemory;
+
+/// The text of a response, which isn't kept.
+fn text_of(alloc: Global, decisions: &Decisions, response: Response) -> Result<Vec<u8>, NoMemory>
+    ensures { IfOk result (λ text. text.items ≡ answer_text decisions.now response) }
+{
+    write_response(alloc, decisions, &response)
+}
+
+/// Carries the calls of a script out, and writes each answer as it is found.
+fn answer_lines<S: Speak + Drop, T: Speak + Drop, W: Write, R: Wait>(
+    rt: &R,
+    alloc: Global,
+    manager: Manager<Fused<S>, T>,
+    script: &[u8],
+    writer: &mut W,
+) -> Result<(), ScriptFault>
+    ensures all { OnOk result (IsWhole
+        (record { stores = vec_len manager.coordinator.stores; decisions = manager.decisions; stages = manager.ledger })
+        script.now (W.contents writer.old) (W.contents writer.new)) }
+    ensures fault { IfErr result IsOfRun }
+    ensures cut { OnErr result (IsCut
+        (record { stores = vec_len manager.coordinator.stores; decisions = manager.decisions; stages = manager.ledger })
+        script.now (W.contents writer.old) (W.contents writer.new)) }
+{
+    let mut manager = manager;
+    let mut rest = script;
+    while !rest.is_empty() {
+        let (line, lines) = split_line(rest);
+        let call = read_call(line);
+        let Ok((next, response)) = manager.answer(rt, alloc, &call) else {
+            return Err(ScriptFault::NoMemory);
+        };
+        manager = next;
+        let Ok(text) = text_of(alloc, manager.decisions(), response) else {
+            return Err(ScriptFault::NoMemory);
+        };
+        write_whole(writer, text.as_slice())?;
+        rest = lines;
+    }
+    Ok(())
+}
+
+/// Opens a store, and gives the passes of its two sessions.
+fn open_store(alloc: Global, capacity: u64) -> Result<(Store, Pass, Pass), NoMemory>
+    ensures { IfOk result (λ opened. (home_of opened.1 ≡ place_of opened.0.log) × (home_of opened.2 ≡ place_of opened.0.log)) }
+{
+    let Ok((store, mut passes)) = Store::open(alloc, capacity, 2) else {
+        return Err(AllocError);
+    };
+    let (Some(second), Some(first)) = (passes.pop(), passes.pop()) else {
+        return Err(AllocError);
+    };
+    Ok((store, first, second))
+}
+
+/// Opens so many stores, and gives the passes of their two sessions.
+fn open_stores(
+    alloc: Global,
+    count: u64,
+    capacity: u64,
+) -> Result<(Vec<Store>, Vec<Pass>, Vec<Pass>), NoMemory>
+    ensures count { IfOk result (λ opened. vec_len opened.0 ≡ count) }
+    ensures first { IfOk result (λ opened. AreOf opened.0.items opened.1.items) }
+    ensures second { IfOk result (λ opened. AreOf opened.0.items opened.2.items) }
+{
+    let mut stores = Vec::new(alloc);
+    let mut firsts = Vec::new(alloc);
+    let mut seconds = Vec::new(alloc);
+    while (stores.len() as u64) < count {
+        let (store, first, second) = open_store(alloc, capacity)?;
+        stores.push(store)?;
+        firsts.push(first)?;
+        seconds.push(second)?;
+    }
+    Ok((stores, firsts, seconds))
+}
+
+/// A session of each store, of these passes.
+fn connect_each<'a>(
+    alloc: Global,
+    stores: &'a [Store],
+    passes: Vec<Pass>,
+) -> Result<Vec<Session<'a, Log>>, NoMemory>
+    requires { AreOf stores.now passes.items }
+    ensures { IfOk result (λ sessions. vec_len sessions ≡ length stores.now) }
+{
+    let mut sessions = Vec::new(alloc);
+    for pass in passes {
+        let store = &stores[sessions.len()];
+        let Ok(session) = store.connect(pass) else {
+            return Err(AllocError);
+        };
+        sessions.push(session)?;
+    }
+    Ok(sessions)
+}
+
+/// The sessions, each of which can be made to fail.
+fn fuse_each<S: Speak + Drop>(alloc: Global, sessions: Vec<S>) -> Result<Vec<Fused<S>>, NoMemory>
+    ensures { IfOk result (λ fused. vec_len fused ≡ vec_len sessions) }
+{
+    let mut fused = Vec::new(alloc);
+    for session in sessions {
+        fused.push(Fused::new(session, u64::MAX))?;
+    }
+    Ok(fused)
+}
+
+/// Carries the calls of a script out over so many stores.
+fn over_stores<W: Write, R: Wait>(
+    rt: &R,
+    alloc: Global,
+    count: u64,
+    capacity: u64,
+    script: &[u8],
+    writer: &mut W,
+) -> Result<(), ScriptFault>
+    requires some { 1 ≤ count }
+    requires most { count ≤ 16 }
+    ensures all { OnOk result (IsWhole (new_desk count) script.now (W.contents writer.old) (W.contents writer.new)) }
+    ensures fault { IfErr result IsOfRun }
+    ensures cut { OnErr result (IsCut (new_desk count) script.now (W.contents writer.old) (W.contents writer.new)) }
+{
+    let Ok((stores, firsts, seconds)) = open_stores(alloc, count, capacity) else {
+        return Err(ScriptFault::NoMemory);
+    };
+    let Ok(sessions) = connect_each(alloc, stores.as_slice(), firsts) else {
+        return Err(ScriptFault::NoMemory);
+    };
+    let Ok(strangers) = connect_each(alloc, stores.as_slice(), seconds) else {
+        return Err(ScriptFault::NoMemory);
+    };
+    let Ok(sessions) = fuse_each(alloc, sessions) else {
+        return Err(ScriptFault::NoMemory);
+    };
+    let manager = Manager::new(alloc, sessions, strangers);
+    answer_lines(rt, alloc, manager, script, writer)
+}
+
+/// Carries the calls of a script out, line by line, over stores of its own, and writes what answers each.
+///
+/// `stores` is the number of stores, in `[1, 16]`; each has room for `capacity` entries, in `[1, 1024]`, and two sessions, the
+/// coordinator's and a stranger's. All is read first, at most 1,048,576 bytes. Each answer is written as it is found; it isn't flushed.
+/// Errors: `Read`, `TooLong`, `NoMemory` and `Write`, as those of `run_script`: after the first two nothing was written, else the
+/// answers of the first lines, and at most a part of the next one's.
+/// May answer `NoMemory`. May wait: no number of tries is promised.
+/// Own rule: docs/COORDINATOR.md, 'At the command line'.
+pub fn coordinate<R: Wait, I: Read, W: Write>(
+    rt: &R,
+    alloc: Global,
+    reader: &mut I,
+    writer: &mut W,
+    stores: u64,
+    capacity: u64,
+) -> Result<(), ScriptFault>
+    requires stores { (1 ≤ stores) × (stores ≤ 16) }
+    requires capacity { (1 ≤ capacity) × (capacity ≤ 1024) }
+    ensures read { OnOk result (IsAtEnd (I.remaining reader.new)) }
+    ensures written { OnOk result (IfSome (I.remaining reader.old) (λ script. IsWhole (new_desk stores) script (W.contents writer.old) (W.contents writer.new))) }
+    ensures short { OnOk result (IfSome (I.remaining reader.old) (λ script. length script ≤ script_bytes)) }
+    ensures fault { IfErr result (λ fault. AfterFault stores fault (I.remaining reader.old) (W.contents writer.old) (W.contents writer.new)) }
+    ensures too_long { result ≡ Err ScriptFault.TooLong → ConsumesMoreThan script_bytes (I.remaining reader.old) (I.remaining reader.new) }
+{
+    match read_all(alloc, reader) {
+        Ok(script) => over_stores(rt, alloc, stores, capacity, script.as_slice(), writer),
+        Err(fault) => Err(fault),
+    }
+}
