@@ -4,6 +4,8 @@
 #[cfg(test)]
 mod acts;
 #[cfg(test)]
+mod coordinator;
+#[cfg(test)]
 mod made;
 #[cfg(test)]
 mod race;

@@ -1,0 +1,13 @@
+//! Tests of what users meet who mean no good: cut scripts, streams that fault, a full log, dropped sessions, many threads.
+#![tactic(auto)]
+
+#[cfg(test)]
+mod full;
+#[cfg(test)]
+mod made;
+#[cfg(test)]
+mod replay;
+#[cfg(test)]
+mod scripts;
+#[cfg(test)]
+mod sixteen;
