@@ -85,20 +85,41 @@ fn share(server: &mut Server, session: SessionNo, round: u32) -> Result<()> {
     Ok(())
 }
 
+/// Where a branch's name stands among those of the branches that share its rows.
+#[derive(Clone, Copy, Drop)]
+pub enum Place {
+    /// Anywhere between them, each place as often as any other.
+    Between,
+    /// Behind all of them, where a row's sharers take the longest to look through.
+    Behind,
+}
+
+impl Place {
+    /// The name of the branch that a round rolls back. The others have the even numbers below twice their number.
+    fn name(self, sharers: u32, round: u32) -> u32 {
+        let below = match self {
+            Place::Between => round.wrapping_mul(7919).checked_rem(sharers).unwrap_or(0),
+            Place::Behind => sharers,
+        };
+        below.saturating_mul(2).saturating_add(1)
+    }
+}
+
 /// The nanoseconds that the rollback of a branch takes that shares its rows with so many PREPARED branches, as a mean.
 pub fn nanoseconds_a_rollback<R: Clock + Alloc<A = Global>>(
     rt: &R,
     sharers: u32,
+    place: Place,
     rounds: u32,
 ) -> Result<u64> {
     let session = SessionNo::of(1).context("a session")?;
     let mut server = filled(rt.alloc(), session, WRITES)?;
     for sharer in 0..sharers {
-        share(&mut server, session, sharer)?;
+        share(&mut server, session, sharer.saturating_mul(2))?;
     }
     let mut total = 0u64;
     for round in 0..rounds {
-        let name = sharers.saturating_add(round);
+        let name = place.name(sharers, round);
         share(&mut server, session, name)?;
         let rollback = Statement::Rollback(xid(name)?);
         let begun = Instant::now(rt)?;

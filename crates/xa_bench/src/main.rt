@@ -13,6 +13,7 @@ mod sides;
 mod together;
 
 use anyhow::Result;
+use commits::Place;
 use loads::Load;
 use sides::Side;
 use std::alloc::Global;
@@ -125,14 +126,20 @@ fn commits_and_scripts<R: Clock + Eprint + Alloc<A = Global>>(
 
 /// Measures rollbacks beside branches that share the same rows, and without them.
 fn rollbacks<R: Clock + Eprint + Alloc<A = Global>>(rt: &R, extent: &Extent) -> Result<()> {
-    let sharers = extent.sharers;
-    let alone = commits::nanoseconds_a_rollback(rt, 0, extent.rounds)?;
-    let beside = commits::nanoseconds_a_rollback(rt, sharers, extent.rounds)?;
+    let Extent {
+        sharers,
+        rounds,
+        ..
+    } = *extent;
+    let alone = commits::nanoseconds_a_rollback(rt, 0, Place::Between, rounds)?;
+    let beside = commits::nanoseconds_a_rollback(rt, sharers, Place::Between, rounds)?;
+    let behind = commits::nanoseconds_a_rollback(rt, sharers, Place::Behind, rounds)?;
     let ratio = percent(beside, alone);
+    let worst = percent(behind, alone);
     eprintln!(rt;
         "rollback of a branch that shares 10 rows: {alone} ns alone, {beside} ns beside {sharers} others"
     )?;
-    eprintln!(rt; "ratio: {ratio} percent")?;
+    eprintln!(rt; "ratio: {ratio} percent; {worst} where its identifier is the last")?;
     Ok(())
 }
 
