@@ -81,11 +81,12 @@ fn explains_at(
     explained
 }
 
-/// What a session was told, and how many of these answers were explained.
+/// What a session was told, whether it was told that the log was full, and how many of its answers were explained.
 #[derive(Drop)]
 pub(crate) struct Account {
     pub(crate) session: SessionNo,
     pub(crate) told: Vec<Told>,
+    pub(crate) is_full: bool,
     pub(crate) explained: usize,
 }
 
