@@ -27,8 +27,8 @@ invariant_of-self g c =
       ready = ready_as _ _ c.in-Ok.ensures.over (ready_over was.ledger c.args.number was.ready);
     }
 
-pub returns-in-Ok : goal.returns-in-Ok
-returns-in-Ok g c =
+pub returns-in-Ok-clause-answers : goal.returns-in-Ok-clause-answers
+returns-in-Ok-clause-answers g c =
     inr (record {
       before = c.in-Ok.transaction;
       ending = c.abandon.result;
@@ -36,3 +36,15 @@ returns-in-Ok g c =
       told = refl;
       stands = same_desk _ _ _ _ _ _ c.abandon.ensures.count refl c.in-Ok.ensures.over;
     })
+
+pub returns-in-Ok-clause-says : goal.returns-in-Ok-clause-says
+returns-in-Ok-clause-says g c = (
+  inr (record {
+    number = c.args.number;
+    asked = refl;
+    before = c.in-Ok.transaction;
+    working = c.in-Ok.ensures.taken;
+    ends = c.abandon.ensures.ends;
+  }),
+  refl,
+)

@@ -27,8 +27,8 @@ invariant_of-self-in-Ok g c =
       ready = ready_as _ _ on (ready_more was.ledger begun was.ready (λ prepared same. absurd (cc)));
     }
 
-pub returns-in-Ok : goal.returns-in-Ok
-returns-in-Ok g c =
+pub returns-in-Ok-clause-answers : goal.returns-in-Ok-clause-answers
+returns-in-Ok-clause-answers g c =
     let was = c.args.self.now in
     let begun = Working c.in-Ok.transaction in
     let number : c.number-number.result ≡ length was.ledger + 1 = c.number-number.ensures ∙ c.in-Ok.ensures.number ∙ ap (λ n. n + 1) (sym was.counted) in

@@ -39,8 +39,8 @@ invariant_of-self g c =
           (ready_with was.ledger c.args.number stage was.ready (voted_ready g.C.Speak.view c.in-Ok.transaction c.prepare-vote.result stores.items after c.prepare-vote.ensures.vote));
     }
 
-pub returns-in-Ok : goal.returns-in-Ok
-returns-in-Ok g c =
+pub returns-in-Ok-clause-answers : goal.returns-in-Ok-clause-answers
+returns-in-Ok-clause-answers g c =
     let was = c.args.self.now in
     let stage = stage_after c.prepare-vote.result in
     let put : c.put.new.self ≡ with_stage c.take_working.new.self c.args.number stage =
@@ -53,3 +53,23 @@ returns-in-Ok g c =
       told = ap (λ poll. Told poll) c.told_of-poll.ensures.poll;
       stands = same_desk _ _ _ _ _ _ c.prepare-vote.ensures.count refl on;
     })
+
+pub returns-in-Ok-clause-says : goal.returns-in-Ok-clause-says
+returns-in-Ok-clause-says g c =
+    let was = c.args.self.now in
+    let stage = stage_after c.prepare-vote.result in
+    let put : c.put.new.self ≡ with_stage c.take_working.new.self c.args.number stage =
+    c.put.ensures ∙ ap (λ s. with_stage c.take_working.new.self c.args.number s) c.told_of-poll.ensures.stage in
+    let on = put_on was.ledger c.args.number Over stage c.take_working.new.self c.put.new.self c.in-Ok.ensures.over put in (
+      record {
+        number = c.args.number;
+        asked = refl;
+        before = c.in-Ok.transaction;
+        vote = c.prepare-vote.result;
+        working = c.in-Ok.ensures.taken;
+        told = c.told_of-poll.ensures.poll;
+        votes = c.prepare-vote.ensures.vote;
+        stages = on;
+      },
+      refl,
+    )

@@ -32,8 +32,8 @@ invariant_of-self g c =
       ready = ready_as _ _ on (ready_with was.ledger c.args.number worked was.ready (λ prepared same. absurd (cc)));
     }
 
-pub returns-in-Ok : goal.returns-in-Ok
-returns-in-Ok g c =
+pub returns-in-Ok-clause-answers : goal.returns-in-Ok-clause-answers
+returns-in-Ok-clause-answers g c =
     let was = c.args.self.now in
     let worked = Working c.work-worked.new.transaction in
     let on = put_on was.ledger c.args.number Over worked c.take_working.new.self c.put.new.self c.in-Ok.ensures.over c.put.ensures in
@@ -48,3 +48,23 @@ returns-in-Ok g c =
       told = refl;
       stands = same_desk _ _ _ _ _ _ count refl on;
     })
+
+pub returns-in-Ok-clause-says : goal.returns-in-Ok-clause-says
+returns-in-Ok-clause-says g c =
+    let was = c.args.self.now in
+    let worked = Working c.work-worked.new.transaction in
+    let on = put_on was.ledger c.args.number Over worked c.take_working.new.self c.put.new.self c.in-Ok.ensures.over c.put.ensures in (
+      record {
+        number = c.args.number;
+        store = c.args.store;
+        statement = c.args.statement.now;
+        asked = refl;
+        before = c.in-Ok.transaction;
+        after = c.work-worked.new.transaction;
+        working = c.in-Ok.ensures.taken;
+        works = c.work-worked.ensures.works;
+        others = c.work-worked.ensures.frame;
+        stages = on;
+      },
+      refl,
+    )
