@@ -9,7 +9,7 @@
 --     reply_of         the reply of an answer
 --     SaysReply        a stranger's session was given a statement, and answered so
 --     Says             what was said, by the response
-use Rattle.std.specs.Prelude.{◌≡◌, ◌⊎◌, ℕ, Some, Option, Result, Ok, Err, List, map, codes, MatchResult, IfOk, IfErr}
+use Rattle.std.specs.Prelude.{◌≡◌, ◌⊎◌, ℕ, Some, Option, Result, Ok, Err, List, map, codes, IfOk, IfErr}
 use Rattle.xa_xid.specs.declared.statement.Statement.{Statement}
 use Rattle.xa_server.specs.declared.reply.Reply.{Reply}
 use Rattle.xa_session.specs.declared.fault.Fault.{Fault}
@@ -22,9 +22,7 @@ use Rattle.xa_coordinator.specs.Outcomes.{EndsAs, VotesAs, closing_for}
 use Rattle.xa_coordinator.specs.Recovery.{Recovers, BreaksOff}
 use Rattle.xa_coordinator.specs.Decisions.{is_decided}
 use Rattle.xa_coordinator.specs.declared.open_branch.OpenBranch.{OpenBranch}
-use Rattle.xa_coordinator.specs.declared.closing.Closing.{Closing}
 use Rattle.xa_coordinator.specs.declared.closing.Closing.TheVariants.{RollBack}
-use Rattle.xa_coordinator.specs.declared.standing.Standing.{Standing}
 use Rattle.xa_coordinator.specs.declared.transaction.Transaction.{Transaction}
 use Rattle.xa_coordinator.specs.declared.prepared.Prepared.{Prepared}
 use Rattle.xa_coordinator.specs.declared.ending.Ending.{Ending}
@@ -35,7 +33,6 @@ use Rattle.xa_coordinator.specs.declared.vote.Vote.{Vote}
 use Rattle.xa_manager.specs.declared.call.Call.{Call}
 use Rattle.xa_manager.specs.declared.call.Call.TheVariants.{Work, Prepare, Finish, Abandon, Recover, At}
 use Rattle.xa_manager.specs.declared.poll.Poll.{Poll}
-use Rattle.xa_manager.specs.declared.stage.Stage.{Stage}
 use Rattle.xa_manager.specs.declared.stage.Stage.TheVariants.{Working, Ready, Voted as VotedStage}
 use Rattle.xa_manager.specs.declared.response.Response.{Response}
 use Rattle.xa_manager.specs.declared.response.Response.TheVariants.{Silent, Unread, UnknownStore, UnknownTransaction, WrongStage, Begun, NumbersSpent, Worked, Voted, Decided, Closed, Ended, Limited, Stopped, Recovered, Replied, Shown}

@@ -1,4 +1,4 @@
-use Rattle.std.proofs.Common.{◌≡◌, Vec, Global, ap, map, refl, inl, inr}
+use Rattle.std.proofs.Common.{Vec, Global, ap, map, refl, inl, inr}
 use Rattle.xa_manager.proofs.Said.{quiet_inner}
 use Rattle.xa_manager.proofs.answer.Manager+Fused+S+T.answer.Goals as goal
 use Rattle.xa_manager.proofs.answer.Manager+Fused+S+T.answer.Goals.{in-Silent, in-Unread, in-Begin+in_ok-response-in-Begin, in-Work, in-Prepare, in-Decide, in-Finish, in-Abandon, in-Fail, in-Recover, in-At, in-Show+in_ok-response-in-Show}

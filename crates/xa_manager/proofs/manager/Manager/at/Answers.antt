@@ -1,4 +1,4 @@
-use Rattle.std.proofs.Common.{◌≡◌, codes, refl, sym, subst, Result}
+use Rattle.std.proofs.Common.{codes, refl, sym, subst, Result}
 use Rattle.xa_server.specs.declared.reply.Reply.{Reply}
 use Rattle.xa_session.specs.declared.fault.Fault.{Fault}
 use Rattle.xa_coordinator.proofs.Keeping.{at_place, changes_at}
@@ -12,8 +12,7 @@ returns-clause-says g c =
     let view = g.T.Speak.view in
     let old = c.index_mut.result.now in
     let new = c.execute.new.self in
-    let P : Result Reply Fault → Type 0 = λ answer. RepliesAs c.args.statement.now answer (view old) (view new) in
-    (
+    let P : Result Reply Fault → Type 0 = λ answer. RepliesAs c.args.statement.now answer (view old) (view new) in (
       record {
         store = c.args.store;
         statement = c.args.statement.now;

@@ -1,9 +1,6 @@
-use Rattle.std.proofs.Common.{◌≡◌, ◌∙◌, ◌+◌, ◌++◌, ◌∷◌, [], List, length, length-append, vec_len, ap, refl, sym, inl, inr, arith}
-use Rattle.xa_coordinator.specs.declared.transaction.Transaction.{Transaction}
-use Rattle.xa_coordinator.specs.declared.standing.Standing.{Standing}
+use Rattle.std.proofs.Common.{◌≡◌, ◌∙◌, ◌+◌, ◌∷◌, [], length, length-append, vec_len, ap, refl, sym, inl, inr}
 use Rattle.xa_coordinator.specs.declared.standing.Standing.TheVariants.{Undecided}
-use Rattle.xa_manager.specs.declared.stage.Stage.{Stage}
-use Rattle.xa_manager.specs.declared.stage.Stage.TheVariants.{Working, Over}
+use Rattle.xa_manager.specs.declared.stage.Stage.TheVariants.{Working}
 use Rattle.xa_manager.specs.declared.response.Response.TheVariants.{Begun}
 use Rattle.xa_manager.specs.Ledger.{IsOf}
 use Rattle.xa_manager.proofs.Stages.{kept_more, ready_more}

@@ -1,7 +1,5 @@
-use Rattle.std.proofs.Common.{◌≡◌, ◌∙◌, length, vec_len, codes, ap, refl, sym, inl, inr}
-use Rattle.xa_coordinator.specs.declared.transaction.Transaction.{Transaction}
-use Rattle.xa_manager.specs.declared.stage.Stage.TheVariants.{Working, Ready, Voted, Over}
-use Rattle.xa_manager.specs.Ledger.{IsOf}
+use Rattle.std.proofs.Common.{◌≡◌, ◌∙◌, length, ap, refl, sym, inl, inr}
+use Rattle.xa_manager.specs.declared.stage.Stage.TheVariants.{Ready, Over}
 use Rattle.xa_manager.proofs.Stages.{put_back}
 use Rattle.xa_manager.proofs.Desks.{same_desk, kept_as, ready_as, after_decision}
 use Rattle.xa_manager.proofs.manager.Manager.decide.Goals as goal

@@ -1,8 +1,5 @@
-use Rattle.std.proofs.Common.{◌≡◌, ◌∙◌, length, vec_len, codes, ap, refl, sym, inl, inr}
-use Rattle.xa_coordinator.specs.declared.transaction.Transaction.{Transaction}
-use Rattle.xa_manager.specs.declared.stage.Stage.TheVariants.{Working, Ready, Voted, Over}
-use Rattle.xa_manager.specs.Ledger.{IsOf}
-use Rattle.xa_coordinator.specs.declared.prepared.Prepared.{Prepared}
+use Rattle.std.proofs.Common.{◌∙◌, length, vec_len, ap, refl, sym, inl, inr}
+use Rattle.xa_manager.specs.declared.stage.Stage.TheVariants.{Over}
 use Rattle.xa_manager.proofs.Stages.{with_stage-length, kept_over, ready_over, kept_voted}
 use Rattle.xa_manager.proofs.Desks.{same_desk, kept_as, ready_as}
 use Rattle.xa_manager.proofs.manager.Manager.finish.Goals as goal

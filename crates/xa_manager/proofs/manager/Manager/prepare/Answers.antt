@@ -1,8 +1,7 @@
-use Rattle.std.proofs.Common.{◌≡◌, ◌∙◌, length, vec_len, codes, ap, refl, sym, inl, inr}
-use Rattle.xa_coordinator.specs.declared.transaction.Transaction.{Transaction}
-use Rattle.xa_manager.specs.declared.stage.Stage.TheVariants.{Working, Ready, Voted, Over}
+use Rattle.std.proofs.Common.{◌≡◌, ◌∙◌, length, vec_len, ap, refl, sym, inr}
+use Rattle.xa_manager.specs.declared.stage.Stage.TheVariants.{Working, Over}
 use Rattle.xa_manager.specs.declared.response.Response.TheVariants.{Voted as Told}
-use Rattle.xa_manager.specs.Ledger.{IsOf, with_stage}
+use Rattle.xa_manager.specs.Ledger.{with_stage}
 use Rattle.xa_manager.specs.Answers.{stage_after}
 use Rattle.xa_manager.proofs.Stages.{with_stage-length, kept_with, ready_with, put_on}
 use Rattle.xa_manager.proofs.Desks.{same_desk, kept_as, ready_as, voted_kept, voted_ready}

@@ -1,4 +1,4 @@
-use Rattle.std.proofs.Common.{◌≡◌, refl, inr}
+use Rattle.std.proofs.Common.{refl, inr}
 use Rattle.xa_manager.proofs.Desks.{same_desk}
 use Rattle.xa_manager.proofs.manager.Manager.recover.Goals as goal
 

@@ -1,7 +1,5 @@
-use Rattle.std.proofs.Common.{rules, ◌≡◌, ◌∙◌, length, vec_len, codes, ap, refl, sym, inl, inr}
-use Rattle.xa_coordinator.specs.declared.transaction.Transaction.{Transaction}
-use Rattle.xa_manager.specs.declared.stage.Stage.TheVariants.{Working, Ready, Voted, Over}
-use Rattle.xa_manager.specs.Ledger.{IsOf}
+use Rattle.std.proofs.Common.{rules, ◌≡◌, ◌∙◌, length, vec_len, ap, refl, sym, inr}
+use Rattle.xa_manager.specs.declared.stage.Stage.TheVariants.{Working, Over}
 use Rattle.xa_manager.proofs.Stages.{with_stage-length, kept_with, ready_with, put_on}
 use Rattle.xa_manager.proofs.Desks.{same_desk, kept_as, ready_as, worked_kept}
 use Rattle.xa_manager.proofs.manager.Manager.work.Goals as goal
