@@ -4,10 +4,13 @@
 --     IsQuiet          nothing was said to these sessions
 --     SaysWork         the coordinator worked in a store, and this is what the work came to
 --     SaysVote         the coordinator had the stores vote, and this is the vote
---     SaysEnding       the coordinator finished or abandoned a transaction, and it ended so
+--     SaysFinish       the coordinator finished a transaction that was voted on, and it ended so
+--     SaysAbandon      the coordinator abandoned a transaction, and it ended so
 --     SaysRecovery     the coordinator recovered, and this is what recovery came to
 --     reply_of         the reply of an answer
+--     RepliesAs        a session answered a statement so, or didn't for a fault
 --     SaysReply        a stranger's session was given a statement, and answered so
+--     SaysNothing      nothing was said to any session
 --     Says             what was said, by the response
 use Rattle.std.specs.Prelude.{◌≡◌, ◌⊎◌, ℕ, Some, Option, Result, Ok, Err, List, map, codes, IfOk, IfErr}
 use Rattle.xa_xid.specs.declared.statement.Statement.{Statement}
@@ -123,8 +126,7 @@ pub record SaysReply {C T : Type 0} (view : T → SessionView) (call : Call) (an
 abbrev pub SaysNothing : {C T : Type 0} → (C → SessionView) → (T → SessionView) → Floor C T → Floor C T → Type 0
 SaysNothing view view' old new = IsQuiet view old.sessions new.sessions × IsQuiet view' old.strangers new.strangers
 
--- what was said for a call that was answered so: what work, a vote, an ending and a recovery are told to be is what the coordinator's call came to, and a reply is what the stranger's session
--- answered
+-- what was said for a call that was answered so
 abbrev pub Says : {C T : Type 0} → (C → SessionView) → (T → SessionView) → Call → Response → Floor C T → Floor C T → Type 0
 Says view view' call Silent old new = SaysNothing view view' old new
 Says view view' call (Unread place) old new = SaysNothing view view' old new
