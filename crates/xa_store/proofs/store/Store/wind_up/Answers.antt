@@ -1,0 +1,22 @@
+use Rattle.std.proofs.Common.{◌≡◌, map, ap, sym, subst, ◌∙◌}
+use Rattle.std.specs.List.{All, AllZip}
+use Rattle.std.proofs.lemmas.List.Elements.{All-map}
+use Rattle.xa_store.specs.Passes.{home_of, known_of}
+use Rattle.xa_store.specs.Gathered.{IsTakenIn, Keeps, last_known}
+use Rattle.xa_store.proofs.Spreading.{zip_mapped, map_twice}
+use Rattle.xa_store.proofs.store.Store.wind_up.Goals as goal
+
+pub returns-in-Ok-leave_all-clause-passes : goal.returns-in-Ok-leave_all-clause-passes
+returns-in-Ok-leave_all-clause-passes c =
+    subst (λ passes. AllZip (λ session pass. (home_of pass ≡ home_of session.pass) × Keeps (known_of session.pass) (known_of pass)) c.args.sessions.items passes) (sym c.in-Ok-leave_all.ensures.ok)
+    (zip_mapped _ (λ session pass. (home_of pass ≡ home_of session.pass) × Keeps (known_of session.pass) (known_of pass)) (λ session. session.pass) (λ old new is. (is.1, is.2)) c.args.sessions.items c.history.new.sessions.items c.in-Ok.ensures.keeps)
+
+pub returns-in-Ok-leave_all-clause-last : goal.returns-in-Ok-leave_all-clause-last
+returns-in-Ok-leave_all-clause-last c =
+    c.in-Ok.ensures.last ∙ ap (λ list. (last_known list).seen) (sym (map_twice (λ session. session.pass) known_of c.history.new.sessions.items))
+    ∙ ap (λ passes. (last_known (map known_of passes)).seen) (sym c.in-Ok-leave_all.ensures.ok)
+
+pub returns-in-Ok-leave_all-clause-whole : goal.returns-in-Ok-leave_all-clause-whole
+returns-in-Ok-leave_all-clause-whole c =
+    subst (λ passes. All (λ pass. IsTakenIn c.in-Ok.history.items (known_of pass)) passes) (sym c.in-Ok-leave_all.ensures.ok)
+    (All-map (λ pass. IsTakenIn c.in-Ok.history.items (known_of pass)) (λ session. session.pass) c.history.new.sessions.items c.in-Ok.ensures.whole)
