@@ -11,6 +11,8 @@ mod outcome;
 mod race_fault;
 mod racing;
 mod renew;
+#[cfg(test)]
+mod renewal_tests;
 mod run;
 mod spread;
 mod store;

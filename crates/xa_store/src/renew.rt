@@ -1,10 +1,10 @@
 //! A store whose history is full goes on with an empty one.
-ghost use Rattle.std.specs.Prelude.{◌≡◌, ◌<◌, ◌≤◌, IfOk, IfErr, length, map};
-ghost use Rattle.std.specs.List.{All, AllZip};
+ghost use Rattle.std.specs.Prelude.{◌≡◌, ◌≤◌, IfOk, IfErr, map};
+ghost use Rattle.std.specs.List.{AllZip};
 ghost use Rattle.decision_log.specs.Opens.{Opens};
 ghost use Rattle.xa_store.specs.Passes.{place_of, home_of, known_of};
-ghost use Rattle.xa_store.specs.Gathered.{IsTakenIn, last_known};
-ghost use Rattle.xa_store.specs.Renewal.{disconnected, renewed};
+ghost use Rattle.xa_store.specs.Gathered.{last_known};
+ghost use Rattle.xa_store.specs.Renewal.{AreGathered, disconnected, renewed};
 
 use crate::store::{Log, Pass, Store};
 use decision_log::DecisionLog;
@@ -56,9 +56,7 @@ impl Store {
         alloc: Global,
         mut passes: Vec<Pass>,
     ) -> Result<(Store, Vec<Pass>), (Store, Vec<Pass>, NoMemory)>
-        requires some { 0 < length passes.items }
-        requires homes { All (λ pass. home_of pass ≡ place_of self.log) passes.items }
-        requires whole { All (λ pass. IsTakenIn (last_known (map known_of passes.items)).seen (known_of pass)) passes.items }
+        requires { AreGathered (place_of self.log) passes.items }
         ensures base { IfOk result (λ opened. opened.0.base ≡ renewed self.base (last_known (map known_of passes.items)).seen (place_of self.log).sessions) }
         ensures ok { IfOk result (λ opened. Opens home_of known_of (place_of self.log).capacity (place_of self.log).sessions (place_of opened.0.log) opened.1.items) }
         ensures store { IfErr result (λ kept. (kept.0.base ≡ self.base) × (place_of kept.0.log ≡ place_of self.log)) }
