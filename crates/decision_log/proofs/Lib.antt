@@ -10,3 +10,4 @@ pub mod TurnSteps
 pub mod TurnStores
 pub mod TurnSeats
 pub mod TurnHistory
+pub mod Scenes

@@ -16,3 +16,4 @@ pub mod TurnCounts
 pub mod TurnSeat
 pub mod TurnPass
 pub mod Opens
+pub mod Scenes

@@ -4,7 +4,8 @@
 //! the answers are given, so that a log that always answers `Busy` fails here.
 //!
 //! Own rule: docs/LOG.md, 'What a log promises'.
-ghost use Rattle.std.specs.Prelude.{◌≡◌, IfSome};
+ghost use Rattle.std.specs.Prelude.{◌≡◌, length, IfSome, IsTrue};
+ghost use Rattle.decision_log.specs.Scenes.{HasAdded};
 
 use crate::{AddFault, DecisionLog};
 use std::snapshot::Snapshot;
@@ -69,6 +70,9 @@ pub fn adds_in_turn<L: DecisionLog>(log: &L, first: &mut L::Pass, second: &mut L
     requires second { L.home second.old ≡ L.place log.now }
     ensures first { L.home first.new ≡ L.home first.old }
     ensures second { L.home second.new ≡ L.home second.old }
+    ensures capacity { IsTrue result → (L.place log.now).capacity ≡ 2 }
+    ensures first_added { IsTrue result → HasAdded 1 1 (L.known first.old) (L.known first.new) }
+    ensures second_added { IsTrue result → HasAdded 1 2 (L.known second.old) (L.known second.new) }
 {
     let Some(start_a) = start(log.number(first), b'a') else {
         return false;
@@ -108,6 +112,9 @@ pub fn looks_and_meets<L: DecisionLog>(log: &L, first: &mut L::Pass, second: &mu
     requires second { L.home second.old ≡ L.place log.now }
     ensures first { L.home first.new ≡ L.home first.old }
     ensures second { L.home second.new ≡ L.home second.old }
+    ensures first_added { IsTrue result → HasAdded 2 2 (L.known first.old) (L.known first.new) }
+    ensures second_added { IsTrue result → HasAdded 1 1 (L.known second.old) (L.known second.new) }
+    ensures seen { IsTrue result → length (L.known first.new).seen ≡ 3 }
 {
     let Some(start_a) = start(log.number(first), b'a') else {
         return false;
@@ -151,6 +158,9 @@ pub fn outdated_look_is_overtaken_once<L: DecisionLog>(
     requires second { L.home second.old ≡ L.place log.now }
     ensures first { L.home first.new ≡ L.home first.old }
     ensures second { L.home second.new ≡ L.home second.old }
+    ensures first_added { IsTrue result → HasAdded 2 2 (L.known first.old) (L.known first.new) }
+    ensures second_added { IsTrue result → HasAdded 1 2 (L.known second.old) (L.known second.new) }
+    ensures seen { IsTrue result → length (L.known second.new).seen ≡ 3 }
 {
     let one = log.number(first);
     let two = log.number(second);

@@ -8,7 +8,8 @@ impl<S: Speak> Fused<S> {
     ///
     /// Takes no memory. Doesn't wait.
     pub fn allow(&mut self, calls: u64)
-        ensures { self.new.inner ≡ self.old.inner }
+        ensures inner { self.new.inner ≡ self.old.inner }
+        ensures left { self.new.left ≡ calls }
     {
         self.left = calls;
     }

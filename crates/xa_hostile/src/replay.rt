@@ -33,8 +33,17 @@ fn is_entry(entry: Option<&Entry>, session: SessionNo, statement: &Statement) ->
     }
 }
 
+/// What answers of one place came to.
+#[derive(Clone, Copy)]
+struct Explained {
+    /// Which of the session's answers comes next.
+    next: usize,
+    /// How many of the answers entered.
+    entered: u64,
+}
+
 /// Asks the server for the reply of each answer of a session at this place, from answer `at` on. What enters is to be the next entry
-/// of the history. The answer is which of the session's answers comes next.
+/// of the history.
 fn explains_at(
     rt: &impl Abort,
     server: &Server,
@@ -43,11 +52,14 @@ fn explains_at(
     at: usize,
     place: u64,
     next: Option<&Entry>,
-) -> usize {
-    let mut index = at;
+) -> Explained {
+    let mut explained = Explained {
+        next: at,
+        entered: 0,
+    };
     for Told { statement, answer } in told.iter().skip(at) {
         if answer.place != place {
-            return index;
+            return explained;
         }
         let Ok((reply, enters)) = server.reply(session, statement) else {
             panic!(rt; "no memory")
@@ -61,20 +73,49 @@ fn explains_at(
             !enters || is_entry(next, session, statement),
             "{statement:?} at {place}"
         );
-        index = index.saturating_add(1);
+        explained.next = explained.next.saturating_add(1);
+        if enters {
+            explained.entered = explained.entered.saturating_add(1);
+        }
     }
-    index
+    explained
 }
 
-/// What a session was told, and how many of these answers were explained.
+/// What a session was told, whether it was told that the log was full, and how many of its answers were explained.
 #[derive(Drop)]
 pub(crate) struct Account {
     pub(crate) session: SessionNo,
     pub(crate) told: Vec<Told>,
+    pub(crate) is_full: bool,
     pub(crate) explained: usize,
 }
 
-/// Gives the history to a server, entry by entry, and asks it for each answer at its place.
+/// Asks the server for the answers that the sessions had at this place. How many of them entered.
+fn explains_all_at(
+    rt: &impl Abort,
+    server: &Server,
+    accounts: &mut [Account],
+    place: u64,
+    next: Option<&Entry>,
+) -> u64 {
+    let mut entered = 0u64;
+    for account in accounts.iter_mut() {
+        let at = explains_at(
+            rt,
+            server,
+            account.session,
+            account.told.as_slice(),
+            account.explained,
+            place,
+            next,
+        );
+        account.explained = at.next;
+        entered = entered.saturating_add(at.entered);
+    }
+    entered
+}
+
+/// Gives the history to a server, entry by entry, and asks it for each answer at its place. Each entry is to be that of one answer.
 pub(crate) fn explains(
     rt: &impl Abort,
     alloc: Global,
@@ -84,17 +125,8 @@ pub(crate) fn explains(
     let mut server = Server::new(alloc);
     for place in 0..=history.len() {
         let next = history.get(place);
-        for account in accounts.iter_mut() {
-            account.explained = explains_at(
-                rt,
-                &server,
-                account.session,
-                account.told.as_slice(),
-                account.explained,
-                place as u64,
-                next,
-            );
-        }
+        let entered = explains_all_at(rt, &server, accounts, place as u64, next);
+        assert_eq!(rt; entered, u64::from(next.is_some()), "at {place}");
         if let Some(entry) = next {
             assert!(rt; server.apply(entry.session(), entry.statement()).is_ok());
         }

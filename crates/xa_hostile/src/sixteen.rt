@@ -3,8 +3,8 @@ ghost use Rattle.std.specs.Prelude.{◌≡◌, ◌++◌, ◌∷◌, [], length, 
 ghost use Rattle.std.specs.List.{All};
 ghost use Rattle.chain_log.specs.ChainPass.{place_of, home_of};
 
-use crate::made::said;
 use crate::replay::{Account, Told, explains};
+use decision_log::DecisionLog;
 use std::alloc::Global;
 use std::process::Abort;
 use std::snapshot::Snapshot;
@@ -12,11 +12,16 @@ use std::sync::Wait;
 use std::thread;
 use std::thread::{Promise, Scope, Threads};
 use xa_session::{Fault, Session};
+use xa_statement::read_statement;
 use xa_store::{Log, Pass, Store};
 use xa_xid::{Bytes, Key, Statement, Xid};
 
 /// How many branches each session has.
 const BRANCHES: u8 = 50;
+
+/// How many sessions are told at least that the log is full. One that isn't adds four entries or more for each of its branches, so at
+/// most five end before there are 1,024.
+const AT_LEAST_FULL: usize = 11;
 
 /// The branch of this number of a session.
 fn branch(session: u8, number: u8) -> Xid {
@@ -32,70 +37,85 @@ fn branch(session: u8, number: u8) -> Xid {
 
 /// The statements of a branch: it reads a row that all sessions write, writes it, and is committed. Its list of the prepared branches
 /// may be anything.
-fn statements(rt: &impl Abort, session: u8, number: u8) -> [Statement; 8] {
+fn statements(session: u8, number: u8) -> Option<[Statement; 8]> {
     let mut name = Bytes::new();
     name.push(number % 7);
-    let Some(key) = Key::of(name) else {
-        panic!(rt; "a key")
-    };
     let mut value = Bytes::new();
     value.push(session);
     value.push(number);
-    [
-        said(rt, b"GET 'k'"),
+    Some([
+        read_statement(b"GET 'k'").ok()?,
         Statement::Start(branch(session, number)),
-        Statement::Put(key, value),
-        said(rt, b"PUT 'k','v'"),
+        Statement::Put(Key::of(name)?, value),
+        read_statement(b"PUT 'k','v'").ok()?,
         Statement::End(branch(session, number)),
         Statement::Prepare(branch(session, number)),
-        said(rt, b"XA RECOVER"),
+        Statement::Recover { convert: false },
         Statement::Commit {
             xid: branch(session, number),
             one_phase: false,
         },
-    ]
+    ])
 }
 
-/// What a session has worked: what it was told, and whether the log was full at its end.
+/// What a session has worked.
 #[derive(Drop)]
-struct Worked<'a> {
-    session: Session<'a, Log>,
+struct Worked<'a, L: DecisionLog> {
+    session: Session<'a, L>,
+    /// What it was told.
     told: Vec<Told>,
+    /// Whether it was told that the log was full.
     is_full: bool,
+    /// Whether no statement, answer or fault was missing or wrong: only a log with 1,024 entries may be full.
+    is_sound: bool,
 }
 
-/// Has a session execute a statement. Only a log with 1,024 entries may be full.
-fn tells<R: Abort + Wait>(rt: &R, worked: &mut Worked<'_>, statement: Statement)
-    ensures { home_of worked.new.session.pass ≡ home_of worked.old.session.pass }
+/// Has a session execute a statement.
+fn tells<L: DecisionLog, R: Wait>(rt: &R, worked: &mut Worked<'_, L>, statement: Statement)
+    ensures { L.home worked.new.session.pass ≡ L.home worked.old.session.pass }
 {
     match worked.session.execute(rt, &statement) {
-        Ok(answer) => assert!(rt; worked.told.push(Told { statement, answer }).is_ok()),
+        Ok(answer) => {
+            if worked.told.push(Told { statement, answer }).is_err() {
+                worked.is_sound = false;
+            }
+        }
         Err(fault) => {
-            assert_eq!(rt; fault, Fault::Full);
-            assert_eq!(rt; worked.session.seen(), 1024);
             worked.is_full = true;
+            if fault != Fault::Full || worked.session.seen() != 1024 {
+                worked.is_sound = false;
+            }
         }
     }
 }
 
 /// Has a session work through a branch.
-fn works_through<R: Abort + Wait>(rt: &R, worked: &mut Worked<'_>, number: u8)
-    ensures { home_of worked.new.session.pass ≡ home_of worked.old.session.pass }
+fn works_through<L: DecisionLog, R: Wait>(rt: &R, worked: &mut Worked<'_, L>, number: u8)
+    ensures { L.home worked.new.session.pass ≡ L.home worked.old.session.pass }
 {
     let session = worked.session.number().get() as u8;
-    for statement in statements(rt, session, number) {
+    let Some(statements) = statements(session, number) else {
+        worked.is_sound = false;
+        return;
+    };
+    for statement in statements {
         tells(rt, worked, statement);
     }
 }
 
 /// Has a session work through its branches.
-fn works<'a, R: Abort + Wait>(rt: &R, alloc: Global, session: Session<'a, Log>) -> Worked<'a>
-    ensures { home_of result.session.pass ≡ home_of session.entry.pass }
+fn works<'a, L: DecisionLog, R: Wait>(
+    rt: &R,
+    alloc: Global,
+    session: Session<'a, L>,
+) -> Worked<'a, L>
+    ensures { L.home result.session.pass ≡ L.home session.entry.pass }
 {
     let mut worked = Worked {
         session,
         told: Vec::new(alloc),
         is_full: false,
+        is_sound: true,
     };
     for number in 0..BRANCHES {
         works_through(rt, &mut worked, number);
@@ -105,22 +125,25 @@ fn works<'a, R: Abort + Wait>(rt: &R, alloc: Global, session: Session<'a, Log>) 
 
 /// What a thread promises of the session that it works with: that it is of the same log.
 #[derive(Drop)]
-struct StaysHome<'a>(Snapshot<Session<'a, Log>>);
+struct StaysHome<'a, L: DecisionLog>(Snapshot<Session<'a, L>>);
 
-impl<'a> Promise<Worked<'a>> for StaysHome<'a> {
-    ghost kept_by = { λ promise ended. home_of ended.session.pass ≡ home_of promise.0.value.pass };
+impl<'a, L: DecisionLog> Promise<Worked<'a, L>> for StaysHome<'a, L> {
+    ghost kept_by = { λ promise ended. L.home ended.session.pass ≡ L.home promise.0.value.pass };
 }
 
-/// Gives each session a thread of its own, and waits for all of them. All are started before the first is waited for.
-fn side_by_side<'s, 'a: 's, E, R: Abort + Threads + Wait + Sync>(
+/// Gives each session a thread of its own, and waits for all of them. All are started before the first is waited for. A session whose
+/// thread couldn't be started is missing.
+fn side_by_side<'s, 'a: 's, E, L: DecisionLog + Sync, R: Threads + Wait + Sync>(
     scope: &Scope<'s, E>,
     rt: &'s R,
     alloc: Global,
     store: &Store,
-    mut sessions: Vec<Session<'a, Log>>,
-) -> Vec<Worked<'a>>
-    requires { All (λ session. home_of session.pass ≡ place_of store.now.log) sessions.items }
-    ensures { All (λ worked. home_of worked.session.pass ≡ place_of store.now.log) result.items }
+    mut sessions: Vec<Session<'a, L>>,
+) -> Vec<Worked<'a, L>>
+where
+    L::Pass: Send + Drop,
+    requires { All (λ session. L.home session.pass ≡ place_of store.now.log) sessions.items }
+    ensures { All (λ worked. L.home worked.session.pass ≡ place_of store.now.log) result.items }
 {
     let Some(session) = sessions.pop() else {
         return Vec::new(alloc);
@@ -131,9 +154,11 @@ fn side_by_side<'s, 'a: 's, E, R: Abort + Threads + Wait + Sync>(
     );
     let mut all = side_by_side(scope, rt, alloc, store, sessions);
     let Ok(thread) = thread else {
-        panic!(rt; "not started")
+        return all;
     };
-    assert!(rt; all.push(thread.join(rt)).is_ok());
+    let Ok(()) = all.push(thread.join(rt)) else {
+        return Vec::new(alloc);
+    };
     all
 }
 
@@ -154,16 +179,18 @@ fn connected<'a>(
     let Ok(session) = store.connect(pass) else {
         panic!(rt; "not connected")
     };
-    assert!(rt; sessions.push(session).is_ok());
+    let Ok(()) = sessions.push(session) else {
+        panic!(rt; "no memory")
+    };
     sessions
 }
 
-/// Each session by itself, and what it was told by itself. Each was told that the log was full.
+/// Each session by itself, and what it was told by itself.
 fn apart<'a>(
     rt: &impl Abort,
     alloc: Global,
     store: &Store,
-    mut all: Vec<Worked<'a>>,
+    mut all: Vec<Worked<'a, Log>>,
 ) -> (Vec<Session<'a, Log>>, Vec<Account>)
     requires { All (λ worked. home_of worked.session.pass ≡ place_of store.now.log) all.items }
     ensures { All (λ session. home_of session.pass ≡ place_of store.now.log) result.0.items }
@@ -176,34 +203,39 @@ fn apart<'a>(
         session,
         told,
         is_full,
+        is_sound,
     } = worked;
-    assert!(rt; is_full);
+    assert!(rt; is_sound);
     let account = Account {
         session: session.number(),
         told,
+        is_full,
         explained: 0,
     };
-    assert!(rt; sessions.push(session).is_ok());
-    assert!(rt; accounts.push(account).is_ok());
+    let (Ok(()), Ok(())) = (sessions.push(session), accounts.push(account)) else {
+        panic!(rt; "no memory")
+    };
     (sessions, accounts)
 }
 
-/// Sixteen sessions work side by side.
-fn worked_by<'a, R: Abort + Threads + Wait + Sync>(
+/// Sessions work side by side.
+fn worked_by<'a, L: DecisionLog + Sync, R: Threads + Wait + Sync>(
     rt: &R,
     alloc: Global,
     store: &Store,
-    sessions: Vec<Session<'a, Log>>,
-) -> Vec<Worked<'a>>
-    requires { All (λ session. home_of session.pass ≡ place_of store.now.log) sessions.items }
-    ensures { All (λ worked. home_of worked.session.pass ≡ place_of store.now.log) result.items }
+    sessions: Vec<Session<'a, L>>,
+) -> Vec<Worked<'a, L>>
+where
+    L::Pass: Send + Drop,
+    requires { All (λ session. L.home session.pass ≡ place_of store.now.log) sessions.items }
+    ensures { All (λ worked. L.home worked.session.pass ≡ place_of store.now.log) result.items }
 {
     thread::scope(
         thread::scope_env(),
         rt,
-        |scope| -> Vec<Worked<'_>>
-            requires { All (λ session. home_of session.pass ≡ place_of store.now.log) sessions.items }
-            ensures { All (λ worked. home_of worked.session.pass ≡ place_of store.entry.now.log) result.items }
+        |scope| -> Vec<Worked<'_, L>>
+            requires { All (λ session. L.home session.pass ≡ place_of store.now.log) sessions.items }
+            ensures { All (λ worked. L.home worked.session.pass ≡ place_of store.entry.now.log) result.items }
         { side_by_side(scope, rt, alloc, store, sessions) },
     )
 }
@@ -217,6 +249,7 @@ fn sixteen_sessions_fill_one_history(rt: HostRuntime) {
     let worked = worked_by(&rt, rt.alloc(), &store, sessions);
     let (mut sessions, mut accounts) = apart(&rt, rt.alloc(), &store, worked);
     assert_eq!(rt; accounts.len(), 16);
+    assert!(rt; accounts.iter().filter(|account| account.is_full).count() >= AT_LEAST_FULL);
     let Ok(history) = store.history(rt.alloc(), &mut sessions) else {
         panic!(rt; "no memory")
     };

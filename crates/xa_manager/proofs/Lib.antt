@@ -1,6 +1,6 @@
-pub mod Choosing
 pub mod Desks
 pub mod Passes
 pub mod Printing
 pub mod Runs
+pub mod Said
 pub mod Stages

@@ -1,5 +1,5 @@
 -- Printing lists one element after another.
-use Rattle.std.proofs.Common.{◌≡◌, ℕ, ◌+◌, ◌<◌, ◌⊎◌, inl, inr, Bool, true, false, cond, List, [], ◌∷◌, ◌++◌, Result, length, get_or, take, refl, sym, ◌∙◌, ap, append_assoc, append-nil, add-zero, codes, decimal, arith}
+use Rattle.std.proofs.Common.{◌≡◌, ℕ, ◌+◌, ◌<◌, ◌⊎◌, inl, inr, Bool, true, false, cond, List, [], ◌∷◌, ◌++◌, Result, length, get_or, take, sym, ◌∙◌, ap, append_assoc, append-nil, add-zero, codes, decimal, arith}
 use Rattle.std.proofs.lemmas.List.{take_more, get_or_default}
 use Rattle.std.proofs.lemmas.List.{length-take}
 use Rattle.xa_server.specs.declared.reply.Reply.{Reply}

@@ -13,7 +13,7 @@ use Rattle.xa_manager.specs.declared.response.Response.{Response}
 use Rattle.xa_manager.specs.Calls.{call_of}
 use Rattle.xa_manager.specs.Texts.{answer_text}
 use Rattle.xa_manager.specs.Answers.{Desk, Answers, IsRun, new_desk}
-use Rattle.xa_manager.specs.Written.{IsWhole, IsCut, IsPart, MayBePart, AfterFault}
+use Rattle.xa_manager.specs.Written.{IsWhole, IsCut, MayBePart, AfterFault}
 
 -- one line more
 pub run-more : (start now next : Desk) (done : List (List ℕ)) (text line : List ℕ) (response : Response) → IsRun start done text now → Answers now (call_of line) response next

@@ -1,11 +1,10 @@
 -- How far transactions have come, in a list.
-use Rattle.std.proofs.Common.{◌≡◌, ◌≢◌, ◌≤◌, ℕ, ◌<◌, ◌+◌, ◌-◌, ◌⊎◌, List, [], ◌∷◌, ◌++◌, zero, suc, length, take, length-append, arith, sym, refl, ap, subst, ◌∙◌, inl, inr, Option, Some, None, Bool, true, false, cond}
+use Rattle.std.proofs.Common.{◌≡◌, ◌≢◌, ◌≤◌, ℕ, ◌<◌, ◌+◌, ◌-◌, ◌⊎◌, List, [], ◌∷◌, ◌++◌, zero, suc, length, take, length-append, arith, sym, refl, ap, subst, ◌∙◌, inl, inr, Some, None, Bool, true, false, cond}
 use Rattle.std.proofs.lemmas.Bool.{eqb-false, eqb-true}
 use Rattle.std.proofs.Math.Seq.{set-append_seam, take-append_seam}
-use Rattle.std.specs.Prelude.{◌==◌, slice_get, slice_set, codes}
+use Rattle.std.specs.Prelude.{◌==◌, slice_get, slice_set}
 use Rattle.std.proofs.lemmas.List.{set_past, length-set}
 use Rattle.std.proofs.lemmas.Bool.Decides.{eqb_tells}
-use Rattle.std.proofs.lemmas.Option.{slice_get_past}
 use Rattle.xa_xid.specs.declared.statement.Statement.{Statement}
 use Rattle.xa_xid.specs.declared.statement.Statement.TheVariants.{Start, End, Prepare, Commit, Rollback, Recover, Unsupported, Get, Put, Del, Disconnect}
 use Rattle.xa_coordinator.specs.Work.{IsRow}
@@ -14,7 +13,7 @@ use Rattle.xa_coordinator.specs.declared.prepared.Prepared.{Prepared}
 use Rattle.xa_coordinator.specs.declared.prepared.Ballot.TheVariants.{Ready as BallotReady}
 use Rattle.xa_coordinator.proofs.Places.{get_set_is, get_set_other}
 use Rattle.xa_manager.specs.declared.stage.Stage.{Stage}
-use Rattle.xa_manager.specs.declared.stage.Stage.TheVariants.{Working, Ready, Voted, Over}
+use Rattle.xa_manager.specs.declared.stage.Stage.TheVariants.{Ready, Voted, Over}
 use Rattle.xa_manager.specs.Calls.{takes_rows}
 use Rattle.xa_manager.specs.Ledger.{stage_of, with_stage, transaction_in, IsOf}
 

@@ -6,7 +6,7 @@
 --     Answers          a call was refused and changed nothing, or was carried out
 --     IsRun            what is written for lines, one after another
 --     IsTranscript     what is written for a script
-use Rattle.std.specs.Prelude.{◌≡◌, ◌⊎◌, ◌<◌, ◌+◌, ℕ, true, false, nat_lt, if◌then◌else◌, Option, Some, None, Result, Ok, Err, List, [], ◌∷◌, ◌++◌, length, map}
+use Rattle.std.specs.Prelude.{◌≡◌, ◌⊎◌, ◌<◌, ◌+◌, ℕ, true, false, nat_lt, if◌then◌else◌, Option, Some, None, Result, List, [], ◌∷◌, ◌++◌, length, map}
 use Rattle.xa_xid.specs.declared.statement.Statement.{Statement}
 use Rattle.xa_server.specs.declared.reply.Reply.{Reply}
 use Rattle.xa_session.specs.declared.fault.Fault.{Fault}

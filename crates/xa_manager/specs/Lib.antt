@@ -3,3 +3,4 @@ pub mod Texts
 pub mod Ledger
 pub mod Answers
 pub mod Written
+pub mod Said

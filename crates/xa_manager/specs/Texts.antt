@@ -11,7 +11,6 @@
 --     answer_text                  the same with its line feed, and nothing for a line that tells nothing
 use Rattle.std.specs.Prelude.{ℕ, ◌+◌, Bool, true, false, if◌then◌else◌, Result, Ok, Err, List, [], ◌∷◌, ◌++◌, codes, decimal}
 use Rattle.xa_server.specs.declared.reply.Reply.{Reply}
-use Rattle.xa_server.specs.declared.xa_error.XaError.{XaError}
 use Rattle.xa_session.specs.declared.fault.Fault.{Fault}
 use Rattle.xa_session.specs.declared.fault.Fault.TheVariants.{Overtaken, Full, NoMemory, Busy}
 use Rattle.xa_transcript.specs.Printed.{reply_text, error_text, syntax_text}

@@ -1,7 +1,8 @@
 //! Calls, carried out.
-ghost use Rattle.std.specs.Prelude.{◌≡◌, true, nat_lt, IfOk, vec_len, length};
+ghost use Rattle.std.specs.Prelude.{◌≡◌, ◌≤◌, true, nat_lt, IfOk, vec_len, length, map};
 ghost use Rattle.xa_manager.specs.Answers.{Answers, poll_of, stage_after as stage_with};
 ghost use Rattle.xa_manager.specs.Calls.{takes_rows, IsWritten};
+ghost use Rattle.xa_manager.specs.Said.{Says, floor, reply_of};
 
 use crate::manager::name;
 use crate::{Call, Listing, Manager, Poll, Response, Stage};
@@ -14,7 +15,9 @@ use xa_transcript::converts;
 use xa_xid::{NoMemory, Statement};
 
 /// The reply of an answer.
-fn reply_in(answered: Result<Answer, Fault>) -> Result<Reply, Fault> {
+fn reply_in(answered: Result<Answer, Fault>) -> Result<Reply, Fault>
+    ensures { result ≡ reply_of answered }
+{
     match answered {
         Ok(Answer { reply, .. }) => Ok(reply),
         Err(fault) => Err(fault),
@@ -65,12 +68,13 @@ fn listed_by_each<T: Speak, R: Wait>(
     Ok(answers)
 }
 
-/// Lets each session pass every call on.
-fn allow_all<S: Speak>(sessions: &mut [Fused<S>])
-    ensures { length sessions.new ≡ length sessions.old }
+/// Lets the sessions of so many stores pass every call on.
+fn allow_all<S: Speak>(coordinator: &mut Coordinator<Fused<S>>, count: u8)
+    requires { count ≤ vec_len coordinator.old.stores }
+    ensures { map (λ session. session.inner) coordinator.new.stores.items ≡ map (λ session. session.inner) coordinator.old.stores.items }
 {
-    for session in sessions.iter_mut() {
-        session.allow(u64::MAX);
+    for store in 0..count {
+        coordinator.allow(store, u64::MAX);
     }
 }
 
@@ -84,9 +88,12 @@ impl<C: Speak, T: Speak> Manager<C, T> {
 
     /// Begins a transaction.
     fn begin(&mut self) -> Result<Response, NoMemory>
-        ensures { IfOk result (λ response. Answers (record { stores = vec_len self.old.coordinator.stores; decisions = self.old.decisions; stages = self.old.ledger })
+        ensures answers { IfOk result (λ response. Answers (record { stores = vec_len self.old.coordinator.stores; decisions = self.old.decisions; stages = self.old.ledger })
             (Call.Begin) response
             (record { stores = vec_len self.new.coordinator.stores; decisions = self.new.decisions; stages = self.new.ledger })) }
+        ensures says { IfOk result (λ response. Says C.view T.view (Call.Begin) response
+            (floor (record { stores = vec_len self.old.coordinator.stores; decisions = self.old.decisions; stages = self.old.ledger }) self.old.coordinator.branches self.old.coordinator.stores.items self.old.strangers.items)
+            (floor (record { stores = vec_len self.new.coordinator.stores; decisions = self.new.decisions; stages = self.new.ledger }) self.new.coordinator.branches self.new.coordinator.stores.items self.new.strangers.items)) }
     {
         self.ledger.add(Stage::Over)?;
         match self.coordinator.begin(&mut self.decisions) {
@@ -105,9 +112,12 @@ impl<C: Speak, T: Speak> Manager<C, T> {
     /// Gives a row statement of a transaction to a store.
     fn work<R: Wait>(&mut self, rt: &R, number: u64, store: u64, statement: &Statement) -> Response
         requires { takes_rows statement.now ≡ true }
-        ensures { Answers (record { stores = vec_len self.old.coordinator.stores; decisions = self.old.decisions; stages = self.old.ledger })
+        ensures answers { Answers (record { stores = vec_len self.old.coordinator.stores; decisions = self.old.decisions; stages = self.old.ledger })
             (Call.Work number store statement.now) result
             (record { stores = vec_len self.new.coordinator.stores; decisions = self.new.decisions; stages = self.new.ledger }) }
+        ensures says { Says C.view T.view (Call.Work number store statement.now) result
+            (floor (record { stores = vec_len self.old.coordinator.stores; decisions = self.old.decisions; stages = self.old.ledger }) self.old.coordinator.branches self.old.coordinator.stores.items self.old.strangers.items)
+            (floor (record { stores = vec_len self.new.coordinator.stores; decisions = self.new.decisions; stages = self.new.ledger }) self.new.coordinator.branches self.new.coordinator.stores.items self.new.strangers.items) }
     {
         if !self.has_store(store) {
             return Response::UnknownStore(store);
@@ -126,9 +136,12 @@ impl<C: Speak, T: Speak> Manager<C, T> {
 
     /// Has the stores of a transaction vote.
     fn prepare<R: Wait>(&mut self, rt: &R, number: u64) -> Response
-        ensures { Answers (record { stores = vec_len self.old.coordinator.stores; decisions = self.old.decisions; stages = self.old.ledger })
+        ensures answers { Answers (record { stores = vec_len self.old.coordinator.stores; decisions = self.old.decisions; stages = self.old.ledger })
             (Call.Prepare number) result
             (record { stores = vec_len self.new.coordinator.stores; decisions = self.new.decisions; stages = self.new.ledger }) }
+        ensures says { Says C.view T.view (Call.Prepare number) result
+            (floor (record { stores = vec_len self.old.coordinator.stores; decisions = self.old.decisions; stages = self.old.ledger }) self.old.coordinator.branches self.old.coordinator.stores.items self.old.strangers.items)
+            (floor (record { stores = vec_len self.new.coordinator.stores; decisions = self.new.decisions; stages = self.new.ledger }) self.new.coordinator.branches self.new.coordinator.stores.items self.new.strangers.items) }
     {
         match self.ledger.take_working(number) {
             Ok(transaction) => {
@@ -143,9 +156,12 @@ impl<C: Speak, T: Speak> Manager<C, T> {
 
     /// Decides a transaction.
     fn decide(&mut self, number: u64) -> Response
-        ensures { Answers (record { stores = vec_len self.old.coordinator.stores; decisions = self.old.decisions; stages = self.old.ledger })
+        ensures answers { Answers (record { stores = vec_len self.old.coordinator.stores; decisions = self.old.decisions; stages = self.old.ledger })
             (Call.Decide number) result
             (record { stores = vec_len self.new.coordinator.stores; decisions = self.new.decisions; stages = self.new.ledger }) }
+        ensures says { Says C.view T.view (Call.Decide number) result
+            (floor (record { stores = vec_len self.old.coordinator.stores; decisions = self.old.decisions; stages = self.old.ledger }) self.old.coordinator.branches self.old.coordinator.stores.items self.old.strangers.items)
+            (floor (record { stores = vec_len self.new.coordinator.stores; decisions = self.new.decisions; stages = self.new.ledger }) self.new.coordinator.branches self.new.coordinator.stores.items self.new.strangers.items) }
     {
         match self.ledger.take_ready(number) {
             Ok(prepared) => {
@@ -162,9 +178,12 @@ impl<C: Speak, T: Speak> Manager<C, T> {
 
     /// Finishes a transaction that was voted on.
     fn finish<R: Wait>(&mut self, rt: &R, number: u64) -> Response
-        ensures { Answers (record { stores = vec_len self.old.coordinator.stores; decisions = self.old.decisions; stages = self.old.ledger })
+        ensures answers { Answers (record { stores = vec_len self.old.coordinator.stores; decisions = self.old.decisions; stages = self.old.ledger })
             (Call.Finish number) result
             (record { stores = vec_len self.new.coordinator.stores; decisions = self.new.decisions; stages = self.new.ledger }) }
+        ensures says { Says C.view T.view (Call.Finish number) result
+            (floor (record { stores = vec_len self.old.coordinator.stores; decisions = self.old.decisions; stages = self.old.ledger }) self.old.coordinator.branches self.old.coordinator.stores.items self.old.strangers.items)
+            (floor (record { stores = vec_len self.new.coordinator.stores; decisions = self.new.decisions; stages = self.new.ledger }) self.new.coordinator.branches self.new.coordinator.stores.items self.new.strangers.items) }
     {
         match self.ledger.take_voted(number) {
             Ok(prepared) => {
@@ -176,9 +195,12 @@ impl<C: Speak, T: Speak> Manager<C, T> {
 
     /// Rolls a transaction back that wasn't voted on.
     fn abandon<R: Wait>(&mut self, rt: &R, number: u64) -> Response
-        ensures { Answers (record { stores = vec_len self.old.coordinator.stores; decisions = self.old.decisions; stages = self.old.ledger })
+        ensures answers { Answers (record { stores = vec_len self.old.coordinator.stores; decisions = self.old.decisions; stages = self.old.ledger })
             (Call.Abandon number) result
             (record { stores = vec_len self.new.coordinator.stores; decisions = self.new.decisions; stages = self.new.ledger }) }
+        ensures says { Says C.view T.view (Call.Abandon number) result
+            (floor (record { stores = vec_len self.old.coordinator.stores; decisions = self.old.decisions; stages = self.old.ledger }) self.old.coordinator.branches self.old.coordinator.stores.items self.old.strangers.items)
+            (floor (record { stores = vec_len self.new.coordinator.stores; decisions = self.new.decisions; stages = self.new.ledger }) self.new.coordinator.branches self.new.coordinator.stores.items self.new.strangers.items) }
     {
         match self.ledger.take_working(number) {
             Ok(transaction) => Response::Ended(self.coordinator.abandon(rt, transaction)),
@@ -188,18 +210,24 @@ impl<C: Speak, T: Speak> Manager<C, T> {
 
     /// Has the coordinator recover.
     fn recover<R: Wait>(&mut self, rt: &R, alloc: Global) -> Response
-        ensures { Answers (record { stores = vec_len self.old.coordinator.stores; decisions = self.old.decisions; stages = self.old.ledger })
+        ensures answers { Answers (record { stores = vec_len self.old.coordinator.stores; decisions = self.old.decisions; stages = self.old.ledger })
             (Call.Recover) result
             (record { stores = vec_len self.new.coordinator.stores; decisions = self.new.decisions; stages = self.new.ledger }) }
+        ensures says { Says C.view T.view (Call.Recover) result
+            (floor (record { stores = vec_len self.old.coordinator.stores; decisions = self.old.decisions; stages = self.old.ledger }) self.old.coordinator.branches self.old.coordinator.stores.items self.old.strangers.items)
+            (floor (record { stores = vec_len self.new.coordinator.stores; decisions = self.new.decisions; stages = self.new.ledger }) self.new.coordinator.branches self.new.coordinator.stores.items self.new.strangers.items) }
     {
         Response::Recovered(self.coordinator.recover(rt, alloc, &mut self.decisions))
     }
 
     /// Gives a statement of the stranger to a store.
     fn at<R: Wait>(&mut self, rt: &R, store: u64, statement: &Statement) -> Response
-        ensures { Answers (record { stores = vec_len self.old.coordinator.stores; decisions = self.old.decisions; stages = self.old.ledger })
+        ensures answers { Answers (record { stores = vec_len self.old.coordinator.stores; decisions = self.old.decisions; stages = self.old.ledger })
             (Call.At store statement.now) result
             (record { stores = vec_len self.new.coordinator.stores; decisions = self.new.decisions; stages = self.new.ledger }) }
+        ensures says { Says C.view T.view (Call.At store statement.now) result
+            (floor (record { stores = vec_len self.old.coordinator.stores; decisions = self.old.decisions; stages = self.old.ledger }) self.old.coordinator.branches self.old.coordinator.stores.items self.old.strangers.items)
+            (floor (record { stores = vec_len self.new.coordinator.stores; decisions = self.new.decisions; stages = self.new.ledger }) self.new.coordinator.branches self.new.coordinator.stores.items self.new.strangers.items) }
     {
         if !self.has_store(store) {
             return Response::UnknownStore(store);
@@ -212,9 +240,12 @@ impl<C: Speak, T: Speak> Manager<C, T> {
 
     /// Has each store's stranger list what is prepared there.
     fn show<R: Wait>(&mut self, rt: &R, alloc: Global) -> Result<Response, NoMemory>
-        ensures { IfOk result (λ response. Answers (record { stores = vec_len self.old.coordinator.stores; decisions = self.old.decisions; stages = self.old.ledger })
+        ensures answers { IfOk result (λ response. Answers (record { stores = vec_len self.old.coordinator.stores; decisions = self.old.decisions; stages = self.old.ledger })
             (Call.Show) response
             (record { stores = vec_len self.new.coordinator.stores; decisions = self.new.decisions; stages = self.new.ledger })) }
+        ensures says { IfOk result (λ response. Says C.view T.view (Call.Show) response
+            (floor (record { stores = vec_len self.old.coordinator.stores; decisions = self.old.decisions; stages = self.old.ledger }) self.old.coordinator.branches self.old.coordinator.stores.items self.old.strangers.items)
+            (floor (record { stores = vec_len self.new.coordinator.stores; decisions = self.new.decisions; stages = self.new.ledger }) self.new.coordinator.branches self.new.coordinator.stores.items self.new.strangers.items)) }
     {
         let answers = listed_by_each(rt, alloc, self.strangers.as_mut_slice())?;
         Ok(Response::Shown(Listing { answers }))
@@ -224,9 +255,12 @@ impl<C: Speak, T: Speak> Manager<C, T> {
 impl<S: Speak, T: Speak> Manager<Fused<S>, T> {
     /// Limits the calls that the coordinator's session in a store answers.
     fn fail(&mut self, store: u64, calls: u64) -> Response
-        ensures { Answers (record { stores = vec_len self.old.coordinator.stores; decisions = self.old.decisions; stages = self.old.ledger })
+        ensures answers { Answers (record { stores = vec_len self.old.coordinator.stores; decisions = self.old.decisions; stages = self.old.ledger })
             (Call.Fail store calls) result
             (record { stores = vec_len self.new.coordinator.stores; decisions = self.new.decisions; stages = self.new.ledger }) }
+        ensures says { Says (λ session. S.view session.inner) T.view (Call.Fail store calls) result
+            (floor (record { stores = vec_len self.old.coordinator.stores; decisions = self.old.decisions; stages = self.old.ledger }) self.old.coordinator.branches self.old.coordinator.stores.items self.old.strangers.items)
+            (floor (record { stores = vec_len self.new.coordinator.stores; decisions = self.new.decisions; stages = self.new.ledger }) self.new.coordinator.branches self.new.coordinator.stores.items self.new.strangers.items) }
     {
         if !self.has_store(store) {
             return Response::UnknownStore(store);
@@ -240,17 +274,18 @@ impl<S: Speak, T: Speak> Manager<Fused<S>, T> {
         ensures stores { vec_len result.coordinator.stores ≡ vec_len self.coordinator.stores }
         ensures decisions { result.decisions ≡ self.decisions }
         ensures ledger { result.ledger ≡ self.ledger }
+        ensures sessions { map (λ session. session.inner) result.coordinator.stores.items ≡ map (λ session. session.inner) self.coordinator.stores.items }
+        ensures strangers { result.strangers ≡ self.strangers }
     {
         let Manager {
-            coordinator,
+            mut coordinator,
             strangers,
             decisions,
             ledger,
         } = self;
-        let mut sessions = coordinator.stop();
-        allow_all(sessions.as_mut_slice());
+        allow_all(&mut coordinator, strangers.len() as u8);
         Manager {
-            coordinator: Coordinator::new(name(), sessions),
+            coordinator: Coordinator::new(name(), coordinator.stop()),
             strangers,
             decisions,
             ledger,
@@ -271,9 +306,12 @@ impl<S: Speak, T: Speak> Manager<Fused<S>, T> {
         S: Drop,
         T: Drop,
         requires { IsWritten call.now }
-        ensures { IfOk result (λ next. Answers (record { stores = vec_len self.coordinator.stores; decisions = self.decisions; stages = self.ledger })
+        ensures answers { IfOk result (λ next. Answers (record { stores = vec_len self.coordinator.stores; decisions = self.decisions; stages = self.ledger })
             (call.now) next.1
             (record { stores = vec_len next.0.coordinator.stores; decisions = next.0.decisions; stages = next.0.ledger })) }
+        ensures says { IfOk result (λ next. Says (λ session. S.view session.inner) T.view (call.now) next.1
+            (floor (record { stores = vec_len self.coordinator.stores; decisions = self.decisions; stages = self.ledger }) self.coordinator.branches self.coordinator.stores.items self.strangers.items)
+            (floor (record { stores = vec_len next.0.coordinator.stores; decisions = next.0.decisions; stages = next.0.ledger }) next.0.coordinator.branches next.0.coordinator.stores.items next.0.strangers.items)) }
     {
         let response = match call {
             Call::Silent => Response::Silent,

@@ -89,7 +89,7 @@ UNKNOWN TRANSACTION 2\nUNKNOWN TRANSACTION 2\nUNKNOWN TRANSACTION 2\nUNKNOWN TRA
 }
 
 /// Lines that aren't read, with the byte that is told.
-const UNREAD: [(&[u8], &[u8]); 34] = [
+const UNREAD: [(&[u8], &[u8]); 49] = [
     (b"begin", b"0"),
     (b"BEGIN now", b"0"),
     (b"BEGINS", b"0"),
@@ -124,6 +124,24 @@ const UNREAD: [(&[u8], &[u8]); 34] = [
     (b"AT", b"0"),
     (b"AT 0 XA START", b"8"),
     (b"AT 00 DISCONNECT", b"0"),
+    (b"AT 0", b"0"),
+    (b"BEGIN\xff", b"0"),
+    (b"\0BEGIN", b"0"),
+    (b"BEGIN\0", b"0"),
+    (b"BEGIN\x0b", b"0"),
+    (b"\xc3\x28", b"0"),
+    (b"WORK 99999999999999999999 0 GET 'k'", b"0"),
+    (b"WORK 1 99999999999999999999999999999999 GET 'k'", b"0"),
+    (b"PREPARE 000", b"0"),
+    (b"FAIL 0 AFTER 18446744073709551616", b"0"),
+    (b"AT 0 GET '\xff", b"4"),
+    (b"AT 0 GET \0", b"4"),
+    (b"AT 0 GET \xff", b"4"),
+    (b"AT 0 \xffGET 'k'", b"0"),
+    (
+        b"AT 0 PUT 'k','aaaaaaaaaaaaaaaaaaaaaaaaaaaaaaaaaaaaaaaaaaaaaaaaaaaaaaaaaaaaaaaaa'",
+        b"8",
+    ),
 ];
 
 #[test]
@@ -146,6 +164,58 @@ fn blanks_stand_round_words(rt: HostRuntime) {
     let calls = b"\tBEGIN \r\n WORK\t1  0 PUT 'k','v' ; \r\nPREPARE 1\t\r\n FAIL 0  AFTER 9 \n";
     let wanted = b"TRANSACTION 1\nOK\nONE PHASE\nOK\n";
     assert!(rt; answers(&rt, rt.alloc(), 1, 1024, calls, wanted));
+}
+
+#[test]
+fn keys_and_values_have_any_bytes(rt: HostRuntime) {
+    // the greatest number is read, 0 is one that no transaction has, and a read outside of branches sees what is committed
+    let calls =
+        b"BEGIN\nWORK 1 0 PUT '\xff\0','\xc3\x28'\nWORK 1 0 GET X'ff00'\nAT 0 GET '\xff\0'\nPREPARE 18446744073709551615\nPREPARE 0\nSTOP";
+    let wanted = b"TRANSACTION 1\nOK\nVALUE 0xc328\nNONE\n\
+UNKNOWN TRANSACTION 18446744073709551615\nUNKNOWN TRANSACTION 0\nSTOPPED\n";
+    assert!(rt; answers(&rt, rt.alloc(), 1, 1024, calls, wanted));
+}
+
+/// So many of the byte, behind the word.
+fn padded<R: Abort>(rt: &R, alloc: Global, word: &[u8], byte: u8, count: u64) -> Vec<u8> {
+    let mut line = Vec::new(alloc);
+    assert!(rt; line.extend_from_slice(word).is_ok());
+    for _ in 0..count {
+        assert!(rt; line.push(byte).is_ok());
+    }
+    line
+}
+
+#[test]
+fn lines_have_any_length(rt: HostRuntime) {
+    let blanks = padded(&rt, rt.alloc(), b"BEGIN", b' ', 70_000);
+    assert!(rt;
+        answers(
+            &rt,
+            rt.alloc(),
+            1,
+            1024,
+            blanks.as_slice(),
+            b"TRANSACTION 1\n"
+        )
+    );
+    let comment = padded(&rt, rt.alloc(), b"#", 0xff, 70_000);
+    assert!(rt; answers(&rt, rt.alloc(), 1, 1024, comment.as_slice(), b""));
+    let digits = padded(&rt, rt.alloc(), b"PREPARE ", b'9', 70_000);
+    let fault = b"ERROR 1064 (42000): syntax fault at byte 0\n";
+    assert!(rt; answers(&rt, rt.alloc(), 1, 1024, digits.as_slice(), fault));
+}
+
+#[test]
+fn script_is_at_most_a_mebibyte(rt: HostRuntime) {
+    let longest = padded(&rt, rt.alloc(), b"STOP", b'\n', 1_048_572);
+    assert!(rt; answers(&rt, rt.alloc(), 1, 1, longest.as_slice(), b"STOPPED\n"));
+    let longer = padded(&rt, rt.alloc(), b"STOP", b'\n', 1_048_573);
+    let mut input = longer.as_slice();
+    let mut output = Vec::new(rt.alloc());
+    let done = coordinate(&rt, rt.alloc(), &mut input, &mut output, 1, 1);
+    assert!(rt; matches!(done, Err(ScriptFault::TooLong)));
+    assert!(rt; output.is_empty());
 }
 
 #[test]

@@ -1,8 +1,31 @@
 -- A peer for tests.
 --     exchange_of     what has passed with it
+--     rest_of         the bytes that it has yet to say
+--     piece_of        the greatest number of bytes that it says at a time
+--     reads_left_in   how many more reads it takes before it faults
+--     room_in         how many more bytes it takes before it faults
+--     IsOpen          it may say more
+use Rattle.std.specs.Prelude.{◌≡◌, ℕ, List}
 use Rattle.xa_serve.specs.Exchange.{Exchange}
 use Rattle.xa_serve.specs.declared.recorded.Recorded.{Recorded}
+use Rattle.xa_serve.specs.declared.stage.Stage.TheVariants.{Open}
 
 -- what has passed with it
 abbrev pub exchange_of : Recorded → Exchange
 exchange_of peer = record { heard = peer.heard.items; given = peer.given.items; told = peer.told.items; stage = peer.stage }
+
+abbrev pub rest_of : Recorded → List ℕ
+rest_of peer = peer.rest.now
+
+abbrev pub piece_of : Recorded → ℕ
+piece_of peer = peer.piece
+
+abbrev pub reads_left_in : Recorded → ℕ
+reads_left_in peer = peer.reads
+
+abbrev pub room_in : Recorded → ℕ
+room_in peer = peer.room
+
+-- it may say more
+abbrev pub IsOpen : Recorded → Type 0
+IsOpen peer = peer.stage ≡ Open

@@ -1,5 +1,7 @@
 //! A peer for tests.
-ghost use Rattle.std.specs.Prelude.{◌≡◌, ◌<◌, [], Some};
+ghost use Rattle.std.specs.Prelude.{◌≡◌, ◌+◌, ◌<◌, ◌≤◌, [], length, Some, IfOk, IsErr, OnOk};
+ghost use Rattle.std.specs.Io.{ReadsAtMost};
+ghost use Rattle.std.specs.Io.KnownBytes.{ReadConsumes};
 
 use crate::{LineServer, Peer, Stage};
 use std::alloc::Global;
@@ -30,7 +32,7 @@ pub struct Recorded<'a> {
 }
 
 impl<'a> Recorded<'a> {
-    ghost use Rattle.xa_serve.specs.Recorded.{exchange_of};
+    ghost use Rattle.xa_serve.specs.Recorded.{exchange_of, rest_of, piece_of, reads_left_in, room_in};
     ghost use Rattle.xa_serve.specs.Exchange.{IsFresh};
 
     /// Says these bytes, at most `piece` at a time; faults at each read after the first `reads`, and takes `room` bytes in all.
@@ -44,7 +46,11 @@ impl<'a> Recorded<'a> {
         room: usize,
     ) -> Recorded<'a>
         requires { 0 < piece }
-        ensures { IsFresh (exchange_of result) }
+        ensures fresh { IsFresh (exchange_of result) }
+        ensures bytes { rest_of result ≡ bytes.now }
+        ensures piece { piece_of result ≡ piece }
+        ensures reads { reads_left_in result ≡ reads }
+        ensures room { room_in result ≡ room }
     {
         Recorded {
             rest: bytes,
@@ -78,11 +84,21 @@ impl<'a> Recorded<'a> {
 }
 
 impl<'a, S: LineServer> Peer<S> for Recorded<'a> {
-    ghost use Rattle.xa_serve.specs.Recorded.{exchange_of};
+    ghost use Rattle.xa_serve.specs.Recorded.{exchange_of, rest_of, piece_of, reads_left_in, room_in, IsOpen};
+    ghost use Rattle.xa_serve.specs.Exchange.{Hears, Tells, Flushes};
 
     ghost exchange = { λ peer. Some (exchange_of peer) };
 
-    fn hear(&mut self, piece: &mut [u8]) -> io::Result<usize> {
+    fn hear(&mut self, piece: &mut [u8]) -> io::Result<usize>
+        requires open { IsOpen self.old }
+        ensures bound { ReadsAtMost result piece.new }
+        ensures heard { Hears (Some (exchange_of self.old)) (Some (exchange_of self.new)) result piece.new }
+        ensures bytes { ReadConsumes (Some (rest_of self.old)) (Some (rest_of self.new)) result piece.new }
+        ensures piece { IfOk result (λ count. count ≤ piece_of self.old) }
+        ensures reads { OnOk result (reads_left_in self.old ≡ reads_left_in self.new + 1) }
+        ensures deaf { reads_left_in self.old ≡ 0 → IsErr result }
+        ensures kept { (piece_of self.new ≡ piece_of self.old) × (room_in self.new ≡ room_in self.old) }
+    {
         let count = self.rest.len().min(piece.len()).min(self.piece);
         let (next, rest) = self.rest.split_at(count);
         if self.reads == 0 || self.heard.extend_from_slice(next).is_err() {
@@ -98,7 +114,11 @@ impl<'a, S: LineServer> Peer<S> for Recorded<'a> {
         Ok(count)
     }
 
-    fn tell(&mut self, text: &[u8]) -> io::Result<()> {
+    fn tell(&mut self, text: &[u8]) -> io::Result<()>
+        ensures told { Tells (Some (exchange_of self.old)) (Some (exchange_of self.new)) result text.now }
+        ensures room { OnOk result (room_in self.old ≡ room_in self.new + length text.now) }
+        ensures kept { (rest_of self.new ≡ rest_of self.old) × (piece_of self.new ≡ piece_of self.old) × (reads_left_in self.new ≡ reads_left_in self.old) }
+    {
         let count = text.len().min(self.room);
         self.given.extend_from_slice(&text[..count])?;
         self.room -= count;
@@ -108,7 +128,10 @@ impl<'a, S: LineServer> Peer<S> for Recorded<'a> {
         Ok(())
     }
 
-    fn flush(&mut self) -> io::Result<()> {
+    fn flush(&mut self) -> io::Result<()>
+        ensures flushed { Flushes (Some (exchange_of self.old)) (Some (exchange_of self.new)) result }
+        ensures kept { (rest_of self.new ≡ rest_of self.old) × (piece_of self.new ≡ piece_of self.old) × (reads_left_in self.new ≡ reads_left_in self.old) × (room_in self.new ≡ room_in self.old) }
+    {
         self.told.clear();
         self.told.extend_from_slice(self.given.as_slice())?;
         Ok(())

@@ -1,156 +1,18 @@
-//! A coordinator of two stores.
-ghost use Rattle.std.specs.Prelude.{◌≡◌, ◌<◌, ◌∷◌, [], vec_len};
+//! A coordinator of two stores, and a second one that recovers behind it.
+ghost use Rattle.std.specs.Prelude.{◌≡◌, vec_len};
 ghost use Rattle.chain_log.specs.ChainPass.{place_of, home_of};
-ghost use Rattle.xa_coordinator.specs.Work.{IsRow};
 
+use crate::courses::{Course, text};
 use crate::made::{Wanted, is_wanted, said};
 use crate::store::{joined, opened, room};
 use std::alloc::Global;
 use std::process::Abort;
 use std::sync::Wait;
-use xa_coordinator::{
-    BeginFault, Cause, Coordinator, Decisions, Ending, RecoverFault, Speak, Transaction, Vote,
-    WorkFault,
-};
+use xa_coordinator::{Coordinator, Decisions, RecoverFault, Speak};
 use xa_server::Reply;
 use xa_session::{Answer, Fault, Session};
 use xa_store::{Log, Pass, Store};
-use xa_xid::{Bytes, Key, Statement};
-
-fn text(letter: u8) -> Bytes
-    ensures { result.items ≡ letter ∷ [] }
-{
-    let mut bytes = Bytes::new();
-    bytes.push(letter);
-    bytes
-}
-
-fn put_k(rt: &impl Abort) -> Statement
-    ensures { IsRow result }
-{
-    let Some(key) = Key::of(text(b'k')) else {
-        panic!(rt; "a key")
-    };
-    Statement::Put(key, text(b'v'))
-}
-
-/// Begins a transaction. Where there was no memory, no number was given, and it is begun again.
-fn begun<S: Speak>(
-    rt: &impl Abort,
-    coordinator: &Coordinator<S>,
-    decisions: &mut Decisions,
-) -> Transaction
-    ensures name { result.name.items ≡ coordinator.now.name.items }
-    ensures stores { result.stores ≡ vec_len coordinator.now.stores }
-{
-    match coordinator.begin(decisions) {
-        Ok(transaction) => transaction,
-        Err(fault) => {
-            assert!(rt; fault == BeginFault::NoMemory);
-            let Ok(transaction) = coordinator.begin(decisions) else {
-                panic!(rt; "refused twice")
-            };
-            transaction
-        }
-    }
-}
-
-/// Has the row `k` written in a store. Where there was no memory, it is told again.
-fn writes<S: Speak, R: Abort + Wait>(
-    rt: &R,
-    coordinator: &mut Coordinator<S>,
-    transaction: &mut Transaction,
-    store: u8,
-)
-    requires name { transaction.old.name.items ≡ coordinator.old.name.items }
-    requires stores { transaction.old.stores ≡ vec_len coordinator.old.stores }
-    requires store { store < vec_len coordinator.old.stores }
-    ensures kept { transaction.new.name.items ≡ transaction.old.name.items }
-    ensures name { transaction.new.name.items ≡ coordinator.new.name.items }
-    ensures stores { transaction.new.stores ≡ vec_len coordinator.new.stores }
-    ensures count { vec_len coordinator.new.stores ≡ vec_len coordinator.old.stores }
-{
-    let put = put_k(rt);
-    let first = coordinator.work(rt, transaction, store, &put);
-    if matches!(first, Err(WorkFault::Session(Fault::NoMemory))) {
-        let second = coordinator.work(rt, transaction, store, &put);
-        assert!(rt; matches!(second, Ok(Reply::Ok)));
-    } else {
-        assert!(rt; matches!(first, Ok(Reply::Ok)));
-    }
-}
-
-/// A transaction with a write in each of two stores.
-fn worked<S: Speak, R: Abort + Wait>(
-    rt: &R,
-    coordinator: &mut Coordinator<S>,
-    decisions: &mut Decisions,
-) -> Transaction
-    requires { vec_len coordinator.old.stores ≡ 2 }
-    ensures name { result.name.items ≡ coordinator.new.name.items }
-    ensures stores { result.stores ≡ vec_len coordinator.new.stores }
-    ensures count { vec_len coordinator.new.stores ≡ 2 }
-{
-    let mut transaction = begun(rt, coordinator, decisions);
-    assert_eq!(rt; transaction.number(), 1);
-    writes(rt, coordinator, &mut transaction, 0);
-    writes(rt, coordinator, &mut transaction, 1);
-    transaction
-}
-
-/// What was left of an ending: whether the call ended as wanted, or for want of memory in a store.
-fn is_unfinished(rt: &impl Abort, ending: &Ending) -> bool {
-    if let Ending::Unfinished { cause, .. } = ending {
-        assert!(rt; *cause == Cause::Session(Fault::NoMemory));
-        return true;
-    }
-    false
-}
-
-/// Has the stores vote, and finishes the transaction, by a decision where the vote is Ready. Whether it was decided.
-fn votes<S: Speak, R: Abort + Wait>(
-    rt: &R,
-    coordinator: &mut Coordinator<S>,
-    decisions: &mut Decisions,
-) -> bool
-    requires { vec_len coordinator.old.stores ≡ 2 }
-    ensures { vec_len coordinator.new.stores ≡ 2 }
-{
-    let transaction = worked(rt, coordinator, decisions);
-    match coordinator.prepare(rt, transaction) {
-        Vote::Ready(prepared) => {
-            assert!(rt; decisions.decide(&prepared).is_ok());
-            let ending = coordinator.finish(rt, decisions, prepared);
-            assert!(rt; is_unfinished(rt, &ending) || matches!(ending, Ending::Committed));
-            true
-        }
-        Vote::No {
-            prepared,
-            cause,
-            ..
-        } => {
-            assert!(rt; cause == Cause::Session(Fault::NoMemory));
-            let ending = coordinator.finish(rt, decisions, prepared);
-            assert!(rt; matches!(ending, Ending::RolledBack));
-            false
-        }
-        _ => panic!(rt; "another vote"),
-    }
-}
-
-/// Abandons a transaction.
-fn abandons<S: Speak, R: Abort + Wait>(
-    rt: &R,
-    coordinator: &mut Coordinator<S>,
-    decisions: &mut Decisions,
-)
-    requires { vec_len coordinator.old.stores ≡ 2 }
-    ensures { vec_len coordinator.new.stores ≡ 2 }
-{
-    let transaction = worked(rt, coordinator, decisions);
-    let ending = coordinator.abandon(rt, transaction);
-    assert!(rt; is_unfinished(rt, &ending) || matches!(ending, Ending::RolledBack));
-}
+use xa_xid::Statement;
 
 /// What a session answers to a statement, asked again where there was no memory.
 fn reply_of<S: Speak, R: Abort + Wait>(rt: &R, session: &mut S, statement: &Statement) -> Reply {
@@ -188,9 +50,9 @@ fn recovers<S: Speak, R: Abort + Wait>(
     assert!(rt; coordinator.recover(rt, alloc, decisions).is_ok());
 }
 
-/// Asks for the row `k` of a store, which is to be written where the transaction was decided, and to be held by nobody.
-fn agrees<S: Speak, R: Abort + Wait>(rt: &R, session: &mut S, decided: bool) {
-    let wanted = if decided {
+/// Asks a store for the row `k`, which is to be there or not, and is to be held by nobody; no branch is prepared.
+fn agrees<S: Speak, R: Abort + Wait>(rt: &R, session: &mut S, is_there: bool) {
+    let wanted = if is_there {
         Wanted::Value(b"v")
     } else {
         Wanted::NoValue
@@ -203,34 +65,23 @@ fn agrees<S: Speak, R: Abort + Wait>(rt: &R, session: &mut S, decided: bool) {
     assert!(rt; is_wanted(&reply, Wanted::Done));
 }
 
-/// What a coordinator does with its transaction.
-#[derive(Clone, Copy)]
-enum Course {
-    Votes,
-    Abandons,
-}
-
 /// A coordinator takes this course. Then a second one recovers what is left, and what each store has agrees with the decision.
 fn runs<S: Speak + Drop, R: Abort + Wait>(rt: &R, alloc: Global, stores: Vec<S>, course: Course)
     requires { vec_len stores ≡ 2 }
 {
     let mut decisions = Decisions::new(alloc);
     let mut coordinator = Coordinator::new(text(b'c'), stores);
-    let decided = match course {
-        Course::Votes => votes(rt, &mut coordinator, &mut decisions),
-        Course::Abandons => {
-            abandons(rt, &mut coordinator, &mut decisions);
-            false
-        }
-    };
-    assert_eq!(rt; decisions.is_decided(1), decided);
+    let left = course.take(rt, &mut coordinator, &mut decisions);
+    assert_eq!(rt; decisions.is_decided(1), left.is_decided);
     let mut second = Coordinator::new(text(b'c'), coordinator.stop());
     recovers(rt, alloc, &mut second, &mut decisions);
-    assert_eq!(rt; decisions.is_decided(1), decided);
+    assert_eq!(rt; decisions.is_decided(1), left.is_decided);
     let mut stores = second.stop();
-    for session in stores.iter_mut() {
-        agrees(rt, session, decided);
-    }
+    let (Some(mut second), Some(mut first)) = (stores.pop(), stores.pop()) else {
+        panic!(rt; "two stores")
+    };
+    agrees(rt, &mut first, left.in_first);
+    agrees(rt, &mut second, left.in_second);
 }
 
 /// A store of one session, and its pass.
@@ -272,8 +123,18 @@ fn swept<R: Abort + Wait>(rt: &R, alloc: Global, course: Course) {
 }
 
 #[test]
-fn vote_survives(rt: HostRuntime) {
-    swept(&rt, rt.alloc(), Course::Votes);
+fn decided_transaction_survives(rt: HostRuntime) {
+    swept(&rt, rt.alloc(), Course::Decides);
+}
+
+#[test]
+fn undecided_transaction_survives(rt: HostRuntime) {
+    swept(&rt, rt.alloc(), Course::Hesitates);
+}
+
+#[test]
+fn transaction_in_one_store_survives(rt: HostRuntime) {
+    swept(&rt, rt.alloc(), Course::WorksInOne);
 }
 
 #[test]

@@ -6,6 +6,8 @@ mod acts;
 #[cfg(test)]
 mod coordinator;
 #[cfg(test)]
+mod courses;
+#[cfg(test)]
 mod made;
 #[cfg(test)]
 mod race;

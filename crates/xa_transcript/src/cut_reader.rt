@@ -1,5 +1,5 @@
 //! A reader for tests.
-ghost use Rattle.std.specs.Prelude.{◌≡◌, ◌||◌, ◌<◌, ◌≤◌, ◌-◌, ◌↔◌, false, true, Some, IsTrue, IsErr, IfOk, OnErr, OnOk};
+ghost use Rattle.std.specs.Prelude.{◌≡◌, ◌||◌, ◌<◌, ◌≤◌, ◌-◌, ◌+◌, ◌^◌, min, ◌↔◌, false, true, Some, IsTrue, IsErr, IfOk, OnErr, OnOk};
 ghost use Rattle.std.specs.Io.{ReadsAtMost};
 ghost use Rattle.std.specs.Io.KnownBytes.{ReadConsumes};
 
@@ -99,7 +99,7 @@ impl<'a> Read for CutReader<'a> {
         ensures kept { (piece_of self.new ≡ piece_of self.old) × (goes_on self.new ≡ goes_on self.old) }
         ensures faulted { has_faulted self.new ≡ (has_faulted self.old || faults_next self.old) }
         ensures after { has_faulted self.old ≡ false → reads_after self.new ≡ reads_after self.old }
-        ensures more { IsTrue (has_faulted self.old) → 0 < reads_after self.new }
+        ensures more { IsTrue (has_faulted self.old) → reads_after self.new ≡ min (reads_after self.old + 1) (2 ^ 64 - 1) }
     {
         if self.faulted {
             self.after = self.after.saturating_add(1);

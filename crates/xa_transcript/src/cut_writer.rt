@@ -1,5 +1,5 @@
 //! A writer for tests.
-ghost use Rattle.std.specs.Prelude.{◌≡◌, ◌||◌, ◌<◌, ◌≤◌, ◌-◌, false, true, [], Some, Ok, IsTrue, IfOk, IsErr, OnErr, OnOk};
+ghost use Rattle.std.specs.Prelude.{◌≡◌, ◌||◌, ◌<◌, ◌≤◌, ◌-◌, ◌+◌, ◌^◌, min, false, true, [], Some, Ok, IsTrue, IfOk, IsErr, OnErr, OnOk};
 ghost use Rattle.std.specs.Io.{WritesAtMost};
 ghost use Rattle.std.specs.Io.KnownBytes.{WriteAppends};
 
@@ -100,7 +100,7 @@ impl Write for CutWriter {
         ensures kept { goes_on_writing self.new ≡ goes_on_writing self.old }
         ensures faulted { has_refused self.new ≡ (has_refused self.old || refuses_next self.old) }
         ensures after { has_refused self.old ≡ false → writes_after self.new ≡ writes_after self.old }
-        ensures more { IsTrue (has_refused self.old) → 0 < writes_after self.new }
+        ensures more { IsTrue (has_refused self.old) → writes_after self.new ≡ min (writes_after self.old + 1) (2 ^ 64 - 1) }
     {
         if self.faulted {
             self.after = self.after.saturating_add(1);

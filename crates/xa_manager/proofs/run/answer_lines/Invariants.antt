@@ -1,6 +1,5 @@
 use Rattle.std.proofs.Common.{length, vec_len}
 use Rattle.xa_transcript.specs.Script.{lines_of}
-use Rattle.xa_manager.specs.Answers.{Desk}
 use Rattle.xa_manager.proofs.Runs.{IsSoFar}
 use Rattle.xa_manager.proofs.run.answer_lines.Given as goal
 

@@ -1,4 +1,4 @@
-use Rattle.std.proofs.Common.{◌≤◌, vec_len, arith}
+use Rattle.std.proofs.Common.{arith}
 use Rattle.std.proofs.lemmas.Slice.Zip.{all_zipped_more}
 use Rattle.xa_manager.proofs.Passes.{IsOwn}
 use Rattle.xa_manager.proofs.run.open_stores.Goals as goal

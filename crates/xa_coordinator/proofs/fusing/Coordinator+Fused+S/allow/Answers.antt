@@ -6,4 +6,4 @@ use Rattle.xa_coordinator.proofs.fusing.Coordinator+Fused+S.allow.Goals as goal
 pub returns-clause-sessions : goal.returns-clause-sessions
 returns-clause-sessions g c =
     map-set_same (λ (session : Fused g.row.S.Denot). session.inner) c.args.self.now.stores.items c.from.result c.allow.new.self c.index_mut.result.now
-    (c.allow.ensures ∙ ap (λ (session : Fused g.row.S.Denot). session.inner) c.index_mut.ensures.value)
+    (c.allow.ensures.inner ∙ ap (λ (session : Fused g.row.S.Denot). session.inner) c.index_mut.ensures.value)

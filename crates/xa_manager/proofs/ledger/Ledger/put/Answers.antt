@@ -1,5 +1,4 @@
-use Rattle.std.proofs.Common.{◌≡◌, ℕ, ◌<◌, ◌-◌, ◌⊎◌, length, arith, inl, inr, refl}
-use Rattle.xa_manager.specs.Ledger.{with_stage}
+use Rattle.std.proofs.Common.{refl}
 use Rattle.xa_manager.proofs.Stages.{with_stage-absent}
 use Rattle.xa_manager.proofs.ledger.Ledger.put.Goals as goal
 

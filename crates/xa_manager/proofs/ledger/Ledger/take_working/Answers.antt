@@ -1,4 +1,4 @@
-use Rattle.std.proofs.Common.{◌≡◌, sym, Some, None}
+use Rattle.std.proofs.Common.{sym}
 use Rattle.xa_manager.specs.declared.stage.Stage.TheVariants.{Over}
 use Rattle.xa_manager.proofs.Stages.{put_back}
 use Rattle.xa_manager.proofs.ledger.Ledger.take_working.Goals as goal

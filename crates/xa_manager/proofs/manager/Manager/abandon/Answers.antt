@@ -1,7 +1,5 @@
-use Rattle.std.proofs.Common.{◌≡◌, ◌∙◌, length, vec_len, codes, ap, refl, sym, inl, inr}
-use Rattle.xa_coordinator.specs.declared.transaction.Transaction.{Transaction}
-use Rattle.xa_manager.specs.declared.stage.Stage.TheVariants.{Working, Ready, Voted, Over}
-use Rattle.xa_manager.specs.Ledger.{IsOf}
+use Rattle.std.proofs.Common.{◌∙◌, length, vec_len, ap, refl, sym, inr}
+use Rattle.xa_manager.specs.declared.stage.Stage.TheVariants.{Working, Over}
 use Rattle.xa_manager.proofs.Stages.{with_stage-length, kept_over, ready_over}
 use Rattle.xa_manager.proofs.Desks.{same_desk, kept_as, ready_as}
 use Rattle.xa_manager.proofs.manager.Manager.abandon.Goals as goal
@@ -27,8 +25,8 @@ invariant_of-self g c =
       ready = ready_as _ _ c.in-Ok.ensures.over (ready_over was.ledger c.args.number was.ready);
     }
 
-pub returns-in-Ok : goal.returns-in-Ok
-returns-in-Ok g c =
+pub returns-in-Ok-clause-answers : goal.returns-in-Ok-clause-answers
+returns-in-Ok-clause-answers g c =
     inr (record {
       before = c.in-Ok.transaction;
       ending = c.abandon.result;
@@ -36,3 +34,15 @@ returns-in-Ok g c =
       told = refl;
       stands = same_desk _ _ _ _ _ _ c.abandon.ensures.count refl c.in-Ok.ensures.over;
     })
+
+pub returns-in-Ok-clause-says : goal.returns-in-Ok-clause-says
+returns-in-Ok-clause-says g c = (
+  inr (record {
+    number = c.args.number;
+    asked = refl;
+    before = c.in-Ok.transaction;
+    working = c.in-Ok.ensures.taken;
+    ends = c.abandon.ensures.ends;
+  }),
+  refl,
+)

@@ -1,9 +1,6 @@
-use Rattle.std.proofs.Common.{◌≡◌, ◌∙◌, ◌+◌, ◌++◌, ◌∷◌, [], List, length, length-append, vec_len, ap, refl, sym, inl, inr, arith}
-use Rattle.xa_coordinator.specs.declared.transaction.Transaction.{Transaction}
-use Rattle.xa_coordinator.specs.declared.standing.Standing.{Standing}
+use Rattle.std.proofs.Common.{◌≡◌, ◌∙◌, ◌+◌, ◌∷◌, [], length, length-append, vec_len, ap, refl, sym, inl, inr}
 use Rattle.xa_coordinator.specs.declared.standing.Standing.TheVariants.{Undecided}
-use Rattle.xa_manager.specs.declared.stage.Stage.{Stage}
-use Rattle.xa_manager.specs.declared.stage.Stage.TheVariants.{Working, Over}
+use Rattle.xa_manager.specs.declared.stage.Stage.TheVariants.{Working}
 use Rattle.xa_manager.specs.declared.response.Response.TheVariants.{Begun}
 use Rattle.xa_manager.specs.Ledger.{IsOf}
 use Rattle.xa_manager.proofs.Stages.{kept_more, ready_more}
@@ -27,8 +24,8 @@ invariant_of-self-in-Ok g c =
       ready = ready_as _ _ on (ready_more was.ledger begun was.ready (λ prepared same. absurd (cc)));
     }
 
-pub returns-in-Ok : goal.returns-in-Ok
-returns-in-Ok g c =
+pub returns-in-Ok-clause-answers : goal.returns-in-Ok-clause-answers
+returns-in-Ok-clause-answers g c =
     let was = c.args.self.now in
     let begun = Working c.in-Ok.transaction in
     let number : c.number-number.result ≡ length was.ledger + 1 = c.number-number.ensures ∙ c.in-Ok.ensures.number ∙ ap (λ n. n + 1) (sym was.counted) in

@@ -1,7 +1,5 @@
-use Rattle.std.proofs.Common.{◌≡◌, ◌∙◌, length, vec_len, codes, ap, refl, sym, inl, inr}
-use Rattle.xa_coordinator.specs.declared.transaction.Transaction.{Transaction}
-use Rattle.xa_manager.specs.declared.stage.Stage.TheVariants.{Working, Ready, Voted, Over}
-use Rattle.xa_manager.specs.Ledger.{IsOf}
+use Rattle.std.proofs.Common.{◌≡◌, ◌∙◌, length, ap, refl, sym, inl, inr}
+use Rattle.xa_manager.specs.declared.stage.Stage.TheVariants.{Ready, Over}
 use Rattle.xa_manager.proofs.Stages.{put_back}
 use Rattle.xa_manager.proofs.Desks.{same_desk, kept_as, ready_as, after_decision}
 use Rattle.xa_manager.proofs.manager.Manager.decide.Goals as goal
@@ -20,8 +18,8 @@ invariant_of-self g c =
       ready = ready_as _ _ back was.ready;
     }
 
-pub returns-in-Ok-decided : goal.returns-in-Ok-decided
-returns-in-Ok-decided g c =
+pub returns-in-Ok-decided-clause-answers : goal.returns-in-Ok-decided-clause-answers
+returns-in-Ok-decided-clause-answers g c =
     let was = c.args.self.now in
     let back : c.put.new.self ≡ was.ledger =
     put_back was.ledger c.args.number Over (Ready c.in-Ok.prepared) c.take_ready.new.self c.put.new.self c.in-Ok.ensures.taken c.in-Ok.ensures.over c.put.ensures in
@@ -36,8 +34,8 @@ returns-in-Ok-decided g c =
       );
     })
 
-pub returns-in-Err-decided : goal.returns-in-Err-decided
-returns-in-Err-decided g c =
+pub returns-in-Err-decided-clause-answers : goal.returns-in-Err-decided-clause-answers
+returns-in-Err-decided-clause-answers g c =
     let was = c.args.self.now in
     let back : c.put.new.self ≡ was.ledger =
     put_back was.ledger c.args.number Over (Ready c.in-Ok.prepared) c.take_ready.new.self c.put.new.self c.in-Ok.ensures.taken c.in-Ok.ensures.over c.put.ensures in

@@ -1,8 +1,5 @@
-use Rattle.std.proofs.Common.{◌≡◌, ◌∙◌, length, vec_len, codes, ap, refl, sym, inl, inr}
-use Rattle.xa_coordinator.specs.declared.transaction.Transaction.{Transaction}
-use Rattle.xa_manager.specs.declared.stage.Stage.TheVariants.{Working, Ready, Voted, Over}
-use Rattle.xa_manager.specs.Ledger.{IsOf}
-use Rattle.xa_coordinator.specs.declared.prepared.Prepared.{Prepared}
+use Rattle.std.proofs.Common.{◌∙◌, length, vec_len, ap, refl, sym, inl, inr}
+use Rattle.xa_manager.specs.declared.stage.Stage.TheVariants.{Over}
 use Rattle.xa_manager.proofs.Stages.{with_stage-length, kept_over, ready_over, kept_voted}
 use Rattle.xa_manager.proofs.Desks.{same_desk, kept_as, ready_as}
 use Rattle.xa_manager.proofs.manager.Manager.finish.Goals as goal
@@ -28,8 +25,8 @@ invariant_of-self g c =
       ready = ready_as _ _ c.in-Ok.ensures.over (ready_over was.ledger c.args.number was.ready);
     }
 
-pub returns-in-Ok : goal.returns-in-Ok
-returns-in-Ok g c =
+pub returns-in-Ok-clause-answers : goal.returns-in-Ok-clause-answers
+returns-in-Ok-clause-answers g c =
     inr (record {
       prepared = c.in-Ok.prepared;
       ending = c.finish.result;
@@ -37,3 +34,17 @@ returns-in-Ok g c =
       told = refl;
       stands = same_desk _ _ _ _ _ _ c.finish.ensures.count refl c.in-Ok.ensures.over;
     })
+
+pub returns-in-Ok-clause-says : goal.returns-in-Ok-clause-says
+returns-in-Ok-clause-says g c =
+    let is = kept_voted (vec_len c.args.self.now.coordinator.stores) c.args.self.now.ledger c.args.number c.in-Ok.prepared c.args.self.now.kept c.in-Ok.ensures.taken in (
+      inl (record {
+        number = c.args.number;
+        asked = refl;
+        prepared = c.in-Ok.prepared;
+        voted = c.in-Ok.ensures.taken;
+        of_number = is.number;
+        ends = rw (← is.number) c.finish.ensures.ends;
+      }),
+      refl,
+    )

@@ -1,8 +1,7 @@
-use Rattle.std.proofs.Common.{◌≡◌, ◌∙◌, length, vec_len, codes, ap, refl, sym, inl, inr}
-use Rattle.xa_coordinator.specs.declared.transaction.Transaction.{Transaction}
-use Rattle.xa_manager.specs.declared.stage.Stage.TheVariants.{Working, Ready, Voted, Over}
+use Rattle.std.proofs.Common.{◌≡◌, ◌∙◌, length, vec_len, ap, refl, sym, inr}
+use Rattle.xa_manager.specs.declared.stage.Stage.TheVariants.{Working, Over}
 use Rattle.xa_manager.specs.declared.response.Response.TheVariants.{Voted as Told}
-use Rattle.xa_manager.specs.Ledger.{IsOf, with_stage}
+use Rattle.xa_manager.specs.Ledger.{with_stage}
 use Rattle.xa_manager.specs.Answers.{stage_after}
 use Rattle.xa_manager.proofs.Stages.{with_stage-length, kept_with, ready_with, put_on}
 use Rattle.xa_manager.proofs.Desks.{same_desk, kept_as, ready_as, voted_kept, voted_ready}
@@ -39,8 +38,8 @@ invariant_of-self g c =
           (ready_with was.ledger c.args.number stage was.ready (voted_ready g.C.Speak.view c.in-Ok.transaction c.prepare-vote.result stores.items after c.prepare-vote.ensures.vote));
     }
 
-pub returns-in-Ok : goal.returns-in-Ok
-returns-in-Ok g c =
+pub returns-in-Ok-clause-answers : goal.returns-in-Ok-clause-answers
+returns-in-Ok-clause-answers g c =
     let was = c.args.self.now in
     let stage = stage_after c.prepare-vote.result in
     let put : c.put.new.self ≡ with_stage c.take_working.new.self c.args.number stage =
@@ -53,3 +52,23 @@ returns-in-Ok g c =
       told = ap (λ poll. Told poll) c.told_of-poll.ensures.poll;
       stands = same_desk _ _ _ _ _ _ c.prepare-vote.ensures.count refl on;
     })
+
+pub returns-in-Ok-clause-says : goal.returns-in-Ok-clause-says
+returns-in-Ok-clause-says g c =
+    let was = c.args.self.now in
+    let stage = stage_after c.prepare-vote.result in
+    let put : c.put.new.self ≡ with_stage c.take_working.new.self c.args.number stage =
+    c.put.ensures ∙ ap (λ s. with_stage c.take_working.new.self c.args.number s) c.told_of-poll.ensures.stage in
+    let on = put_on was.ledger c.args.number Over stage c.take_working.new.self c.put.new.self c.in-Ok.ensures.over put in (
+      record {
+        number = c.args.number;
+        asked = refl;
+        before = c.in-Ok.transaction;
+        vote = c.prepare-vote.result;
+        working = c.in-Ok.ensures.taken;
+        told = c.told_of-poll.ensures.poll;
+        votes = c.prepare-vote.ensures.vote;
+        stages = on;
+      },
+      refl,
+    )

@@ -1,6 +1,16 @@
-use Rattle.std.proofs.Common.{◌≡◌, refl, inr}
+use Rattle.std.proofs.Common.{refl, inr}
 use Rattle.xa_manager.proofs.Desks.{same_desk}
 use Rattle.xa_manager.proofs.manager.Manager.recover.Goals as goal
 
-pub returns : goal.returns
-returns g c = inr (record { outcome = c.recover.result; told = refl; stands = same_desk _ _ _ _ _ _ c.recover.ensures.count c.recover.ensures.closed refl })
+pub returns-clause-answers : goal.returns-clause-answers
+returns-clause-answers g c = inr (record { outcome = c.recover.result; told = refl; stands = same_desk _ _ _ _ _ _ c.recover.ensures.count c.recover.ensures.closed refl })
+
+pub returns-clause-says : goal.returns-clause-says
+returns-clause-says g c = (
+  record {
+    asked = refl;
+    done = rw (← c.args.self.now.named) c.recover.ensures.recovers;
+    broken = rw (← c.args.self.now.named) c.recover.ensures.breaks;
+  },
+  refl,
+)

@@ -1,8 +1,8 @@
 use Rattle.std.proofs.Common.{◌≡◌, length, vec_len, refl, inr}
 use Rattle.xa_manager.proofs.manager.Manager.show.Goals as goal
 
-pub returns : goal.returns
-returns g c =
+pub returns-clause-answers : goal.returns-clause-answers
+returns-clause-answers g c =
     let was = c.args.self.now in
     let items = c.in_ok-answers.answers.ok.0 in
     let each : vec_len c.in_ok-answers.answers ≡ length c.as_mut_slice.result.now = c.in_ok-answers.ensures.each in

@@ -1,7 +1,5 @@
-use Rattle.std.proofs.Common.{rules, ◌≡◌, ◌∙◌, length, vec_len, codes, ap, refl, sym, inl, inr}
-use Rattle.xa_coordinator.specs.declared.transaction.Transaction.{Transaction}
-use Rattle.xa_manager.specs.declared.stage.Stage.TheVariants.{Working, Ready, Voted, Over}
-use Rattle.xa_manager.specs.Ledger.{IsOf}
+use Rattle.std.proofs.Common.{rules, ◌≡◌, ◌∙◌, length, vec_len, ap, refl, sym, inr}
+use Rattle.xa_manager.specs.declared.stage.Stage.TheVariants.{Working, Over}
 use Rattle.xa_manager.proofs.Stages.{with_stage-length, kept_with, ready_with, put_on}
 use Rattle.xa_manager.proofs.Desks.{same_desk, kept_as, ready_as, worked_kept}
 use Rattle.xa_manager.proofs.manager.Manager.work.Goals as goal
@@ -32,8 +30,8 @@ invariant_of-self g c =
       ready = ready_as _ _ on (ready_with was.ledger c.args.number worked was.ready (λ prepared same. absurd (cc)));
     }
 
-pub returns-in-Ok : goal.returns-in-Ok
-returns-in-Ok g c =
+pub returns-in-Ok-clause-answers : goal.returns-in-Ok-clause-answers
+returns-in-Ok-clause-answers g c =
     let was = c.args.self.now in
     let worked = Working c.work-worked.new.transaction in
     let on = put_on was.ledger c.args.number Over worked c.take_working.new.self c.put.new.self c.in-Ok.ensures.over c.put.ensures in
@@ -48,3 +46,23 @@ returns-in-Ok g c =
       told = refl;
       stands = same_desk _ _ _ _ _ _ count refl on;
     })
+
+pub returns-in-Ok-clause-says : goal.returns-in-Ok-clause-says
+returns-in-Ok-clause-says g c =
+    let was = c.args.self.now in
+    let worked = Working c.work-worked.new.transaction in
+    let on = put_on was.ledger c.args.number Over worked c.take_working.new.self c.put.new.self c.in-Ok.ensures.over c.put.ensures in (
+      record {
+        number = c.args.number;
+        store = c.args.store;
+        statement = c.args.statement.now;
+        asked = refl;
+        before = c.in-Ok.transaction;
+        after = c.work-worked.new.transaction;
+        working = c.in-Ok.ensures.taken;
+        works = c.work-worked.ensures.works;
+        others = c.work-worked.ensures.frame;
+        stages = on;
+      },
+      refl,
+    )

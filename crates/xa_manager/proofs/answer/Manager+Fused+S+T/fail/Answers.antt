@@ -1,0 +1,6 @@
+use Rattle.std.proofs.Common.{refl}
+use Rattle.xa_manager.proofs.Said.{quiet_inner}
+use Rattle.xa_manager.proofs.answer.Manager+Fused+S+T.fail.Goals as goal
+
+pub returns-clause-says : goal.returns-clause-says
+returns-clause-says g c = (quiet_inner g.S.Speak.view _ _ c.allow.ensures.sessions, refl)
