@@ -35,8 +35,8 @@ fn converses<R: Abort + Wait>(
     assert_eq!(rt; peer.told(), answers, "in pieces of {piece}");
 }
 
-/// Whether calls over so many stores, with so much room in each, are answered so.
-fn answers<R: Abort + Wait>(
+/// Whether a script of calls over so many stores, with so much room in each, is answered so.
+fn answers_a_script<R: Abort + Wait>(
     rt: &R,
     alloc: Global,
     stores: u64,
@@ -52,6 +52,22 @@ fn answers<R: Abort + Wait>(
     let done = coordinate(rt, alloc, &mut input, &mut output, stores, capacity);
     assert!(rt; done.is_ok());
     assert_eq!(rt; output.as_slice(), answers);
+    true
+}
+
+/// Whether calls are answered so, as a script and line by line.
+fn answers<R: Abort + Wait>(
+    rt: &R,
+    alloc: Global,
+    stores: u64,
+    capacity: u64,
+    calls: &[u8],
+    answers: &[u8],
+) -> bool
+    requires stores { (1 ≤ stores) × (stores ≤ 16) }
+    requires capacity { (1 ≤ capacity) × (capacity ≤ 1024) }
+{
+    assert!(rt; answers_a_script(rt, alloc, stores, capacity, calls, answers));
     converses(rt, alloc, stores, capacity, calls, answers, 1);
     converses(rt, alloc, stores, capacity, calls, answers, 7);
     converses(rt, alloc, stores, capacity, calls, answers, 4096);
@@ -218,10 +234,10 @@ fn padded<R: Abort>(rt: &R, alloc: Global, word: &[u8], byte: u8, count: u64) ->
 }
 
 #[test]
-fn lines_have_any_length(rt: HostRuntime) {
+fn lines_of_a_script_have_any_length(rt: HostRuntime) {
     let blanks = padded(&rt, rt.alloc(), b"BEGIN", b' ', 70_000);
     assert!(rt;
-        answers(
+        answers_a_script(
             &rt,
             rt.alloc(),
             1,
@@ -231,16 +247,16 @@ fn lines_have_any_length(rt: HostRuntime) {
         )
     );
     let comment = padded(&rt, rt.alloc(), b"#", 0xff, 70_000);
-    assert!(rt; answers(&rt, rt.alloc(), 1, 1024, comment.as_slice(), b""));
+    assert!(rt; answers_a_script(&rt, rt.alloc(), 1, 1024, comment.as_slice(), b""));
     let digits = padded(&rt, rt.alloc(), b"PREPARE ", b'9', 70_000);
     let fault = b"ERROR 1064 (42000): syntax fault at byte 0\n";
-    assert!(rt; answers(&rt, rt.alloc(), 1, 1024, digits.as_slice(), fault));
+    assert!(rt; answers_a_script(&rt, rt.alloc(), 1, 1024, digits.as_slice(), fault));
 }
 
 #[test]
 fn script_is_at_most_a_mebibyte(rt: HostRuntime) {
     let longest = padded(&rt, rt.alloc(), b"STOP", b'\n', 1_048_572);
-    assert!(rt; answers(&rt, rt.alloc(), 1, 1, longest.as_slice(), b"STOPPED\n"));
+    assert!(rt; answers_a_script(&rt, rt.alloc(), 1, 1, longest.as_slice(), b"STOPPED\n"));
     let longer = padded(&rt, rt.alloc(), b"STOP", b'\n', 1_048_573);
     let mut input = longer.as_slice();
     let mut output = Vec::new(rt.alloc());
