@@ -27,6 +27,14 @@ impl DecisionLog for ChainLog {
 
     ghost known = { known_of };
 
+    fn capacity(&self) -> u64 {
+        self.capacity
+    }
+
+    fn sessions(&self) -> u64 {
+        self.sessions
+    }
+
     fn number(&self, pass: &ChainPass) -> SessionNo {
         pass.number
     }

@@ -2,14 +2,19 @@
 ghost use Rattle.std.specs.Prelude.{◌≡◌};
 ghost use Rattle.decision_log.specs.Faults.{number_of_open_fault, number_of_add_fault};
 
+use thiserror::Error;
+
 /// Why a log wasn't opened.
-#[derive(Clone, Copy, Debug, PartialEq, Eq)]
+#[derive(Clone, Copy, Debug, Drop, PartialEq, Eq, Error)]
 pub enum OpenFault {
     /// The capacity isn't in `[1, 1024]`.
+    #[error("the capacity is not from 1 to 1024")]
     CapacityOutOfRange,
     /// The number of sessions isn't in `[1, 16]`.
+    #[error("the number of sessions is not from 1 to 16")]
     SessionsOutOfRange,
     /// There was no memory.
+    #[error("out of memory")]
     NoMemory,
 }
 
@@ -30,16 +35,19 @@ impl OpenFault {
 }
 
 /// Why an entry wasn't added. Nothing of it stands in the history.
-#[derive(Clone, Copy, Debug, PartialEq, Eq)]
+#[derive(Clone, Copy, Debug, Drop, PartialEq, Eq, Error)]
 pub enum AddFault {
     /// The history had more entries than the pass had seen. It has now seen `front` of them.
+    #[error("others have added: {front} entries are seen now")]
     Overtaken {
         /// How many entries the pass has seen now.
         front: u64,
     },
     /// The history has as many entries as the log can have.
+    #[error("log full")]
     Full,
     /// Another pass has the turn.
+    #[error("another pass has the turn")]
     Busy,
 }
 

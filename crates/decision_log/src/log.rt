@@ -2,6 +2,7 @@
 ghost use Rattle.std.specs.Prelude.{◌≡◌, ◌<◌, ◌≤◌, Bool, length, slice_get, Some};
 ghost use Rattle.decision_log.specs.History.{entries_of};
 ghost use Rattle.decision_log.specs.Known.{Place, AllOf};
+ghost use Rattle.decision_log.specs.Opens.{IsCapacity, IsCount};
 ghost use Rattle.decision_log.specs.Calls.{Looked, Adds, MeetsFirst, MeetsSecond};
 ghost use Rattle.decision_log.specs.declared.known.Known.{Known};
 
@@ -35,6 +36,20 @@ pub trait DecisionLog {
 
     // what a pass knows
     ghost known: { Self.Pass → Known };
+
+    /// How many entries the log can have, in `[1, 1024]`.
+    ///
+    /// Takes no memory. Doesn't wait.
+    fn capacity(&self) -> u64
+        ensures value { result ≡ (place self.now).capacity }
+        ensures range { IsCapacity result };
+
+    /// How many sessions the log has, in `[1, 16]`.
+    ///
+    /// Takes no memory. Doesn't wait.
+    fn sessions(&self) -> u64
+        ensures value { result ≡ (place self.now).sessions }
+        ensures range { IsCount result };
 
     /// The pass's session number.
     ///

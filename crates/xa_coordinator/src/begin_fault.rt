@@ -2,12 +2,16 @@
 ghost use Rattle.std.specs.Prelude.{◌≡◌};
 ghost use Rattle.xa_coordinator.specs.Faults.{number_of_begin_fault};
 
+use thiserror::Error;
+
 /// Why no number was given. The decisions are as before.
-#[derive(Clone, Copy, Debug, PartialEq, Eq)]
+#[derive(Clone, Copy, Debug, Drop, PartialEq, Eq, Error)]
 pub enum BeginFault {
     /// All 1,000,000 numbers were given.
+    #[error("all 1,000,000 numbers were given")]
     NumbersSpent,
     /// There was no memory.
+    #[error("out of memory")]
     NoMemory,
 }
 

@@ -66,6 +66,16 @@ impl<S: Speak> Coordinator<S> {
         }
     }
 
+    /// The coordinator as another of the same name over the same sessions would be, which has nothing open in them. Nothing is said to the stores.
+    ///
+    /// Takes no memory. Doesn't wait.
+    pub fn restart(&mut self)
+        ensures name { self.new.name ≡ self.old.name }
+        ensures stores { self.new.stores ≡ self.old.stores }
+    {
+        self.branches = [None; 16];
+    }
+
     /// The sessions back. Nothing is said to the stores.
     ///
     /// Takes no memory. Doesn't wait.

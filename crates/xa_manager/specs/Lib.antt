@@ -4,3 +4,4 @@ pub mod Ledger
 pub mod Answers
 pub mod Written
 pub mod Said
+pub mod Served

@@ -1,10 +1,9 @@
 //! Calls, carried out.
-ghost use Rattle.std.specs.Prelude.{◌≡◌, ◌≤◌, true, nat_lt, IfOk, vec_len, length, map};
+ghost use Rattle.std.specs.Prelude.{◌≡◌, ◌≤◌, true, nat_lt, IfOk, OnErr, vec_len, length, map};
 ghost use Rattle.xa_manager.specs.Answers.{Answers, poll_of, stage_after as stage_with};
 ghost use Rattle.xa_manager.specs.Calls.{takes_rows, IsWritten};
 ghost use Rattle.xa_manager.specs.Said.{Says, floor, reply_of};
 
-use crate::manager::name;
 use crate::{Call, Listing, Manager, Poll, Response, Stage};
 use std::alloc::{AllocError, Global};
 use std::sync::Wait;
@@ -71,7 +70,8 @@ fn listed_by_each<T: Speak, R: Wait>(
 /// Lets the sessions of so many stores pass every call on.
 fn allow_all<S: Speak>(coordinator: &mut Coordinator<Fused<S>>, count: u8)
     requires { count ≤ vec_len coordinator.old.stores }
-    ensures { map (λ session. session.inner) coordinator.new.stores.items ≡ map (λ session. session.inner) coordinator.old.stores.items }
+    ensures name { coordinator.new.name ≡ coordinator.old.name }
+    ensures sessions { map (λ session. session.inner) coordinator.new.stores.items ≡ map (λ session. session.inner) coordinator.old.stores.items }
 {
     for store in 0..count {
         coordinator.allow(store, u64::MAX);
@@ -94,6 +94,7 @@ impl<C: Speak, T: Speak> Manager<C, T> {
         ensures says { IfOk result (λ response. Says C.view T.view (Call.Begin) response
             (floor (record { stores = vec_len self.old.coordinator.stores; decisions = self.old.decisions; stages = self.old.ledger }) self.old.coordinator.branches self.old.coordinator.stores.items self.old.strangers.items)
             (floor (record { stores = vec_len self.new.coordinator.stores; decisions = self.new.decisions; stages = self.new.ledger }) self.new.coordinator.branches self.new.coordinator.stores.items self.new.strangers.items)) }
+        ensures kept { OnErr result ((vec_len self.new.coordinator.stores ≡ vec_len self.old.coordinator.stores) × (self.new.decisions ≡ self.old.decisions) × (self.new.ledger ≡ self.old.ledger)) }
     {
         self.ledger.add(Stage::Over)?;
         match self.coordinator.begin(&mut self.decisions) {
@@ -246,6 +247,7 @@ impl<C: Speak, T: Speak> Manager<C, T> {
         ensures says { IfOk result (λ response. Says C.view T.view (Call.Show) response
             (floor (record { stores = vec_len self.old.coordinator.stores; decisions = self.old.decisions; stages = self.old.ledger }) self.old.coordinator.branches self.old.coordinator.stores.items self.old.strangers.items)
             (floor (record { stores = vec_len self.new.coordinator.stores; decisions = self.new.decisions; stages = self.new.ledger }) self.new.coordinator.branches self.new.coordinator.stores.items self.new.strangers.items)) }
+        ensures kept { OnErr result ((vec_len self.new.coordinator.stores ≡ vec_len self.old.coordinator.stores) × (self.new.decisions ≡ self.old.decisions) × (self.new.ledger ≡ self.old.ledger)) }
     {
         let answers = listed_by_each(rt, alloc, self.strangers.as_mut_slice())?;
         Ok(Response::Shown(Listing { answers }))
@@ -270,68 +272,57 @@ impl<S: Speak, T: Speak> Manager<Fused<S>, T> {
     }
 
     /// A new coordinator of the name takes the place of the old one, over the same sessions, which no longer fail.
-    fn stopped(self) -> Manager<Fused<S>, T>
-        ensures stores { vec_len result.coordinator.stores ≡ vec_len self.coordinator.stores }
-        ensures decisions { result.decisions ≡ self.decisions }
-        ensures ledger { result.ledger ≡ self.ledger }
-        ensures sessions { map (λ session. session.inner) result.coordinator.stores.items ≡ map (λ session. session.inner) self.coordinator.stores.items }
-        ensures strangers { result.strangers ≡ self.strangers }
+    fn stop(&mut self) -> Response
+        ensures answers { Answers (record { stores = vec_len self.old.coordinator.stores; decisions = self.old.decisions; stages = self.old.ledger })
+            (Call.Stop) result
+            (record { stores = vec_len self.new.coordinator.stores; decisions = self.new.decisions; stages = self.new.ledger }) }
+        ensures says { Says (λ session. S.view session.inner) T.view (Call.Stop) result
+            (floor (record { stores = vec_len self.old.coordinator.stores; decisions = self.old.decisions; stages = self.old.ledger }) self.old.coordinator.branches self.old.coordinator.stores.items self.old.strangers.items)
+            (floor (record { stores = vec_len self.new.coordinator.stores; decisions = self.new.decisions; stages = self.new.ledger }) self.new.coordinator.branches self.new.coordinator.stores.items self.new.strangers.items) }
     {
-        let Manager {
-            mut coordinator,
-            strangers,
-            decisions,
-            ledger,
-        } = self;
-        allow_all(&mut coordinator, strangers.len() as u8);
-        Manager {
-            coordinator: Coordinator::new(name(), coordinator.stop()),
-            strangers,
-            decisions,
-            ledger,
-        }
+        allow_all(&mut self.coordinator, self.strangers.len() as u8);
+        self.coordinator.restart();
+        Response::Stopped
     }
 
-    /// Carries a call out. The manager comes back with what the call is answered.
+    /// Carries a call out, and gives what it is answered.
     ///
-    /// Error: `NoMemory`, where a transaction can't be kept or a list of answers can't grow. May wait: no number of tries is promised.
+    /// Error: `NoMemory`, where a transaction can't be kept or a list of answers can't grow; the transactions and the decisions are as before.
+    /// May wait: no number of tries is promised.
     /// Own rule: docs/COORDINATOR.md, 'At the command line'.
     pub fn answer<R: Wait>(
-        mut self,
+        &mut self,
         rt: &R,
         alloc: Global,
         call: &Call,
-    ) -> Result<(Manager<Fused<S>, T>, Response), NoMemory>
-    where
-        S: Drop,
-        T: Drop,
+    ) -> Result<Response, NoMemory>
         requires { IsWritten call.now }
-        ensures answers { IfOk result (λ next. Answers (record { stores = vec_len self.coordinator.stores; decisions = self.decisions; stages = self.ledger })
-            (call.now) next.1
-            (record { stores = vec_len next.0.coordinator.stores; decisions = next.0.decisions; stages = next.0.ledger })) }
-        ensures says { IfOk result (λ next. Says (λ session. S.view session.inner) T.view (call.now) next.1
-            (floor (record { stores = vec_len self.coordinator.stores; decisions = self.decisions; stages = self.ledger }) self.coordinator.branches self.coordinator.stores.items self.strangers.items)
-            (floor (record { stores = vec_len next.0.coordinator.stores; decisions = next.0.decisions; stages = next.0.ledger }) next.0.coordinator.branches next.0.coordinator.stores.items next.0.strangers.items)) }
+        ensures answers { IfOk result (λ response. Answers (record { stores = vec_len self.old.coordinator.stores; decisions = self.old.decisions; stages = self.old.ledger })
+            (call.now) response
+            (record { stores = vec_len self.new.coordinator.stores; decisions = self.new.decisions; stages = self.new.ledger })) }
+        ensures says { IfOk result (λ response. Says (λ session. S.view session.inner) T.view (call.now) response
+            (floor (record { stores = vec_len self.old.coordinator.stores; decisions = self.old.decisions; stages = self.old.ledger }) self.old.coordinator.branches self.old.coordinator.stores.items self.old.strangers.items)
+            (floor (record { stores = vec_len self.new.coordinator.stores; decisions = self.new.decisions; stages = self.new.ledger }) self.new.coordinator.branches self.new.coordinator.stores.items self.new.strangers.items)) }
+        ensures kept { OnErr result ((vec_len self.new.coordinator.stores ≡ vec_len self.old.coordinator.stores) × (self.new.decisions ≡ self.old.decisions) × (self.new.ledger ≡ self.old.ledger)) }
     {
-        let response = match call {
-            Call::Silent => Response::Silent,
-            Call::Unread(place) => Response::Unread(*place),
-            Call::Begin => self.begin()?,
+        match call {
+            Call::Silent => Ok(Response::Silent),
+            Call::Unread(place) => Ok(Response::Unread(*place)),
+            Call::Begin => self.begin(),
             Call::Work {
                 number,
                 store,
                 statement,
-            } => self.work(rt, *number, *store, statement),
-            Call::Prepare(number) => self.prepare(rt, *number),
-            Call::Decide(number) => self.decide(*number),
-            Call::Finish(number) => self.finish(rt, *number),
-            Call::Abandon(number) => self.abandon(rt, *number),
-            Call::Fail { store, calls } => self.fail(*store, *calls),
-            Call::Stop => return Ok((self.stopped(), Response::Stopped)),
-            Call::Recover => self.recover(rt, alloc),
-            Call::At { store, statement } => self.at(rt, *store, statement),
-            Call::Show => self.show(rt, alloc)?,
-        };
-        Ok((self, response))
+            } => Ok(self.work(rt, *number, *store, statement)),
+            Call::Prepare(number) => Ok(self.prepare(rt, *number)),
+            Call::Decide(number) => Ok(self.decide(*number)),
+            Call::Finish(number) => Ok(self.finish(rt, *number)),
+            Call::Abandon(number) => Ok(self.abandon(rt, *number)),
+            Call::Fail { store, calls } => Ok(self.fail(*store, *calls)),
+            Call::Stop => Ok(self.stop()),
+            Call::Recover => Ok(self.recover(rt, alloc)),
+            Call::At { store, statement } => Ok(self.at(rt, *store, statement)),
+            Call::Show => self.show(rt, alloc),
+        }
     }
 }

@@ -3,6 +3,7 @@
 
 mod answer;
 mod call;
+mod call_server;
 mod ledger;
 mod listing;
 mod manager;
@@ -16,6 +17,7 @@ mod stage;
 mod tests;
 
 pub use call::Call;
+pub use call_server::CallServer;
 pub use ledger::Ledger;
 pub use listing::Listing;
 pub use manager::Manager;
@@ -23,5 +25,5 @@ pub use poll::Poll;
 pub use print::write_response;
 pub use reading::read_call;
 pub use response::Response;
-pub use run::coordinate;
+pub use run::{converse, coordinate};
 pub use stage::Stage;

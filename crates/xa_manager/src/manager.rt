@@ -13,7 +13,7 @@ use xa_coordinator::{Coordinator, Decisions, Speak};
 use xa_xid::Bytes;
 
 /// The name of the coordinator: the one byte `c`.
-pub(crate) fn name() -> Bytes
+fn name() -> Bytes
     ensures { result.items ≡ codes "c" }
 {
     let mut name = Bytes::new();

@@ -1,5 +1,5 @@
 //! Prints responses.
-ghost use Rattle.std.specs.Prelude.{◌≡◌, ◌++◌, OnOk, IfOk, codes, decimal};
+ghost use Rattle.std.specs.Prelude.{◌≡◌, [], ◌++◌, OnOk, IfOk, codes, decimal};
 ghost use Rattle.xa_transcript.specs.Printed.{error_text};
 ghost use Rattle.xa_manager.specs.Texts.{fault_text, cause_text, stores_text, worked_text, poll_text, ending_text, recover_fault_text, report_text, replied_text, store_text, stores_shown_text, stands_as, numbers_text, standings_text, response_text, answer_text};
 
@@ -289,6 +289,26 @@ fn push_response(
     }
 }
 
+/// Puts the text of a response into an empty text, which may have room for it already.
+///
+/// Errors: `NoMemory`. Doesn't wait.
+pub(crate) fn write_into(
+    alloc: Global,
+    mut text: Vec<u8>,
+    decisions: &Decisions,
+    response: &Response,
+) -> Result<Vec<u8>, NoMemory>
+    requires { text.items ≡ [] }
+    ensures { IfOk result (λ written. written.items ≡ answer_text decisions.now response.now) }
+{
+    if matches!(response, Response::Silent) {
+        return Ok(text);
+    }
+    push_response(alloc, &mut text, decisions, response)?;
+    text.extend_from_slice(b"\n")?;
+    Ok(text)
+}
+
 /// The text of a response, each of its lines with a line feed; it is empty for a line that tells nothing.
 ///
 /// Errors: `NoMemory`. Doesn't wait.
@@ -300,11 +320,5 @@ pub fn write_response(
 ) -> Result<Vec<u8>, NoMemory>
     ensures { IfOk result (λ text. text.items ≡ answer_text decisions.now response.now) }
 {
-    let mut text = Vec::new(alloc);
-    if matches!(response, Response::Silent) {
-        return Ok(text);
-    }
-    push_response(alloc, &mut text, decisions, response)?;
-    text.extend_from_slice(b"\n")?;
-    Ok(text)
+    write_into(alloc, Vec::new(alloc), decisions, response)
 }

@@ -1,5 +1,5 @@
 //! Calls of a coordinator over stores of its own, line by line.
-ghost use Rattle.std.specs.Prelude.{◌≡◌, ◌≤◌, length, vec_len, OnOk, IfOk, OnErr, IfErr, IfSome, Err};
+ghost use Rattle.std.specs.Prelude.{◌≡◌, ◌≤◌, [], length, vec_len, OnOk, IfOk, OnErr, IfErr, IfSome, Err};
 ghost use Rattle.std.specs.Io.KnownBytes.{IsAtEnd};
 ghost use Rattle.chain_log.specs.ChainPass.{home_of, place_of};
 ghost use Rattle.xa_transcript.specs.Limits.{script_bytes};
@@ -9,11 +9,12 @@ ghost use Rattle.xa_manager.specs.Texts.{answer_text};
 ghost use Rattle.xa_manager.specs.Written.{AreOf, IsWhole, IsCut, AfterFault};
 
 use crate::print::write_response;
-use crate::{Manager, Response, read_call};
+use crate::{CallServer, Manager, Response, read_call};
 use std::alloc::{AllocError, Global};
 use std::io::{Read, Write};
 use std::sync::Wait;
 use xa_coordinator::{Decisions, Fused, Speak};
+use xa_serve::{Wire, serve};
 use xa_session::Session;
 use xa_store::{Log, Pass, Store};
 use xa_transcript::{ScriptFault, read_all, split_line, write_whole};
@@ -47,10 +48,9 @@ fn answer_lines<S: Speak + Drop, T: Speak + Drop, W: Write, R: Wait>(
     while !rest.is_empty() {
         let (line, lines) = split_line(rest);
         let call = read_call(line);
-        let Ok((next, response)) = manager.answer(rt, alloc, &call) else {
+        let Ok(response) = manager.answer(rt, alloc, &call) else {
             return Err(ScriptFault::NoMemory);
         };
-        manager = next;
         let Ok(text) = text_of(alloc, manager.decisions(), response) else {
             return Err(ScriptFault::NoMemory);
         };
@@ -74,7 +74,7 @@ fn open_store(alloc: Global, capacity: u64) -> Result<(Store, Pass, Pass), NoMem
 }
 
 /// Opens so many stores, and gives the passes of their two sessions.
-fn open_stores(
+pub(crate) fn open_stores(
     alloc: Global,
     count: u64,
     capacity: u64,
@@ -126,6 +126,27 @@ fn fuse_each<S: Speak + Drop>(alloc: Global, sessions: Vec<S>) -> Result<Vec<Fus
     Ok(fused)
 }
 
+/// A manager over these stores, by the passes of their two sessions.
+pub(crate) fn manager_over<'a>(
+    alloc: Global,
+    stores: &'a [Store],
+    firsts: Vec<Pass>,
+    seconds: Vec<Pass>,
+) -> Result<Manager<Fused<Session<'a, Log>>, Session<'a, Log>>, NoMemory>
+    requires some { 1 ≤ length stores.now }
+    requires most { length stores.now ≤ 16 }
+    requires first { AreOf stores.now firsts.items }
+    requires second { AreOf stores.now seconds.items }
+    ensures stores { IfOk result (λ manager. vec_len manager.coordinator.stores ≡ length stores.now) }
+    ensures decisions { IfOk result (λ manager. manager.decisions ≡ []) }
+    ensures ledger { IfOk result (λ manager. manager.ledger ≡ []) }
+{
+    let sessions = connect_each(alloc, stores, firsts)?;
+    let strangers = connect_each(alloc, stores, seconds)?;
+    let sessions = fuse_each(alloc, sessions)?;
+    Ok(Manager::new(alloc, sessions, strangers))
+}
+
 /// Carries the calls of a script out over so many stores.
 fn over_stores<W: Write, R: Wait>(
     rt: &R,
@@ -144,17 +165,38 @@ fn over_stores<W: Write, R: Wait>(
     let Ok((stores, firsts, seconds)) = open_stores(alloc, count, capacity) else {
         return Err(ScriptFault::NoMemory);
     };
-    let Ok(sessions) = connect_each(alloc, stores.as_slice(), firsts) else {
+    let Ok(manager) = manager_over(alloc, stores.as_slice(), firsts, seconds) else {
         return Err(ScriptFault::NoMemory);
     };
-    let Ok(strangers) = connect_each(alloc, stores.as_slice(), seconds) else {
-        return Err(ScriptFault::NoMemory);
-    };
-    let Ok(sessions) = fuse_each(alloc, sessions) else {
-        return Err(ScriptFault::NoMemory);
-    };
-    let manager = Manager::new(alloc, sessions, strangers);
     answer_lines(rt, alloc, manager, script, writer)
+}
+
+/// Carries calls out over stores of its own, line by line: each line is answered, and the answer written and flushed, before more is read.
+///
+/// `stores` is the number of stores, in `[1, 16]`; each has room for `capacity` entries, in `[1, 1024]`, and two sessions, the
+/// coordinator's and a stranger's. The input is of any length, a line of at most 65,536 bytes; a longer one isn't read as a call.
+/// Errors: `Read`, `Write`, and `NoMemory` where the stores or the room for a line can't be had, before anything was read. Where memory
+/// is refused for a call, that is its answer, and the next is heard. What is promised of such a conversation is `xa_serve::serve`'s
+/// contract, by what `CallServer` answers; streams don't say what passed.
+/// May wait, for the peer too.
+/// Own rule: docs/COORDINATOR.md, 'At the command line'.
+pub fn converse<R: Wait, I: Read + Drop, W: Write + Drop>(
+    rt: &R,
+    alloc: Global,
+    wire: &mut Wire<I, W>,
+    stores: u64,
+    capacity: u64,
+) -> Result<(), ScriptFault>
+    requires stores { (1 ≤ stores) × (stores ≤ 16) }
+    requires capacity { (1 ≤ capacity) × (capacity ≤ 1024) }
+{
+    let Ok((stores, firsts, seconds)) = open_stores(alloc, stores, capacity) else {
+        return Err(ScriptFault::NoMemory);
+    };
+    let Ok(manager) = manager_over(alloc, stores.as_slice(), firsts, seconds) else {
+        return Err(ScriptFault::NoMemory);
+    };
+    serve(alloc, &mut CallServer::new(rt, manager), wire)
 }
 
 /// Carries the calls of a script out, line by line, over stores of its own, and writes what answers each.

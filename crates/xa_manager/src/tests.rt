@@ -1,14 +1,42 @@
 //! Calls and what answers them. The answers were written by hand from the table of docs/COORDINATOR.md.
-ghost use Rattle.std.specs.Prelude.{◌≤◌};
+ghost use Rattle.std.specs.Prelude.{◌≤◌, ◌<◌};
 
-use crate::coordinate;
+use crate::run::{manager_over, open_stores};
+use crate::{CallServer, coordinate};
 use std::alloc::Global;
 use std::process::Abort;
 use std::sync::Wait;
+use xa_serve::{Recorded, serve};
 use xa_transcript::{CutReader, CutWriter, ScriptFault};
 
-/// Whether calls over so many stores, with so much room in each, are answered so.
-fn answers<R: Abort + Wait>(
+/// Whether calls over so many stores are answered so line by line, where they come in pieces of so many bytes.
+fn converses<R: Abort + Wait>(
+    rt: &R,
+    alloc: Global,
+    stores: u64,
+    capacity: u64,
+    calls: &[u8],
+    answers: &[u8],
+    piece: usize,
+)
+    requires stores { (1 ≤ stores) × (stores ≤ 16) }
+    requires capacity { (1 ≤ capacity) × (capacity ≤ 1024) }
+    requires piece { 0 < piece }
+{
+    let Ok((stores, firsts, seconds)) = open_stores(alloc, stores, capacity) else {
+        panic!(rt; "out of memory")
+    };
+    let Ok(manager) = manager_over(alloc, stores.as_slice(), firsts, seconds) else {
+        panic!(rt; "out of memory")
+    };
+    let mut peer = Recorded::new(alloc, calls, piece, 1_000_000, 1_000_000);
+    let done = serve(alloc, &mut CallServer::new(rt, manager), &mut peer);
+    assert!(rt; done.is_ok());
+    assert_eq!(rt; peer.told(), answers, "in pieces of {piece}");
+}
+
+/// Whether a script of calls over so many stores, with so much room in each, is answered so.
+fn answers_a_script<R: Abort + Wait>(
     rt: &R,
     alloc: Global,
     stores: u64,
@@ -24,6 +52,25 @@ fn answers<R: Abort + Wait>(
     let done = coordinate(rt, alloc, &mut input, &mut output, stores, capacity);
     assert!(rt; done.is_ok());
     assert_eq!(rt; output.as_slice(), answers);
+    true
+}
+
+/// Whether calls are answered so, as a script and line by line.
+fn answers<R: Abort + Wait>(
+    rt: &R,
+    alloc: Global,
+    stores: u64,
+    capacity: u64,
+    calls: &[u8],
+    answers: &[u8],
+) -> bool
+    requires stores { (1 ≤ stores) × (stores ≤ 16) }
+    requires capacity { (1 ≤ capacity) × (capacity ≤ 1024) }
+{
+    assert!(rt; answers_a_script(rt, alloc, stores, capacity, calls, answers));
+    converses(rt, alloc, stores, capacity, calls, answers, 1);
+    converses(rt, alloc, stores, capacity, calls, answers, 7);
+    converses(rt, alloc, stores, capacity, calls, answers, 4096);
     true
 }
 
@@ -187,10 +234,10 @@ fn padded<R: Abort>(rt: &R, alloc: Global, word: &[u8], byte: u8, count: u64) ->
 }
 
 #[test]
-fn lines_have_any_length(rt: HostRuntime) {
+fn lines_of_a_script_have_any_length(rt: HostRuntime) {
     let blanks = padded(&rt, rt.alloc(), b"BEGIN", b' ', 70_000);
     assert!(rt;
-        answers(
+        answers_a_script(
             &rt,
             rt.alloc(),
             1,
@@ -200,16 +247,16 @@ fn lines_have_any_length(rt: HostRuntime) {
         )
     );
     let comment = padded(&rt, rt.alloc(), b"#", 0xff, 70_000);
-    assert!(rt; answers(&rt, rt.alloc(), 1, 1024, comment.as_slice(), b""));
+    assert!(rt; answers_a_script(&rt, rt.alloc(), 1, 1024, comment.as_slice(), b""));
     let digits = padded(&rt, rt.alloc(), b"PREPARE ", b'9', 70_000);
     let fault = b"ERROR 1064 (42000): syntax fault at byte 0\n";
-    assert!(rt; answers(&rt, rt.alloc(), 1, 1024, digits.as_slice(), fault));
+    assert!(rt; answers_a_script(&rt, rt.alloc(), 1, 1024, digits.as_slice(), fault));
 }
 
 #[test]
 fn script_is_at_most_a_mebibyte(rt: HostRuntime) {
     let longest = padded(&rt, rt.alloc(), b"STOP", b'\n', 1_048_572);
-    assert!(rt; answers(&rt, rt.alloc(), 1, 1, longest.as_slice(), b"STOPPED\n"));
+    assert!(rt; answers_a_script(&rt, rt.alloc(), 1, 1, longest.as_slice(), b"STOPPED\n"));
     let longer = padded(&rt, rt.alloc(), b"STOP", b'\n', 1_048_573);
     let mut input = longer.as_slice();
     let mut output = Vec::new(rt.alloc());
@@ -318,4 +365,42 @@ fn stream_faults_are_told(rt: HostRuntime) {
     let done = coordinate(&rt, rt.alloc(), &mut input, &mut cut, 1, 1);
     assert!(rt; matches!(done, Err(ScriptFault::Write)));
     assert_eq!(rt; cut.as_slice(), b"TRANSACTI".as_slice());
+}
+
+#[test]
+fn a_longer_line_is_not_a_call(rt: HostRuntime) -> Result<(), ScriptFault> {
+    let alloc = rt.alloc();
+    for (length, wanted) in [
+        (65_536, b"TRANSACTION 1\n".as_slice()),
+        (
+            65_537,
+            b"ERROR 1064 (42000): syntax fault at byte 0\nTRANSACTION 1\n".as_slice(),
+        ),
+    ] {
+        let mut calls = Vec::new(alloc);
+        calls.push(b'#').map_err(|_| ScriptFault::NoMemory)?;
+        for _ in 1..length {
+            calls.push(b'a').map_err(|_| ScriptFault::NoMemory)?;
+        }
+        calls
+            .extend_from_slice(b"\nBEGIN\n")
+            .map_err(|_| ScriptFault::NoMemory)?;
+        converses(&rt, alloc, 1, 8, calls.as_slice(), wanted, 4096);
+    }
+    Ok(())
+}
+
+#[test]
+fn whole_lines_are_answered_before_a_read_fault(rt: HostRuntime) {
+    let alloc = rt.alloc();
+    let Ok((stores, firsts, seconds)) = open_stores(alloc, 1, 8) else {
+        panic!(rt; "out of memory")
+    };
+    let Ok(manager) = manager_over(alloc, stores.as_slice(), firsts, seconds) else {
+        panic!(rt; "out of memory")
+    };
+    let mut peer = Recorded::new(alloc, b"BEGIN\nWORK 1 0 PUT 'k','v'\nPREP", 8, 4, 1000);
+    let done = serve(alloc, &mut CallServer::new(&rt, manager), &mut peer);
+    assert_eq!(rt; done, Err(ScriptFault::Read));
+    assert_eq!(rt; peer.told(), b"TRANSACTION 1\nOK\n".as_slice());
 }

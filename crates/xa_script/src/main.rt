@@ -20,7 +20,7 @@ use std::process::ExitCode;
 use std::sync::Wait;
 use std::thread::Threads;
 use std::{env, io};
-use xa_manager::coordinate;
+use xa_manager::converse;
 use xa_serve::{Wire, serve_statements};
 use xa_store::OpenGate;
 pub use xa_transcript::{CutReader, CutWriter, ScriptFault, race_script, run_script};
@@ -93,14 +93,10 @@ fn carry_out<R: Input + Print + Alloc<A = Global> + Threads + Wait + Sync>(
             let gate = OpenGate;
             race_script(rt, rt.alloc(), &mut input, &mut output, capacity, &gate)
         }
-        Job::Coordinate { stores, capacity } => coordinate(
-            rt,
-            rt.alloc(),
-            &mut input,
-            &mut output,
-            stores,
-            capacity,
-        ),
+        Job::Coordinate { stores, capacity } => {
+            let mut wire = Wire::new(input, output);
+            return converse(rt, rt.alloc(), &mut wire, stores, capacity);
+        }
         Job::Serve => return serve_statements(rt.alloc(), &mut Wire::new(input, output)),
     };
     if output.flush().is_err() {

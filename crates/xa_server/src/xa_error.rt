@@ -1,6 +1,9 @@
 //! Why a statement is refused.
 ghost use Rattle.std.specs.Prelude.{◌≡◌};
 
+use std::fmt;
+use thiserror::Error;
+
 /// What a session has open, as a refusal tells it.
 ///
 /// Source: MySQL 8.0 Reference Manual, 'XA Transaction States'.
@@ -16,21 +19,37 @@ pub enum BranchState {
     Prepared,
 }
 
+impl fmt::Display for BranchState {
+    fn fmt<W: fmt::Write>(&self, f: &mut fmt::Formatter<W>) -> fmt::Result {
+        f.write_str(match self {
+            BranchState::NonExisting => "NON-EXISTING",
+            BranchState::Active => "ACTIVE",
+            BranchState::Idle => "IDLE",
+            BranchState::Prepared => "PREPARED",
+        })
+    }
+}
+
 /// Why a statement is refused. A refused statement changes nothing.
 ///
 /// Source: MySQL 8.0 Reference Manual, 'Server Error Message Reference'; X/Open C193, the return codes of `xa_start()`
 /// and its kin. When each is answered: docs/BEHAVIOR.md, 'Replies'.
-#[derive(Clone, Copy, Debug, PartialEq, Eq)]
+#[derive(Clone, Copy, Debug, Drop, PartialEq, Eq, Error)]
 pub enum XaError {
     /// 1397 XAER_NOTA: the identifier isn't that of a branch that the statement could mean.
+    #[error("XAER_NOTA: Unknown XID")]
     Nota,
     /// 1398 XAER_INVAL: the statement is recognised and not supported.
+    #[error("XAER_INVAL: Invalid arguments (or unsupported command)")]
     Inval,
     /// 1399 XAER_RMFAIL: the statement can't be given in this state.
+    #[error("XAER_RMFAIL: The command cannot be executed when global transaction is in the {0} state")]
     Rmfail(BranchState),
     /// 1440 XAER_DUPID: the identifier is that of a branch already.
+    #[error("XAER_DUPID: The XID already exists")]
     Dupid,
     /// 3572: another branch holds the row exclusively, or at `PUT` and `DEL` in either way, and nobody waits for it.
+    #[error("Statement aborted because lock(s) could not be acquired immediately and NOWAIT is set.")]
     RowLocked,
 }
 

@@ -2,19 +2,25 @@
 ghost use Rattle.std.specs.Prelude.{◌≡◌};
 ghost use Rattle.xa_session.specs.Faults.{number_of_fault};
 
+use thiserror::Error;
+
 /// Why a statement wasn't answered. Nothing of it stands in the history.
-#[derive(Clone, Copy, Debug, PartialEq, Eq)]
+#[derive(Clone, Copy, Debug, Drop, PartialEq, Eq, Error)]
 pub enum Fault {
     /// Another session's entry was added first. The session has now seen `front` entries.
+    #[error("others have added: {front} entries are seen now")]
     Overtaken {
         /// How many entries the session has seen now.
         front: u64,
     },
     /// The statement enters the history, which has as many entries as its log can have.
+    #[error("log full")]
     Full,
     /// There was no memory. The session may have seen and replayed more.
+    #[error("out of memory")]
     NoMemory,
     /// Another session has the turn, in a log with turns.
+    #[error("another session has the turn")]
     Busy,
 }
 

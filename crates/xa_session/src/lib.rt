@@ -10,7 +10,9 @@ mod replica;
 mod session;
 #[cfg(test)]
 mod tests;
+mod whole;
 
 pub use answer::Answer;
 pub use fault::Fault;
 pub use session::Session;
+pub use whole::replayed;

@@ -27,7 +27,7 @@ keeps_again old now new k l =
 met_keeps : (first old new : Known) → MeetsSecond first old new → Keeps old new
 met_keeps first old new m = record { number = m.number; seen = m.seen; mine = m.mine; looks = m.looks; tries = m.tries }
 
-zip_itself : {S : Type 0} (R : S → S → Type 0) → ((s : S) → R s s) → (list : List S) → AllZip R list list
+pub zip_itself : {S : Type 0} (R : S → S → Type 0) → ((s : S) → R s s) → (list : List S) → AllZip R list list
 zip_itself R itself [] = tt
 zip_itself R itself (s ∷ list) = (itself s, zip_itself R itself list)
 

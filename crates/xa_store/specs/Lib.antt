@@ -1,5 +1,6 @@
 pub mod Passes
 pub mod Gathered
 pub mod Legal
+pub mod Renewal
 pub mod Faults
 pub mod Spread

@@ -6,9 +6,13 @@ mod blame;
 mod gate;
 mod gather;
 mod history;
+mod leaving;
 mod outcome;
 mod race_fault;
 mod racing;
+mod renew;
+#[cfg(test)]
+mod renewal_tests;
 mod run;
 mod spread;
 mod store;

@@ -2,12 +2,14 @@
 ghost use Rattle.std.specs.Prelude.{◌≡◌};
 ghost use Rattle.xa_store.specs.Faults.{number_of_race_fault};
 
+use thiserror::Error;
 use xa_xid::SessionNo;
 
 /// Why a race gave nothing.
-#[derive(Clone, Copy, Debug, PartialEq, Eq)]
+#[derive(Clone, Copy, Debug, Drop, PartialEq, Eq, Error)]
 pub enum RaceFault {
     /// The gate shut this session's run before its statement at `line`, counted from 0.
+    #[error("gate shut for session {} at its statement {line}", .session.get())]
     GateShut {
         /// The session of the run.
         session: SessionNo,
@@ -15,6 +17,7 @@ pub enum RaceFault {
         line: u64,
     },
     /// This session's statement at `line`, counted from 0, enters, and the history is as long as the log's capacity.
+    #[error("log full for session {} at its statement {line}", .session.get())]
     Full {
         /// The session of the run.
         session: SessionNo,
@@ -22,8 +25,10 @@ pub enum RaceFault {
         line: u64,
     },
     /// Memory ran out.
+    #[error("out of memory")]
     NoMemory,
     /// A thread couldn't be started.
+    #[error("thread refused")]
     ThreadRefused,
 }
 

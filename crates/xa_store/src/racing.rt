@@ -33,17 +33,6 @@ fn start_all<'a>(
     Ok(all)
 }
 
-/// The passes of all sessions, in their order.
-fn leave_all(alloc: Global, sessions: Vec<Session<'_, Log>>) -> Result<Vec<Pass>, NoMemory>
-    ensures { IfOk result (λ passes. passes.items ≡ map (λ session. session.pass) sessions.entry.items) }
-{
-    let mut passes = Vec::with_capacity(alloc, sessions.len())?;
-    for session in sessions {
-        passes.push(session.leave())?;
-    }
-    Ok(passes)
-}
-
 /// All that a race gives, once its runs have ended: the sessions meet, and leave.
 fn conclude(alloc: Global, store: &Store, ended: AllEnded<'_, Log>) -> Result<Outcome, NoMemory>
     requires { All (λ session. home_of session.pass ≡ place_of store.now.log) ended.sessions.items }
@@ -52,12 +41,11 @@ fn conclude(alloc: Global, store: &Store, ended: AllEnded<'_, Log>) -> Result<Ou
     ensures last { IfOk result (λ outcome. outcome.history.items ≡ (last_known (map known_of outcome.passes.items)).seen) }
     ensures whole { IfOk result (λ outcome. All (λ pass. IsTakenIn outcome.history.items (known_of pass)) outcome.passes.items) }
 {
-    let AllEnded {
-        mut sessions,
-        answers,
-    } = ended;
-    let history = store.history(alloc, &mut sessions)?;
-    let passes = leave_all(alloc, sessions)?;
+    let AllEnded { sessions, answers } = ended;
+    let (history, passes) = match store.wind_up(alloc, sessions) {
+        Ok(ended) => ended,
+        Err((_, error)) => return Err(error),
+    };
     Ok(Outcome {
         history,
         answers,

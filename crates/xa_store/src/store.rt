@@ -19,8 +19,8 @@ pub type Pass = ChainPass;
 /// A store. Its sessions are on the threads of their callers, and share its history.
 #[derive(Drop)]
 pub struct Store {
-    base: Server,
-    log: Log,
+    pub(crate) base: Server,
+    pub(crate) log: Log,
 }
 
 impl Store {

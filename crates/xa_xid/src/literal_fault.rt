@@ -2,20 +2,27 @@
 ghost use Rattle.std.specs.Prelude.{◌≡◌};
 ghost use Rattle.xa_xid.specs.Faults.{number_of_literal_fault};
 
+use thiserror::Error;
+
 /// Why a literal or a formatID wasn't read.
 ///
 /// Own rule: docs/STATEMENTS.md, 'Literals'.
-#[derive(Clone, Copy, Debug, PartialEq, Eq)]
+#[derive(Clone, Copy, Debug, Drop, PartialEq, Eq, Error)]
 pub enum LiteralFault {
     /// No literal begins there; or, for a formatID, no number.
+    #[error("no literal begins there")]
     NotALiteral,
     /// The closing quote is missing.
+    #[error("the closing quote is missing")]
     Unclosed,
     /// An odd number of digits stands between `X'` and `'`.
+    #[error("an odd number of hexadecimal digits")]
     OddHex,
     /// The literal stands for more than 64 bytes.
+    #[error("more than 64 bytes")]
     TooLong,
     /// The number is above 2^64-1.
+    #[error("the number is above 2^64-1")]
     NumberTooLarge,
 }
 

@@ -21,6 +21,14 @@ impl DecisionLog for TurnLog {
 
     ghost known = { known_of };
 
+    fn capacity(&self) -> u64 {
+        self.capacity
+    }
+
+    fn sessions(&self) -> u64 {
+        self.sessions
+    }
+
     fn number(&self, pass: &TurnPass) -> SessionNo {
         pass.number
     }

@@ -4,4 +4,5 @@ use Rattle.xa_manager.proofs.answer.allow_all.Given as goal
 
 abbrev pub invariant-loop-store : goal.invariant-loop-store
 invariant-loop-store g l =
-    map (λ (session : Fused g.row.S.Denot). session.inner) l.coordinator.stores.items ≡ map (λ (session : Fused g.row.S.Denot). session.inner) l.fn.coordinator.stores.items
+    (l.coordinator.name ≡ l.fn.coordinator.name)
+    × (map (λ (session : Fused g.row.S.Denot). session.inner) l.coordinator.stores.items ≡ map (λ (session : Fused g.row.S.Denot). session.inner) l.fn.coordinator.stores.items)

@@ -16,7 +16,7 @@ returns-in_default-text_of-clause-cut g c =
 
 pub returns-in_err-write_whole-clause-cut : goal.returns-in_err-write_whole-clause-cut
 returns-in_err-write_whole-clause-cut g c =
-    let text : c.as_slice.result.now ≡ answer_text c.in-Ok.next.decisions c.in-Ok.response =
+    let text : c.as_slice.result.now ≡ answer_text c.answer.new.self.decisions c.in-Ok.response =
     c.as_slice.ensures.value ∙ c.in-Ok-text_of.ensures ∙ ap (λ d. answer_text d c.in-Ok.response) c.decisions.ensures in
     on_err c.from_residual.result
     (cut_within _ _ _ _ c.split_line.result.0.now _ c.in-Ok.response _ _ _ (so_far_as _ _ _ _ _ _ _ c.loop-rest.invariant c.split_line.ensures.lines)
@@ -24,7 +24,7 @@ returns-in_err-write_whole-clause-cut g c =
 
 pub loop-rest-preserved : goal.loop-rest-preserved
 loop-rest-preserved g c =
-    let text : c.as_slice.result.now ≡ answer_text c.in-Ok.next.decisions c.in-Ok.response =
+    let text : c.as_slice.result.now ≡ answer_text c.answer.new.self.decisions c.in-Ok.response =
     c.as_slice.ensures.value ∙ c.in-Ok-text_of.ensures ∙ ap (λ d. answer_text d c.in-Ok.response) c.decisions.ensures in
     so_far_more _ _ _ _ _ c.split_line.result.0.now c.in-Ok.response _ _ _ (so_far_as _ _ _ _ _ _ _ c.loop-rest.invariant c.split_line.ensures.lines)
     (answered_as _ _ _ _ _ c.in-Ok.ensures.answers c.read_call-call.ensures.call) (appends_as _ _ _ _ c.in_ok-write_whole.ensures.all text)

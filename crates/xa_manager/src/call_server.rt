@@ -1,0 +1,91 @@
+//! A transaction manager that answers lines.
+ghost use Rattle.std.specs.Prelude.{◌≡◌, ◌≤◌, ◌++◌, length, codes};
+ghost use Rattle.xa_transcript.specs.Printed.{syntax_text};
+ghost use Rattle.xa_manager.specs.Served.{refused_text};
+ghost use Rattle.xa_serve.specs.Answer.{bytes_of};
+
+use crate::print::write_into;
+use crate::{Call, Manager, read_call};
+use arrayvec::ArrayVec;
+use std::alloc::Global;
+use std::sync::Wait;
+use xa_coordinator::{Fused, Speak};
+use xa_serve::{Answer, LineServer};
+
+/// Room for what most calls are told, in bytes. It is taken before a call is carried out; only lists need more.
+const ANSWER_ROOM: usize = 256;
+
+/// A short answer: at most 64 bytes, which take no memory.
+fn short_answer(text: &[u8]) -> Answer
+    requires { length text.now ≤ 64 }
+    ensures { bytes_of result ≡ text.now }
+{
+    let mut bytes = ArrayVec::new();
+    let _ = bytes.try_extend_from_slice(text);
+    Answer::Short(bytes)
+}
+
+/// What is told where memory is refused.
+fn refusal() -> Answer
+    ensures { bytes_of result ≡ refused_text }
+{
+    short_answer(b"ERROR 1037 (HY001): out of memory\n")
+}
+
+/// What is told of a line that isn't read as a call.
+fn unread() -> Answer
+    ensures { bytes_of result ≡ syntax_text 0 ++ codes "\n" }
+{
+    short_answer(b"ERROR 1064 (42000): syntax fault at byte 0\n")
+}
+
+/// A transaction manager that answers lines, each of which is a call.
+#[derive(Drop)]
+pub struct CallServer<'r, C: Speak, T: Speak, R: Wait> {
+    manager: Manager<C, T>,
+    rt: &'r R,
+}
+
+impl<'r, C: Speak, T: Speak, R: Wait> CallServer<'r, C, T, R> {
+    /// A server by this manager.
+    ///
+    /// Takes no memory. Doesn't wait.
+    pub fn new(rt: &'r R, manager: Manager<C, T>) -> CallServer<'r, C, T, R>
+        ensures { result.manager ≡ manager }
+    {
+        CallServer { manager, rt }
+    }
+}
+
+impl<'r, S: Speak, T: Speak, R: Wait> LineServer for CallServer<'r, Fused<S>, T, R> {
+    ghost use Rattle.std.specs.Prelude.{vec_len};
+    ghost use Rattle.xa_manager.specs.Served.{Begins, IsAnswer};
+
+    ghost begins = { λ server. Begins (record { stores = vec_len server.manager.coordinator.stores; decisions = server.manager.decisions; stages = server.manager.ledger }) };
+
+    ghost answers = { λ old line text new. IsAnswer
+        (record { stores = vec_len old.manager.coordinator.stores; decisions = old.manager.decisions; stages = old.manager.ledger })
+        line text
+        (record { stores = vec_len new.manager.coordinator.stores; decisions = new.manager.decisions; stages = new.manager.ledger }) };
+
+    fn answer(&mut self, alloc: Global, line: &[u8]) -> Answer {
+        let call = read_call(line);
+        if let Call::Silent = call {
+            return Answer::Short(ArrayVec::new());
+        }
+        let Ok(text) = Vec::with_capacity(alloc, ANSWER_ROOM) else {
+            return refusal();
+        };
+        let Ok(response) = self.manager.answer(self.rt, alloc, &call) else {
+            return refusal();
+        };
+        match write_into(alloc, text, self.manager.decisions(), &response) {
+            Ok(text) => Answer::Text(text),
+            Err(_) => refusal(),
+        }
+    }
+
+    fn answer_long(&mut self) -> Answer {
+        unread()
+    }
+}

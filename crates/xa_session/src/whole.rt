@@ -1,0 +1,33 @@
+//! The server that a history leaves.
+ghost use Rattle.std.specs.Prelude.{◌≡◌, IfOk};
+ghost use Rattle.xa_session.specs.Replay.{state_after};
+
+use crate::replica::Replica;
+use decision_log::DecisionLog;
+use xa_server::Server;
+use xa_xid::NoMemory;
+
+/// The server that the history leaves of `base`, as far as the pass has seen it. No session has to be open.
+///
+/// Errors: `NoMemory`, with the pass's lists as they were.
+///
+/// May answer `NoMemory`. Doesn't wait.
+/// Own rule: docs/BEHAVIOR.md, 'Sessions'.
+pub fn replayed<L: DecisionLog>(
+    log: &L,
+    base: &Server,
+    pass: &mut L::Pass,
+) -> Result<Server, NoMemory>
+    requires { L.home pass.old ≡ L.place log.now }
+    ensures home { L.home pass.new ≡ L.home pass.old }
+    ensures same { L.known pass.new ≡ L.known pass.old }
+    ensures state { IfOk result (λ server. server ≡ state_after base.now (L.known pass.old).seen) }
+{
+    let mut replica = Replica::of(base)?;
+    for at in 0..log.length(pass) {
+        let entry = log.entry(pass, at);
+        replica.replay(&entry)?;
+    }
+    let Replica { server, .. } = replica;
+    Ok(server)
+}

@@ -1,0 +1,59 @@
+//! Sessions that leave together.
+ghost use Rattle.std.specs.Prelude.{◌≡◌, ◌<◌, IfOk, IfErr, length, map};
+ghost use Rattle.std.specs.List.{All, AllZip};
+ghost use Rattle.xa_store.specs.Passes.{place_of, home_of, known_of};
+ghost use Rattle.xa_store.specs.Gathered.{IsTakenIn, Keeps, last_known};
+ghost use Rattle.xa_store.specs.Renewal.{AreGathered};
+
+use crate::{Log, Pass, Store};
+use std::alloc::{AllocError, Global};
+use xa_session::Session;
+use xa_words::Entry;
+use xa_xid::NoMemory;
+
+/// The passes of all sessions, in their order.
+fn leave_all(
+    alloc: Global,
+    sessions: Vec<Session<'_, Log>>,
+) -> Result<Vec<Pass>, (Vec<Session<'_, Log>>, NoMemory)>
+    ensures ok { IfOk result (λ passes. passes.items ≡ map (λ session. session.pass) sessions.entry.items) }
+    ensures err { IfErr result (λ refused. refused.0.items ≡ sessions.entry.items) }
+{
+    let Ok(mut passes) = Vec::with_capacity(alloc, sessions.len()) else {
+        return Err((sessions, AllocError));
+    };
+    for session in sessions {
+        passes.push_reserved(session.leave());
+    }
+    Ok(passes)
+}
+
+impl Store {
+    /// The history of these sessions, as `history` gives it, and their passes, in order: all of them leave. So are the passes that
+    /// `renew` takes, where a session is given at all.
+    ///
+    /// Errors: `NoMemory`, with the sessions, which may have seen more.
+    ///
+    /// May answer `NoMemory`. Doesn't wait.
+    /// Own rule: docs/BEHAVIOR.md, 'Stores'.
+    pub fn wind_up<'s>(
+        &self,
+        alloc: Global,
+        mut sessions: Vec<Session<'s, Log>>,
+    ) -> Result<(Vec<Entry>, Vec<Pass>), (Vec<Session<'s, Log>>, NoMemory)>
+        requires { All (λ session. home_of session.pass ≡ place_of self.now.log) sessions.items }
+        ensures passes { IfOk result (λ ended. AllZip (λ session pass. (home_of pass ≡ home_of session.pass) × Keeps (known_of session.pass) (known_of pass)) sessions.entry.items ended.1.items) }
+        ensures last { IfOk result (λ ended. ended.0.items ≡ (last_known (map known_of ended.1.items)).seen) }
+        ensures whole { IfOk result (λ ended. All (λ pass. IsTakenIn ended.0.items (known_of pass)) ended.1.items) }
+        ensures gathered { IfOk result (λ ended. 0 < length sessions.entry.items → AreGathered (place_of self.now.log) ended.1.items) }
+        ensures err { IfErr result (λ refused. AllZip (λ old new. (new.base.now ≡ old.base.now) × (home_of new.pass ≡ home_of old.pass) × Keeps (known_of old.pass) (known_of new.pass)) sessions.entry.items refused.0.items) }
+    {
+        match self.history(alloc, &mut sessions) {
+            Err(error) => Err((sessions, error)),
+            Ok(history) => match leave_all(alloc, sessions) {
+                Err(refused) => Err(refused),
+                Ok(passes) => Ok((history, passes)),
+            },
+        }
+    }
+}
