@@ -78,7 +78,7 @@ fn asked(
 }
 
 /// The history of a store, asked for again where there was no memory.
-pub(crate) fn history_of(
+fn history_of(
     rt: &impl Abort,
     alloc: Global,
     store: &Store,
