@@ -14,6 +14,8 @@ mod request;
 mod same;
 mod seeing;
 mod standing;
+#[cfg(test)]
+mod tests;
 mod verdict;
 
 pub use answer::Answer;
