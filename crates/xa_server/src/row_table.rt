@@ -95,6 +95,20 @@ fn take_out(by_key: &mut BTreeMap<Key, RowRecord>, key: &Key)
     let _row = by_key.remove(key);
 }
 
+/// Whether the same rows have the same records.
+fn has_same_records(by_key: &BTreeMap<Key, RowRecord>, others: &BTreeMap<Key, RowRecord>) -> bool
+    ensures { result ≡ true → by_key.now.entries ≡ others.now.entries }
+{
+    let mut rest = others.iter();
+    for (key, row) in by_key {
+        match rest.next() {
+            Some((other, record)) if key == other && row.is_same(record) => {}
+            _ => return false,
+        }
+    }
+    rest.next().is_none()
+}
+
 /// A copy of the records.
 fn copy_of_records(by_key: &BTreeMap<Key, RowRecord>) -> Result<BTreeMap<Key, RowRecord>, NoMemory>
     ensures { IfOk result (λ copy. copy.entries ≡ by_key.now.entries) }
@@ -111,6 +125,13 @@ impl RowTable {
             by_key: BTreeMap::new(alloc),
             alloc,
         }
+    }
+
+    /// Whether both are the same records.
+    pub fn is_same(&self, other: &RowTable) -> bool
+        ensures { result ≡ true → self.now ≡ other.now }
+    {
+        has_same_records(&self.by_key, &other.by_key)
     }
 
     /// A copy of the records.

@@ -102,6 +102,16 @@ impl Server {
         })
     }
 
+    /// Whether both servers are known to have the same branches and rows. Two that have the same may be told apart by the
+    /// order in which a branch came to hold its rows.
+    ///
+    /// Takes no memory. Doesn't wait.
+    pub fn is_same(&self, other: &Server) -> bool
+        ensures { result ≡ true → self.now ≡ other.now }
+    {
+        self.branches.is_same(&other.branches) && self.rows.is_same(&other.rows)
+    }
+
     /// Every server keeps the lock law: a row that one branch holds exclusively is held by no other, a session owns at most one
     /// branch, exactly the PREPARED branches are nobody's, and a branch writes only rows that it holds exclusively.
     ///
