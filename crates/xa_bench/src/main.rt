@@ -1,18 +1,22 @@
 //! Measures what a commit costs in stores of different sizes, how fast a script runs, and how threads do side by side.
 //!
-//! The figures go to the standard error, so that what is printed is the same in every run.
+//! The figures go to the standard error, so that what is printed is the same in every run; but `steady` prints its one figure.
 #![tactic(auto)]
 
 mod adds;
 mod commits;
+mod gate;
 mod loads;
 mod locked;
 mod logged;
+mod paces;
 mod scripts;
 mod sides;
+mod steady;
+mod texts;
 mod together;
 
-use anyhow::Result;
+use anyhow::{Context, Result, bail};
 use commits::Place;
 use loads::Load;
 use sides::Side;
@@ -22,6 +26,7 @@ use std::env::Env;
 use std::sync::Wait;
 use std::thread::Threads;
 use std::time::Clock;
+use steady::Mode;
 
 /// How much is measured.
 struct Extent {
@@ -41,8 +46,10 @@ struct Extent {
     branches: u64,
     /// How many rounds of row statements they do in all.
     row_rounds: u64,
-    /// How often each of these is tried; the least time counts.
+    /// How often each of these is tried; the ratio is of the least times.
     tries: u32,
+    /// How long each steady mode is measured.
+    steady: steady::Extent,
 }
 
 /// Enough for figures that mean something.
@@ -56,6 +63,11 @@ const WHOLE: Extent = Extent {
     branches: 100,
     row_rounds: 40,
     tries: 20,
+    steady: steady::Extent {
+        cycles: 20_000,
+        statements: 200_000,
+        nanoseconds: 1_000_000_000,
+    },
 };
 
 /// Enough to see that it runs.
@@ -69,20 +81,66 @@ const SAMPLE: Extent = Extent {
     branches: 4,
     row_rounds: 4,
     tries: 1,
+    steady: steady::Extent {
+        cycles: 2,
+        statements: 40,
+        nanoseconds: 0,
+    },
 };
 
+/// What is to be measured.
+enum Job {
+    /// A little of everything.
+    Sample,
+    /// Everything.
+    Figures,
+    /// One mode, by so many threads, for so many seconds.
+    Steady(Mode, u64, u64),
+}
+
 fn main(rt: HostRuntime) -> Result<()> {
-    if asks_for_figures(&rt)? {
-        measure(&rt, &WHOLE)
-    } else {
-        measure(&rt, &SAMPLE)
+    match asked_for(&rt)? {
+        Job::Sample => measure(&rt, &SAMPLE),
+        Job::Figures => measure(&rt, &WHOLE),
+        Job::Steady(mode, threads, seconds) => {
+            let per_s = mode.per_second(&rt, threads, steady::Extent::of_seconds(seconds))?;
+            println!(&rt; "{mode} threads={threads} per_s={per_s}")?;
+            Ok(())
+        }
     }
 }
 
-/// Whether the command line is `xa_bench figures`.
-fn asks_for_figures<R: Env + Alloc<A = Global>>(rt: &R) -> Result<bool> {
+/// The job of the command line: none, `figures`, or `steady MODE THREADS SECONDS`.
+fn asked_for<R: Env + Alloc<A = Global>>(rt: &R) -> Result<Job> {
     let words: Vec<String> = env::args(rt)?.collect(rt.alloc())?;
-    Ok(words.get(1).is_some_and(|word| word.as_str() == "figures"))
+    let Some(word) = words.get(1) else {
+        return Ok(Job::Sample);
+    };
+    match word.as_str() {
+        "figures" => Ok(Job::Figures),
+        "steady" => steady_job(&words),
+        _ => bail!("xa_bench [figures | steady MODE THREADS SECONDS]"),
+    }
+}
+
+/// The job of `steady` and its three words.
+fn steady_job(words: &[String]) -> Result<Job> {
+    let mode = words
+        .get(2)
+        .and_then(|word| Mode::of(word.as_str()))
+        .context("a mode: cycle, mix5, get, add, cycle-locked or mix5-locked")?;
+    let threads: u64 = words
+        .get(3)
+        .and_then(|word| word.parse().ok())
+        .context("how many threads")?;
+    let seconds: u64 = words
+        .get(4)
+        .and_then(|word| word.parse().ok())
+        .context("how many seconds")?;
+    if threads < 1 || 16 < threads {
+        bail!("there are 1 to 16 threads");
+    }
+    Ok(Job::Steady(mode, threads, seconds))
 }
 
 /// Measures everything, and says on the standard output that it did.
@@ -95,6 +153,7 @@ fn measure<R: Clock + Print + Eprint + Threads + Wait + Sync + Alloc<A = Global>
     for threads in [1, 2, 4] {
         side_by_side(rt, extent, threads)?;
     }
+    steadily(rt, extent.steady)?;
     println!(rt; "measured: commits, scripts, threads")?;
     Ok(())
 }
@@ -150,11 +209,11 @@ fn side_by_side<R: Clock + Eprint + Threads + Wait + Sync + Alloc<A = Global>>(
     threads: u64,
 ) -> Result<()> {
     let adds = extent.adds.checked_div(threads).unwrap_or(0);
-    let chain = Side::ChainAdds(adds).least(rt, threads, extent.tries)?;
-    let turn = Side::TurnAdds(adds).least(rt, threads, extent.tries)?;
-    let ratio = percent(chain, turn);
+    let chain = Side::ChainAdds(adds).times(rt, threads, extent.tries)?;
+    let turn = Side::TurnAdds(adds).times(rt, threads, extent.tries)?;
+    let ratio = percent(chain.least, turn.least);
     eprintln!(rt;
-        "{threads} threads, {adds} adds each: chain {chain} ns, turn {turn} ns, {ratio} percent"
+        "{threads} threads, {adds} adds each: chain {chain}, turn {turn}, {ratio} percent"
     )?;
     let branches = extent.branches.checked_div(threads).unwrap_or(0);
     against_lock(rt, extent, threads, Load::Branches(branches))?;
@@ -169,11 +228,32 @@ fn against_lock<R: Clock + Eprint + Threads + Wait + Sync + Alloc<A = Global>>(
     threads: u64,
     load: Load,
 ) -> Result<()> {
-    let chained = Side::Chained(load).least(rt, threads, extent.tries)?;
-    let locked = Side::Locked(load).least(rt, threads, extent.tries)?;
-    let ratio = percent(chained, locked);
+    let chained = Side::Chained(load).times(rt, threads, extent.tries)?;
+    let locked = Side::Locked(load).times(rt, threads, extent.tries)?;
+    let ratio = percent(chained.least, locked.least);
     eprintln!(rt;
-        "{threads} threads, {load} each: chain {chained} ns, lock {locked} ns, {ratio} percent"
+        "{threads} threads, {load} each: chain {chained}, lock {locked}, {ratio} percent"
     )?;
+    Ok(())
+}
+
+/// Measures each steady mode on one thread and on two.
+fn steadily<R: Clock + Eprint + Threads + Wait + Sync + Alloc<A = Global>>(
+    rt: &R,
+    extent: steady::Extent,
+) -> Result<()> {
+    for mode in [
+        Mode::Cycle,
+        Mode::Mix(5),
+        Mode::Mix(0),
+        Mode::Add,
+        Mode::CycleLocked,
+        Mode::MixLocked(5),
+    ] {
+        for threads in [1, 2] {
+            let per_s = mode.per_second(rt, threads, extent)?;
+            eprintln!(rt; "{mode} threads={threads} per_s={per_s}")?;
+        }
+    }
     Ok(())
 }
