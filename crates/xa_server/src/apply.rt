@@ -1,8 +1,8 @@
 //! What an accepted statement does.
 ghost use Rattle.std.specs.Prelude.{◌≡◌, ℕ, true, false, IfOk, OnOk, OnErr};
-ghost use Rattle.xa_server.specs.Replies.{table};
+ghost use Rattle.xa_server.specs.Replies.{table, reply_to};
 ghost use Rattle.xa_server.specs.State.{seat_of, IsOpen};
-ghost use Rattle.xa_server.specs.Step.{Step, effect, is_refused, makes_record, may_enter, may_take_memory, row_written};
+ghost use Rattle.xa_server.specs.Step.{Step, after, effect, is_refused, makes_record, may_enter, may_take_memory, row_written};
 ghost use Rattle.xa_xid.specs.declared.statement.Statement.TheVariants.{Get, Put, Del, Disconnect};
 
 use crate::lock::Change;
@@ -104,6 +104,22 @@ impl Server {
             Statement::Disconnect => self.disconnect(seat),
         }
         Ok(())
+    }
+
+    /// Carries out a session's statement that `reply` accepts, without deciding on it again.
+    ///
+    /// Errors: `NoMemory`, after which the server is as before, for an `XA START`, `PUT`, `DEL` or `GET` that makes a record.
+    ///
+    /// May answer `NoMemory`. Doesn't wait.
+    /// Source: docs/BEHAVIOR.md, 'Branches' and 'Rows'.
+    pub fn accept(&mut self, session: SessionNo, statement: &Statement) -> Result<(), NoMemory>
+        requires { is_refused (reply_to self.old session statement.now) ≡ false }
+        ensures ok { OnOk result (self.new ≡ after self.old session statement.now) }
+        ensures unchanged { OnErr result (self.new ≡ self.old) }
+        ensures memory { OnErr result (may_take_memory self.old session statement.now ≡ true) }
+    {
+        let seat = self.seat(session);
+        self.carry_out(session, &seat, statement)
     }
 
     /// Answers a session's statement and carries it out. A refused statement changes nothing.
