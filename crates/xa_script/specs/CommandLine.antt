@@ -15,7 +15,7 @@ use Rattle.clap.specs.declared.builder.command.Command.TheViews.{out-Command}
 use Rattle.clap.specs.declared.error.Error.{Error}
 use Rattle.decision_log.specs.Opens.{IsCapacity}
 use Rattle.xa_script.specs.declared.command.Job.{Job}
-use Rattle.xa_script.specs.declared.command.Job.TheVariants.{Run, Race, Coordinate, Serve}
+use Rattle.xa_script.specs.declared.command.Job.TheVariants.{Run, Race, Coordinate, Serve, Show}
 
 -- `--capacity N`, a number from 1 to 1024, and 1024 where it isn't given
 abbrev pub capacity_rule : Rule
@@ -37,11 +37,15 @@ coordinate_app = with_rule (with_rule (new_app (codes "coordinate")) stores_rule
 abbrev pub IsLocal : Command → Type 0
 IsLocal command = (out-Command command).has_globals ≡ false
 
--- `xa_script run`, `race`, `coordinate` and `serve`: a subcommand is required
+-- a subcommand is required, or `--version`
+abbrev pub bare_app : App
+bare_app = on_top (λ shape. record shape { subcommand_required = true; has_version = true }) (new_app (codes "xa_script"))
+
+-- `xa_script run`, `race`, `coordinate`, `serve` and `show`
 abbrev pub script_app : App
 script_app =
-    with_subcommand (with_subcommand (with_subcommand (on_top (λ shape. record shape { subcommand_required = true }) (with_subcommand (new_app (codes "xa_script")) (new_app (codes "run")).top)) race_app.top)
-    coordinate_app.top) (new_app (codes "serve")).top
+    with_subcommand (with_subcommand (with_subcommand (with_subcommand (with_subcommand bare_app (new_app (codes "run")).top) race_app.top) coordinate_app.top)
+    (new_app (codes "serve")).top) (new_app (codes "show")).top
 
 -- the text of a value is this number, which a log can have as its capacity
 abbrev pub IsCapacityText : ℕ → Text → Type 0
@@ -61,11 +65,13 @@ IsRaceOf text Run = ⊥
 IsRaceOf text (Race capacity) = IsSomeAnd text (IsCapacityText capacity)
 IsRaceOf text (Coordinate stores capacity) = ⊥
 IsRaceOf text Serve = ⊥
+IsRaceOf text Show = ⊥
 
 -- the job is of calls over as many stores, with as much room in each, as two values' texts are
 abbrev pub IsCoordinateOf : (stores capacity : Option Text) → Job → Type 0
 IsCoordinateOf stores capacity Run = ⊥
 IsCoordinateOf stores capacity Serve = ⊥
+IsCoordinateOf stores capacity Show = ⊥
 IsCoordinateOf stores capacity (Race room) = ⊥
 IsCoordinateOf stores capacity (Coordinate count room) = IsSomeAnd stores (IsStoresText count) × IsSomeAnd capacity (IsCapacityText room)
 
@@ -73,6 +79,7 @@ IsCoordinateOf stores capacity (Coordinate count room) = IsSomeAnd stores (IsSto
 abbrev pub IsJob : Job → Text × List Row → Type 0
 IsJob Run found = found.0 ≡ codes "run"
 IsJob Serve found = found.0 ≡ codes "serve"
+IsJob Show found = found.0 ≡ codes "show"
 IsJob (Race capacity) found = (found.0 ≡ codes "race") × IsSomeAnd (one_of (codes "capacity") found.1) (IsCapacityText capacity)
 IsJob (Coordinate stores capacity) found =
     (found.0 ≡ codes "coordinate") × IsCoordinateOf (one_of (codes "stores") found.1) (one_of (codes "capacity") found.1) (Coordinate stores capacity)
@@ -92,3 +99,4 @@ CanBeDone Run = Unit {0}
 CanBeDone (Race capacity) = IsCapacity capacity
 CanBeDone (Coordinate stores capacity) = IsStoreCount stores × IsCapacity capacity
 CanBeDone Serve = Unit {0}
+CanBeDone Show = Unit {0}
