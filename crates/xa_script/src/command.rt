@@ -1,8 +1,8 @@
 //! The command line.
 ghost use Rattle.std.specs.Prelude.{◌≡◌, ◌≤◌, ℕ, Some, None, IfOk, IfSome, false, map, codes};
 ghost use Rattle.std.specs.Option.{IsSomeAnd};
-ghost use Rattle.clap.specs.Words.{app_of, found_of, one_text, rule_of, subcommand_rows_of};
-ghost use Rattle.xa_script.specs.CommandLine.{coordinate_app, IsLocal, capacity_rule, stores_rule, script_app, IsCapacityText, IsStoresText, IsRaceOf, IsCoordinateOf, IsJob, Names, CanBeDone, ReadsCommand};
+ghost use Rattle.clap.specs.Words.{app_of, found_of, new_app, one_text, rule_of, subcommand_rows_of};
+ghost use Rattle.xa_script.specs.CommandLine.{bare_app, race_app, coordinate_app, IsLocal, capacity_rule, stores_rule, script_app, IsCapacityText, IsStoresText, IsRaceOf, IsCoordinateOf, IsJob, Names, CanBeDone, ReadsCommand};
 
 use clap::error::ErrorKind;
 use clap::{Arg, ArgMatches, Command, Error, value_parser};
@@ -100,43 +100,63 @@ fn stores_option<'a>(alloc: Global) -> Arg<'a>
         .default_value("3")
 }
 
+/// A subcommand without options, with what its help shows behind them.
+fn plain_command<'a>(
+    alloc: Global,
+    name: &'a str,
+    about: &'a str,
+    help: &'a str,
+) -> Command<'a>
+    ensures app { app_of result ≡ new_app name.entry.now }
+    ensures local { IsLocal result }
+{
+    Command::new(alloc, name).about(about).after_help(help)
+}
+
+/// The subcommand that races a script.
+fn race_command<'a>(alloc: Global) -> Result<Command<'a>, AllocError>
+    ensures app { IfOk result (λ command. app_of command ≡ race_app) }
+    ensures local { IfOk result IsLocal }
+{
+    let about = "Races the script of the standard input, each session on a thread of its own";
+    plain_command(alloc, "race", about, LINES).arg(capacity_option(alloc))
+}
+
 /// The subcommand that carries calls out.
 fn coordinate_command<'a>(alloc: Global) -> Result<Command<'a>, AllocError>
     ensures app { IfOk result (λ command. app_of command ≡ coordinate_app) }
     ensures local { IfOk result IsLocal }
 {
-    Command::new(alloc, "coordinate")
-        .about(
-            "Carries the calls of the standard input out, by a coordinator over stores of its own",
-        )
-        .after_help(CALLS)
+    let about =
+        "Carries the calls of the standard input out, by a coordinator over stores of its own";
+    plain_command(alloc, "coordinate", about, CALLS)
         .arg(stores_option(alloc))?
         .arg(capacity_option(alloc))
+}
+
+/// The command without its subcommands, one of which is required, unless the version is asked for.
+fn bare_command<'a>(alloc: Global) -> Command<'a>
+    ensures app { app_of result ≡ bare_app }
+    ensures local { IsLocal result }
+{
+    Command::new(alloc, "xa_script")
+        .version(VERSION)
+        .about("Runs scripts of XA statements")
+        .subcommand_required(true)
 }
 
 /// The command and its subcommands.
 fn script_command<'a>(alloc: Global) -> Result<Command<'a>, AllocError>
     ensures { IfOk result (λ command. app_of command ≡ script_app) }
 {
-    let run = Command::new(alloc, "run")
-        .about("Runs the script of the standard input")
-        .after_help(LINES);
-    let race = Command::new(alloc, "race")
-        .about("Races the script of the standard input, each session on a thread of its own")
-        .after_help(LINES)
-        .arg(capacity_option(alloc))?;
-    let serve = Command::new(alloc, "serve")
-        .about("Answers each line of the standard input before it reads more")
-        .after_help(LINES);
-    let show = Command::new(alloc, "show")
-        .about("Answers each line as serve does, and shows the store behind each answer")
-        .after_help(SHOWN);
-    Command::new(alloc, "xa_script")
-        .version(VERSION)
-        .about("Runs scripts of XA statements")
-        .subcommand_required(true)
+    let run = plain_command(alloc, "run", "Runs the script of the standard input", LINES);
+    let about = "Answers each line of the standard input before it reads more";
+    let serve = plain_command(alloc, "serve", about, LINES);
+    let about = "Answers each line as serve does, and shows the store behind each answer";
+    let show = plain_command(alloc, "show", about, SHOWN);
+    bare_command(alloc)
         .subcommand(run)?
-        .subcommand(race)?
+        .subcommand(race_command(alloc)?)?
         .subcommand(coordinate_command(alloc)?)?
         .subcommand(serve)?
         .subcommand(show)

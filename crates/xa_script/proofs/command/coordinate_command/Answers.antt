@@ -1,12 +1,11 @@
-use Rattle.std.proofs.Common.{rules, ap₂, codes, ◌≡◌, ◌∙◌}
+use Rattle.std.proofs.Common.{ap₂, ◌∙◌, rules}
 use Rattle.std.proofs.lemmas.Result.{IfOk-weaker}
-use Rattle.clap.specs.Words.{app_of, new_app, with_rule}
+use Rattle.clap.specs.Words.{with_rule}
 use Rattle.xa_script.proofs.command.coordinate_command.Goals as goal
 
 pub returns-clause-app : goal.returns-clause-app
 returns-clause-app c =
-    let base : app_of c.after_help.result ≡ new_app (codes "coordinate") = search rules in
-    let one = c.in_ok-arg.ensures.shape c.stores_option.ensures.global ∙ ap₂ with_rule base c.stores_option.ensures.rule in
+    let one = c.in_ok-arg.ensures.shape c.stores_option.ensures.global ∙ ap₂ with_rule c.plain_command.ensures.app c.stores_option.ensures.rule in
     IfOk-weaker c.arg-2.result _ _ (λ command added. added.shape c.capacity_option.ensures.global ∙ ap₂ with_rule one c.capacity_option.ensures.rule) c.arg-2.ensures
 
 pub returns-clause-local : goal.returns-clause-local
