@@ -7,8 +7,6 @@
 pub mod conversation;
 pub mod history;
 pub mod script;
-#[cfg(test)]
-mod tests;
 
 pub use xa_coordinator::{
     Ballot, BeginFault, Cause, Closed, Closing, Coordinator, Decisions, Ending, FORMAT_ID, Fused,
