@@ -4,7 +4,7 @@ ghost use Rattle.nigbaru.specs.coordinator.Work.{IsRow};
 
 use crate::opened;
 use anyhow::{Result, bail};
-use nigbaru::{Bytes, Coordinator, Decisions, Ending, Key, Speak, Statement, Transaction, Vote};
+use nigbaru::{Bytes, Coordinator, Decisions, Ending, Key, Reply, Speak, Statement, Transaction, Vote};
 use std::alloc::Global;
 use std::sync::Wait;
 
@@ -17,14 +17,14 @@ fn text(byte: u8) -> Bytes
     text
 }
 
-/// Has a store do a transaction's work, and says whether it was carried out. The transaction stays the coordinator's.
+/// Whether a store carries a transaction's work out. The transaction stays the coordinator's.
 pub fn work<S: Speak, R: Wait>(
     rt: &R,
     coordinator: &mut Coordinator<S>,
     transaction: &mut Transaction,
     store: u8,
     statement: &Statement,
-) -> Result<bool>
+) -> bool
     requires name { transaction.old.name.items ≡ coordinator.old.name.items }
     requires stores { transaction.old.stores ≡ vec_len coordinator.old.stores }
     requires store { store < vec_len coordinator.old.stores }
@@ -33,8 +33,33 @@ pub fn work<S: Speak, R: Wait>(
     ensures stores { transaction.new.stores ≡ vec_len coordinator.new.stores }
     ensures count { vec_len coordinator.new.stores ≡ vec_len coordinator.old.stores }
 {
-    let reply = coordinator.work(rt, transaction, store, statement)?;
-    Ok(!reply.is_refused())
+    matches!(
+        coordinator.work(rt, transaction, store, statement),
+        Ok(Reply::Ok)
+    )
+}
+
+/// Finishes a transaction in which two stores have done their work: both commit, or both roll back.
+pub fn finish<S: Speak, R: Wait>(
+    rt: &R,
+    coordinator: &mut Coordinator<S>,
+    decisions: &mut Decisions,
+    transaction: Transaction,
+) -> Result<Ending>
+    requires name { transaction.name.items ≡ coordinator.old.name.items }
+    requires stores { transaction.stores ≡ vec_len coordinator.old.stores }
+{
+    match coordinator.prepare(rt, transaction) {
+        Vote::Ready(prepared) => {
+            let Ok(()) = decisions.decide(&prepared) else {
+                bail!("a recovery has closed the number");
+            };
+            Ok(coordinator.finish(rt, decisions, prepared))
+        }
+        Vote::OnePhase(prepared) => Ok(coordinator.finish(rt, decisions, prepared)),
+        Vote::No { prepared, .. } => Ok(coordinator.finish(rt, decisions, prepared)),
+        Vote::Nothing => bail!("no store takes part"),
+    }
 }
 
 /// A row is written in both of two stores, or in neither.
@@ -47,16 +72,15 @@ pub fn in_both<R: Wait>(rt: &R, alloc: Global) -> Result<Ending> {
     let sessions = vec![in alloc; first, second]?;
     let mut coordinator = Coordinator::new(text(b'c'), sessions);
     let mut decisions = Decisions::new(alloc);
-    let mut transaction = coordinator.begin(&mut decisions)?;
     let Some(key) = Key::of(text(b'k')) else {
         bail!("an empty key");
     };
     let put = Statement::Put(key, text(b'v'));
-    work(rt, &mut coordinator, &mut transaction, 0, &put)?;
-    work(rt, &mut coordinator, &mut transaction, 1, &put)?;
-    let Vote::Ready(prepared) = coordinator.prepare(rt, transaction) else {
-        bail!("a store isn't prepared");
-    };
-    decisions.decide(&prepared)?;
-    Ok(coordinator.finish(rt, &decisions, prepared))
+    let mut transaction = coordinator.begin(&mut decisions)?;
+    let worked = work(rt, &mut coordinator, &mut transaction, 0, &put)
+        && work(rt, &mut coordinator, &mut transaction, 1, &put);
+    if !worked {
+        return Ok(coordinator.abandon(rt, transaction));
+    }
+    finish(rt, &mut coordinator, &mut decisions, transaction)
 }

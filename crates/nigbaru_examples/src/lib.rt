@@ -9,7 +9,7 @@ mod statement;
 mod tests;
 mod threads;
 
-pub use agreement::{in_both, work};
+pub use agreement::{finish, in_both, work};
 pub use meeting::{opened, read_elsewhere, written_down};
 pub use speech::say;
 pub use statement::reply_to_text;

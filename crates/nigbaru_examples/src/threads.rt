@@ -1,5 +1,5 @@
 //! Sessions of one store on threads of their own.
-ghost use Rattle.std.specs.Prelude.{◌≡◌, IfSome};
+ghost use Rattle.std.specs.Prelude.{◌≡◌};
 ghost use Rattle.nigbaru.specs.store.Passes.{home_of};
 
 use crate::{opened, say};
@@ -45,14 +45,13 @@ static FIRST: [&str; 4] = ["XA START 'a'", "PUT 'k','v'", "XA END 'a'", "XA PREP
 /// The statements that prepare the second session's branch.
 static SECOND: [&str; 4] = ["XA START 'b'", "PUT 'm','w'", "XA END 'b'", "XA PREPARE 'b'"];
 
-/// Both sessions prepare a branch, each on a thread of its own.
-fn both<'a, R: Threads + Wait + Sync>(
+/// Two sessions of one store prepare a branch each, on threads of their own; then they meet, and the second lists what is prepared.
+fn listed_by_both<'a, R: Threads + Wait + Sync>(
     rt: &R,
     first: Session<'a, Log>,
     second: Session<'a, Log>,
-) -> Option<(Session<'a, Log>, Session<'a, Log>)>
+) -> Option<Reply>
     requires { home_of first.pass ≡ home_of second.pass }
-    ensures { IfSome result (λ sessions. home_of sessions.0.pass ≡ home_of sessions.1.pass) }
 {
     thread::scope(
         thread::scope_env(),
@@ -71,28 +70,27 @@ fn both<'a, R: Threads + Wait + Sync>(
             let (Ok(first), Ok(second)) = (first, second) else {
                 return None;
             };
-            let (first, first_done) = first.join(rt);
-            let (second, second_done) = second.join(rt);
-            if first_done && second_done {
-                Some((first, second))
-            } else {
-                None
+            let (mut first, first_done) = first.join(rt);
+            let (mut second, second_done) = second.join(rt);
+            if !first_done || !second_done {
+                return None;
             }
+            first.meet(&mut second);
+            say(rt, &mut second, "XA RECOVER").ok()
         },
     )
 }
 
-/// Two sessions prepare a branch each, on threads of their own; then they meet, and the second lists both branches.
+/// The prepared branches of a store, of which two sessions have prepared one each, on threads of their own.
 pub fn side_by_side<R: Threads + Wait + Sync>(rt: &R, alloc: Global) -> Result<Reply> {
     let (store, first, second) = opened(alloc)?;
     let (Ok(first), Ok(second)) = (store.connect(first), store.connect(second)) else {
         bail!("out of memory");
     };
-    let Some((mut first, mut second)) = both(rt, first, second) else {
+    let Some(reply) = listed_by_both(rt, first, second) else {
         bail!("a branch isn't prepared");
     };
-    first.meet(&mut second);
-    say(rt, &mut second, "XA RECOVER")
+    Ok(reply)
 }
 
 /// Two runs of one statement each, raced: each on a thread of its own, and one history that explains all answers.
