@@ -58,7 +58,8 @@ no_race m found name is race none Serve h =
     absurd (omega (arith, ap length e))
 no_race m found name is race none Show h =
     let e : codes "race" ≡ codes "show" = sym race ∙ at_found m name (rows_of (found_of found)) Show is h in
-    absurd (omega (arith, ap first_byte e))
+    let first : 114 ≡ 115 = ap first_byte e in
+    absurd (omega (arith, first))
 no_race m found name is race none (Race capacity) h =
     let Q : Option Text → Type 0 = λ t. IsSomeAnd t (IsCapacityText capacity) in
     none capacity (subst Q (sym (one_text-rows (found_of found) (codes "capacity"))) (at_found m name (rows_of (found_of found)) (Race capacity) is h).1)
