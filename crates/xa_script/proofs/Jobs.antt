@@ -1,5 +1,5 @@
 -- Which job the matches of a command line name.
-use Rattle.std.proofs.Common.{◌≡◌, ◌∙◌, ℕ, [], ◌∷◌, refl, sym, ap, subst, List, Option, Some, None, option_map, codes, length, arith}
+use Rattle.std.proofs.Common.{◌≡◌, ◌∙◌, ℕ, [], ◌∷◌, refl, sym, ap, subst, List, Option, Some, None, option_map, codes, length, slice_index, arith}
 use Rattle.std.specs.Prelude.{IfSome}
 use Rattle.std.specs.Option.{IsSomeAnd}
 use Rattle.clap.specs.Words.{Text, Row, one_text, found_of, rows_of, subcommand_name_of, subcommand_rows_of}
@@ -42,11 +42,6 @@ races m found name (Coordinate stores capacity) is race of = absurd of
 at_found : (m : ArgMatches) (name : Text) (rows : List Row) (job : Job) → subcommand_rows_of m ≡ Some (name, rows) → IsSomeAnd (subcommand_rows_of m) (IsJob job) → IsJob job (name, rows)
 at_found m name rows job is h = let P : Option (Text × List Row) → Type 0 = λ s. IsSomeAnd s (IsJob job) in subst P is h
 
--- the first byte of a text
-first_byte : List ℕ → ℕ
-first_byte [] = 0
-first_byte (byte ∷ bytes) = byte
-
 -- a race of no capacity
 pub no_race : (m found : ArgMatches) (name : Text) → subcommand_rows_of m ≡ Some (name, rows_of (found_of found)) → name ≡ codes "race"
     → ((capacity : ℕ) → IsSomeAnd (one_text (found_of found) (codes "capacity")) (IsCapacityText capacity) → ⊥) → (job : Job) → IsSomeAnd (subcommand_rows_of m) (IsJob job) → ⊥
@@ -58,7 +53,7 @@ no_race m found name is race none Serve h =
     absurd (omega (arith, ap length e))
 no_race m found name is race none Show h =
     let e : codes "race" ≡ codes "show" = sym race ∙ at_found m name (rows_of (found_of found)) Show is h in
-    let first : 114 ≡ 115 = ap first_byte e in
+    let first : 114 ≡ 115 = ap (λ (bytes : List ℕ). slice_index bytes 0) e in
     absurd (omega (arith, first))
 no_race m found name is race none (Race capacity) h =
     let Q : Option Text → Type 0 = λ t. IsSomeAnd t (IsCapacityText capacity) in
