@@ -1,6 +1,7 @@
 //! What the scenes of a coordinator are made of.
 ghost use Rattle.std.specs.Prelude.{◌≡◌, ◌<◌, ◌∷◌, [], vec_len};
 ghost use Rattle.xa_coordinator.specs.Work.{IsRow};
+ghost use Rattle.xa_coordinator_tests.specs.Sites.{sites};
 ghost use Rattle.xa_coordinator.specs.declared.prepared.Ballot.TheVariants.{Ready as BallotReady};
 
 use std::process::Abort;
@@ -116,6 +117,7 @@ pub(crate) fn works<S: Speak>(
     ensures name { transaction.new.name.items ≡ coordinator.new.name.items }
     ensures stores { transaction.new.stores ≡ vec_len coordinator.new.stores }
     ensures count { vec_len coordinator.new.stores ≡ vec_len coordinator.old.stores }
+    ensures sites { sites S.view coordinator.new.stores.items ≡ sites S.view coordinator.old.stores.items }
 {
     coordinator.work(rt, transaction, store, statement)
 }
@@ -134,6 +136,7 @@ pub(crate) fn puts<S: Speak, R: Abort + Wait>(
     ensures name { transaction.new.name.items ≡ coordinator.new.name.items }
     ensures stores { transaction.new.stores ≡ vec_len coordinator.new.stores }
     ensures count { vec_len coordinator.new.stores ≡ vec_len coordinator.old.stores }
+    ensures sites { sites S.view coordinator.new.stores.items ≡ sites S.view coordinator.old.stores.items }
 {
     let put_k = put(rt, b'k', b'v');
     matches!(
@@ -154,6 +157,7 @@ pub(crate) fn ready<S: Speak, R: Abort + Wait>(
     ensures stores { result.transaction.stores ≡ vec_len coordinator.new.stores }
     ensures ballot { result.ballot ≡ BallotReady }
     ensures count { vec_len coordinator.new.stores ≡ 3 }
+    ensures sites { sites S.view coordinator.new.stores.items ≡ sites S.view coordinator.old.stores.items }
 {
     let mut transaction = begun(rt, coordinator, decisions);
     let worked = puts(rt, coordinator, &mut transaction, 0)

@@ -1,5 +1,5 @@
 //! Stores with room, their sessions, and coordinators over them.
-ghost use Rattle.std.specs.Prelude.{◌≡◌, vec_len};
+ghost use Rattle.std.specs.Prelude.{◌≡◌, ◌∷◌, [], vec_len};
 
 use crate::acts::text;
 use decision_log::DecisionLog;
@@ -26,6 +26,7 @@ pub(crate) fn opened(rt: &impl Abort, alloc: Global, capacity: u64) -> (Store, P
 /// A session of a store.
 pub(crate) fn connected<'a>(rt: &impl Abort, store: &'a Store, pass: Pass) -> Session<'a, Log>
     requires { ⟦<Log as DecisionLog>⟧.home pass ≡ ⟦<Log as DecisionLog>⟧.place store.now.log }
+    ensures { ⟦<Log as DecisionLog>⟧.home result.pass ≡ ⟦<Log as DecisionLog>⟧.place store.now.log }
 {
     let Ok(session) = store.connect(pass) else {
         panic!(rt; "not connected")
@@ -43,7 +44,8 @@ pub(crate) fn over_three<S: Speak>(
 ) -> Coordinator<S>
 where
     S: Drop,
-    ensures { vec_len result.stores ≡ 3 }
+    ensures count { vec_len result.stores ≡ 3 }
+    ensures stores { result.stores.items ≡ first ∷ second ∷ third ∷ [] }
 {
     let mut stores = Vec::new(alloc);
     let (Ok(()), Ok(()), Ok(())) = (stores.push(first), stores.push(second), stores.push(third))
@@ -76,6 +78,7 @@ pub(crate) fn opened_for_three(
 pub(crate) fn stopped<S: Speak>(rt: &impl Abort, coordinator: Coordinator<S>) -> (S, S, S)
 where
     S: Drop,
+    ensures { vec_len coordinator.stores ≡ 3 → coordinator.stores.items ≡ result.0 ∷ result.1 ∷ result.2 ∷ [] }
 {
     let mut sessions = coordinator.stop();
     let (Some(third), Some(second), Some(first)) = (sessions.pop(), sessions.pop(), sessions.pop())

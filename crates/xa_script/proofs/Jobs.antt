@@ -2,7 +2,7 @@
 use Rattle.std.proofs.Common.{◌≡◌, ◌∙◌, ℕ, refl, sym, ap, subst, List, Option, Some, None, option_map, codes, length, arith}
 use Rattle.std.specs.Prelude.{IfSome}
 use Rattle.std.specs.Option.{IsSomeAnd}
-use Rattle.clap.specs.Words.{Text, Row, one_text, found_of, rows_of, subcommand_name_of, subcommand_rows_of}
+use Rattle.clap.specs.Words.{Text, Row, one_of, one_text, found_of, rows_of, subcommand_name_of, subcommand_rows_of}
 use Rattle.clap.specs.declared.parser.matches.ArgMatches.{ArgMatches}
 use Rattle.clap.specs.declared.parser.matches.ArgMatches.TheViews.{out-ArgMatches, out-SubCommand}
 use Rattle.clap.proofs.WalkLemmas.{one_text-rows}
@@ -28,14 +28,18 @@ rows_are m name rows e f =
     both_parts (subcommand_rows_of m) name rows
     (e ∙ map_first (λ b. (out-SubCommand (box_value b)).name.now) (λ b. rows_of (found_of (out-SubCommand (box_value b)).matches)) (out-ArgMatches m).subcommand) f
 
-races : (m found : ArgMatches) (name : Text) (job : Job) → subcommand_rows_of m ≡ Some (name, rows_of (found_of found)) → name ≡ codes "race" → IsRaceOf (one_text (found_of found) (codes "capacity")) job
+races : (m found : ArgMatches) (name : Text) (job : Job) → subcommand_rows_of m ≡ Some (name, rows_of (found_of found)) → name ≡ codes "race" → IsRaceOf (one_text (found_of found) (codes "capacity")) (one_text (found_of found) (codes "together")) (one_text (found_of found) (codes "shuffle")) job
     → IsSomeAnd (subcommand_rows_of m) (IsJob job)
 races m found name Run is race of = absurd of
 races m found name Serve is race of = absurd of
-races m found name (Race capacity) is race of =
-    let P : Option (Text × List Row) → Type 0 = λ s. IsSomeAnd s (IsJob (Race capacity)) in
-    let Q : Option Text → Type 0 = λ t. IsSomeAnd t (IsCapacityText capacity) in
-    subst P (sym is) (race, subst Q (one_text-rows (found_of found) (codes "capacity")) of)
+races m found name (Race capacity manner) is race of =
+    let P : Option (Text × List Row) → Type 0 = λ s. IsSomeAnd s (IsJob (Race capacity manner)) in
+    let rows = rows_of (found_of found) in
+    let A : Option Text → Type 0 = λ t. IsRaceOf t (one_text (found_of found) (codes "together")) (one_text (found_of found) (codes "shuffle")) (Race capacity manner) in
+    let B : Option Text → Type 0 = λ t. IsRaceOf (one_of (codes "capacity") rows) t (one_text (found_of found) (codes "shuffle")) (Race capacity manner) in
+    let C : Option Text → Type 0 = λ t. IsRaceOf (one_of (codes "capacity") rows) (one_of (codes "together") rows) t (Race capacity manner) in
+    subst P (sym is)
+    (race, subst C (one_text-rows (found_of found) (codes "shuffle")) (subst B (one_text-rows (found_of found) (codes "together")) (subst A (one_text-rows (found_of found) (codes "capacity")) of)))
 races m found name (Coordinate stores capacity) is race of = absurd of
 
 at_found : (m : ArgMatches) (name : Text) (rows : List Row) (job : Job) → subcommand_rows_of m ≡ Some (name, rows) → IsSomeAnd (subcommand_rows_of m) (IsJob job) → IsJob job (name, rows)
@@ -50,15 +54,15 @@ no_race m found name is race none Run h =
 no_race m found name is race none Serve h =
     let e : codes "race" ≡ codes "serve" = sym race ∙ at_found m name (rows_of (found_of found)) Serve is h in
     absurd (omega (arith, ap length e))
-no_race m found name is race none (Race capacity) h =
+no_race m found name is race none (Race capacity manner) h =
     let Q : Option Text → Type 0 = λ t. IsSomeAnd t (IsCapacityText capacity) in
-    none capacity (subst Q (sym (one_text-rows (found_of found) (codes "capacity"))) (at_found m name (rows_of (found_of found)) (Race capacity) is h).1)
+    none capacity (subst Q (sym (one_text-rows (found_of found) (codes "capacity"))) (at_found m name (rows_of (found_of found)) (Race capacity manner) is h).1.0)
 no_race m found name is race none (Coordinate stores capacity) h =
     let e : codes "race" ≡ codes "coordinate" = sym race ∙ (at_found m name (rows_of (found_of found)) (Coordinate stores capacity) is h).0 in
     absurd (omega (arith, ap length e))
 
 pub races_if : (m found : ArgMatches) (name : Text) (r : Option Job) → subcommand_rows_of m ≡ Some (name, rows_of (found_of found)) → name ≡ codes "race"
-    → IfSome r (IsRaceOf (one_text (found_of found) (codes "capacity"))) → IfSome r (λ job. IsSomeAnd (subcommand_rows_of m) (IsJob job))
+    → IfSome r (IsRaceOf (one_text (found_of found) (codes "capacity")) (one_text (found_of found) (codes "together")) (one_text (found_of found) (codes "shuffle"))) → IfSome r (λ job. IsSomeAnd (subcommand_rows_of m) (IsJob job))
 races_if m found name None is race of = tt
 races_if m found name (Some job) is race of = races m found name job is race of
 
@@ -67,7 +71,7 @@ pub coordinates : (m found : ArgMatches) (name : Text) (job : Job) → subcomman
     → IsCoordinateOf (one_text (found_of found) (codes "stores")) (one_text (found_of found) (codes "capacity")) job → IsSomeAnd (subcommand_rows_of m) (IsJob job)
 coordinates m found name Run is named of = absurd of
 coordinates m found name Serve is named of = absurd of
-coordinates m found name (Race capacity) is named of = absurd of
+coordinates m found name (Race capacity manner) is named of = absurd of
 coordinates m found name (Coordinate stores capacity) is named of =
     let P : Option (Text × List Row) → Type 0 = λ s. IsSomeAnd s (IsJob (Coordinate stores capacity)) in
     let Q : Option Text → Type 0 = λ t. IsSomeAnd t (IsCapacityText capacity) in
@@ -88,8 +92,8 @@ no_coordinates m found name is named none Run h =
 no_coordinates m found name is named none Serve h =
     let e : codes "coordinate" ≡ codes "serve" = sym named ∙ at_found m name (rows_of (found_of found)) Serve is h in
     absurd (omega (arith, ap length e))
-no_coordinates m found name is named none (Race capacity) h =
-    let e : codes "coordinate" ≡ codes "race" = sym named ∙ (at_found m name (rows_of (found_of found)) (Race capacity) is h).0 in
+no_coordinates m found name is named none (Race capacity manner) h =
+    let e : codes "coordinate" ≡ codes "race" = sym named ∙ (at_found m name (rows_of (found_of found)) (Race capacity manner) is h).0 in
     absurd (omega (arith, ap length e))
 no_coordinates m found name is named none (Coordinate stores capacity) h =
     let Q : Option Text → Type 0 = λ t. IsSomeAnd t (IsCapacityText capacity) in

@@ -4,16 +4,19 @@
 --     IsJob           the job of a subcommand
 --     Names           the job that the words of a command line name
 --     ReadsCommand    when a command line is read, and why not
-use Rattle.std.specs.Prelude.{◌≡◌, ◌≤◌, ◌⊎◌, ℕ, true, false, Option, Some, Result, MatchResult, List, [], ◌∷◌, codes}
+use Rattle.std.specs.Prelude.{◌≡◌, ◌≢◌, ◌≤◌, ◌⊎◌, ℕ, true, false, Option, Some, Result, MatchResult, List, [], ◌∷◌, codes}
 use Rattle.std.specs.Option.{IsSomeAnd}
 use Rattle.std.specs.Str.Parse.{IsNumeral, digits_value, without_leading_plus}
 use Rattle.clap.specs.Words.{App, Text, Row, Rule, new_app, new_rule, one_of, subcommand_of, with_rule, with_subcommand, fault_of, HasKind}
 use Rattle.clap.specs.Simple.{on_top}
 use Rattle.clap.specs.declared.builder.value_parser.ValueParser.TheVariants as parser
+use Rattle.clap.specs.declared.builder.action.ArgAction.TheVariants.{SetTrue}
 use Rattle.clap.specs.declared.builder.command.Command.{Command}
 use Rattle.clap.specs.declared.builder.command.Command.TheViews.{out-Command}
 use Rattle.clap.specs.declared.error.Error.{Error}
 use Rattle.decision_log.specs.Opens.{IsCapacity}
+use Rattle.xa_script.specs.declared.manner.Manner.{Manner}
+use Rattle.xa_script.specs.declared.manner.Manner.TheVariants.{Freely, Together, Shuffled}
 use Rattle.xa_script.specs.declared.command.Job.{Job}
 use Rattle.xa_script.specs.declared.command.Job.TheVariants.{Run, Race, Coordinate, Serve}
 
@@ -21,9 +24,17 @@ use Rattle.xa_script.specs.declared.command.Job.TheVariants.{Run, Race, Coordina
 abbrev pub capacity_rule : Rule
 capacity_rule = record (new_rule (codes "capacity")) { long = Some (codes "capacity"); value_names = 1; parser = Some (parser.Unsigned 1 1024); defaults = codes "1024" ∷ [] }
 
--- `race [--capacity N]`
+-- `--together`, which has no value
+abbrev pub together_rule : Rule
+together_rule = record (new_rule (codes "together")) { long = Some (codes "together"); action = Some SetTrue }
+
+-- `--shuffle SEED`, a number from 0 to 2^64 - 1
+abbrev pub shuffle_rule : Rule
+shuffle_rule = record (new_rule (codes "shuffle")) { long = Some (codes "shuffle"); value_names = 1; parser = Some (parser.Unsigned 0 18446744073709551615) }
+
+-- `race [--capacity N] [--together] [--shuffle SEED]`
 abbrev pub race_app : App
-race_app = with_rule (new_app (codes "race")) capacity_rule
+race_app = with_rule (with_rule (with_rule (new_app (codes "race")) capacity_rule) together_rule) shuffle_rule
 
 -- `--stores N`, a number from 1 to 16, and 3 where it isn't given
 abbrev pub stores_rule : Rule
@@ -55,25 +66,40 @@ IsStoreCount stores = (1 ≤ stores) × (stores ≤ 16)
 abbrev pub IsStoresText : ℕ → Text → Type 0
 IsStoresText stores text = IsNumeral 10 (without_leading_plus text) × (stores ≡ digits_value 10 (without_leading_plus text)) × IsStoreCount stores
 
--- the job is a race of the capacity that a value's text is
-abbrev pub IsRaceOf : Option Text → Job → Type 0
-IsRaceOf text Run = ⊥
-IsRaceOf text (Race capacity) = IsSomeAnd text (IsCapacityText capacity)
-IsRaceOf text (Coordinate stores capacity) = ⊥
-IsRaceOf text Serve = ⊥
+-- the text of a value is this number
+abbrev pub IsSeedText : ℕ → Text → Type 0
+IsSeedText seed text = IsNumeral 10 (without_leading_plus text) × (seed ≡ digits_value 10 (without_leading_plus text))
+
+-- no number is given as a seed
+abbrev pub HasNoSeed : Option Text → Type 0
+HasNoSeed shuffle = (seed : ℕ) → IsSomeAnd shuffle (IsSeedText seed) → ⊥
+
+-- how the sessions come to their lines, by the values of `--together` and `--shuffle`; a seed goes first
+abbrev pub IsMannerOf : (together shuffle : Option Text) → Manner → Type 0
+IsMannerOf together shuffle Freely = HasNoSeed shuffle × (together ≢ Some (codes "true"))
+IsMannerOf together shuffle Together = HasNoSeed shuffle × (together ≡ Some (codes "true"))
+IsMannerOf together shuffle (Shuffled seed) = IsSomeAnd shuffle (IsSeedText seed)
+
+-- the job is a race of the capacity that a value's text is, in the manner that two others give
+abbrev pub IsRaceOf : (capacity together shuffle : Option Text) → Job → Type 0
+IsRaceOf capacity together shuffle Run = ⊥
+IsRaceOf capacity together shuffle (Race room manner) = IsSomeAnd capacity (IsCapacityText room) × IsMannerOf together shuffle manner
+IsRaceOf capacity together shuffle (Coordinate stores room) = ⊥
+IsRaceOf capacity together shuffle Serve = ⊥
 
 -- the job is of calls over as many stores, with as much room in each, as two values' texts are
 abbrev pub IsCoordinateOf : (stores capacity : Option Text) → Job → Type 0
 IsCoordinateOf stores capacity Run = ⊥
 IsCoordinateOf stores capacity Serve = ⊥
-IsCoordinateOf stores capacity (Race room) = ⊥
+IsCoordinateOf stores capacity (Race room manner) = ⊥
 IsCoordinateOf stores capacity (Coordinate count room) = IsSomeAnd stores (IsStoresText count) × IsSomeAnd capacity (IsCapacityText room)
 
 -- the job of a subcommand, with what `clap` found for its arguments
 abbrev pub IsJob : Job → Text × List Row → Type 0
 IsJob Run found = found.0 ≡ codes "run"
 IsJob Serve found = found.0 ≡ codes "serve"
-IsJob (Race capacity) found = (found.0 ≡ codes "race") × IsSomeAnd (one_of (codes "capacity") found.1) (IsCapacityText capacity)
+IsJob (Race capacity manner) found =
+    (found.0 ≡ codes "race") × IsRaceOf (one_of (codes "capacity") found.1) (one_of (codes "together") found.1) (one_of (codes "shuffle") found.1) (Race capacity manner)
 IsJob (Coordinate stores capacity) found =
     (found.0 ≡ codes "coordinate") × IsCoordinateOf (one_of (codes "stores") found.1) (one_of (codes "capacity") found.1) (Coordinate stores capacity)
 
@@ -89,6 +115,6 @@ ReadsCommand words answer = MatchResult answer (λ job. fault_of script_app word
 -- a log can have the capacity, and there are 1 to 16 stores
 abbrev pub CanBeDone : Job → Type 0
 CanBeDone Run = Unit {0}
-CanBeDone (Race capacity) = IsCapacity capacity
+CanBeDone (Race capacity manner) = IsCapacity capacity
 CanBeDone (Coordinate stores capacity) = IsStoreCount stores × IsCapacity capacity
 CanBeDone Serve = Unit {0}

@@ -1,11 +1,12 @@
 //! The command line.
-ghost use Rattle.std.specs.Prelude.{◌≡◌, ◌≤◌, ℕ, Some, None, IfOk, IfSome, false, map, codes};
+ghost use Rattle.std.specs.Prelude.{◌≡◌, ◌≢◌, ◌≤◌, ℕ, Some, None, IfOk, IfSome, true, false, map, codes};
 ghost use Rattle.std.specs.Option.{IsSomeAnd};
 ghost use Rattle.clap.specs.Words.{app_of, found_of, one_text, rule_of, subcommand_rows_of};
-ghost use Rattle.xa_script.specs.CommandLine.{coordinate_app, IsLocal, capacity_rule, stores_rule, script_app, IsCapacityText, IsStoresText, IsRaceOf, IsCoordinateOf, IsJob, Names, CanBeDone, ReadsCommand};
+ghost use Rattle.xa_script.specs.CommandLine.{coordinate_app, IsLocal, capacity_rule, together_rule, shuffle_rule, race_app, stores_rule, script_app, IsCapacityText, IsSeedText, IsStoresText, HasNoSeed, IsMannerOf, IsRaceOf, IsCoordinateOf, IsJob, Names, CanBeDone, ReadsCommand};
 
+use crate::Manner;
 use clap::error::ErrorKind;
-use clap::{Arg, ArgMatches, Command, Error, value_parser};
+use clap::{Arg, ArgAction, ArgMatches, Command, Error, value_parser};
 use std::alloc::{AllocError, Global};
 use std::convert::AsStr;
 
@@ -14,8 +15,13 @@ use std::convert::AsStr;
 pub enum Job {
     /// Runs the script of the standard input on a sequential server.
     Run,
-    /// Races the script of the standard input, over a log with room for so many entries, in `[1, 1024]`.
-    Race(u64),
+    /// Races the script of the standard input.
+    Race {
+        /// How many entries the log has room for, in `[1, 1024]`.
+        capacity: u64,
+        /// How the sessions come to their lines.
+        manner: Manner,
+    },
     /// Carries the calls of the standard input out over stores of its own.
     Coordinate {
         /// How many stores, in `[1, 16]`.
@@ -55,6 +61,41 @@ fn capacity_option<'a>(alloc: Global) -> Arg<'a>
         .default_value("1024")
 }
 
+/// The option by which the sessions of a race meet before their first lines.
+fn together_option<'a>(alloc: Global) -> Arg<'a>
+    ensures rule { rule_of result ≡ together_rule }
+    ensures global { result.global ≡ false }
+{
+    Arg::new(alloc, "together")
+        .long("together")
+        .help("Lets no session past its first line until all stand there")
+        .action(ArgAction::SetTrue)
+}
+
+/// The option by which they moreover step aside.
+fn shuffle_option<'a>(alloc: Global) -> Arg<'a>
+    ensures rule { rule_of result ≡ shuffle_rule }
+    ensures global { result.global ≡ false }
+{
+    Arg::new(alloc, "shuffle")
+        .long("shuffle")
+        .value_name("SEED")
+        .help("Does so, and lets sessions step aside before their lines by turns of this seed")
+        .value_parser(value_parser!(u64))
+}
+
+/// The subcommand that races a script.
+fn race_command<'a>(alloc: Global) -> Result<Command<'a>, AllocError>
+    ensures app { IfOk result (λ command. app_of command ≡ race_app) }
+    ensures local { IfOk result IsLocal }
+{
+    Command::new(alloc, "race")
+        .about("Races the script of the standard input, each session on a thread of its own")
+        .arg(capacity_option(alloc))?
+        .arg(together_option(alloc))?
+        .arg(shuffle_option(alloc))
+}
+
 /// The option that says how many stores there are.
 fn stores_option<'a>(alloc: Global) -> Arg<'a>
     ensures rule { rule_of result ≡ stores_rule }
@@ -87,9 +128,6 @@ fn script_command<'a>(alloc: Global) -> Result<Command<'a>, AllocError>
     ensures { IfOk result (λ command. app_of command ≡ script_app) }
 {
     let run = Command::new(alloc, "run").about("Runs the script of the standard input");
-    let race = Command::new(alloc, "race")
-        .about("Races the script of the standard input, each session on a thread of its own")
-        .arg(capacity_option(alloc))?;
     let serve = Command::new(alloc, "serve").about(
         "Answers each line of the standard input before it reads more",
     );
@@ -97,7 +135,7 @@ fn script_command<'a>(alloc: Global) -> Result<Command<'a>, AllocError>
         .about("Runs scripts of XA statements")
         .subcommand_required(true)
         .subcommand(run)?
-        .subcommand(race)?
+        .subcommand(race_command(alloc)?)?
         .subcommand(coordinate_command(alloc)?)?
         .subcommand(serve)
 }
@@ -113,13 +151,48 @@ fn capacity_in(found: &ArgMatches<'_>) -> Option<u64>
     }
 }
 
-/// The race of the capacity that was found.
+/// The seed that was found.
+fn seed_in(found: &ArgMatches<'_>) -> Option<u64>
+    ensures some { IfSome result (λ seed. IsSomeAnd (one_text (found_of found.now) (codes "shuffle")) (IsSeedText seed)) }
+    ensures none { result ≡ None → HasNoSeed (one_text (found_of found.now) (codes "shuffle")) }
+{
+    found.get_one::<u64>("shuffle")
+}
+
+/// Whether the sessions are to begin together.
+fn begins_together(found: &ArgMatches<'_>) -> bool
+    ensures given { result ≡ true → one_text (found_of found.now) (codes "together") ≡ Some (codes "true") }
+    ensures other { result ≡ false → one_text (found_of found.now) (codes "together") ≢ Some (codes "true") }
+{
+    found.get_one::<bool>("together") == Some(true)
+}
+
+/// How the sessions are to come to their lines.
+fn manner_in(found: &ArgMatches<'_>) -> Manner
+    ensures { IsMannerOf (one_text (found_of found.now) (codes "together")) (one_text (found_of found.now) (codes "shuffle")) result }
+{
+    match seed_in(found) {
+        Some(seed) => Manner::Shuffled(seed),
+        None => {
+            if begins_together(found) {
+                Manner::Together
+            } else {
+                Manner::Freely
+            }
+        }
+    }
+}
+
+/// The race that was found.
 fn race_in(found: &ArgMatches<'_>) -> Option<Job>
-    ensures some { IfSome result (λ job. IsRaceOf (one_text (found_of found.now) (codes "capacity")) job) }
+    ensures some { IfSome result (IsRaceOf (one_text (found_of found.now) (codes "capacity")) (one_text (found_of found.now) (codes "together")) (one_text (found_of found.now) (codes "shuffle"))) }
     ensures none { result ≡ None → (capacity : ℕ) → IsSomeAnd (one_text (found_of found.now) (codes "capacity")) (IsCapacityText capacity) → ⊥ }
 {
     match capacity_in(found) {
-        Some(capacity) => Some(Job::Race(capacity)),
+        Some(capacity) => Some(Job::Race {
+            capacity,
+            manner: manner_in(found),
+        }),
         None => None,
     }
 }
@@ -222,13 +295,19 @@ mod tests {
         let words = ["xa_script", "race"];
         assert_eq!(rt;
             read_command(rt.alloc(), words.as_slice()).ok(),
-            Some(Job::Race(1024))
+            Some(Job::Race {
+                capacity: 1024,
+                manner: Manner::Freely,
+            })
         );
         for (text, capacity) in [("7", 7), ("1", 1), ("1024", 1024)] {
             let words = ["xa_script", "race", "--capacity", text];
             assert_eq!(rt;
                 read_command(rt.alloc(), words.as_slice()).ok(),
-                Some(Job::Race(capacity))
+                Some(Job::Race {
+                    capacity,
+                    manner: Manner::Freely,
+                })
             );
         }
     }

@@ -5,24 +5,27 @@
 #![tactic(auto)]
 
 ghost use Rattle.std.specs.Prelude.{◌≡◌};
+ghost use Rattle.decision_log.specs.Opens.{IsCapacity};
 ghost use Rattle.xa_script.specs.CommandLine.{CanBeDone};
 ghost use Rattle.xa_script.specs.Status.{status_after};
 
 mod command;
+mod manner;
 
 use clap::Error;
 use clap::error::ErrorKind;
 pub use command::{Job, read_command};
+pub use manner::Manner;
 use std::alloc::Global;
 use std::env::Env;
-use std::io::{BufWriter, Write};
+use std::io::{BufWriter, Read, Write};
 use std::process::ExitCode;
 use std::sync::Wait;
 use std::thread::Threads;
 use std::{env, io};
 use xa_manager::converse;
 use xa_serve::{Wire, serve_statements};
-use xa_store::OpenGate;
+use xa_store::{OpenGate, ShuffledGate, TogetherGate};
 pub use xa_transcript::{CutReader, CutWriter, ScriptFault, race_script, run_script};
 
 /// The status of a run that was done, and of help.
@@ -76,6 +79,30 @@ fn refuse_words<R: Eprint>(rt: &R, error: &io::Error) -> u8 {
     COMMAND_FAULT
 }
 
+/// Races a script, by the gate of a manner.
+fn race_by<I: Read, O: Write, R: Alloc<A = Global> + Threads + Wait + Sync>(
+    rt: &R,
+    input: &mut I,
+    output: &mut O,
+    capacity: u64,
+    manner: Manner,
+) -> Result<(), ScriptFault>
+    requires { IsCapacity capacity }
+{
+    let alloc = rt.alloc();
+    match manner {
+        Manner::Freely => race_script(rt, alloc, input, output, capacity, &OpenGate),
+        Manner::Together => {
+            let gate = TogetherGate::new();
+            race_script(rt, alloc, input, output, capacity, &gate)
+        }
+        Manner::Shuffled(seed) => {
+            let gate = ShuffledGate::new(seed);
+            race_script(rt, alloc, input, output, capacity, &gate)
+        }
+    }
+}
+
 /// Runs or races the script of the standard input, carries its calls out, or serves whoever speaks there.
 fn carry_out<R: Input + Print + Alloc<A = Global> + Threads + Wait + Sync>(
     rt: &R,
@@ -89,10 +116,7 @@ fn carry_out<R: Input + Print + Alloc<A = Global> + Threads + Wait + Sync>(
     };
     let result = match job {
         Job::Run => run_script(rt.alloc(), &mut input, &mut output),
-        Job::Race(capacity) => {
-            let gate = OpenGate;
-            race_script(rt, rt.alloc(), &mut input, &mut output, capacity, &gate)
-        }
+        Job::Race { capacity, manner } => race_by(rt, &mut input, &mut output, capacity, manner),
         Job::Coordinate { stores, capacity } => {
             let mut wire = Wire::new(input, output);
             return converse(rt, rt.alloc(), &mut wire, stores, capacity);

@@ -7,12 +7,10 @@ use Rattle.xa_script.proofs.command.script_command.Goals as goal
 
 pub returns : goal.returns
 returns c =
-    let race_base : app_of c.about.result ≡ new_app (codes "race") = search rules in
-    let race_is : app_of c.in_ok-race.race ≡ race_app = c.in_ok-race.ensures.shape c.capacity_option.ensures.global ∙ ap₂ with_rule race_base c.capacity_option.ensures.rule in
-    let run_is : shape_of c.about-run.result ≡ (new_app (codes "run")).top = search rules in
+    let run_is : shape_of c.about.result ≡ (new_app (codes "run")).top = search rules in
     let top_is : app_of c.subcommand_required.result ≡ on_top (λ shape. record shape { subcommand_required = true }) (new_app (codes "xa_script")) = search rules in
     let serve_is : shape_of c.about-serve.result ≡ (new_app (codes "serve")).top = search rules in
     let one = c.in_ok-subcommand.ensures.shape (search rules) ∙ ap₂ with_subcommand top_is run_is in
-    let two = c.in_ok-subcommand-2.ensures.shape (search rules) ∙ ap₂ with_subcommand one (ap (λ (a : App). a.top) race_is) in
+    let two = c.in_ok-subcommand-2.ensures.shape c.in_ok-race_command.ensures.local ∙ ap₂ with_subcommand one (ap (λ (a : App). a.top) c.in_ok-race_command.ensures.app) in
     let three = c.in_ok-subcommand-3.ensures.shape c.in_ok-coordinate_command.ensures.local ∙ ap₂ with_subcommand two (ap (λ (a : App). a.top) c.in_ok-coordinate_command.ensures.app) in
     IfOk-weaker c.subcommand-4.result _ _ (λ command added. added.shape (search rules) ∙ ap₂ with_subcommand three serve_is) c.subcommand-4.ensures
