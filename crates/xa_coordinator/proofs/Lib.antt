@@ -1,6 +1,7 @@
 pub mod OwnSeats
 pub mod Seats
 pub mod Places
+pub mod Limited
 pub mod Standings
 pub mod Marks
 pub mod Opening

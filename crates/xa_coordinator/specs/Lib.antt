@@ -10,3 +10,4 @@ pub mod Outcomes
 pub mod Work
 pub mod Recovery
 pub mod Faults
+pub mod Fusing

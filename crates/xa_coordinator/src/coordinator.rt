@@ -1,5 +1,5 @@
 //! A coordinator of global transactions over several stores.
-ghost use Rattle.std.specs.Prelude.{◌≡◌, ◌≤◌, ◌<◌, ◌+◌, ◌++◌, ◌∷◌, [], ℕ, false, Err, IfOk, OnOk, OnErr, length, vec_len};
+ghost use Rattle.std.specs.Prelude.{◌≡◌, ◌≤◌, ◌<◌, ◌+◌, ◌++◌, ◌∷◌, [], ℕ, false, Some, None, Err, IfOk, OnOk, OnErr, length, slice_get, vec_len};
 ghost use Rattle.arrayvec.specs.ArrayVec.{array_vec_len};
 ghost use Rattle.xa_coordinator.specs.OpenBranches.{OpenThere};
 
@@ -31,6 +31,7 @@ impl<S: Speak> Coordinator<S> {
         requires sized { (1 ≤ vec_len stores) × (vec_len stores ≤ 16) }
         ensures name { result.name ≡ name }
         ensures stores { result.stores ≡ stores }
+        ensures free { (store : ℕ) → store < vec_len stores → slice_get result.branches store ≡ Some None }
     {
         Coordinator {
             name,
@@ -72,6 +73,7 @@ impl<S: Speak> Coordinator<S> {
     pub fn restart(&mut self)
         ensures name { self.new.name ≡ self.old.name }
         ensures stores { self.new.stores ≡ self.old.stores }
+        ensures free { (store : ℕ) → store < vec_len self.new.stores → slice_get self.new.branches store ≡ Some None }
     {
         self.branches = [None; 16];
     }

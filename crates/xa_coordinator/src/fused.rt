@@ -1,5 +1,6 @@
 //! A session that fails from a certain call on.
 ghost use Rattle.std.specs.Prelude.{◌≡◌, ◌+◌, true, false};
+ghost use Rattle.xa_coordinator.specs.Fusing.{AnswersAsWithin};
 
 use crate::Speak;
 use std::sync::Wait;
@@ -53,6 +54,10 @@ impl<S: Speak> Fused<S> {
 
 impl<S: Speak> Speak for Fused<S> {
     ghost view = { λ fused. S.view fused.inner };
+
+    ghost attempts = { AnswersAsWithin S.attempts };
+
+    ghost executes = { AnswersAsWithin S.executes };
 
     ghost own_part = { λ fused. S.own_part fused.inner };
 

@@ -1,5 +1,6 @@
 //! How long the sessions of a coordinator go on answering.
-ghost use Rattle.std.specs.Prelude.{◌≡◌, ◌<◌, map, vec_len};
+ghost use Rattle.std.specs.Prelude.{◌≡◌, ◌<◌, Some, map, slice_get, vec_len};
+ghost use Rattle.xa_coordinator.specs.Stores.{ChangesAt};
 
 use crate::{Coordinator, Fused, Speak};
 
@@ -20,11 +21,15 @@ impl<S: Speak> Coordinator<Fused<S>> {
     /// The coordinator's branches stay as they are.
     ///
     /// Takes no memory. Doesn't wait.
+    #[tactic(auto, using(crate::proofs::Limited::left_there))]
     pub fn allow(&mut self, store: u8, calls: u64)
         requires { store < vec_len self.old.stores }
         ensures name { self.new.name ≡ self.old.name }
+        ensures branches { self.new.branches ≡ self.old.branches }
         ensures sessions { map (λ session. session.inner) self.new.stores.items ≡ map (λ session. session.inner) self.old.stores.items }
+        ensures left { slice_get (map (λ session. session.left) self.new.stores.items) store ≡ Some calls }
+        ensures others { ChangesAt store self.old.stores.items self.new.stores.items }
     {
-        self.stores[usize::from(store)].allow(calls);
+        self.stores[store as usize].allow(calls);
     }
 }

@@ -1,8 +1,11 @@
 //! What a coordinator asks of a session.
-ghost use Rattle.std.specs.Prelude.{◌≡◌, ◌≤◌, ◌+◌, IfOk, IfErr};
+ghost use Rattle.std.specs.Prelude.{◌≡◌, ◌≤◌, ◌<◌, ◌+◌, ⊤, Result, IfOk, IfErr};
 ghost use Rattle.decision_log.specs.History.{entries_of};
 ghost use Rattle.xa_server.specs.Locks.{LockLaw};
-ghost use Rattle.xa_session.specs.Answer.{IsAnswered, Fails, IsFinal};
+ghost use Rattle.xa_session.specs.Answer.{IsAnswered, Fails, IsFinal, WantsMemory};
+ghost use Rattle.xa_session.specs.declared.answer.Answer.{Answer as AnswerOf};
+ghost use Rattle.xa_session.specs.declared.fault.Fault.{Fault as FaultOf};
+ghost use Rattle.xa_xid.specs.declared.statement.Statement.{Statement as StatementOf};
 ghost use Rattle.xa_coordinator.specs.View.{SessionView, StaysOfLog};
 
 use decision_log::DecisionLog;
@@ -15,19 +18,26 @@ pub trait Speak {
     // what a contract sees of it
     ghost view: { Self → SessionView };
 
+    // what more is known of a call, by the session before it, the statement, the answer and the session after it
+    ghost attempts: { Self → StatementOf → Result AnswerOf FaultOf → Self → Type 0 } = { λ _ _ _ _. ⊤ };
+
+    ghost executes: { Self → StatementOf → Result AnswerOf FaultOf → Self → Type 0 } = { λ _ _ _ _. ⊤ };
+
     /// Answers a statement from the whole history, as it is at one step of the call, and adds it there if it enters.
     fn attempt(&mut self, statement: &Statement) -> Result<Answer, Fault>
         ensures stays { StaysOfLog (view self.old) (view self.new) }
         ensures answered { IfOk result (λ answer. IsAnswered (view self.old).base statement.now answer (view self.old).known (view self.new).known) }
         ensures fails { IfErr result (λ fault. Fails (view self.old).turns (view self.old).place.capacity (view self.old).base statement.now fault (view self.old).known (view self.new).known) }
-        ensures tries { (view self.new).known.tries ≤ (view self.old).known.tries + 1 };
+        ensures tries { (view self.new).known.tries ≤ (view self.old).known.tries + 1 }
+        ensures gives { attempts self.old statement.now result self.new };
 
     /// Answers a statement as `attempt` does, trying again after `Overtaken` and `Busy`.
     fn execute<R: Wait>(&mut self, rt: &R, statement: &Statement) -> Result<Answer, Fault>
         ensures stays { StaysOfLog (view self.old) (view self.new) }
         ensures answered { IfOk result (λ answer. IsAnswered (view self.old).base statement.now answer (view self.old).known (view self.new).known) }
         ensures fails { IfErr result (λ fault. Fails (view self.old).turns (view self.old).place.capacity (view self.old).base statement.now fault (view self.old).known (view self.new).known) }
-        ensures lasts { IfErr result IsFinal };
+        ensures lasts { IfErr result IsFinal }
+        ensures gives { executes self.old statement.now result self.new };
 
     // the entries of its own number in what it has seen are its own
     ghost own_part: { (session : Self) → entries_of (view session).known.number (view session).known.seen ≡ (view session).known.mine };
@@ -38,6 +48,11 @@ pub trait Speak {
 
 impl<'a, L: DecisionLog> Speak for Session<'a, L> {
     ghost view = { λ session. record { place = L.home session.pass; turns = L.TURNS; base = session.base.now; known = L.known session.pass } };
+
+    // a session looks at each attempt, and there is no memory only for a list, or for a replica that hasn't replayed all that is seen
+    ghost attempts = { λ old statement result new. ((L.known old.pass).looks < (L.known new.pass).looks) × IfErr result (λ fault. WantsMemory statement fault new.replica (L.known new.pass)) };
+
+    ghost executes = { λ old statement result new. IfErr result (λ fault. WantsMemory statement fault new.replica (L.known new.pass)) };
 
     ghost own_part = { λ session. L.own_part session.pass };
 

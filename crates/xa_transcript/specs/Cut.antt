@@ -6,7 +6,8 @@
 --     has_faulted, has_refused    whether it has faulted
 --     reads_after, writes_after   how often it was read or written after that
 --     faults_next, refuses_next   whether it faults where it is used next
-use Rattle.std.specs.Prelude.{ℕ, Bool, ◌==◌, ◌&&◌, not, List}
+--     takes_next                  for how many of so many bytes a writer has room
+use Rattle.std.specs.Prelude.{ℕ, Bool, ◌==◌, ◌&&◌, not, cond, List}
 use Rattle.xa_transcript.specs.declared.cut_reader.CutReader.{CutReader}
 use Rattle.xa_transcript.specs.declared.cut_writer.CutWriter.{CutWriter}
 
@@ -53,3 +54,7 @@ writes_after writer = writer.after
 -- no room is left, and it isn't one that has had its fault
 abbrev pub refuses_next : CutWriter → Bool
 refuses_next writer = writer.room == 0 && not (writer.once && writer.faulted)
+
+-- no more than there is room, unless it is one that has had its fault
+abbrev pub takes_next : CutWriter → ℕ → ℕ
+takes_next writer count = cond (writer.once && writer.faulted) count writer.room

@@ -1,5 +1,5 @@
 //! A reader for tests.
-ghost use Rattle.std.specs.Prelude.{◌≡◌, ◌||◌, ◌<◌, ◌≤◌, ◌-◌, ◌+◌, ◌^◌, min, ◌↔◌, false, true, Some, IsTrue, IsErr, IfOk, OnErr, OnOk};
+ghost use Rattle.std.specs.Prelude.{◌≡◌, ◌||◌, ◌<◌, ◌≤◌, ◌-◌, ◌+◌, ◌^◌, min, ◌↔◌, false, true, length, Some, IsTrue, IsErr, IfOk, OnErr, OnOk};
 ghost use Rattle.std.specs.Io.{ReadsAtMost};
 ghost use Rattle.std.specs.Io.KnownBytes.{ReadConsumes};
 
@@ -93,7 +93,7 @@ impl<'a> Read for CutReader<'a> {
     fn read(&mut self, buf: &mut [u8]) -> io::Result<usize>
         ensures bound { ReadsAtMost result buf.new }
         ensures bytes { ReadConsumes (Some (left_in self.old)) (Some (left_in self.new)) result buf.new }
-        ensures piece { IfOk result (λ count. count ≤ piece_of self.old) }
+        ensures piece { IfOk result (λ count. count ≡ min (min (length (left_in self.old)) (length buf.new)) (piece_of self.old)) }
         ensures fault { IsErr result ↔ IsTrue (faults_next self.old) }
         ensures reads { reads_left_in self.new ≡ reads_left_in self.old - 1 }
         ensures kept { (piece_of self.new ≡ piece_of self.old) × (goes_on self.new ≡ goes_on self.old) }
