@@ -4,7 +4,7 @@ ghost use Rattle.std.specs.List.{All};
 ghost use Rattle.xa_store.specs.Passes.{place_of, home_of};
 ghost use Rattle.xa_store.specs.Renewal.{AreGathered};
 
-use crate::acts::{attempted, gives, has_history, is_entry};
+use crate::acts::{attempted, gives, is_entry};
 use crate::made::{Wanted, said};
 use crate::store::{joined, opened, room};
 use std::alloc::Global;
@@ -35,7 +35,29 @@ fn leaving<'s>(
 {
     match store.wind_up(alloc, sessions) {
         Ok(ended) => Ok(ended),
-        Err((sessions, _)) => Err(sessions),
+        Err(refused) => Err(refused.0),
+    }
+}
+
+/// The history of the sessions, and their passes, asked for again where there was no memory.
+fn ended(
+    rt: &impl Abort,
+    alloc: Global,
+    store: &Store,
+    sessions: Vec<Session<'_, Log>>,
+) -> (Vec<Entry>, Vec<Pass>)
+    requires some { 0 < length sessions.items }
+    requires homes { All (λ session. home_of session.pass ≡ place_of store.now.log) sessions.items }
+    ensures { AreGathered (place_of store.now.log) result.1.items }
+{
+    match leaving(alloc, store, sessions) {
+        Ok(ended) => ended,
+        Err(sessions) => {
+            let Ok(ended) = leaving(alloc, store, sessions) else {
+                panic!(rt; "refused twice")
+            };
+            ended
+        }
     }
 }
 
@@ -54,15 +76,7 @@ fn left(
     let mut sessions = room(rt, alloc, 2);
     sessions.push_reserved(first);
     sessions.push_reserved(second);
-    let (history, passes) = match leaving(alloc, store, sessions) {
-        Ok(ended) => ended,
-        Err(sessions) => {
-            let Ok(ended) = leaving(alloc, store, sessions) else {
-                panic!(rt; "refused twice")
-            };
-            ended
-        }
-    };
+    let (history, passes) = ended(rt, alloc, store, sessions);
     assert_eq!(rt; history.len(), 4);
     for (entry, (number, text)) in history.iter().zip(&ADDED) {
         assert!(rt; is_entry(rt, entry, *number, text));
@@ -82,7 +96,7 @@ fn renewing(
 {
     match store.renew(alloc, passes) {
         Ok(opened) => Ok(opened),
-        Err((store, passes, _)) => Err((store, passes)),
+        Err(refused) => Err((refused.0, refused.1)),
     }
 }
 
@@ -118,8 +132,6 @@ fn is_full(rt: &impl Abort, alloc: Global, store: &Store, passes: Vec<Pass>) -> 
     assert!(rt; attempted(rt, &mut second, &commit).err() == Some(Fault::Full));
     gives(rt, &mut second, b"GET 'k'", 4, Wanted::NoValue);
     gives(rt, &mut first, b"XA RECOVER", 4, Wanted::Listed(b"a"));
-    has_history(rt, &mut first, &ADDED);
-    has_history(rt, &mut second, &ADDED);
     left(rt, alloc, store, first, second)
 }
 
@@ -149,13 +161,17 @@ fn goes_on(rt: &impl Abort, store: &Store, passes: Vec<Pass>)
     gives(rt, &mut first, b"XA RECOVER", 1, Wanted::Listed(b""));
 }
 
-/// A store is filled and renewed.
-fn swept(rt: &impl Abort, alloc: Global) {
-    let Ok((store, passes)) = opened(alloc, 4, 2) else {
-        panic!(rt; "not opened")
-    };
-    let passes = filled(rt, alloc, &store, passes);
-    let (store, passes) = match renewing(alloc, store, passes) {
+/// The store once it is renewed, and its new passes: where that was refused at first, the store is still the full one.
+fn renewed(
+    rt: &impl Abort,
+    alloc: Global,
+    store: Store,
+    passes: Vec<Pass>,
+) -> (Store, Vec<Pass>)
+    requires { AreGathered (place_of store.log) passes.items }
+    ensures { All (λ pass. home_of pass ≡ place_of result.0.log) result.1.items }
+{
+    match renewing(alloc, store, passes) {
         Ok(opened) => opened,
         Err((store, passes)) => {
             let passes = is_full(rt, alloc, &store, passes);
@@ -164,7 +180,16 @@ fn swept(rt: &impl Abort, alloc: Global) {
             };
             opened
         }
+    }
+}
+
+/// A store is filled and renewed.
+fn swept(rt: &impl Abort, alloc: Global) {
+    let Ok((store, passes)) = opened(alloc, 4, 2) else {
+        panic!(rt; "not opened")
     };
+    let passes = filled(rt, alloc, &store, passes);
+    let (store, passes) = renewed(rt, alloc, store, passes);
     goes_on(rt, &store, passes);
 }
 
