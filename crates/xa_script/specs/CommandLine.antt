@@ -4,7 +4,7 @@
 --     IsJob           the job of a subcommand
 --     Names           the job that the words of a command line name
 --     ReadsCommand    when a command line is read, and why not
-use Rattle.std.specs.Prelude.{◌≡◌, ◌≢◌, ◌≤◌, ◌⊎◌, ℕ, true, false, Option, Some, Result, MatchResult, List, [], ◌∷◌, codes}
+use Rattle.std.specs.Prelude.{◌≡◌, ◌≢◌, ◌<◌, ◌≤◌, ◌^◌, ◌⊎◌, ℕ, true, false, Option, Some, Result, MatchResult, List, [], ◌∷◌, codes}
 use Rattle.std.specs.Option.{IsSomeAnd}
 use Rattle.std.specs.Str.Parse.{IsNumeral, digits_value, without_leading_plus}
 use Rattle.clap.specs.Words.{App, Text, Row, Rule, new_app, new_rule, one_of, subcommand_of, with_rule, with_subcommand, fault_of, HasKind}
@@ -66,9 +66,9 @@ IsStoreCount stores = (1 ≤ stores) × (stores ≤ 16)
 abbrev pub IsStoresText : ℕ → Text → Type 0
 IsStoresText stores text = IsNumeral 10 (without_leading_plus text) × (stores ≡ digits_value 10 (without_leading_plus text)) × IsStoreCount stores
 
--- the text of a value is this number
+-- the text of a value is this number, which has 64 bits
 abbrev pub IsSeedText : ℕ → Text → Type 0
-IsSeedText seed text = IsNumeral 10 (without_leading_plus text) × (seed ≡ digits_value 10 (without_leading_plus text))
+IsSeedText seed text = IsNumeral 10 (without_leading_plus text) × (seed ≡ digits_value 10 (without_leading_plus text)) × (seed < 2 ^ 64)
 
 -- no number is given as a seed
 abbrev pub HasNoSeed : Option Text → Type 0

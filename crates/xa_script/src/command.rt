@@ -164,7 +164,7 @@ fn begins_together(found: &ArgMatches<'_>) -> bool
     ensures given { result ≡ true → one_text (found_of found.now) (codes "together") ≡ Some (codes "true") }
     ensures other { result ≡ false → one_text (found_of found.now) (codes "together") ≢ Some (codes "true") }
 {
-    found.get_one::<bool>("together") == Some(true)
+    found.get_one::<bool>("together").unwrap_or(false)
 }
 
 /// How the sessions are to come to their lines.
@@ -242,7 +242,8 @@ fn job_in(matches: &ArgMatches<'_>) -> Option<Job>
 
 /// The job that the words of a command line name. The first word is the program's own name.
 ///
-/// A capacity is in `[1, 1024]`, and 1024 where the words don't give it; a number of stores in `[1, 16]`, and 3.
+/// A capacity is in `[1, 1024]`, and 1024 where the words don't give it; a number of stores in `[1, 16]`, and 3. Where a race has a
+/// seed, its manner is `Shuffled`.
 /// Errors: what `clap` says of words that name no job, or that ask for help; want of memory is one of its kinds.
 /// May answer that memory ran out. Doesn't wait.
 /// Own rule: docs/BEHAVIOR.md, 'The program'.
@@ -309,6 +310,34 @@ mod tests {
                     manner: Manner::Freely,
                 })
             );
+        }
+    }
+
+    /// The manner of the race that these words name.
+    fn manner_of(alloc: Global, words: &[&str]) -> Option<Manner> {
+        match read_command(alloc, words).ok() {
+            Some(Job::Race { manner, .. }) => Some(manner),
+            _ => None,
+        }
+    }
+
+    #[test]
+    fn race_is_a_job_with_a_manner(rt: HostRuntime) {
+        let words = ["xa_script", "race", "--together"];
+        assert_eq!(rt;
+            manner_of(rt.alloc(), words.as_slice()),
+            Some(Manner::Together)
+        );
+        for (text, seed) in [("0", 0), ("+7", 7), ("18446744073709551615", u64::MAX)] {
+            let words = ["xa_script", "race", "--together", "--shuffle", text];
+            assert_eq!(rt;
+                manner_of(rt.alloc(), words.as_slice()),
+                Some(Manner::Shuffled(seed))
+            );
+        }
+        for text in ["-1", "18446744073709551616", "x", ""] {
+            let words = ["xa_script", "race", "--shuffle", text];
+            assert_eq!(rt; refusal(rt.alloc(), words.as_slice()), Some(2));
         }
     }
 
