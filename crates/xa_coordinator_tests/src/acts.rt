@@ -145,6 +145,33 @@ pub(crate) fn puts<S: Speak, R: Abort + Wait>(
     )
 }
 
+/// Whether `PUT 'k','v'` is carried out in the first two of three stores, and in the third too where `all` is set.
+fn puts_in_each<S: Speak, R: Abort + Wait>(
+    rt: &R,
+    coordinator: &mut Coordinator<S>,
+    transaction: &mut Transaction,
+    all: bool,
+) -> bool
+    requires name { transaction.old.name.items ≡ coordinator.old.name.items }
+    requires stores { transaction.old.stores ≡ vec_len coordinator.old.stores }
+    requires count { vec_len coordinator.old.stores ≡ 3 }
+    ensures name { transaction.new.name.items ≡ coordinator.new.name.items }
+    ensures stores { transaction.new.stores ≡ vec_len coordinator.new.stores }
+    ensures count { vec_len coordinator.new.stores ≡ 3 }
+    ensures sites { sites S.view coordinator.new.stores.items ≡ sites S.view coordinator.old.stores.items }
+{
+    if !puts(rt, coordinator, transaction, 0) {
+        return false;
+    }
+    if !puts(rt, coordinator, transaction, 1) {
+        return false;
+    }
+    if !all {
+        return true;
+    }
+    puts(rt, coordinator, transaction, 2)
+}
+
 /// The vote of Ready of two stores and a third, which works where `all` is set.
 pub(crate) fn ready<S: Speak, R: Abort + Wait>(
     rt: &R,
@@ -160,13 +187,8 @@ pub(crate) fn ready<S: Speak, R: Abort + Wait>(
     ensures sites { sites S.view coordinator.new.stores.items ≡ sites S.view coordinator.old.stores.items }
 {
     let mut transaction = begun(rt, coordinator, decisions);
-    let worked = puts(rt, coordinator, &mut transaction, 0)
-        && puts(rt, coordinator, &mut transaction, 1);
+    let worked = puts_in_each(rt, coordinator, &mut transaction, all);
     assert!(rt; worked);
-    if all {
-        let worked = puts(rt, coordinator, &mut transaction, 2);
-        assert!(rt; worked);
-    }
     let Vote::Ready(prepared) = coordinator.prepare(rt, transaction) else {
         panic!(rt; "not ready")
     };

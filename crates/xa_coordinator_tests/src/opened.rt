@@ -1,5 +1,5 @@
 //! Stores with room, their sessions, and coordinators over them.
-ghost use Rattle.std.specs.Prelude.{◌≡◌, ◌∷◌, [], vec_len};
+ghost use Rattle.std.specs.Prelude.{◌≡◌, ◌∷◌, ◌++◌, [], vec_len};
 
 use crate::acts::text;
 use decision_log::DecisionLog;
@@ -74,6 +74,16 @@ pub(crate) fn opened_for_three(
     (store, first, second, third)
 }
 
+/// The last session of a list, which it leaves.
+fn taken<S: Speak>(rt: &impl Abort, sessions: &mut Vec<S>) -> S
+    ensures { sessions.old.items ≡ sessions.new.items ++ result ∷ [] }
+{
+    let Some(session) = sessions.pop() else {
+        panic!(rt; "a session")
+    };
+    session
+}
+
 /// The sessions of a coordinator over three stores, back.
 pub(crate) fn stopped<S: Speak>(rt: &impl Abort, coordinator: Coordinator<S>) -> (S, S, S)
 where
@@ -81,9 +91,8 @@ where
     ensures { vec_len coordinator.stores ≡ 3 → coordinator.stores.items ≡ result.0 ∷ result.1 ∷ result.2 ∷ [] }
 {
     let mut sessions = coordinator.stop();
-    let (Some(third), Some(second), Some(first)) = (sessions.pop(), sessions.pop(), sessions.pop())
-    else {
-        panic!(rt; "three sessions")
-    };
+    let third = taken(rt, &mut sessions);
+    let second = taken(rt, &mut sessions);
+    let first = taken(rt, &mut sessions);
     (first, second, third)
 }

@@ -1,8 +1,10 @@
 //! Transactions whose stores are renewed between the votes and the second phase; another coordinator of the name recovers on
 //! new sessions.
 ghost use Rattle.std.specs.Prelude.{◌≡◌, vec_len};
+ghost use Rattle.std.specs.List.{All};
 ghost use Rattle.xa_store.specs.Passes.{place_of, home_of};
 ghost use Rattle.xa_store.specs.Renewal.{AreGathered};
+ghost use Rattle.xa_coordinator.specs.declared.prepared.Ballot.TheVariants.{Ready as BallotReady};
 ghost use Rattle.xa_coordinator_tests.specs.Sites.{sites};
 
 use crate::acts::{has_none_prepared, reads, ready};
@@ -57,6 +59,30 @@ fn finds_no_room<S: Speak, R: Abort + Wait>(
     assert!(rt; is_full);
 }
 
+/// The coordinator decides, where the plan says so, and tries to finish where the stores are full.
+fn goes_as_far<S: Speak, R: Abort + Wait>(
+    rt: &R,
+    alloc: Global,
+    plan: Plan,
+    coordinator: &mut Coordinator<S>,
+    decisions: &mut Decisions,
+    prepared: Prepared,
+)
+    requires name { prepared.transaction.name.items ≡ coordinator.old.name.items }
+    requires stores { prepared.transaction.stores ≡ vec_len coordinator.old.stores }
+    requires ballot { prepared.ballot ≡ BallotReady }
+    ensures count { vec_len coordinator.new.stores ≡ vec_len coordinator.old.stores }
+    ensures sites { sites S.view coordinator.new.stores.items ≡ sites S.view coordinator.old.stores.items }
+{
+    if plan.decides {
+        assert!(rt; decisions.decide(&prepared).is_ok());
+    }
+    if plan.capacity != 4 {
+        return;
+    }
+    finds_no_room(rt, alloc, coordinator, decisions, prepared);
+}
+
 /// All three stores vote for transaction 1. The coordinator stops once it is decided, or isn't; where the stores are full, it has
 /// tried to finish it.
 fn voted<S: Speak, R: Abort + Wait>(
@@ -75,12 +101,7 @@ where
     let (first, second, third) = sessions;
     let mut coordinator = over_three(rt, alloc, first, second, third);
     let prepared = ready(rt, &mut coordinator, decisions, true);
-    if plan.decides {
-        assert!(rt; decisions.decide(&prepared).is_ok());
-    }
-    if plan.capacity == 4 {
-        finds_no_room(rt, alloc, &mut coordinator, decisions, prepared);
-    }
+    goes_as_far(rt, alloc, plan, &mut coordinator, decisions, prepared);
     stopped(rt, coordinator)
 }
 
@@ -106,6 +127,18 @@ fn left(
     passes
 }
 
+/// The last of the passes of a store.
+fn last_of(rt: &impl Abort, store: &Store, passes: &mut Vec<Pass>) -> Pass
+    requires { All (λ pass. home_of pass ≡ place_of store.now.log) passes.old.items }
+    ensures left { All (λ pass. home_of pass ≡ place_of store.now.log) passes.new.items }
+    ensures home { home_of result ≡ place_of store.now.log }
+{
+    let Some(pass) = passes.pop() else {
+        panic!(rt; "a pass")
+    };
+    pass
+}
+
 /// The store with an empty history, and its new passes.
 fn renewed(rt: &impl Abort, alloc: Global, store: Store, passes: Vec<Pass>) -> Site
     requires { AreGathered (place_of store.log) passes.items }
@@ -113,9 +146,8 @@ fn renewed(rt: &impl Abort, alloc: Global, store: Store, passes: Vec<Pass>) -> S
     let Ok((store, mut passes)) = store.renew(alloc, passes) else {
         panic!(rt; "out of memory")
     };
-    let (Some(reader), Some(own)) = (passes.pop(), passes.pop()) else {
-        panic!(rt; "two passes")
-    };
+    let reader = last_of(rt, &store, &mut passes);
+    let own = last_of(rt, &store, &mut passes);
     Site { store, own, reader }
 }
 
