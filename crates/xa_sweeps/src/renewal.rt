@@ -162,12 +162,7 @@ fn goes_on(rt: &impl Abort, store: &Store, passes: Vec<Pass>)
 }
 
 /// The store once it is renewed, and its new passes: where that was refused at first, the store is still the full one.
-fn renewed(
-    rt: &impl Abort,
-    alloc: Global,
-    store: Store,
-    passes: Vec<Pass>,
-) -> (Store, Vec<Pass>)
+fn renewed(rt: &impl Abort, alloc: Global, store: Store, passes: Vec<Pass>) -> (Store, Vec<Pass>)
     requires { AreGathered (place_of store.log) passes.items }
     ensures { All (λ pass. home_of pass ≡ place_of result.0.log) result.1.items }
 {
