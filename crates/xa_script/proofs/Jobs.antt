@@ -1,5 +1,5 @@
 -- Which job the matches of a command line name.
-use Rattle.std.proofs.Common.{◌≡◌, ◌∙◌, ℕ, refl, sym, ap, subst, List, Option, Some, None, option_map, codes, length, arith}
+use Rattle.std.proofs.Common.{◌≡◌, ◌∙◌, ℕ, [], ◌∷◌, refl, sym, ap, subst, List, Option, Some, None, option_map, codes, length, arith}
 use Rattle.std.specs.Prelude.{IfSome}
 use Rattle.std.specs.Option.{IsSomeAnd}
 use Rattle.clap.specs.Words.{Text, Row, one_of, one_text, found_of, rows_of, subcommand_name_of, subcommand_rows_of}
@@ -9,7 +9,7 @@ use Rattle.clap.proofs.WalkLemmas.{one_text-rows}
 use Rattle.std.specs.Box.{box_value}
 use Rattle.xa_script.specs.CommandLine.{IsCapacityText, IsStoresText, IsRaceOf, IsCoordinateOf, IsJob}
 use Rattle.xa_script.specs.declared.command.Job.{Job}
-use Rattle.xa_script.specs.declared.command.Job.TheVariants.{Run, Race, Coordinate, Serve}
+use Rattle.xa_script.specs.declared.command.Job.TheVariants.{Run, Race, Coordinate, Serve, Show}
 
 map_first : {S A B : Type 0} (f : S → A) (g : S → B) (s : Option S) → option_map f s ≡ option_map (λ p. p.0) (let pairs : Option (A × B) = option_map (λ b. (f b, g b)) s in pairs)
 map_first f g None = refl
@@ -32,6 +32,7 @@ races : (m found : ArgMatches) (name : Text) (job : Job) → subcommand_rows_of 
     → IsSomeAnd (subcommand_rows_of m) (IsJob job)
 races m found name Run is race of = absurd of
 races m found name Serve is race of = absurd of
+races m found name Show is race of = absurd of
 races m found name (Race capacity manner) is race of =
     let P : Option (Text × List Row) → Type 0 = λ s. IsSomeAnd s (IsJob (Race capacity manner)) in
     let rows = rows_of (found_of found) in
@@ -45,6 +46,11 @@ races m found name (Coordinate stores capacity) is race of = absurd of
 at_found : (m : ArgMatches) (name : Text) (rows : List Row) (job : Job) → subcommand_rows_of m ≡ Some (name, rows) → IsSomeAnd (subcommand_rows_of m) (IsJob job) → IsJob job (name, rows)
 at_found m name rows job is h = let P : Option (Text × List Row) → Type 0 = λ s. IsSomeAnd s (IsJob job) in subst P is h
 
+-- the first byte of a text
+first_byte : List ℕ → ℕ
+first_byte [] = 0
+first_byte (byte ∷ bytes) = byte
+
 -- a race of no capacity
 pub no_race : (m found : ArgMatches) (name : Text) → subcommand_rows_of m ≡ Some (name, rows_of (found_of found)) → name ≡ codes "race"
     → ((capacity : ℕ) → IsSomeAnd (one_text (found_of found) (codes "capacity")) (IsCapacityText capacity) → ⊥) → (job : Job) → IsSomeAnd (subcommand_rows_of m) (IsJob job) → ⊥
@@ -54,6 +60,9 @@ no_race m found name is race none Run h =
 no_race m found name is race none Serve h =
     let e : codes "race" ≡ codes "serve" = sym race ∙ at_found m name (rows_of (found_of found)) Serve is h in
     absurd (omega (arith, ap length e))
+no_race m found name is race none Show h =
+    let e : codes "race" ≡ codes "show" = sym race ∙ at_found m name (rows_of (found_of found)) Show is h in
+    absurd (omega (arith, ap first_byte e))
 no_race m found name is race none (Race capacity manner) h =
     let Q : Option Text → Type 0 = λ t. IsSomeAnd t (IsCapacityText capacity) in
     none capacity (subst Q (sym (one_text-rows (found_of found) (codes "capacity"))) (at_found m name (rows_of (found_of found)) (Race capacity manner) is h).1.0)
@@ -71,6 +80,7 @@ pub coordinates : (m found : ArgMatches) (name : Text) (job : Job) → subcomman
     → IsCoordinateOf (one_text (found_of found) (codes "stores")) (one_text (found_of found) (codes "capacity")) job → IsSomeAnd (subcommand_rows_of m) (IsJob job)
 coordinates m found name Run is named of = absurd of
 coordinates m found name Serve is named of = absurd of
+coordinates m found name Show is named of = absurd of
 coordinates m found name (Race capacity manner) is named of = absurd of
 coordinates m found name (Coordinate stores capacity) is named of =
     let P : Option (Text × List Row) → Type 0 = λ s. IsSomeAnd s (IsJob (Coordinate stores capacity)) in
@@ -91,6 +101,9 @@ no_coordinates m found name is named none Run h =
     absurd (omega (arith, ap length e))
 no_coordinates m found name is named none Serve h =
     let e : codes "coordinate" ≡ codes "serve" = sym named ∙ at_found m name (rows_of (found_of found)) Serve is h in
+    absurd (omega (arith, ap length e))
+no_coordinates m found name is named none Show h =
+    let e : codes "coordinate" ≡ codes "show" = sym named ∙ at_found m name (rows_of (found_of found)) Show is h in
     absurd (omega (arith, ap length e))
 no_coordinates m found name is named none (Race capacity manner) h =
     let e : codes "coordinate" ≡ codes "race" = sym named ∙ (at_found m name (rows_of (found_of found)) (Race capacity manner) is h).0 in

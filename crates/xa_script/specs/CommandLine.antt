@@ -4,7 +4,7 @@
 --     IsJob           the job of a subcommand
 --     Names           the job that the words of a command line name
 --     ReadsCommand    when a command line is read, and why not
-use Rattle.std.specs.Prelude.{◌≡◌, ◌≢◌, ◌≤◌, ◌⊎◌, ℕ, true, false, Option, Some, Result, MatchResult, List, [], ◌∷◌, codes}
+use Rattle.std.specs.Prelude.{◌≡◌, ◌≢◌, ◌<◌, ◌≤◌, ◌^◌, ◌⊎◌, ℕ, true, false, Option, Some, Result, MatchResult, List, [], ◌∷◌, codes}
 use Rattle.std.specs.Option.{IsSomeAnd}
 use Rattle.std.specs.Str.Parse.{IsNumeral, digits_value, without_leading_plus}
 use Rattle.clap.specs.Words.{App, Text, Row, Rule, new_app, new_rule, one_of, subcommand_of, with_rule, with_subcommand, fault_of, HasKind}
@@ -18,7 +18,7 @@ use Rattle.decision_log.specs.Opens.{IsCapacity}
 use Rattle.xa_script.specs.declared.manner.Manner.{Manner}
 use Rattle.xa_script.specs.declared.manner.Manner.TheVariants.{Freely, Together, Shuffled}
 use Rattle.xa_script.specs.declared.command.Job.{Job}
-use Rattle.xa_script.specs.declared.command.Job.TheVariants.{Run, Race, Coordinate, Serve}
+use Rattle.xa_script.specs.declared.command.Job.TheVariants.{Run, Race, Coordinate, Serve, Show}
 
 -- `--capacity N`, a number from 1 to 1024, and 1024 where it isn't given
 abbrev pub capacity_rule : Rule
@@ -48,11 +48,15 @@ coordinate_app = with_rule (with_rule (new_app (codes "coordinate")) stores_rule
 abbrev pub IsLocal : Command → Type 0
 IsLocal command = (out-Command command).has_globals ≡ false
 
--- `xa_script run`, `race`, `coordinate` and `serve`: a subcommand is required
+-- a subcommand is required, or `--version`
+abbrev pub bare_app : App
+bare_app = on_top (λ shape. record shape { subcommand_required = true; has_version = true }) (new_app (codes "xa_script"))
+
+-- `xa_script run`, `race`, `coordinate`, `serve` and `show`
 abbrev pub script_app : App
 script_app =
-    with_subcommand (with_subcommand (with_subcommand (on_top (λ shape. record shape { subcommand_required = true }) (with_subcommand (new_app (codes "xa_script")) (new_app (codes "run")).top)) race_app.top)
-    coordinate_app.top) (new_app (codes "serve")).top
+    with_subcommand (with_subcommand (with_subcommand (with_subcommand (with_subcommand bare_app (new_app (codes "run")).top) race_app.top) coordinate_app.top)
+    (new_app (codes "serve")).top) (new_app (codes "show")).top
 
 -- the text of a value is this number, which a log can have as its capacity
 abbrev pub IsCapacityText : ℕ → Text → Type 0
@@ -66,9 +70,9 @@ IsStoreCount stores = (1 ≤ stores) × (stores ≤ 16)
 abbrev pub IsStoresText : ℕ → Text → Type 0
 IsStoresText stores text = IsNumeral 10 (without_leading_plus text) × (stores ≡ digits_value 10 (without_leading_plus text)) × IsStoreCount stores
 
--- the text of a value is this number
+-- the text of a value is this number, which has 64 bits
 abbrev pub IsSeedText : ℕ → Text → Type 0
-IsSeedText seed text = IsNumeral 10 (without_leading_plus text) × (seed ≡ digits_value 10 (without_leading_plus text))
+IsSeedText seed text = IsNumeral 10 (without_leading_plus text) × (seed ≡ digits_value 10 (without_leading_plus text)) × (seed < 2 ^ 64)
 
 -- no number is given as a seed
 abbrev pub HasNoSeed : Option Text → Type 0
@@ -86,11 +90,13 @@ IsRaceOf capacity together shuffle Run = ⊥
 IsRaceOf capacity together shuffle (Race room manner) = IsSomeAnd capacity (IsCapacityText room) × IsMannerOf together shuffle manner
 IsRaceOf capacity together shuffle (Coordinate stores room) = ⊥
 IsRaceOf capacity together shuffle Serve = ⊥
+IsRaceOf capacity together shuffle Show = ⊥
 
 -- the job is of calls over as many stores, with as much room in each, as two values' texts are
 abbrev pub IsCoordinateOf : (stores capacity : Option Text) → Job → Type 0
 IsCoordinateOf stores capacity Run = ⊥
 IsCoordinateOf stores capacity Serve = ⊥
+IsCoordinateOf stores capacity Show = ⊥
 IsCoordinateOf stores capacity (Race room manner) = ⊥
 IsCoordinateOf stores capacity (Coordinate count room) = IsSomeAnd stores (IsStoresText count) × IsSomeAnd capacity (IsCapacityText room)
 
@@ -98,6 +104,7 @@ IsCoordinateOf stores capacity (Coordinate count room) = IsSomeAnd stores (IsSto
 abbrev pub IsJob : Job → Text × List Row → Type 0
 IsJob Run found = found.0 ≡ codes "run"
 IsJob Serve found = found.0 ≡ codes "serve"
+IsJob Show found = found.0 ≡ codes "show"
 IsJob (Race capacity manner) found =
     (found.0 ≡ codes "race") × IsRaceOf (one_of (codes "capacity") found.1) (one_of (codes "together") found.1) (one_of (codes "shuffle") found.1) (Race capacity manner)
 IsJob (Coordinate stores capacity) found =
@@ -118,3 +125,4 @@ CanBeDone Run = Unit {0}
 CanBeDone (Race capacity manner) = IsCapacity capacity
 CanBeDone (Coordinate stores capacity) = IsStoreCount stores × IsCapacity capacity
 CanBeDone Serve = Unit {0}
+CanBeDone Show = Unit {0}

@@ -31,7 +31,37 @@ pub enum Job {
     },
     /// Answers each line of the standard input before it reads more.
     Serve,
+    /// Does so too, and shows the store behind each answer.
+    Show,
 }
+
+/// The version that the program tells.
+const VERSION: &str = "0.1.0";
+
+/// What a line of statements looks like, as the help of the jobs that read such lines shows it.
+const LINES: &str = "A line is the number of a session, from 1 to 16, and a statement of that session:
+  1 XA START 'abc','def',7
+It is answered in that session's name:
+  1 OK
+Statements:
+  XA START x, XA END x, XA PREPARE x, XA COMMIT x [ONE PHASE], XA ROLLBACK x
+                           x is an identifier: 'gtrid'[,'bqual'[,formatID]]
+  XA RECOVER [CONVERT XID] lists the prepared branches
+  GET 'k', PUT 'k','v', DEL 'k'
+                           reads a row, gives it a value, takes its value away
+  DISCONNECT               ends the session
+A text is 'abc', X'616263' or 0x616263. Blank lines have no answer.";
+
+/// What is shown behind an answer, as the help shows it.
+const SHOWN: &str = "A line is the number of a session, from 1 to 16, and a statement of that session, as for serve:
+  1 PUT 'k','v'
+Behind its answer stand lines that begin with two blanks: each branch, with the rows that it holds, and then
+the rows that the line was about:
+  1 OK
+    BRANCH 0x616263,0x646566,7 ACTIVE SESSION 1
+      HOLDS 0x6b WRITES 0x76
+    ROW 0x6b NONE
+Lines that begin with # are said again behind two blanks.";
 
 /// The calls that `coordinate` reads, as its help shows them.
 const CALLS: &str = "Calls, one a line; n is a transaction from 1 on, k a store from 0 on:
@@ -46,7 +76,9 @@ const CALLS: &str = "Calls, one a line; n is a transaction from 1 on, k a store 
   RECOVER                  the coordinator finishes what was left prepared
   AT k STATEMENT           gives the statement of a stranger to the store
   SHOW                     shows what is prepared in each store, and the decisions
-Blank lines, and lines that begin with #, have no answer.";
+Blank lines, and lines that begin with #, have no answer. A call and its answer:
+  WORK 1 0 PUT 'k','v'
+  OK";
 
 /// The option that says for how many entries a race's log has room.
 fn capacity_option<'a>(alloc: Global) -> Arg<'a>
@@ -91,6 +123,7 @@ fn race_command<'a>(alloc: Global) -> Result<Command<'a>, AllocError>
 {
     Command::new(alloc, "race")
         .about("Races the script of the standard input, each session on a thread of its own")
+        .after_help(LINES)
         .arg(capacity_option(alloc))?
         .arg(together_option(alloc))?
         .arg(shuffle_option(alloc))
@@ -127,17 +160,24 @@ fn coordinate_command<'a>(alloc: Global) -> Result<Command<'a>, AllocError>
 fn script_command<'a>(alloc: Global) -> Result<Command<'a>, AllocError>
     ensures { IfOk result (λ command. app_of command ≡ script_app) }
 {
-    let run = Command::new(alloc, "run").about("Runs the script of the standard input");
-    let serve = Command::new(alloc, "serve").about(
-        "Answers each line of the standard input before it reads more",
-    );
+    let run = Command::new(alloc, "run")
+        .about("Runs the script of the standard input")
+        .after_help(LINES);
+    let serve = Command::new(alloc, "serve")
+        .about("Answers each line of the standard input before it reads more")
+        .after_help(LINES);
+    let show = Command::new(alloc, "show")
+        .about("Answers each line as serve does, and shows the store behind each answer")
+        .after_help(SHOWN);
     Command::new(alloc, "xa_script")
+        .version(VERSION)
         .about("Runs scripts of XA statements")
         .subcommand_required(true)
         .subcommand(run)?
         .subcommand(race_command(alloc)?)?
         .subcommand(coordinate_command(alloc)?)?
-        .subcommand(serve)
+        .subcommand(serve)?
+        .subcommand(show)
 }
 
 /// The capacity that was found for a race.
@@ -164,7 +204,7 @@ fn begins_together(found: &ArgMatches<'_>) -> bool
     ensures given { result ≡ true → one_text (found_of found.now) (codes "together") ≡ Some (codes "true") }
     ensures other { result ≡ false → one_text (found_of found.now) (codes "together") ≢ Some (codes "true") }
 {
-    found.get_one::<bool>("together") == Some(true)
+    found.get_one::<bool>("together").unwrap_or(false)
 }
 
 /// How the sessions are to come to their lines.
@@ -235,6 +275,8 @@ fn job_in(matches: &ArgMatches<'_>) -> Option<Job>
         coordinate_in(found)
     } else if name == "serve" {
         Some(Job::Serve)
+    } else if name == "show" {
+        Some(Job::Show)
     } else {
         None
     }
@@ -242,7 +284,8 @@ fn job_in(matches: &ArgMatches<'_>) -> Option<Job>
 
 /// The job that the words of a command line name. The first word is the program's own name.
 ///
-/// A capacity is in `[1, 1024]`, and 1024 where the words don't give it; a number of stores in `[1, 16]`, and 3.
+/// A capacity is in `[1, 1024]`, and 1024 where the words don't give it; a number of stores in `[1, 16]`, and 3. Where a race has a
+/// seed, its manner is `Shuffled`.
 /// Errors: what `clap` says of words that name no job, or that ask for help; want of memory is one of its kinds.
 /// May answer that memory ran out. Doesn't wait.
 /// Own rule: docs/BEHAVIOR.md, 'The program'.
@@ -291,6 +334,27 @@ mod tests {
     }
 
     #[test]
+    fn show_is_a_job(rt: HostRuntime) {
+        let words = ["xa_script", "show"];
+        assert_eq!(rt;
+            read_command(rt.alloc(), words.as_slice()).ok(),
+            Some(Job::Show)
+        );
+        let words = ["xa_script", "show", "--all"];
+        assert_eq!(rt; refusal(rt.alloc(), words.as_slice()), Some(2));
+    }
+
+    #[test]
+    fn version_is_told(rt: HostRuntime) {
+        for word in ["--version", "-V"] {
+            let words = ["xa_script", word];
+            assert_eq!(rt; refusal(rt.alloc(), words.as_slice()), Some(0));
+        }
+        let words = ["xa_script", "run", "--version"];
+        assert_eq!(rt; refusal(rt.alloc(), words.as_slice()), Some(2));
+    }
+
+    #[test]
     fn race_is_a_job_with_a_capacity(rt: HostRuntime) {
         let words = ["xa_script", "race"];
         assert_eq!(rt;
@@ -309,6 +373,34 @@ mod tests {
                     manner: Manner::Freely,
                 })
             );
+        }
+    }
+
+    /// The manner of the race that these words name.
+    fn manner_of(alloc: Global, words: &[&str]) -> Option<Manner> {
+        match read_command(alloc, words).ok() {
+            Some(Job::Race { manner, .. }) => Some(manner),
+            _ => None,
+        }
+    }
+
+    #[test]
+    fn race_is_a_job_with_a_manner(rt: HostRuntime) {
+        let words = ["xa_script", "race", "--together"];
+        assert_eq!(rt;
+            manner_of(rt.alloc(), words.as_slice()),
+            Some(Manner::Together)
+        );
+        for (text, seed) in [("0", 0), ("+7", 7), ("18446744073709551615", u64::MAX)] {
+            let words = ["xa_script", "race", "--together", "--shuffle", text];
+            assert_eq!(rt;
+                manner_of(rt.alloc(), words.as_slice()),
+                Some(Manner::Shuffled(seed))
+            );
+        }
+        for text in ["-1", "18446744073709551616", "x", ""] {
+            let words = ["xa_script", "race", "--shuffle", text];
+            assert_eq!(rt; refusal(rt.alloc(), words.as_slice()), Some(2));
         }
     }
 

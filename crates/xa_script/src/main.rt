@@ -1,7 +1,8 @@
 //! Runs scripts of XA statements: `xa_script run` reads a script from the standard input, and writes what answers it;
 //! `xa_script race` gives each session's statements to a thread of its own, and writes the history that explains the answers;
 //! `xa_script coordinate` carries the calls of a transaction manager out, over stores of its own.
-//! `xa_script serve` answers each line of the standard input before it reads more.
+//! `xa_script serve` answers each line of the standard input before it reads more; `xa_script show` does so too, and shows the store
+//! behind each answer.
 #![tactic(auto)]
 
 ghost use Rattle.std.specs.Prelude.{◌≡◌};
@@ -25,6 +26,7 @@ use std::thread::Threads;
 use std::{env, io};
 use xa_manager::converse;
 use xa_serve::{Wire, serve_statements};
+use xa_show::show_statements;
 use xa_store::{OpenGate, ShuffledGate, TogetherGate};
 pub use xa_transcript::{CutReader, CutWriter, ScriptFault, race_script, run_script};
 
@@ -122,6 +124,7 @@ fn carry_out<R: Input + Print + Alloc<A = Global> + Threads + Wait + Sync>(
             return converse(rt, rt.alloc(), &mut wire, stores, capacity);
         }
         Job::Serve => return serve_statements(rt.alloc(), &mut Wire::new(input, output)),
+        Job::Show => return show_statements(rt.alloc(), &mut Wire::new(input, output)),
     };
     if output.flush().is_err() {
         return Err(ScriptFault::Write);

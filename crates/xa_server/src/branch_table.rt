@@ -9,6 +9,7 @@ ghost use Rattle.xa_server.specs.Tables.{owned_at, prepared_keys, without_last};
 
 use crate::branch::{self, BranchRecord, Phase};
 use crate::keys::Keys;
+use crate::overview::{BranchEntry, entries_in};
 use std::alloc::Global;
 use std::collections::BTreeMap;
 use std::marker::Model;
@@ -139,6 +140,7 @@ fn copy_of_places(owned: &[Option<Xid>; PLACES]) -> [Option<Xid>; PLACES]
 }
 
 impl BranchTable {
+    ghost use Rattle.xa_server.specs.Held.{recorded_entries};
     ghost use Rattle.xa_server.specs.Tables.{owner_of, prepared_among, with_record};
 
     /// No branches.
@@ -186,6 +188,13 @@ impl BranchTable {
         ensures { IfOk result (λ xids. xids.items ≡ prepared_among self.now) }
     {
         prepared_in(self.alloc, &self.by_xid)
+    }
+
+    /// Every branch without its rows, ascending by identifier.
+    pub fn entries(&self, alloc: Global) -> Result<Vec<BranchEntry>, NoMemory>
+        ensures { IfOk result (λ branches. branches.items ≡ recorded_entries self.now) }
+    {
+        entries_in(alloc, &self.by_xid)
     }
 
     /// Starts a branch for a session. After `NoMemory` the records are as before.

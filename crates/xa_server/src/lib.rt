@@ -5,9 +5,13 @@ mod apply;
 mod branch;
 mod branch_table;
 mod decide;
+mod hold;
 mod keys;
 pub mod laws;
 mod lock;
+mod overview;
+#[cfg(test)]
+mod overview_tests;
 mod reply;
 mod row;
 mod row_table;
@@ -20,6 +24,9 @@ mod sharing_tests;
 mod tests;
 mod xa_error;
 
+pub use branch::Phase;
+pub use hold::{HeldRow, Hold};
+pub use overview::BranchEntry;
 pub use reply::{Reply, XidList};
 pub use server::Server;
 pub use xa_error::{BranchState, XaError};

@@ -5,8 +5,10 @@ ghost use Rattle.std.specs.BTreeMap as tree;
 ghost use Rattle.std.specs.FinMap as map;
 ghost use Rattle.std.specs.FinSet as set;
 ghost use Rattle.xa_xid.specs.Xid.{bytes_cmp};
+ghost use Rattle.xa_server.specs.Held.{held_among};
 ghost use Rattle.xa_server.specs.Rows.{held_row, shared_row, with_sharer, freed_row, is_needed, Frees};
 
+use crate::hold::{HeldRow, held_in};
 use crate::keys::Keys;
 use crate::lock::{Change, Lock};
 use crate::row::{RowRecord, free};
@@ -126,6 +128,13 @@ impl RowTable {
         ensures { option_copied result ≡ map.get self.now key.now }
     {
         self.by_key.get(key)
+    }
+
+    /// The rows that this branch holds, ascending by key.
+    pub fn held_by(&self, alloc: Global, xid: &Xid) -> Result<Vec<HeldRow>, NoMemory>
+        ensures { IfOk result (λ rows. rows.items ≡ held_among xid.now (map.entries self.now)) }
+    {
+        held_in(alloc, &self.by_key, xid)
     }
 
     /// Has a branch hold a row exclusively, and do this to it. After `NoMemory` the records are as before.

@@ -5,7 +5,7 @@ use Rattle.xa_script.proofs.command.race_command.Goals as goal
 
 pub returns-clause-app : goal.returns-clause-app
 returns-clause-app c =
-    let base : app_of c.about.result ≡ new_app (codes "race") = search rules in
+    let base : app_of c.after_help.result ≡ new_app (codes "race") = search rules in
     let one = c.in_ok-arg.ensures.shape c.capacity_option.ensures.global ∙ ap₂ with_rule base c.capacity_option.ensures.rule in
     let two = c.in_ok-arg-2.ensures.shape c.together_option.ensures.global ∙ ap₂ with_rule one c.together_option.ensures.rule in
     IfOk-weaker c.arg-3.result _ _ (λ command added. added.shape c.shuffle_option.ensures.global ∙ ap₂ with_rule two c.shuffle_option.ensures.rule) c.arg-3.ensures

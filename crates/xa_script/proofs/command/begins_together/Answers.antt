@@ -1,0 +1,10 @@
+use Rattle.std.proofs.Common.{◌≡◌, ◌∙◌, sym, codes, true, false}
+use Rattle.clap.specs.Words.{found_of, one_text}
+use Rattle.xa_script.proofs.Options.{flag_read, no_flag_read}
+use Rattle.xa_script.proofs.command.begins_together.Goals as goal
+
+pub returns-clause-given : goal.returns-clause-given
+returns-clause-given c is = flag_read (one_text (found_of c.args.found.now) (codes "together")) c.get_one.result c.get_one.ensures.none c.get_one.ensures.value (sym c.unwrap_or.ensures ∙ is)
+
+pub returns-clause-other : goal.returns-clause-other
+returns-clause-other c is = no_flag_read (one_text (found_of c.args.found.now) (codes "together")) c.get_one.result c.get_one.ensures.none c.get_one.ensures.value (sym c.unwrap_or.ensures ∙ is)
