@@ -7,7 +7,7 @@ Each session of the script has a thread and a connection of its own, and gives i
 the record stand in the order in which they were seen (docs/JUDGE.md). XA statements are sent as they are written. `GET`, `PUT` and `DEL` act on the
 table `judged` of the database, which is made empty first: a free session's in a transaction of its own, a branch's under locks that aren't waited
 for. A lock that can't be had at once is recorded as 3572, whatever number the server gives it. `DISCONNECT` closes the connection, and the next statement of the
-session opens another. `--lose S:N` cuts session S off without an answer once it has given its Nth statement.
+session opens another. MariaDB has no `CONVERT XID`: it is asked for the rows alone, which are recorded the same. `--lose S:N` cuts session S off without an answer once it has given its Nth statement.
 
 It needs Python 3.9 and PyMySQL (Debian's python3-pymysql). Nothing of it is proved.
 """
@@ -88,6 +88,8 @@ class Session:
             self.connection.close()
             self.connection = None
             return ["OK"]
+        if self.options.share != "FOR SHARE":
+            statement = re.sub(r"(?i)(XA\s+RECOVER)\s+CONVERT\s+XID", r"\1", statement)
         cursor.execute(statement)
         verb = words[1].upper() if len(words) > 1 else ""
         if verb == "RECOVER":
