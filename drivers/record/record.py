@@ -171,7 +171,12 @@ def prepare(options):
         cursor.execute("XA RECOVER")
         for row in cursor.fetchall():
             data = row[3] if isinstance(row[3], bytes) else row[3].encode()
-            cursor.execute(f"XA ROLLBACK X'{data[:row[1]].hex()}',X'{data[row[1]:].hex()}',{row[0]}")
+            try:
+                cursor.execute(f"XA ROLLBACK X'{data[:row[1]].hex()}',X'{data[row[1]:].hex()}',{row[0]}")
+            except pymysql.MySQLError as error:
+                # MariaDB says so of a branch without work whose client is gone, and has rolled it back
+                if error.args[0] != 1402:
+                    raise
         cursor.execute(f"CREATE DATABASE IF NOT EXISTS `{options.database}`")
         cursor.execute(f"DROP TABLE IF EXISTS `{options.database}`.judged")
         cursor.execute(f"CREATE TABLE `{options.database}`.judged (k VARBINARY(64) PRIMARY KEY, v VARBINARY(64) NOT NULL) ENGINE=InnoDB")
