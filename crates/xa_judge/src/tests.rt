@@ -111,20 +111,6 @@ fn more_configurations_than_allowed_are_undecided(rt: HostRuntime) -> Result<(),
 }
 
 #[test]
-fn open_call_of_a_lost_client_may_have_taken_effect(rt: HostRuntime) -> Result<(), Fail> {
-    for seen in [Some(b'v'), None] {
-        let mut events = overlapping(rt.alloc(), seen)?;
-        let _last = events.pop();
-        if let Some(one) = SessionNo::of(1) {
-            events.insert(2, Event::Lost(one))?;
-        }
-        let moves = moves_of(rt.alloc(), verdict(rt.alloc(), events.as_slice(), 4)?);
-        assert!(rt; moves.len() >= 5);
-    }
-    Ok(())
-}
-
-#[test]
 fn text_that_is_no_statement_is_answered_1064(rt: HostRuntime) -> Result<(), Fail> {
     let mut events = Vec::new(rt.alloc());
     if let Some(one) = SessionNo::of(1) {
