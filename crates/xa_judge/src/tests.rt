@@ -34,6 +34,18 @@ fn overlapping(alloc: Global, seen: Option<u8>) -> Result<Vec<Event>, NoMemory> 
     Ok(events)
 }
 
+/// Session 1 calls for a write of v and is lost, and session 2 reads the row and is seen to get this.
+fn left_behind(alloc: Global, seen: Option<u8>) -> Result<Vec<Event>, NoMemory> {
+    let mut events = Vec::new(alloc);
+    if let (Some(one), Some(two)) = (SessionNo::of(1), SessionNo::of(2)) {
+        events.push(call(one, Some(b'v')))?;
+        events.push(Event::Lost(one))?;
+        events.push(call(two, None))?;
+        events.push(Event::Return(two, Seen::Value(seen.map(text))))?;
+    }
+    Ok(events)
+}
+
 /// The verdict on these events, from a server that holds nothing.
 fn verdict(alloc: Global, events: &[Event], limit: usize) -> Result<Verdict, NoMemory> {
     judge(alloc, &Server::new(alloc), events, limit)
@@ -107,6 +119,22 @@ fn more_configurations_than_allowed_are_undecided(rt: HostRuntime) -> Result<(),
         Verdict::Undecided(place) => assert_eq!(rt; place, 2),
         _ => assert!(rt; false),
     }
+    Ok(())
+}
+
+#[test]
+fn open_call_of_a_lost_client_may_have_taken_effect(rt: HostRuntime) -> Result<(), Fail> {
+    let events = left_behind(rt.alloc(), Some(b'v'))?;
+    let moves = moves_of(rt.alloc(), verdict(rt.alloc(), events.as_slice(), 4)?);
+    let order = [
+        Move::Event,
+        Move::Event,
+        Move::Event,
+        effect(1),
+        effect(2),
+        Move::Event,
+    ];
+    assert_eq!(rt; moves.as_slice(), order.as_slice());
     Ok(())
 }
 
