@@ -119,15 +119,21 @@ look_step sizes slots id h state r homes here small =
       (looked h r.log, refl, (refl, r.log, refl, newest_by sizes state.words state.views r h k.sessions, history sizes state.words state.views r h k)),
     )
 
+-- a load that leaves what the pass knows
+pub same_seat : (sizes : Sizes) (words : List ℕ) (views : List View) (r : ChainRule sizes words views) (id word : ℕ) (h : Hand) → get_elem? views id ≡ some (One h)
+    → ChainRule sizes (set words word (get_or words word 0)) (set views id (One h))
+same_seat sizes words views r id word h here =
+    loaded sizes words word (set views id (One h))
+    (with_seats sizes words views r (set views id (One h))
+    (step_seat (Knows sizes words r.log) (Knows sizes words r.log) r.home r.next views id h h r.seats here refl (known sizes words views r id h here).fact_is (λ g apart low k. k)))
+
 pub read_step : (sizes : Sizes) (slots id word : ℕ) (h : Hand) → word ≢ 0 → Allows (Rules sizes) slots id (seated h) word (λ n. n) (Tells (Reads (Load word) h))
 read_step sizes slots id word h behind state r homes here small =
     let p = known sizes state.words state.views r id h here in (
       One h,
       keeps,
       tt,
-      loaded sizes state.words word (set state.views id (One h))
-          (with_seats sizes state.words state.views r (set state.views id (One h))
-          (step_seat (Knows sizes state.words r.log) (Knows sizes state.words r.log) r.home r.next state.views id h h r.seats here refl p.fact_is (λ g apart low k. k))),
+      same_seat sizes state.words state.views r id word h here,
       (
         h,
         refl,

@@ -26,11 +26,11 @@ use Rattle.decision_log.proofs.SeatLemmas.{step_seat}
 use Rattle.decision_log.proofs.TurnStores.{holds_nothing, holds_beside, holds_one_more}
 use Rattle.chain_log.specs.Cells.{name_at, cell_at, name_before, newest_of}
 use Rattle.chain_log.specs.ChainRule.{own_cell, try_word, newest_for, Knows, ChainRule}
-use Rattle.decision_log.specs.Atomic.{Atomic, Store, Exchange, Tells, Does, Counts}
+use Rattle.decision_log.specs.Atomic.{Atomic, Load, Store, Exchange, Tells, Does, Counts}
 use Rattle.decision_log.proofs.Counting.{look_is}
-use Rattle.chain_log.specs.ChainPlays.{won, lost, Drafts, Exchanges}
+use Rattle.chain_log.specs.ChainPlays.{won, lost, Finds, Drafts, Exchanges}
 use Rattle.chain_log.proofs.Chains.{chain_of, one_chain}
-use Rattle.chain_log.proofs.ChainSteps.{Rules, known, ranged, history, newest_by, seen_keeps, loaded}
+use Rattle.chain_log.proofs.ChainSteps.{Rules, known, ranged, history, newest_by, seen_keeps, loaded, same_seat}
 use Rattle.chain_log.proofs.Names.{name_begins, name_low, newest_added, one_cell, one_length, within_words, words_apart}
 
 module _ (sizes : Sizes) (words : List ℕ) (views : List View) (r : ChainRule sizes words views) where
@@ -242,6 +242,32 @@ draft_step sizes slots id word index new h at along below room state r homes her
           (draft_keeps sizes state.words state.views r id h index new here along below room)),
       (drafted h (word - own_cell h) new, refl, refl),
     )
+
+-- a 0 that is found in the own cell is a word of the draft; any other word leaves the draft
+pub find_step : (sizes : Sizes) (slots id word index : ℕ) (h : Hand) → word ≡ own_cell h + index → index ≤ length h.draft → index < 22 → length h.known.seen < h.capacity
+    → Allows (Rules sizes) slots id (seated h) word (λ n. n) (Tells (Finds (Load word) h))
+find_step sizes slots id word index h at along below room state r homes here small =
+    let n = get_or state.words word 0 in
+    let back : word - own_cell h ≡ index = omega arith in
+    let behind : word ≢ 0 = λ e. omega arith in
+    dite (ℕ_discrete n 0)
+    (λ blank. (
+      One (drafted h (word - own_cell h) 0),
+      keeps,
+      tt,
+      subst (λ new. ChainRule sizes (set state.words word n) (set state.views id (One (drafted h (word - own_cell h) new)))) blank
+          (subst (λ i. ChainRule sizes (set state.words word n) (set state.views id (One (drafted h i n)))) (sym back)
+          (subst (λ w. ChainRule sizes (set state.words w n) (set state.views id (One (drafted h index n)))) (sym at)
+          (draft_keeps sizes state.words state.views r id h index n here along below room))),
+      (drafted h (word - own_cell h) 0, refl, (behind, (λ _. refl), (λ other. absurd (other blank)))),
+    ))
+    (λ other. (
+      One h,
+      keeps,
+      tt,
+      same_seat sizes state.words state.views r id word h here,
+      (h, refl, (behind, (λ blank. absurd (other blank)), (λ _. refl))),
+    ))
 
 pub exchange_step : (sizes : Sizes) (slots id old own : ℕ) (h : Hand) (entry : Entry) → old ≡ newest_of h.sessions h.known.seen → own ≡ name_at h.sessions (length h.known.seen) h.known.number
     → IsEntry entry → entry.session ≡ h.known.number → h.draft ≡ old ∷ words_of entry → length h.known.seen < h.capacity

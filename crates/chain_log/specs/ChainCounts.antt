@@ -1,5 +1,5 @@
 -- Each step of a chain raises the counts of its pass as it should.
---     see_counts, read_counts, draft_counts, exchange_counts     the laws of the plays
+--     see_counts, read_counts, find_counts, draft_counts, exchange_counts     the laws of the plays
 use Rattle.std.specs.Prelude.{◌≡◌, ℕ}
 use Rattle.std.proofs.Common.{ap, ◌∙◌, sym, inl, inr}
 use mathlib.Core.Option.{none, some}
@@ -8,7 +8,7 @@ use native.Mathlib.Decide.{ℕ_discrete}
 use Rattle.decision_log.specs.declared.view.Hand.{Hand}
 use Rattle.decision_log.specs.Atomic.{Atomic, Load, Store, Exchange, IsLoad, IsTry, Counts}
 use Rattle.chain_log.specs.ChainRule.{try_word, newest_for}
-use Rattle.chain_log.specs.ChainPlays.{Sees, Reads, Drafts, Exchanges}
+use Rattle.chain_log.specs.ChainPlays.{Sees, Reads, Finds, Drafts, Exchanges}
 
 -- a step that neither looks nor tries
 leaves_counts : (step : Atomic) (found : ℕ) (old new : Hand) → new.known.looks ≡ old.known.looks → new.known.tries ≡ old.known.tries → (IsLoad 0 step → ⊥) → (IsTry try_word step → ⊥)
@@ -28,6 +28,14 @@ read_counts (Load word) old found new is =
     leaves_counts (Load word) found old new (ap (λ h. h.known.looks) is.1) (ap (λ h. h.known.tries) is.1) is.0 (λ never. never)
 read_counts (Store word value) old found new is = absurd is
 read_counts (Exchange word from to said) old found new is = absurd is
+
+pub find_counts : (step : Atomic) (old : Hand) (found : ℕ) (new : Hand) → Finds step old found new → Counts newest_for try_word step found old new
+find_counts (Load word) old found new is =
+    dite (ℕ_discrete found 0)
+    (λ blank. let grown = is.1 blank in leaves_counts (Load word) found old new (ap (λ h. h.known.looks) grown) (ap (λ h. h.known.tries) grown) is.0 (λ never. never))
+    (λ other. let same = is.2 other in leaves_counts (Load word) found old new (ap (λ h. h.known.looks) same) (ap (λ h. h.known.tries) same) is.0 (λ never. never))
+find_counts (Store word value) old found new is = absurd is
+find_counts (Exchange word from to said) old found new is = absurd is
 
 pub draft_counts : (step : Atomic) (old : Hand) (found : ℕ) (new : Hand) → Drafts step old found new → Counts newest_for try_word step found old new
 draft_counts (Load word) old found new is = absurd is

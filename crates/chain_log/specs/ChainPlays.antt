@@ -1,6 +1,6 @@
 -- What each step of a chain does to the pass that takes it, and what it tells.
 --     looked, won, lost       the pass after a step
---     Sees, Reads, Drafts, Exchanges      the steps, each with its word and its kind
+--     Sees, Reads, Finds, Drafts, Exchanges      the steps, each with its word and its kind
 use Rattle.std.specs.Prelude.{◌≡◌, ◌≢◌, ◌<◌, ◌+◌, ◌-◌, ℕ, List, [], ◌∷◌, ◌++◌, length, slice_get, slice_index, Some}
 use mathlib.Core.Option.{none, some}
 use Rattle.xa_words.specs.Entry.{Entry, IsEntry}
@@ -57,6 +57,12 @@ Reads (Load word) old found new =
     → IsEntry entry × (found ≡ slice_index (name_before old.sessions old.known.seen row ∷ words_of entry) index))
 Reads (Store word value) old found new = ⊥
 Reads (Exchange word from to said) old found new = ⊥
+
+-- a load of a word of the own cell: a 0 that it finds is the draft's next word, without a store
+abbrev pub Finds : Atomic → Hand → ℕ → Hand → Type 0
+Finds (Load word) old found new = (word ≢ 0) × (found ≡ 0 → new ≡ drafted old (word - own_cell old) 0) × (found ≢ 0 → new ≡ old)
+Finds (Store word value) old found new = ⊥
+Finds (Exchange word from to said) old found new = ⊥
 
 -- a store of a word into the own cell
 abbrev pub Drafts : Atomic → Hand → ℕ → Hand → Type 0

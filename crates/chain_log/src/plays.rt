@@ -1,6 +1,6 @@
 //! What each step tells. These types are for the proofs alone.
-ghost use Rattle.chain_log.specs.ChainPlays.{Sees, Reads, Drafts, Exchanges};
-ghost use Rattle.chain_log.specs.ChainCounts.{see_counts, read_counts, draft_counts, exchange_counts};
+ghost use Rattle.chain_log.specs.ChainPlays.{Sees, Reads, Finds, Drafts, Exchanges};
+ghost use Rattle.chain_log.specs.ChainCounts.{see_counts, read_counts, find_counts, draft_counts, exchange_counts};
 
 use crate::Links;
 use decision_log::LogPlay;
@@ -21,6 +21,15 @@ impl LogPlay<Links> for ReadWord {
     ghost then = { Reads };
 
     ghost counts = { read_counts };
+}
+
+/// A load of a word of the own cell that is to be 0.
+pub(crate) struct FindBlank;
+
+impl LogPlay<Links> for FindBlank {
+    ghost then = { Finds };
+
+    ghost counts = { find_counts };
 }
 
 /// A store into the own cell.

@@ -5,12 +5,13 @@
 //! 1. Who looks loads word 0 (`load_newest`). What the pass has seen stays a prefix of the history, which grows only at its end.
 //! 2. Who reads loads words of a cell whose name it found before (`load_word`). A cell of the history is never written again: its
 //!    session stores in later rows alone, and no other session stores in its column.
-//! 3. Who adds stores its own cell (`store_word`) and then exchanges word 0 from the last name it has seen to its own (`exchange`).
-//!    The cell was whole before it became the newest. A name has one row and one column, so an equal name in word 0 means that
-//!    exactly what the pass has seen is the history; the exchange tests it and adds at one step.
+//! 3. Who adds writes its own cell (`put_word`): it stores each word, but loads one that is to be 0 first, and leaves it where it is 0
+//!    already. Then it exchanges word 0 from the last name it has seen to its own (`exchange`). The cell was whole before it became
+//!    the newest. A name has one row and one column, so an equal name in word 0 means that exactly what the pass has seen is the
+//!    history; the exchange tests it and adds at one step.
 //! 4. Who meets joins two seats, loads word 0 there, and splits them (`LogTable::join`, `load_both`, `split`). Each pass has seen a
 //!    prefix of one history, so the longer begins with the shorter.
-ghost use Rattle.std.specs.Prelude.{◌≡◌, ◌≢◌, ◌<◌, ◌≤◌, ◌+◌, ℕ, List, ◌∷◌, length, slice_get, slice_index, Some};
+ghost use Rattle.std.specs.Prelude.{◌≡◌, ◌≢◌, true, false, ◌<◌, ◌≤◌, ◌+◌, ℕ, List, ◌∷◌, length, slice_get, slice_index, Some};
 ghost use Rattle.xa_words.specs.Entry.{Entry, IsEntry};
 ghost use Rattle.xa_words.specs.Words.{words_of};
 ghost use Rattle.decision_log.specs.Draft.{drafted};
@@ -22,7 +23,7 @@ ghost use Rattle.chain_log.specs.ChainSeat.{IsSeat, IsOurs};
 
 use crate::ChainLog;
 use crate::layout::{NEWEST, cell_start};
-use crate::plays::{DraftWord, Publish, ReadWord, SeeAll};
+use crate::plays::{DraftWord, FindBlank, Publish, ReadWord, SeeAll};
 use atomic_table::Seat;
 use decision_log::View;
 use xa_words::Entry;
@@ -53,8 +54,25 @@ impl ChainLog {
         self.table.load::<ReadWord>(seat, word)
     }
 
+    /// Loads a word of the own cell that is to be 0. The answer is whether it is.
+    fn find_blank(&self, seat: &mut Seat<Entry, View>, name: u64, index: usize) -> bool
+        requires seat { IsSeat self.now seat.old }
+        requires ours { IsOurs self.now (hand seat.old) }
+        requires room { length (hand seat.old).known.seen < (hand seat.old).capacity }
+        requires own { name ≡ name_at (hand seat.old).sessions (length (hand seat.old).known.seen) (hand seat.old).known.number }
+        requires along { index ≤ length (hand seat.old).draft }
+        requires index { index < 22 }
+        ensures seat { IsSeat self.now seat.new }
+        ensures blank { result ≡ true → hand seat.new ≡ drafted (hand seat.old) index 0 }
+        ensures other { result ≡ false → hand seat.new ≡ hand seat.old }
+    {
+        let word = cell_start(name) + index;
+        // Nobody else stores in this column, so a 0 that is found stays until this pass stores there.
+        self.table.load::<FindBlank>(seat, word) == 0
+    }
+
     /// Stores a word into the own cell.
-    pub(crate) fn store_word(&self, seat: &mut Seat<Entry, View>, name: u64, index: usize, new: u64)
+    fn store_word(&self, seat: &mut Seat<Entry, View>, name: u64, index: usize, new: u64)
         requires seat { IsSeat self.now seat.old }
         requires ours { IsOurs self.now (hand seat.old) }
         requires room { length (hand seat.old).known.seen < (hand seat.old).capacity }
@@ -67,6 +85,27 @@ impl ChainLog {
         let word = cell_start(name) + index;
         // The own cell is in no history yet: what was added since stands in other columns, and nobody else stores in this one.
         self.table.store::<DraftWord>(seat, word, new)
+    }
+
+    /// Writes a word of the own cell. A 0 that stands there already isn't stored again: a load costs much less than a store.
+    pub(crate) fn put_word(&self, seat: &mut Seat<Entry, View>, name: u64, index: usize, new: u64)
+        requires seat { IsSeat self.now seat.old }
+        requires ours { IsOurs self.now (hand seat.old) }
+        requires room { length (hand seat.old).known.seen < (hand seat.old).capacity }
+        requires own { name ≡ name_at (hand seat.old).sessions (length (hand seat.old).known.seen) (hand seat.old).known.number }
+        requires along { index ≤ length (hand seat.old).draft }
+        requires index { index < 22 }
+        ensures seat { IsSeat self.now seat.new }
+        ensures put { hand seat.new ≡ drafted (hand seat.old) index new }
+    {
+        if new != 0 {
+            self.store_word(seat, name, index, new);
+            return;
+        }
+        if self.find_blank(seat, name, index) {
+            return;
+        }
+        self.store_word(seat, name, index, 0);
     }
 
     /// Makes the own cell the newest, if the one that was seen last still is. The answer is the newest before.

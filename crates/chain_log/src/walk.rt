@@ -58,10 +58,10 @@ impl ChainLog {
         ensures seat { IsSeat self.now seat.new }
         ensures written { hand seat.new ≡ with_draft (hand seat.old) (link ∷ words_of entry.now) }
     {
-        self.store_word(seat, name, 0, link);
+        self.put_word(seat, name, 0, link);
         let words = encode(entry);
         for index in 0..WORDS {
-            self.store_word(seat, name, 1 + index, words[index]);
+            self.put_word(seat, name, 1 + index, words[index]);
         }
     }
 }

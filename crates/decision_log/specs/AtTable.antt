@@ -2,6 +2,7 @@
 --     KnowsOne        it is a seat at this table, and knows one pass
 --     KnowsTwo        the same with two passes
 --     KnowsRest       the same with those that were not issued
+--     KnowsNone       the same with no pass
 --     KeepsSeats      a rule is kept where seats are split and joined, where a pass is issued, and where two passes meet
 use Rattle.std.specs.Prelude.{◌≡◌, ◌≤◌, ℕ}
 use Rattle.atomic_table.specs.Seated.{TableId}
@@ -12,7 +13,7 @@ use Rattle.decision_log.specs.declared.view.Hand.{Hand}
 use Rattle.decision_log.specs.declared.view.View.{View}
 use Rattle.decision_log.specs.declared.view.View.TheVariants.{Spent, One, Two, Rest}
 use Rattle.decision_log.specs.declared.sizes.Sizes.{Sizes}
-use Rattle.decision_log.specs.Seats.{hand_of, second_of, seated, seated_two, seated_rest, following}
+use Rattle.decision_log.specs.Seats.{hand_of, second_of, seated, seated_two, seated_rest, spent, following}
 use Rattle.decision_log.specs.Atomic.{Meets}
 
 -- a seat at this table that knows one pass
@@ -29,6 +30,11 @@ pub record KnowsTwo (table_id : TableId) (seat : Seat Entry View) : Type 0 where
 pub record KnowsRest (table_id : TableId) (seat : Seat Entry View) : Type 0 where
   pub table : seat.table_id ≡ table_id
   pub held : seat.me ≡ seated_rest (hand_of seat.me.0)
+
+-- a seat at this table that knows no pass
+pub record KnowsNone (table_id : TableId) (seat : Seat Entry View) : Type 0 where
+  pub table : seat.table_id ≡ table_id
+  pub held : seat.me ≡ spent
 
 -- the rule holds after each of these steps where it held before; a pass is issued only while there are numbers left
 pub record KeepsSeats (holds : Sizes → State Entry View → Type 0) (newest : Hand → ℕ) : Type 0 where

@@ -2,7 +2,7 @@
 --     hand_of         the pass that a seat knows, the first where there are two
 --     second_of       the second of two
 --     hand, second    the same of a seat's value
---     seated, seated_two, seated_rest     a seat that knows one pass, two, or the rest
+--     seated, seated_two, seated_rest, spent     a seat that knows one pass, two, the rest, or none
 --     newcomer_hand, following      a pass that wasn't given out, and the one after it
 --     left_of, right_of    how a seat is split: two passes into one and one, one pass into it and nothing, the rest into the next pass and those after it
 --     both_of         how two seats are joined
@@ -65,6 +65,10 @@ seated_two first second = (Two first second, [])
 -- a seat that knows the passes that weren't given out
 abbrev pub seated_rest : Hand → Me Entry View
 seated_rest hand = (Rest hand, [])
+
+-- a seat that knows no pass
+abbrev pub spent : Me Entry View
+spent = (Spent, [])
 
 -- what a seat keeps where it is split
 abbrev pub left_of : View → View

@@ -9,19 +9,19 @@ use xa_xid::{Bytes, Key, SessionNo, Statement, Xid};
 const WRITES: u32 = 10;
 
 /// The key of a number.
-fn key(number: u32) -> Result<Key> {
+pub(crate) fn key(number: u32) -> Result<Key> {
     let bytes = Bytes::try_from(number.to_be_bytes().as_slice())?;
     Key::of(bytes).context("a key of four bytes")
 }
 
 /// A row statement.
-fn put(number: u32) -> Result<Statement> {
+pub(crate) fn put(number: u32) -> Result<Statement> {
     let value = Bytes::try_from(number.to_be_bytes().as_slice())?;
     Ok(Statement::Put(key(number)?, value))
 }
 
 /// The identifier of a number.
-fn xid(number: u32) -> Result<Xid> {
+pub(crate) fn xid(number: u32) -> Result<Xid> {
     Ok(Xid {
         format_id: 1,
         gtrid: Bytes::try_from(number.to_be_bytes().as_slice())?,

@@ -1,20 +1,27 @@
-//! Measures what a commit costs in stores of different sizes, how fast a script runs, and how threads do side by side.
+//! Measures what a commit and a renewal cost in stores of different sizes, how fast a script runs, and how threads do side by side.
 //!
-//! The figures go to the standard error, so that what is printed is the same in every run.
+//! The figures go to the standard error, so that what is printed is the same in every run; but `steady` prints its one figure.
 #![tactic(auto)]
 
 mod adds;
 mod commits;
+mod gate;
 mod loads;
 mod locked;
 mod logged;
+mod paces;
+mod records;
+mod renewals;
 mod scripts;
 mod sides;
+mod steady;
+mod texts;
 mod together;
 
-use anyhow::Result;
+use anyhow::{Context, Result, bail};
 use commits::Place;
 use loads::Load;
+use records::Piece;
 use sides::Side;
 use std::alloc::Global;
 use std::env;
@@ -22,6 +29,7 @@ use std::env::Env;
 use std::sync::Wait;
 use std::thread::Threads;
 use std::time::Clock;
+use steady::Mode;
 
 /// How much is measured.
 struct Extent {
@@ -33,6 +41,10 @@ struct Extent {
     rounds: u32,
     /// How many other branches share the rows of one that is rolled back.
     sharers: u32,
+    /// How many branches are prepared in a store that is renewed.
+    prepared: u32,
+    /// How many entries a long history has that is renewed.
+    entries: u32,
     /// How long the script is, in bytes.
     script_bytes: usize,
     /// How many entries the threads add in all.
@@ -41,8 +53,16 @@ struct Extent {
     branches: u64,
     /// How many rounds of row statements they do in all.
     row_rounds: u64,
-    /// How often each of these is tried; the least time counts.
+    /// How often each of these is tried; the ratio is of the least times.
     tries: u32,
+    /// How long each steady mode is measured.
+    steady: steady::Extent,
+    /// How many pieces the record has in which two sessions have open calls at a time.
+    pairs: u32,
+    /// How many that has in which six have.
+    crowds: u32,
+    /// How many that has in which no calls overlap.
+    alone: u32,
 }
 
 /// Enough for figures that mean something.
@@ -51,11 +71,21 @@ const WHOLE: Extent = Extent {
     many_rows: 100_000,
     rounds: 1_000,
     sharers: 1_000,
+    prepared: 1_000,
+    entries: 1_000,
     script_bytes: 1_048_576,
     adds: 1_000,
     branches: 100,
     row_rounds: 40,
     tries: 20,
+    steady: steady::Extent {
+        cycles: 20_000,
+        statements: 200_000,
+        nanoseconds: 1_000_000_000,
+    },
+    pairs: 250,
+    crowds: 20,
+    alone: 50_000,
 };
 
 /// Enough to see that it runs.
@@ -64,25 +94,76 @@ const SAMPLE: Extent = Extent {
     many_rows: 100,
     rounds: 3,
     sharers: 5,
+    prepared: 4,
+    entries: 10,
     script_bytes: 1_000,
     adds: 16,
     branches: 4,
     row_rounds: 4,
     tries: 1,
+    steady: steady::Extent {
+        cycles: 2,
+        statements: 40,
+        nanoseconds: 0,
+    },
+    pairs: 1,
+    crowds: 1,
+    alone: 3,
 };
 
+/// What is to be measured.
+enum Job {
+    /// A little of everything.
+    Sample,
+    /// Everything.
+    Figures,
+    /// One mode, by so many threads, for so many seconds.
+    Steady(Mode, u64, u64),
+}
+
 fn main(rt: HostRuntime) -> Result<()> {
-    if asks_for_figures(&rt)? {
-        measure(&rt, &WHOLE)
-    } else {
-        measure(&rt, &SAMPLE)
+    match asked_for(&rt)? {
+        Job::Sample => measure(&rt, &SAMPLE),
+        Job::Figures => measure(&rt, &WHOLE),
+        Job::Steady(mode, threads, seconds) => {
+            let per_s = mode.per_second(&rt, threads, steady::Extent::of_seconds(seconds))?;
+            println!(&rt; "{mode} threads={threads} per_s={per_s}")?;
+            Ok(())
+        }
     }
 }
 
-/// Whether the command line is `xa_bench figures`.
-fn asks_for_figures<R: Env + Alloc<A = Global>>(rt: &R) -> Result<bool> {
+/// The job of the command line: none, `figures`, or `steady MODE THREADS SECONDS`.
+fn asked_for<R: Env + Alloc<A = Global>>(rt: &R) -> Result<Job> {
     let words: Vec<String> = env::args(rt)?.collect(rt.alloc())?;
-    Ok(words.get(1).is_some_and(|word| word.as_str() == "figures"))
+    let Some(word) = words.get(1) else {
+        return Ok(Job::Sample);
+    };
+    match word.as_str() {
+        "figures" => Ok(Job::Figures),
+        "steady" => steady_job(&words),
+        _ => bail!("xa_bench [figures | steady MODE THREADS SECONDS]"),
+    }
+}
+
+/// The job of `steady` and its three words.
+fn steady_job(words: &[String]) -> Result<Job> {
+    let mode = words
+        .get(2)
+        .and_then(|word| Mode::of(word.as_str()))
+        .context("a mode: cycle, mix5, get, add, cycle-locked or mix5-locked")?;
+    let threads: u64 = words
+        .get(3)
+        .and_then(|word| word.parse().ok())
+        .context("how many threads")?;
+    let seconds: u64 = words
+        .get(4)
+        .and_then(|word| word.parse().ok())
+        .context("how many seconds")?;
+    if threads < 1 || 16 < threads {
+        bail!("there are 1 to 16 threads");
+    }
+    Ok(Job::Steady(mode, threads, seconds))
 }
 
 /// Measures everything, and says on the standard output that it did.
@@ -92,10 +173,13 @@ fn measure<R: Clock + Print + Eprint + Threads + Wait + Sync + Alloc<A = Global>
 ) -> Result<()> {
     commits_and_scripts(rt, extent)?;
     rollbacks(rt, extent)?;
+    renewing(rt, extent)?;
+    record_judging(rt, extent)?;
     for threads in [1, 2, 4] {
         side_by_side(rt, extent, threads)?;
     }
-    println!(rt; "measured: commits, scripts, threads")?;
+    steadily(rt, extent.steady)?;
+    println!(rt; "measured: commits, scripts, records, threads")?;
     Ok(())
 }
 
@@ -143,6 +227,45 @@ fn rollbacks<R: Clock + Eprint + Alloc<A = Global>>(rt: &R, extent: &Extent) -> 
     Ok(())
 }
 
+/// Measures how records are judged.
+fn record_judging<R: Clock + Eprint + Alloc<A = Global>>(rt: &R, extent: &Extent) -> Result<()> {
+    let Extent {
+        pairs,
+        crowds,
+        alone,
+        ..
+    } = *extent;
+    let paired = records::microseconds(rt, Piece::Pairs, pairs)?;
+    eprintln!(rt; "record of 8 sessions, two open at a time, {pairs} times 16 lines: {paired} us")?;
+    let crowded = records::microseconds(rt, Piece::Crowd, crowds)?;
+    eprintln!(rt; "record of 6 sessions, all open at once, {crowds} times 48 lines: {crowded} us")?;
+    let single = records::microseconds(rt, Piece::Alone, alone)?;
+    eprintln!(rt; "record without overlap, {alone} times 2 lines: {single} us")?;
+    Ok(())
+}
+
+/// Measures renewals of stores with few and with many rows, behind an empty and a long history.
+fn renewing<R: Clock + Eprint + Wait + Alloc<A = Global>>(rt: &R, extent: &Extent) -> Result<()> {
+    let Extent {
+        few_rows,
+        many_rows,
+        prepared,
+        entries,
+        tries,
+        ..
+    } = *extent;
+    for rows in [few_rows, many_rows] {
+        let empty = renewals::nanoseconds_a_renewal(rt, rows, prepared, 0, tries)?;
+        let long = renewals::nanoseconds_a_renewal(rt, rows, prepared, entries, tries)?;
+        let ratio = percent(long, empty);
+        eprintln!(rt;
+            "renewal among {rows} rows and {prepared} prepared branches: {empty} ns behind no entry, {long} ns behind {entries}"
+        )?;
+        eprintln!(rt; "ratio: {ratio} percent")?;
+    }
+    Ok(())
+}
+
 /// Measures so many threads at the same work, done in two ways.
 fn side_by_side<R: Clock + Eprint + Threads + Wait + Sync + Alloc<A = Global>>(
     rt: &R,
@@ -150,11 +273,11 @@ fn side_by_side<R: Clock + Eprint + Threads + Wait + Sync + Alloc<A = Global>>(
     threads: u64,
 ) -> Result<()> {
     let adds = extent.adds.checked_div(threads).unwrap_or(0);
-    let chain = Side::ChainAdds(adds).least(rt, threads, extent.tries)?;
-    let turn = Side::TurnAdds(adds).least(rt, threads, extent.tries)?;
-    let ratio = percent(chain, turn);
+    let chain = Side::ChainAdds(adds).times(rt, threads, extent.tries)?;
+    let turn = Side::TurnAdds(adds).times(rt, threads, extent.tries)?;
+    let ratio = percent(chain.least, turn.least);
     eprintln!(rt;
-        "{threads} threads, {adds} adds each: chain {chain} ns, turn {turn} ns, {ratio} percent"
+        "{threads} threads, {adds} adds each: chain {chain}, turn {turn}, {ratio} percent"
     )?;
     let branches = extent.branches.checked_div(threads).unwrap_or(0);
     against_lock(rt, extent, threads, Load::Branches(branches))?;
@@ -169,11 +292,32 @@ fn against_lock<R: Clock + Eprint + Threads + Wait + Sync + Alloc<A = Global>>(
     threads: u64,
     load: Load,
 ) -> Result<()> {
-    let chained = Side::Chained(load).least(rt, threads, extent.tries)?;
-    let locked = Side::Locked(load).least(rt, threads, extent.tries)?;
-    let ratio = percent(chained, locked);
+    let chained = Side::Chained(load).times(rt, threads, extent.tries)?;
+    let locked = Side::Locked(load).times(rt, threads, extent.tries)?;
+    let ratio = percent(chained.least, locked.least);
     eprintln!(rt;
-        "{threads} threads, {load} each: chain {chained} ns, lock {locked} ns, {ratio} percent"
+        "{threads} threads, {load} each: chain {chained}, lock {locked}, {ratio} percent"
     )?;
+    Ok(())
+}
+
+/// Measures each steady mode on one thread and on two.
+fn steadily<R: Clock + Eprint + Threads + Wait + Sync + Alloc<A = Global>>(
+    rt: &R,
+    extent: steady::Extent,
+) -> Result<()> {
+    for mode in [
+        Mode::Cycle,
+        Mode::Mix(5),
+        Mode::Mix(0),
+        Mode::Add,
+        Mode::CycleLocked,
+        Mode::MixLocked(5),
+    ] {
+        for threads in [1, 2] {
+            let per_s = mode.per_second(rt, threads, extent)?;
+            eprintln!(rt; "{mode} threads={threads} per_s={per_s}")?;
+        }
+    }
     Ok(())
 }

@@ -8,6 +8,7 @@ use anyhow::{Context, Result, bail};
 use chain_log::ChainLog;
 use decision_log::{DecisionLog, MOST_ENTRIES, TurnLog};
 use std::alloc::Global;
+use std::fmt;
 use std::sync::{Arc, Mutex, Wait};
 use std::thread::Threads;
 use std::time::Clock;
@@ -124,17 +125,37 @@ impl Side {
         }
     }
 
-    /// The least nanoseconds that so many threads take, of so many tries.
-    pub fn least<R: Threads + Wait + Clock + Sync + Alloc<A = Global>>(
+    /// The nanoseconds that so many threads take, of so many tries.
+    pub fn times<R: Threads + Wait + Clock + Sync + Alloc<A = Global>>(
         self,
         rt: &R,
         threads: u64,
         tries: u32,
-    ) -> Result<u64> {
+    ) -> Result<Times> {
         let mut least = u64::MAX;
+        let mut whole: u64 = 0;
         for _ in 0..tries {
-            least = u64::min(least, self.nanoseconds(rt, threads)?);
+            let taken = self.nanoseconds(rt, threads)?;
+            least = u64::min(least, taken);
+            whole = whole.saturating_add(taken);
         }
-        Ok(least)
+        let mean = whole.checked_div(u64::from(tries)).unwrap_or(0);
+        Ok(Times { least, mean })
+    }
+}
+
+/// What several tries took, in nanoseconds.
+#[derive(Clone, Copy)]
+pub struct Times {
+    /// The quickest of them.
+    pub least: u64,
+    /// All of them on the average.
+    pub mean: u64,
+}
+
+impl fmt::Display for Times {
+    fn fmt<W: fmt::Write>(&self, f: &mut fmt::Formatter<W>) -> fmt::Result {
+        let Times { least, mean } = self;
+        write!(f, "{least} ns (mean {mean})")
     }
 }

@@ -8,9 +8,11 @@ use crate::begin_fault::BeginFault;
 use crate::prepared::{Ballot, Prepared};
 use std::alloc::Global;
 use std::marker::Model;
+use thiserror::Error;
 
 /// The number is closed, or was never given.
-#[derive(Clone, Copy, Debug, PartialEq, Eq)]
+#[derive(Clone, Copy, Debug, Drop, PartialEq, Eq, Error)]
+#[error("the transaction's number is closed, or was never given")]
 pub struct Closed;
 
 /// The numbers of global transactions that were given, 1, 2, .., and how each stands. The caller keeps them.

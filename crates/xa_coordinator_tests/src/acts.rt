@@ -1,6 +1,7 @@
 //! What the scenes of a coordinator are made of.
 ghost use Rattle.std.specs.Prelude.{◌≡◌, ◌<◌, ◌∷◌, [], vec_len};
 ghost use Rattle.xa_coordinator.specs.Work.{IsRow};
+ghost use Rattle.xa_coordinator_tests.specs.Sites.{sites};
 ghost use Rattle.xa_coordinator.specs.declared.prepared.Ballot.TheVariants.{Ready as BallotReady};
 
 use std::process::Abort;
@@ -116,6 +117,7 @@ pub(crate) fn works<S: Speak>(
     ensures name { transaction.new.name.items ≡ coordinator.new.name.items }
     ensures stores { transaction.new.stores ≡ vec_len coordinator.new.stores }
     ensures count { vec_len coordinator.new.stores ≡ vec_len coordinator.old.stores }
+    ensures sites { sites S.view coordinator.new.stores.items ≡ sites S.view coordinator.old.stores.items }
 {
     coordinator.work(rt, transaction, store, statement)
 }
@@ -134,12 +136,40 @@ pub(crate) fn puts<S: Speak, R: Abort + Wait>(
     ensures name { transaction.new.name.items ≡ coordinator.new.name.items }
     ensures stores { transaction.new.stores ≡ vec_len coordinator.new.stores }
     ensures count { vec_len coordinator.new.stores ≡ vec_len coordinator.old.stores }
+    ensures sites { sites S.view coordinator.new.stores.items ≡ sites S.view coordinator.old.stores.items }
 {
     let put_k = put(rt, b'k', b'v');
     matches!(
         works(rt, coordinator, transaction, store, &put_k),
         Ok(Reply::Ok)
     )
+}
+
+/// Whether `PUT 'k','v'` is carried out in the first two of three stores, and in the third too where `all` is set.
+fn puts_in_each<S: Speak, R: Abort + Wait>(
+    rt: &R,
+    coordinator: &mut Coordinator<S>,
+    transaction: &mut Transaction,
+    all: bool,
+) -> bool
+    requires name { transaction.old.name.items ≡ coordinator.old.name.items }
+    requires stores { transaction.old.stores ≡ vec_len coordinator.old.stores }
+    requires count { vec_len coordinator.old.stores ≡ 3 }
+    ensures name { transaction.new.name.items ≡ coordinator.new.name.items }
+    ensures stores { transaction.new.stores ≡ vec_len coordinator.new.stores }
+    ensures count { vec_len coordinator.new.stores ≡ 3 }
+    ensures sites { sites S.view coordinator.new.stores.items ≡ sites S.view coordinator.old.stores.items }
+{
+    if !puts(rt, coordinator, transaction, 0) {
+        return false;
+    }
+    if !puts(rt, coordinator, transaction, 1) {
+        return false;
+    }
+    if !all {
+        return true;
+    }
+    puts(rt, coordinator, transaction, 2)
 }
 
 /// The vote of Ready of two stores and a third, which works where `all` is set.
@@ -154,15 +184,11 @@ pub(crate) fn ready<S: Speak, R: Abort + Wait>(
     ensures stores { result.transaction.stores ≡ vec_len coordinator.new.stores }
     ensures ballot { result.ballot ≡ BallotReady }
     ensures count { vec_len coordinator.new.stores ≡ 3 }
+    ensures sites { sites S.view coordinator.new.stores.items ≡ sites S.view coordinator.old.stores.items }
 {
     let mut transaction = begun(rt, coordinator, decisions);
-    let worked = puts(rt, coordinator, &mut transaction, 0)
-        && puts(rt, coordinator, &mut transaction, 1);
+    let worked = puts_in_each(rt, coordinator, &mut transaction, all);
     assert!(rt; worked);
-    if all {
-        let worked = puts(rt, coordinator, &mut transaction, 2);
-        assert!(rt; worked);
-    }
     let Vote::Ready(prepared) = coordinator.prepare(rt, transaction) else {
         panic!(rt; "not ready")
     };

@@ -14,6 +14,8 @@ mod opened;
 #[cfg(test)]
 mod recovery;
 #[cfg(test)]
+mod renewed;
+#[cfg(test)]
 mod scenes;
 #[cfg(test)]
 mod stopped;

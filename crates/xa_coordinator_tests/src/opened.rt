@@ -1,5 +1,5 @@
 //! Stores with room, their sessions, and coordinators over them.
-ghost use Rattle.std.specs.Prelude.{◌≡◌, vec_len};
+ghost use Rattle.std.specs.Prelude.{◌≡◌, ◌∷◌, ◌++◌, [], vec_len};
 
 use crate::acts::text;
 use decision_log::DecisionLog;
@@ -26,6 +26,7 @@ pub(crate) fn opened(rt: &impl Abort, alloc: Global, capacity: u64) -> (Store, P
 /// A session of a store.
 pub(crate) fn connected<'a>(rt: &impl Abort, store: &'a Store, pass: Pass) -> Session<'a, Log>
     requires { ⟦<Log as DecisionLog>⟧.home pass ≡ ⟦<Log as DecisionLog>⟧.place store.now.log }
+    ensures { ⟦<Log as DecisionLog>⟧.home result.pass ≡ ⟦<Log as DecisionLog>⟧.place store.now.log }
 {
     let Ok(session) = store.connect(pass) else {
         panic!(rt; "not connected")
@@ -43,7 +44,8 @@ pub(crate) fn over_three<S: Speak>(
 ) -> Coordinator<S>
 where
     S: Drop,
-    ensures { vec_len result.stores ≡ 3 }
+    ensures count { vec_len result.stores ≡ 3 }
+    ensures stores { result.stores.items ≡ first ∷ second ∷ third ∷ [] }
 {
     let mut stores = Vec::new(alloc);
     let (Ok(()), Ok(()), Ok(())) = (stores.push(first), stores.push(second), stores.push(third))
@@ -72,15 +74,25 @@ pub(crate) fn opened_for_three(
     (store, first, second, third)
 }
 
+/// The last session of a list, which it leaves.
+fn taken<S: Speak>(rt: &impl Abort, sessions: &mut Vec<S>) -> S
+    ensures { sessions.old.items ≡ sessions.new.items ++ result ∷ [] }
+{
+    let Some(session) = sessions.pop() else {
+        panic!(rt; "a session")
+    };
+    session
+}
+
 /// The sessions of a coordinator over three stores, back.
 pub(crate) fn stopped<S: Speak>(rt: &impl Abort, coordinator: Coordinator<S>) -> (S, S, S)
 where
     S: Drop,
+    ensures { vec_len coordinator.stores ≡ 3 → coordinator.stores.items ≡ result.0 ∷ result.1 ∷ result.2 ∷ [] }
 {
     let mut sessions = coordinator.stop();
-    let (Some(third), Some(second), Some(first)) = (sessions.pop(), sessions.pop(), sessions.pop())
-    else {
-        panic!(rt; "three sessions")
-    };
+    let third = taken(rt, &mut sessions);
+    let second = taken(rt, &mut sessions);
+    let first = taken(rt, &mut sessions);
     (first, second, third)
 }

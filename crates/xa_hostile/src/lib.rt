@@ -6,7 +6,11 @@ mod full;
 #[cfg(test)]
 mod made;
 #[cfg(test)]
+mod printed;
+#[cfg(test)]
 mod replay;
+#[cfg(test)]
+mod rounds;
 #[cfg(test)]
 mod scripts;
 #[cfg(test)]

@@ -5,3 +5,4 @@ pub mod Answers
 pub mod Written
 pub mod Said
 pub mod Served
+pub mod Limits

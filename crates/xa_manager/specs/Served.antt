@@ -3,14 +3,25 @@
 --     Begins          nothing has begun
 --     call_said       the call that a line is
 --     refused_text    what is told where memory is refused
+--     has_few_words   a response whose words take no memory
 --     IsRefused       memory was refused for a call or for its answer
 --     IsAnswer        how a line may be answered
-use Rattle.std.specs.Prelude.{◌≡◌, ◌⊎◌, ℕ, List, [], codes, vec_len}
+use Rattle.std.specs.Prelude.{◌≡◌, ◌⊎◌, ℕ, Bool, true, false, Option, Some, None, Result, Ok, Err, List, [], codes, vec_len}
+use Rattle.xa_server.specs.declared.reply.Reply.{Reply}
+use Rattle.xa_server.specs.declared.reply.Reply.TheVariants.{Ok as Done, Value, Recovered as Listed, Refused}
+use Rattle.xa_session.specs.declared.fault.Fault.{Fault}
+use Rattle.xa_coordinator.specs.declared.ending.Ending.{Ending}
+use Rattle.xa_coordinator.specs.declared.ending.Ending.TheVariants.{Committed, RolledBack, Hazard, Unfinished}
 use Rattle.xa_coordinator.specs.declared.standing.Standing.{Standing}
+use Rattle.xa_coordinator.specs.declared.work_fault.WorkFault.{WorkFault}
+use Rattle.xa_coordinator.specs.declared.work_fault.WorkFault.TheVariants.{Session as WorkSession, Refused as WorkRefused, Lost}
 use Rattle.xa_serve.specs.Heard.{Heard, Whole, TooLong}
 use Rattle.xa_manager.specs.declared.call.Call.{Call}
 use Rattle.xa_manager.specs.declared.call.Call.TheVariants.{Silent, Unread}
+use Rattle.xa_manager.specs.declared.poll.Poll.{Poll}
+use Rattle.xa_manager.specs.declared.poll.Poll.TheVariants.{Ready, OnePhase, Nothing, No}
 use Rattle.xa_manager.specs.declared.response.Response.{Response}
+use Rattle.xa_manager.specs.declared.response.Response.TheVariants.{Silent as Quiet, Unread as NotRead, UnknownStore, UnknownTransaction, WrongStage, Begun, NumbersSpent, Worked, Voted, Decided, Closed, Ended, Limited, Stopped, Recovered, Replied, Shown}
 use Rattle.xa_manager.specs.Calls.{call_of}
 use Rattle.xa_manager.specs.Texts.{answer_text}
 use Rattle.xa_manager.specs.Answers.{Desk, Answers}
@@ -28,11 +39,66 @@ call_said TooLong = Unread 0
 abbrev pub refused_text : List ℕ
 refused_text = codes "ERROR 1037 (HY001): out of memory\n"
 
--- memory was refused for a call, and the transactions and decisions are as before; or it was carried out, and memory was refused for what is told of it
+-- a reply of a word: OK, or that there is no such row
+abbrev pub is_word : Reply → Bool
+is_word Done = true
+is_word (Value None) = true
+is_word (Value (Some value)) = false
+is_word (Listed xids) = false
+is_word (Refused error) = false
+
+-- what work came to, in words that are always the same
+abbrev pub is_plain_work : Result Reply WorkFault → Bool
+is_plain_work (Ok reply) = is_word reply
+is_plain_work (Err (WorkSession fault)) = false
+is_plain_work (Err (WorkRefused error)) = false
+is_plain_work (Err Lost) = true
+
+-- a vote, without a store and a cause
+abbrev pub is_plain_vote : Poll → Bool
+is_plain_vote Ready = true
+is_plain_vote OnePhase = true
+is_plain_vote Nothing = true
+is_plain_vote (No store cause) = false
+
+-- an ending, without stores and a cause
+abbrev pub is_plain_ending : Ending → Bool
+is_plain_ending Committed = true
+is_plain_ending RolledBack = true
+is_plain_ending (Hazard stores) = false
+is_plain_ending (Unfinished store cause) = false
+
+-- what a stranger was answered, in a word
+abbrev pub is_plain_reply : Result Reply Fault → Bool
+is_plain_reply (Ok reply) = is_word reply
+is_plain_reply (Err fault) = false
+
+-- a response to a call that was carried out whose words take no memory
+abbrev pub has_few_words : Response → Bool
+has_few_words Quiet = false
+has_few_words (NotRead place) = false
+has_few_words (UnknownStore store) = false
+has_few_words (UnknownTransaction number) = false
+has_few_words (WrongStage number) = false
+has_few_words (Begun number) = true
+has_few_words NumbersSpent = true
+has_few_words (Worked worked) = is_plain_work worked
+has_few_words (Voted poll) = is_plain_vote poll
+has_few_words Decided = true
+has_few_words Closed = true
+has_few_words (Ended ending) = is_plain_ending ending
+has_few_words Limited = true
+has_few_words Stopped = true
+has_few_words (Recovered outcome) = false
+has_few_words (Replied convert answer) = is_plain_reply answer
+has_few_words (Shown listing) = false
+
+-- memory was refused for a call, and the transactions and decisions are as before; or it was carried out, and memory was refused for what is
+-- told of it, which is then a response of many words: so a transaction that begins, a decision, a limit and a stop aren't carried out
 pub record IsRefused (old : Desk) (call : Call) (text : List ℕ) (new : Desk) : Type 0 where
   pub speaks : call ≡ Silent → ⊥
   pub told : text ≡ refused_text
-  pub stands : (new ≡ old) ⊎ ((response : Response) × Answers old call response new)
+  pub stands : (new ≡ old) ⊎ ((response : Response) × (has_few_words response ≡ false) × Answers old call response new)
 
 -- a call was refused or carried out, and what it came to is told; or memory was refused
 abbrev pub IsAnswer : Desk → Heard → List ℕ → Desk → Type 0

@@ -1,7 +1,8 @@
 //! Calls, carried out.
-ghost use Rattle.std.specs.Prelude.{◌≡◌, ◌≤◌, true, nat_lt, IfOk, OnErr, vec_len, length, map};
+ghost use Rattle.std.specs.Prelude.{◌≡◌, ◌≤◌, ◌<◌, ◌-◌, ◌^◌, ℕ, Ok, true, nat_lt, IfOk, OnErr, vec_len, length, map};
 ghost use Rattle.xa_manager.specs.Answers.{Answers, poll_of, stage_after as stage_with};
 ghost use Rattle.xa_manager.specs.Calls.{takes_rows, IsWritten};
+ghost use Rattle.xa_manager.specs.Limits.{Passes, StartsAnew};
 ghost use Rattle.xa_manager.specs.Said.{Says, floor, reply_of};
 
 use crate::{Call, Listing, Manager, Poll, Response, Stage};
@@ -72,6 +73,7 @@ fn allow_all<S: Speak>(coordinator: &mut Coordinator<Fused<S>>, count: u8)
     requires { count ≤ vec_len coordinator.old.stores }
     ensures name { coordinator.new.name ≡ coordinator.old.name }
     ensures sessions { map (λ session. session.inner) coordinator.new.stores.items ≡ map (λ session. session.inner) coordinator.old.stores.items }
+    ensures passes { (store : ℕ) → store < count → Passes store (2 ^ 64 - 1) coordinator.new.stores.items }
 {
     for store in 0..count {
         coordinator.allow(store, u64::MAX);
@@ -263,6 +265,7 @@ impl<S: Speak, T: Speak> Manager<Fused<S>, T> {
         ensures says { Says (λ session. S.view session.inner) T.view (Call.Fail store calls) result
             (floor (record { stores = vec_len self.old.coordinator.stores; decisions = self.old.decisions; stages = self.old.ledger }) self.old.coordinator.branches self.old.coordinator.stores.items self.old.strangers.items)
             (floor (record { stores = vec_len self.new.coordinator.stores; decisions = self.new.decisions; stages = self.new.ledger }) self.new.coordinator.branches self.new.coordinator.stores.items self.new.strangers.items) }
+        ensures limited { result ≡ Response.Limited → Passes store calls self.new.coordinator.stores.items }
     {
         if !self.has_store(store) {
             return Response::UnknownStore(store);
@@ -279,6 +282,7 @@ impl<S: Speak, T: Speak> Manager<Fused<S>, T> {
         ensures says { Says (λ session. S.view session.inner) T.view (Call.Stop) result
             (floor (record { stores = vec_len self.old.coordinator.stores; decisions = self.old.decisions; stages = self.old.ledger }) self.old.coordinator.branches self.old.coordinator.stores.items self.old.strangers.items)
             (floor (record { stores = vec_len self.new.coordinator.stores; decisions = self.new.decisions; stages = self.new.ledger }) self.new.coordinator.branches self.new.coordinator.stores.items self.new.strangers.items) }
+        ensures anew { StartsAnew self.new.coordinator.branches self.new.coordinator.stores.items }
     {
         allow_all(&mut self.coordinator, self.strangers.len() as u8);
         self.coordinator.restart();
@@ -287,6 +291,7 @@ impl<S: Speak, T: Speak> Manager<Fused<S>, T> {
 
     /// Carries a call out, and gives what it is answered.
     ///
+    /// After `FAIL` the coordinator's session in that store passes so many calls on; after `STOP` each passes 2 ^ 64 - 1, and nothing is open in any store.
     /// Error: `NoMemory`, where a transaction can't be kept or a list of answers can't grow; the transactions and the decisions are as before.
     /// May wait: no number of tries is promised.
     /// Own rule: docs/COORDINATOR.md, 'At the command line'.
@@ -303,6 +308,8 @@ impl<S: Speak, T: Speak> Manager<Fused<S>, T> {
         ensures says { IfOk result (λ response. Says (λ session. S.view session.inner) T.view (call.now) response
             (floor (record { stores = vec_len self.old.coordinator.stores; decisions = self.old.decisions; stages = self.old.ledger }) self.old.coordinator.branches self.old.coordinator.stores.items self.old.strangers.items)
             (floor (record { stores = vec_len self.new.coordinator.stores; decisions = self.new.decisions; stages = self.new.ledger }) self.new.coordinator.branches self.new.coordinator.stores.items self.new.strangers.items)) }
+        ensures limited { (store calls : ℕ) → call.now ≡ Call.Fail store calls → result ≡ Ok Response.Limited → Passes store calls self.new.coordinator.stores.items }
+        ensures anew { call.now ≡ Call.Stop → StartsAnew self.new.coordinator.branches self.new.coordinator.stores.items }
         ensures kept { OnErr result ((vec_len self.new.coordinator.stores ≡ vec_len self.old.coordinator.stores) × (self.new.decisions ≡ self.old.decisions) × (self.new.ledger ≡ self.old.ledger)) }
     {
         match call {

@@ -1,9 +1,10 @@
 //! A transaction manager that answers lines.
-ghost use Rattle.std.specs.Prelude.{◌≡◌, ◌≤◌, ◌++◌, length, codes};
+ghost use Rattle.std.specs.Prelude.{◌≡◌, ◌++◌, codes};
 ghost use Rattle.xa_transcript.specs.Printed.{syntax_text};
 ghost use Rattle.xa_manager.specs.Served.{refused_text};
 ghost use Rattle.xa_serve.specs.Answer.{bytes_of};
 
+use crate::brief::{few_words, short_answer};
 use crate::print::write_into;
 use crate::{Call, Manager, read_call};
 use arrayvec::ArrayVec;
@@ -12,18 +13,8 @@ use std::sync::Wait;
 use xa_coordinator::{Fused, Speak};
 use xa_serve::{Answer, LineServer};
 
-/// Room for what most calls are told, in bytes. It is taken before a call is carried out; only lists need more.
+/// Room for what most calls are told, in bytes. It is taken before a call is carried out; only values and lists need more.
 const ANSWER_ROOM: usize = 256;
-
-/// A short answer: at most 64 bytes, which take no memory.
-fn short_answer(text: &[u8]) -> Answer
-    requires { length text.now ≤ 64 }
-    ensures { bytes_of result ≡ text.now }
-{
-    let mut bytes = ArrayVec::new();
-    let _ = bytes.try_extend_from_slice(text);
-    Answer::Short(bytes)
-}
 
 /// What is told where memory is refused.
 fn refusal() -> Answer
@@ -79,6 +70,9 @@ impl<'r, S: Speak, T: Speak, R: Wait> LineServer for CallServer<'r, Fused<S>, T,
         let Ok(response) = self.manager.answer(self.rt, alloc, &call) else {
             return refusal();
         };
+        if let Some(answer) = few_words(&response) {
+            return answer;
+        }
         match write_into(alloc, text, self.manager.decisions(), &response) {
             Ok(text) => Answer::Text(text),
             Err(_) => refusal(),

@@ -2,6 +2,7 @@
 #![tactic(auto)]
 
 mod answer;
+mod brief;
 mod call;
 mod call_server;
 mod ledger;

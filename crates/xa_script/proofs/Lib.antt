@@ -1,2 +1,3 @@
 pub mod CommandFaults
 pub mod Jobs
+pub mod Options

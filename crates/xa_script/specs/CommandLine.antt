@@ -4,26 +4,41 @@
 --     IsJob           the job of a subcommand
 --     Names           the job that the words of a command line name
 --     ReadsCommand    when a command line is read, and why not
-use Rattle.std.specs.Prelude.{◌≡◌, ◌≤◌, ◌⊎◌, ℕ, true, false, Option, Some, Result, MatchResult, List, [], ◌∷◌, codes}
+use Rattle.std.specs.Prelude.{◌≡◌, ◌≢◌, ◌<◌, ◌≤◌, ◌^◌, ◌⊎◌, ℕ, Bool, true, false, Option, Some, Result, MatchResult, List, [], ◌∷◌, codes}
 use Rattle.std.specs.Option.{IsSomeAnd}
 use Rattle.std.specs.Str.Parse.{IsNumeral, digits_value, without_leading_plus}
 use Rattle.clap.specs.Words.{App, Text, Row, Rule, new_app, new_rule, one_of, subcommand_of, with_rule, with_subcommand, fault_of, HasKind}
 use Rattle.clap.specs.Simple.{on_top}
 use Rattle.clap.specs.declared.builder.value_parser.ValueParser.TheVariants as parser
+use Rattle.clap.specs.declared.builder.action.ArgAction.TheVariants.{SetTrue}
 use Rattle.clap.specs.declared.builder.command.Command.{Command}
 use Rattle.clap.specs.declared.builder.command.Command.TheViews.{out-Command}
 use Rattle.clap.specs.declared.error.Error.{Error}
 use Rattle.decision_log.specs.Opens.{IsCapacity}
+use Rattle.xa_script.specs.declared.manner.Manner.{Manner}
+use Rattle.xa_script.specs.declared.manner.Manner.TheVariants.{Freely, Together, Shuffled}
 use Rattle.xa_script.specs.declared.command.Job.{Job}
-use Rattle.xa_script.specs.declared.command.Job.TheVariants.{Run, Race, Coordinate, Serve}
+use Rattle.xa_script.specs.declared.command.Job.TheVariants.{Run, Race, Coordinate, Serve, Show, Judge}
 
 -- `--capacity N`, a number from 1 to 1024, and 1024 where it isn't given
 abbrev pub capacity_rule : Rule
 capacity_rule = record (new_rule (codes "capacity")) { long = Some (codes "capacity"); value_names = 1; parser = Some (parser.Unsigned 1 1024); defaults = codes "1024" ∷ [] }
 
--- `race [--capacity N]`
+-- `--together`, which has no value
+abbrev pub together_rule : Rule
+together_rule = record (new_rule (codes "together")) { long = Some (codes "together"); action = Some SetTrue }
+
+-- `--shuffle SEED`, a number from 0 to 2^64 - 1
+abbrev pub shuffle_rule : Rule
+shuffle_rule = record (new_rule (codes "shuffle")) { long = Some (codes "shuffle"); value_names = 1; parser = Some (parser.Unsigned 0 18446744073709551615) }
+
+-- `--renew`, which has no value
+abbrev pub renew_rule : Rule
+renew_rule = record (new_rule (codes "renew")) { long = Some (codes "renew"); action = Some SetTrue }
+
+-- `race [--capacity N] [--together] [--shuffle SEED] [--renew]`
 abbrev pub race_app : App
-race_app = with_rule (new_app (codes "race")) capacity_rule
+race_app = with_rule (with_rule (with_rule (with_rule (new_app (codes "race")) capacity_rule) together_rule) shuffle_rule) renew_rule
 
 -- `--stores N`, a number from 1 to 16, and 3 where it isn't given
 abbrev pub stores_rule : Rule
@@ -33,15 +48,28 @@ stores_rule = record (new_rule (codes "stores")) { long = Some (codes "stores");
 abbrev pub coordinate_app : App
 coordinate_app = with_rule (with_rule (new_app (codes "coordinate")) stores_rule) capacity_rule
 
+-- `--limit N`, a number from 1 to 1,000,000, and 100,000 where it isn't given
+abbrev pub limit_rule : Rule
+limit_rule =
+    record (new_rule (codes "limit")) { long = Some (codes "limit"); value_names = 1; parser = Some (parser.Unsigned 1 1000000); defaults = codes "100000" ∷ [] }
+
+-- `judge [--limit N]`
+abbrev pub judge_app : App
+judge_app = with_rule (new_app (codes "judge")) limit_rule
+
 -- no option of the command is one of its subcommands too
 abbrev pub IsLocal : Command → Type 0
 IsLocal command = (out-Command command).has_globals ≡ false
 
--- `xa_script run`, `race`, `coordinate` and `serve`: a subcommand is required
+-- a subcommand is required, or `--version`
+abbrev pub bare_app : App
+bare_app = on_top (λ shape. record shape { subcommand_required = true; has_version = true }) (new_app (codes "xa_script"))
+
+-- `xa_script run`, `race`, `coordinate`, `serve`, `show` and `judge`
 abbrev pub script_app : App
 script_app =
-    with_subcommand (with_subcommand (with_subcommand (on_top (λ shape. record shape { subcommand_required = true }) (with_subcommand (new_app (codes "xa_script")) (new_app (codes "run")).top)) race_app.top)
-    coordinate_app.top) (new_app (codes "serve")).top
+    with_subcommand (with_subcommand (with_subcommand (with_subcommand (with_subcommand (with_subcommand bare_app (new_app (codes "run")).top) race_app.top) coordinate_app.top)
+    (new_app (codes "serve")).top) (new_app (codes "show")).top) judge_app.top
 
 -- the text of a value is this number, which a log can have as its capacity
 abbrev pub IsCapacityText : ℕ → Text → Type 0
@@ -55,27 +83,71 @@ IsStoreCount stores = (1 ≤ stores) × (stores ≤ 16)
 abbrev pub IsStoresText : ℕ → Text → Type 0
 IsStoresText stores text = IsNumeral 10 (without_leading_plus text) × (stores ≡ digits_value 10 (without_leading_plus text)) × IsStoreCount stores
 
--- the job is a race of the capacity that a value's text is
-abbrev pub IsRaceOf : Option Text → Job → Type 0
-IsRaceOf text Run = ⊥
-IsRaceOf text (Race capacity) = IsSomeAnd text (IsCapacityText capacity)
-IsRaceOf text (Coordinate stores capacity) = ⊥
-IsRaceOf text Serve = ⊥
+-- from 1 to 1,000,000 configurations (own rule)
+abbrev pub IsLimit : ℕ → Type 0
+IsLimit limit = (1 ≤ limit) × (limit ≤ 1000000)
+
+-- the text of a value is this number, from 1 to 1,000,000
+abbrev pub IsLimitText : ℕ → Text → Type 0
+IsLimitText limit text = IsNumeral 10 (without_leading_plus text) × (limit ≡ digits_value 10 (without_leading_plus text)) × IsLimit limit
+
+-- the text of a value is this number, which has 64 bits
+abbrev pub IsSeedText : ℕ → Text → Type 0
+IsSeedText seed text = IsNumeral 10 (without_leading_plus text) × (seed ≡ digits_value 10 (without_leading_plus text)) × (seed < 2 ^ 64)
+
+-- no number is given as a seed
+abbrev pub HasNoSeed : Option Text → Type 0
+HasNoSeed shuffle = (seed : ℕ) → IsSomeAnd shuffle (IsSeedText seed) → ⊥
+
+-- how the sessions come to their lines, by the values of `--together` and `--shuffle`; a seed goes first
+abbrev pub IsMannerOf : (together shuffle : Option Text) → Manner → Type 0
+IsMannerOf together shuffle Freely = HasNoSeed shuffle × (together ≢ Some (codes "true"))
+IsMannerOf together shuffle Together = HasNoSeed shuffle × (together ≡ Some (codes "true"))
+IsMannerOf together shuffle (Shuffled seed) = IsSomeAnd shuffle (IsSeedText seed)
+
+-- whether a race goes on in rounds, by the value of `--renew`
+abbrev pub IsRenewalOf : (renew : Option Text) → Bool → Type 0
+IsRenewalOf renew true = renew ≡ Some (codes "true")
+IsRenewalOf renew false = renew ≢ Some (codes "true")
+
+-- the job is a race of the capacity that a value's text is, in the manner that two others give, and in rounds where a fourth says so
+abbrev pub IsRaceOf : (capacity together shuffle renew : Option Text) → Job → Type 0
+IsRaceOf capacity together shuffle renew Run = ⊥
+IsRaceOf capacity together shuffle renew (Race room manner renews) = IsSomeAnd capacity (IsCapacityText room) × IsMannerOf together shuffle manner × IsRenewalOf renew renews
+IsRaceOf capacity together shuffle renew (Coordinate stores room) = ⊥
+IsRaceOf capacity together shuffle renew Serve = ⊥
+IsRaceOf capacity together shuffle renew Show = ⊥
+IsRaceOf capacity together shuffle renew (Judge limit) = ⊥
 
 -- the job is of calls over as many stores, with as much room in each, as two values' texts are
 abbrev pub IsCoordinateOf : (stores capacity : Option Text) → Job → Type 0
 IsCoordinateOf stores capacity Run = ⊥
 IsCoordinateOf stores capacity Serve = ⊥
-IsCoordinateOf stores capacity (Race room) = ⊥
+IsCoordinateOf stores capacity Show = ⊥
+IsCoordinateOf stores capacity (Race room manner renews) = ⊥
+IsCoordinateOf stores capacity (Judge limit) = ⊥
 IsCoordinateOf stores capacity (Coordinate count room) = IsSomeAnd stores (IsStoresText count) × IsSomeAnd capacity (IsCapacityText room)
+
+-- the job is to judge, with the limit that a value's text is
+abbrev pub IsJudgeOf : (limit : Option Text) → Job → Type 0
+IsJudgeOf limit Run = ⊥
+IsJudgeOf limit Serve = ⊥
+IsJudgeOf limit Show = ⊥
+IsJudgeOf limit (Race room manner renews) = ⊥
+IsJudgeOf limit (Coordinate count room) = ⊥
+IsJudgeOf limit (Judge kept) = IsSomeAnd limit (IsLimitText kept)
 
 -- the job of a subcommand, with what `clap` found for its arguments
 abbrev pub IsJob : Job → Text × List Row → Type 0
 IsJob Run found = found.0 ≡ codes "run"
 IsJob Serve found = found.0 ≡ codes "serve"
-IsJob (Race capacity) found = (found.0 ≡ codes "race") × IsSomeAnd (one_of (codes "capacity") found.1) (IsCapacityText capacity)
+IsJob Show found = found.0 ≡ codes "show"
+IsJob (Race capacity manner renews) found =
+    (found.0 ≡ codes "race")
+    × IsRaceOf (one_of (codes "capacity") found.1) (one_of (codes "together") found.1) (one_of (codes "shuffle") found.1) (one_of (codes "renew") found.1) (Race capacity manner renews)
 IsJob (Coordinate stores capacity) found =
     (found.0 ≡ codes "coordinate") × IsCoordinateOf (one_of (codes "stores") found.1) (one_of (codes "capacity") found.1) (Coordinate stores capacity)
+IsJob (Judge limit) found = (found.0 ≡ codes "judge") × IsJudgeOf (one_of (codes "limit") found.1) (Judge limit)
 
 -- the words name this job, as `clap` matches them
 abbrev pub Names : List Text → Job → Type 0
@@ -86,9 +158,11 @@ Names words job = IsSomeAnd (subcommand_of script_app words) (IsJob job)
 abbrev pub ReadsCommand : List Text → Result Job Error → Type 0
 ReadsCommand words answer = MatchResult answer (λ job. fault_of script_app words ≡ []) (λ error. HasKind (fault_of script_app words) error ⊎ ((job : Job) → Names words job → ⊥))
 
--- a log can have the capacity, and there are 1 to 16 stores
+-- a log can have the capacity, there are 1 to 16 stores, and a limit is at most 1,000,000
 abbrev pub CanBeDone : Job → Type 0
 CanBeDone Run = Unit {0}
-CanBeDone (Race capacity) = IsCapacity capacity
+CanBeDone (Race capacity manner renews) = IsCapacity capacity
 CanBeDone (Coordinate stores capacity) = IsStoreCount stores × IsCapacity capacity
 CanBeDone Serve = Unit {0}
+CanBeDone Show = Unit {0}
+CanBeDone (Judge limit) = IsLimit limit

@@ -1,8 +1,13 @@
 -- How the program ends.
---     status_after     the exit status after a fault of a run or a race
-use Rattle.std.specs.Prelude.{ℕ}
+--     status_after     the exit status after a fault
+--     status_for       the exit status for how judging a record ended
+--     AppendsVerdict   the writer got what is written for a record, and the status is for how judging it ended
+use Rattle.std.specs.Prelude.{◌≡◌, ℕ, Option, List, IfSome}
 use Rattle.xa_transcript.specs.declared.script_fault.ScriptFault.{ScriptFault}
 use Rattle.xa_transcript.specs.declared.script_fault.ScriptFault.TheVariants.{Read, TooLong, Write, NoMemory, Full, GateShut, ThreadRefused}
+use Rattle.xa_record.specs.Judged.{AppendsJudged}
+use Rattle.xa_record.specs.declared.outcome.Outcome.{Outcome}
+use Rattle.xa_record.specs.declared.outcome.Outcome.TheVariants.{Legal, Illegal, Undecided, Faulty}
 
 -- 1 where the script can't be read or its answers can't be written, 3 where memory, the log, the gate or a thread gave out (own rule)
 abbrev pub status_after : ScriptFault → ℕ
@@ -13,3 +18,14 @@ status_after NoMemory = 3
 status_after Full = 3
 status_after GateShut = 3
 status_after ThreadRefused = 3
+
+-- 0 where an order explains the record, 4 where none does, 5 where the limit was passed, 6 where lines are faulty (own rule)
+abbrev pub status_for : Outcome → ℕ
+status_for Legal = 0
+status_for Illegal = 4
+status_for Undecided = 5
+status_for Faulty = 6
+
+-- the writer got what is written for a record that ends so, and the status is for that end
+abbrev pub AppendsVerdict : (limit status : ℕ) → Option (List ℕ) → Option (List ℕ) → Option (List ℕ) → Type 0
+AppendsVerdict limit status input old new = (outcome : Outcome) × (status ≡ status_for outcome) × IfSome input (λ text. AppendsJudged limit outcome text old new)

@@ -1,12 +1,14 @@
 //! The command line.
-ghost use Rattle.std.specs.Prelude.{◌≡◌, ◌≤◌, ℕ, Some, None, IfOk, IfSome, false, map, codes};
+ghost use Rattle.std.specs.Prelude.{◌≡◌, ◌≢◌, ℕ, Some, None, IfOk, IfSome, true, false, map, codes};
 ghost use Rattle.std.specs.Option.{IsSomeAnd};
-ghost use Rattle.clap.specs.Words.{app_of, found_of, one_text, rule_of, subcommand_rows_of};
-ghost use Rattle.xa_script.specs.CommandLine.{coordinate_app, IsLocal, capacity_rule, stores_rule, script_app, IsCapacityText, IsStoresText, IsRaceOf, IsCoordinateOf, IsJob, Names, CanBeDone, ReadsCommand};
+ghost use Rattle.clap.specs.Words.{found_of, one_text, subcommand_rows_of};
+ghost use Rattle.xa_script.specs.CommandLine.{IsCapacityText, IsSeedText, IsStoresText, IsLimitText, HasNoSeed, IsMannerOf, IsRenewalOf, IsRaceOf, IsCoordinateOf, IsJudgeOf, IsJob, Names, CanBeDone, ReadsCommand};
 
+use crate::Manner;
+use crate::subcommands::script_command;
 use clap::error::ErrorKind;
-use clap::{Arg, ArgMatches, Command, Error, value_parser};
-use std::alloc::{AllocError, Global};
+use clap::{ArgMatches, Error};
+use std::alloc::Global;
 use std::convert::AsStr;
 
 /// What the program is to do.
@@ -14,8 +16,15 @@ use std::convert::AsStr;
 pub enum Job {
     /// Runs the script of the standard input on a sequential server.
     Run,
-    /// Races the script of the standard input, over a log with room for so many entries, in `[1, 1024]`.
-    Race(u64),
+    /// Races the script of the standard input.
+    Race {
+        /// How many entries the log has room for, in `[1, 1024]`.
+        capacity: u64,
+        /// How the sessions come to their lines.
+        manner: Manner,
+        /// Whether the race goes on in rounds of that capacity.
+        renews: bool,
+    },
     /// Carries the calls of the standard input out over stores of its own.
     Coordinate {
         /// How many stores, in `[1, 16]`.
@@ -25,81 +34,13 @@ pub enum Job {
     },
     /// Answers each line of the standard input before it reads more.
     Serve,
-}
-
-/// The calls that `coordinate` reads, as its help shows them.
-const CALLS: &str = "Calls, one a line; n is a transaction from 1 on, k a store from 0 on:
-  BEGIN                    begins a transaction
-  WORK n k STATEMENT       gives GET, PUT or DEL of the transaction to the store
-  PREPARE n                has the stores of the transaction vote
-  DECIDE n                 decides that the transaction commits
-  FINISH n                 commits what is decided or in one phase, and rolls back the rest
-  ABANDON n                rolls back a transaction that wasn't voted on
-  FAIL k AFTER j           the coordinator's session in the store answers j more calls, and then out of memory
-  STOP                     a new coordinator takes the place of the old one
-  RECOVER                  the coordinator finishes what was left prepared
-  AT k STATEMENT           gives the statement of a stranger to the store
-  SHOW                     shows what is prepared in each store, and the decisions
-Blank lines, and lines that begin with #, have no answer.";
-
-/// The option that says for how many entries a race's log has room.
-fn capacity_option<'a>(alloc: Global) -> Arg<'a>
-    ensures rule { rule_of result ≡ capacity_rule }
-    ensures global { result.global ≡ false }
-{
-    Arg::new(alloc, "capacity")
-        .long("capacity")
-        .value_name("N")
-        .help("How many entries the history has room for")
-        .value_parser(value_parser!(u64).range(1..=1024))
-        .default_value("1024")
-}
-
-/// The option that says how many stores there are.
-fn stores_option<'a>(alloc: Global) -> Arg<'a>
-    ensures rule { rule_of result ≡ stores_rule }
-    ensures global { result.global ≡ false }
-{
-    Arg::new(alloc, "stores")
-        .long("stores")
-        .value_name("N")
-        .help("How many stores there are")
-        .value_parser(value_parser!(u64).range(1..=16))
-        .default_value("3")
-}
-
-/// The subcommand that carries calls out.
-fn coordinate_command<'a>(alloc: Global) -> Result<Command<'a>, AllocError>
-    ensures app { IfOk result (λ command. app_of command ≡ coordinate_app) }
-    ensures local { IfOk result IsLocal }
-{
-    Command::new(alloc, "coordinate")
-        .about(
-            "Carries the calls of the standard input out, by a coordinator over stores of its own",
-        )
-        .after_help(CALLS)
-        .arg(stores_option(alloc))?
-        .arg(capacity_option(alloc))
-}
-
-/// The command and its subcommands.
-fn script_command<'a>(alloc: Global) -> Result<Command<'a>, AllocError>
-    ensures { IfOk result (λ command. app_of command ≡ script_app) }
-{
-    let run = Command::new(alloc, "run").about("Runs the script of the standard input");
-    let race = Command::new(alloc, "race")
-        .about("Races the script of the standard input, each session on a thread of its own")
-        .arg(capacity_option(alloc))?;
-    let serve = Command::new(alloc, "serve").about(
-        "Answers each line of the standard input before it reads more",
-    );
-    Command::new(alloc, "xa_script")
-        .about("Runs scripts of XA statements")
-        .subcommand_required(true)
-        .subcommand(run)?
-        .subcommand(race)?
-        .subcommand(coordinate_command(alloc)?)?
-        .subcommand(serve)
+    /// Does so too, and shows the store behind each answer.
+    Show,
+    /// Judges the record of the standard input.
+    Judge {
+        /// How many configurations may be kept before a return, in `[1, 1_000_000]`.
+        limit: u64,
+    },
 }
 
 /// The capacity that was found for a race.
@@ -113,13 +54,56 @@ fn capacity_in(found: &ArgMatches<'_>) -> Option<u64>
     }
 }
 
-/// The race of the capacity that was found.
+/// The seed that was found.
+fn seed_in(found: &ArgMatches<'_>) -> Option<u64>
+    ensures some { IfSome result (λ seed. IsSomeAnd (one_text (found_of found.now) (codes "shuffle")) (IsSeedText seed)) }
+    ensures none { result ≡ None → HasNoSeed (one_text (found_of found.now) (codes "shuffle")) }
+{
+    found.get_one::<u64>("shuffle")
+}
+
+/// Whether the sessions are to begin together.
+fn begins_together(found: &ArgMatches<'_>) -> bool
+    ensures given { result ≡ true → one_text (found_of found.now) (codes "together") ≡ Some (codes "true") }
+    ensures other { result ≡ false → one_text (found_of found.now) (codes "together") ≢ Some (codes "true") }
+{
+    found.get_one::<bool>("together").unwrap_or(false)
+}
+
+/// How the sessions are to come to their lines.
+fn manner_in(found: &ArgMatches<'_>) -> Manner
+    ensures { IsMannerOf (one_text (found_of found.now) (codes "together")) (one_text (found_of found.now) (codes "shuffle")) result }
+{
+    match seed_in(found) {
+        Some(seed) => Manner::Shuffled(seed),
+        None => {
+            if begins_together(found) {
+                Manner::Together
+            } else {
+                Manner::Freely
+            }
+        }
+    }
+}
+
+/// Whether the race is to go on in rounds.
+fn renews_in(found: &ArgMatches<'_>) -> bool
+    ensures { IsRenewalOf (one_text (found_of found.now) (codes "renew")) result }
+{
+    found.get_one::<bool>("renew").unwrap_or(false)
+}
+
+/// The race that was found.
 fn race_in(found: &ArgMatches<'_>) -> Option<Job>
-    ensures some { IfSome result (λ job. IsRaceOf (one_text (found_of found.now) (codes "capacity")) job) }
+    ensures some { IfSome result (IsRaceOf (one_text (found_of found.now) (codes "capacity")) (one_text (found_of found.now) (codes "together")) (one_text (found_of found.now) (codes "shuffle")) (one_text (found_of found.now) (codes "renew"))) }
     ensures none { result ≡ None → (capacity : ℕ) → IsSomeAnd (one_text (found_of found.now) (codes "capacity")) (IsCapacityText capacity) → ⊥ }
 {
     match capacity_in(found) {
-        Some(capacity) => Some(Job::Race(capacity)),
+        Some(capacity) => Some(Job::Race {
+            capacity,
+            manner: manner_in(found),
+            renews: renews_in(found),
+        }),
         None => None,
     }
 }
@@ -146,6 +130,28 @@ fn coordinate_in(found: &ArgMatches<'_>) -> Option<Job>
     }
 }
 
+/// The limit that was found.
+fn limit_in(found: &ArgMatches<'_>) -> Option<u64>
+    ensures some { IfSome result (λ limit. IsSomeAnd (one_text (found_of found.now) (codes "limit")) (IsLimitText limit)) }
+    ensures none { result ≡ None → (limit : ℕ) → IsSomeAnd (one_text (found_of found.now) (codes "limit")) (IsLimitText limit) → ⊥ }
+{
+    match found.get_one::<u64>("limit") {
+        Some(limit) if 1 <= limit && limit <= 1_000_000 => Some(limit),
+        _ => None,
+    }
+}
+
+/// The judging with the limit that was found.
+fn judge_in(found: &ArgMatches<'_>) -> Option<Job>
+    ensures some { IfSome result (λ job. IsJudgeOf (one_text (found_of found.now) (codes "limit")) job) }
+    ensures none { result ≡ None → (job : Job) → IsJudgeOf (one_text (found_of found.now) (codes "limit")) job → ⊥ }
+{
+    match limit_in(found) {
+        Some(limit) => Some(Job::Judge { limit }),
+        None => None,
+    }
+}
+
 /// The job of the subcommand that was found.
 fn job_in(matches: &ArgMatches<'_>) -> Option<Job>
     ensures some { IfSome result (λ job. IsSomeAnd (subcommand_rows_of matches.now) (IsJob job)) }
@@ -162,6 +168,10 @@ fn job_in(matches: &ArgMatches<'_>) -> Option<Job>
         coordinate_in(found)
     } else if name == "serve" {
         Some(Job::Serve)
+    } else if name == "show" {
+        Some(Job::Show)
+    } else if name == "judge" {
+        judge_in(found)
     } else {
         None
     }
@@ -169,9 +179,10 @@ fn job_in(matches: &ArgMatches<'_>) -> Option<Job>
 
 /// The job that the words of a command line name. The first word is the program's own name.
 ///
-/// A capacity is in `[1, 1024]`, and 1024 where the words don't give it; a number of stores in `[1, 16]`, and 3.
-/// Errors: what `clap` says of words that name no job, or that ask for help; want of memory is one of its kinds.
-/// May answer that memory ran out. Doesn't wait.
+/// A capacity is in `[1, 1024]`, and 1024 where the words don't give it; a number of stores in `[1, 16]`, and 3; a limit in
+/// `[1, 1_000_000]`, and 100,000. Where a race has a seed, its manner is `Shuffled`.
+/// Errors: what `clap` says of words that name no job, or that ask for help or the version; out of memory is one of its kinds.
+/// Takes memory. Doesn't wait.
 /// Own rule: docs/BEHAVIOR.md, 'The program'.
 pub fn read_command<'a, S: AsStr>(alloc: Global, words: &'a [S]) -> Result<Job, Error>
     ensures job { IfOk result (Names (map S.text words.entry.now)) }
@@ -183,139 +194,5 @@ pub fn read_command<'a, S: AsStr>(alloc: Global, words: &'a [S]) -> Result<Job, 
     match job_in(&matches) {
         Some(job) => Ok(job),
         None => Err(command.error(ErrorKind::InvalidSubcommand, "no such job")?),
-    }
-}
-
-#[cfg(test)]
-mod tests {
-    use super::*;
-
-    /// How a process whose command line has these words after its name ends, where the words name no job.
-    fn refusal(alloc: Global, words: &[&str]) -> Option<i32> {
-        read_command(alloc, words)
-            .err()
-            .map(|error| error.exit_code())
-    }
-
-    #[test]
-    fn run_is_a_job(rt: HostRuntime) {
-        let words = ["xa_script", "run"];
-        assert_eq!(rt;
-            read_command(rt.alloc(), words.as_slice()).ok(),
-            Some(Job::Run)
-        );
-    }
-
-    #[test]
-    fn serve_is_a_job(rt: HostRuntime) {
-        let words = ["xa_script", "serve"];
-        assert_eq!(rt;
-            read_command(rt.alloc(), words.as_slice()).ok(),
-            Some(Job::Serve)
-        );
-        let words = ["xa_script", "serve", "now"];
-        assert_eq!(rt; refusal(rt.alloc(), words.as_slice()), Some(2));
-    }
-
-    #[test]
-    fn race_is_a_job_with_a_capacity(rt: HostRuntime) {
-        let words = ["xa_script", "race"];
-        assert_eq!(rt;
-            read_command(rt.alloc(), words.as_slice()).ok(),
-            Some(Job::Race(1024))
-        );
-        for (text, capacity) in [("7", 7), ("1", 1), ("1024", 1024)] {
-            let words = ["xa_script", "race", "--capacity", text];
-            assert_eq!(rt;
-                read_command(rt.alloc(), words.as_slice()).ok(),
-                Some(Job::Race(capacity))
-            );
-        }
-    }
-
-    #[test]
-    fn capacity_is_from_1_to_1024(rt: HostRuntime) {
-        for text in ["0", "1025", "-1", "many", ""] {
-            let words = ["xa_script", "race", "--capacity", text];
-            assert_eq!(rt; refusal(rt.alloc(), words.as_slice()), Some(2));
-        }
-        let words = ["xa_script", "run", "--capacity", "7"];
-        assert_eq!(rt; refusal(rt.alloc(), words.as_slice()), Some(2));
-    }
-
-    #[test]
-    fn coordinate_is_a_job_with_stores_and_a_capacity(rt: HostRuntime) {
-        let words = ["xa_script", "coordinate"];
-        assert_eq!(rt;
-            read_command(rt.alloc(), words.as_slice()).ok(),
-            Some(Job::Coordinate {
-                stores: 3,
-                capacity: 1024
-            })
-        );
-        for (text, stores) in [("1", 1), ("7", 7), ("16", 16)] {
-            let words = [
-                "xa_script",
-                "coordinate",
-                "--capacity",
-                "9",
-                "--stores",
-                text,
-            ];
-            assert_eq!(rt;
-                read_command(rt.alloc(), words.as_slice()).ok(),
-                Some(Job::Coordinate {
-                    stores,
-                    capacity: 9
-                })
-            );
-        }
-    }
-
-    #[test]
-    fn stores_are_from_1_to_16(rt: HostRuntime) {
-        for text in ["0", "17", "-1", "all", ""] {
-            let words = ["xa_script", "coordinate", "--stores", text];
-            assert_eq!(rt; refusal(rt.alloc(), words.as_slice()), Some(2));
-        }
-        for text in ["0", "1025"] {
-            let words = ["xa_script", "coordinate", "--capacity", text];
-            assert_eq!(rt; refusal(rt.alloc(), words.as_slice()), Some(2));
-        }
-        let words = ["xa_script", "race", "--stores", "3"];
-        assert_eq!(rt; refusal(rt.alloc(), words.as_slice()), Some(2));
-    }
-
-    #[test]
-    fn other_words_are_refused(rt: HostRuntime) {
-        assert_eq!(rt; refusal(rt.alloc(), ["xa_script"].as_slice()), Some(2));
-        assert_eq!(rt;
-            refusal(rt.alloc(), ["xa_script", "walk"].as_slice()),
-            Some(2)
-        );
-        assert_eq!(rt;
-            refusal(rt.alloc(), ["xa_script", "run", "now"].as_slice()),
-            Some(2)
-        );
-    }
-
-    #[test]
-    fn help_is_no_mistake(rt: HostRuntime) {
-        assert_eq!(rt;
-            refusal(rt.alloc(), ["xa_script", "--help"].as_slice()),
-            Some(0)
-        );
-        assert_eq!(rt;
-            refusal(rt.alloc(), ["xa_script", "help"].as_slice()),
-            Some(0)
-        );
-        assert_eq!(rt;
-            refusal(rt.alloc(), ["xa_script", "race", "--help"].as_slice()),
-            Some(0)
-        );
-        assert_eq!(rt;
-            refusal(rt.alloc(), ["xa_script", "coordinate", "--help"].as_slice()),
-            Some(0)
-        );
     }
 }

@@ -1,7 +1,8 @@
 //! Runs scripts of XA statements: `xa_script run` reads a script from the standard input, and writes what answers it;
 //! `xa_script race` gives each session's statements to a thread of its own, and writes the history that explains the answers;
 //! `xa_script coordinate` carries the calls of a transaction manager out, over stores of its own.
-//! `xa_script serve` answers each line of the standard input before it reads more.
+//! `xa_script serve` answers each line of the standard input before it reads more; `xa_script show` does so too, and shows the store
+//! behind each answer. `xa_script judge` says whether some order explains what clients of a server saw.
 #![tactic(auto)]
 
 ghost use Rattle.std.specs.Prelude.{◌≡◌};
@@ -9,10 +10,20 @@ ghost use Rattle.xa_script.specs.CommandLine.{CanBeDone};
 ghost use Rattle.xa_script.specs.Status.{status_after};
 
 mod command;
+#[cfg(test)]
+mod command_tests;
+mod help;
+mod judging;
+mod manner;
+mod racing;
+mod subcommands;
 
 use clap::Error;
 use clap::error::ErrorKind;
 pub use command::{Job, read_command};
+use judging::judge_within;
+pub use manner::Manner;
+use racing::race_by;
 use std::alloc::Global;
 use std::env::Env;
 use std::io::{BufWriter, Write};
@@ -22,8 +33,10 @@ use std::thread::Threads;
 use std::{env, io};
 use xa_manager::converse;
 use xa_serve::{Wire, serve_statements};
-use xa_store::OpenGate;
-pub use xa_transcript::{CutReader, CutWriter, ScriptFault, race_script, run_script};
+use xa_show::show_statements;
+pub use xa_transcript::{
+    CutReader, CutWriter, ScriptFault, race_script, race_script_in_rounds, run_script,
+};
 
 /// The status of a run that was done, and of help.
 const DONE: u8 = 0;
@@ -51,7 +64,7 @@ fn status<R: Env + Input + Print + Eprint + Alloc<A = Global> + Threads + Wait +
     };
     match read_command(rt.alloc(), words.as_slice()) {
         Ok(job) => match carry_out(rt, job) {
-            Ok(()) => DONE,
+            Ok(status) => status,
             Err(fault) => {
                 tell(rt, &fault);
                 status_of(fault)
@@ -66,7 +79,7 @@ fn words<R: Env + Alloc<A = Global>>(rt: &R) -> io::Result<Vec<String>> {
     Ok(env::args(rt)?.collect(rt.alloc())?)
 }
 
-/// Tells why the words can't be had.
+/// Writes why the words can't be had, and gives the status.
 fn refuse_words<R: Eprint>(rt: &R, error: &io::Error) -> u8 {
     if error.kind() == io::ErrorKind::OutOfMemory {
         tell(rt, &ScriptFault::NoMemory);
@@ -76,11 +89,12 @@ fn refuse_words<R: Eprint>(rt: &R, error: &io::Error) -> u8 {
     COMMAND_FAULT
 }
 
-/// Runs or races the script of the standard input, carries its calls out, or serves whoever speaks there.
+/// Runs or races the script of the standard input, judges the record there, carries its calls out, or serves whoever speaks there;
+/// and gives the status.
 fn carry_out<R: Input + Print + Alloc<A = Global> + Threads + Wait + Sync>(
     rt: &R,
     job: Job,
-) -> Result<(), ScriptFault>
+) -> Result<u8, ScriptFault>
     requires { CanBeDone job }
 {
     let mut input = rt.reader();
@@ -88,16 +102,23 @@ fn carry_out<R: Input + Print + Alloc<A = Global> + Threads + Wait + Sync>(
         return Err(ScriptFault::NoMemory);
     };
     let result = match job {
-        Job::Run => run_script(rt.alloc(), &mut input, &mut output),
-        Job::Race(capacity) => {
-            let gate = OpenGate;
-            race_script(rt, rt.alloc(), &mut input, &mut output, capacity, &gate)
-        }
+        Job::Run => run_script(rt.alloc(), &mut input, &mut output).and(Ok(DONE)),
+        Job::Race {
+            capacity,
+            manner,
+            renews,
+        } => race_by(rt, &mut input, &mut output, capacity, manner, renews).and(Ok(DONE)),
+        Job::Judge { limit } => judge_within(rt.alloc(), &mut input, &mut output, limit),
         Job::Coordinate { stores, capacity } => {
             let mut wire = Wire::new(input, output);
-            return converse(rt, rt.alloc(), &mut wire, stores, capacity);
+            return converse(rt, rt.alloc(), &mut wire, stores, capacity).and(Ok(DONE));
         }
-        Job::Serve => return serve_statements(rt.alloc(), &mut Wire::new(input, output)),
+        Job::Serve => {
+            return serve_statements(rt.alloc(), &mut Wire::new(input, output)).and(Ok(DONE));
+        }
+        Job::Show => {
+            return show_statements(rt.alloc(), &mut Wire::new(input, output)).and(Ok(DONE));
+        }
     };
     if output.flush().is_err() {
         return Err(ScriptFault::Write);
@@ -105,7 +126,7 @@ fn carry_out<R: Input + Print + Alloc<A = Global> + Threads + Wait + Sync>(
     result
 }
 
-/// Tells why a command line isn't carried out.
+/// Writes why a command line isn't carried out, or what it asks for, and gives the status.
 fn refuse<R: Print + Eprint>(rt: &R, error: &Error) -> u8 {
     if error.kind() == ErrorKind::OutOfMemory {
         tell(rt, &ScriptFault::NoMemory);
@@ -133,7 +154,7 @@ fn status_of(fault: ScriptFault) -> u8
     }
 }
 
-/// Tells a fault on the standard error, where that takes it.
+/// Writes a fault to the standard error, where that takes it.
 fn tell<R: Eprint>(rt: &R, fault: &ScriptFault) {
     let _ = eprintln!(rt; "xa_script: {fault}");
 }

@@ -10,8 +10,6 @@ mod peer;
 mod recorded;
 mod stage;
 mod statements;
-#[cfg(test)]
-mod tests;
 mod wire;
 
 pub use answer::Answer;

@@ -1,6 +1,6 @@
 -- What follows for the state where a statement is accepted.
 use Rattle.std.proofs.Common.{◌≡◌, ℕ, List, refl, ap, sym, ◌∙◌, subst, Bool, true, false, inl, inr}
-use Rattle.std.specs.Prelude.{Option, Some, None, cond, is_some, not, ◌&&◌, ◌||◌}
+use Rattle.std.specs.Prelude.{Option, Some, None, Result, Ok, Err, OnErr, cond, is_some, not, ◌&&◌, ◌||◌}
 use Rattle.std.specs.Option.{option_map, option_map_or, option_and_then}
 use Rattle.std.specs.FinMap as map
 use mathlib.Core.Bool.{true≢false}
@@ -21,7 +21,7 @@ use Rattle.xa_server.specs.declared.seat.Seat.TheVariants.{Free, Active, Idle}
 use Rattle.xa_server.specs.State.{Shared, Branch, State, is_known, phase_at, is_prepared, is_prepared_phase, own_xid, seat_in, seat_of, IsOpen}
 use Rattle.xa_server.specs.Locks.{holds, is_held_against, is_locked_against}
 use Rattle.xa_server.specs.Replies.{ok_if, refused_if, table, reply_to}
-use Rattle.xa_server.specs.Step.{Step, after, effect, enters, may_enter, makes_record, may_take_memory, is_recover, is_refused, unless_refused, with_branch, with_changed, with_lock}
+use Rattle.xa_server.specs.Step.{after, effect, enters, may_enter, makes_record, may_take_memory, is_recover, is_refused, unless_refused, with_branch, with_changed, with_lock}
 use Rattle.xa_server.proofs.Maps.{same_is, same_or_apart, get_inserted, get_inserted_apart}
 use Rattle.xa_server.proofs.Index.{not_none}
 use Rattle.xa_server.proofs.Steps.{same_state, same_branches}
@@ -61,6 +61,13 @@ known_prepared state xid e = by (map.get state.branches xid) e
     by : (found : Option Branch) → option_map_or is_prepared_phase (option_map (λ (b : Branch). b.phase) found) false ≡ true → is_some found ≡ true
     by None e = absurd (true≢false (sym e))
     by (Some branch) e = refl
+
+-- the branch that a session has open is known
+pub known_active : (state : State) (session : ℕ) (own : Xid) → seat_of state session ≡ Active own → is_known state own ≡ true
+known_active state session own is = known_in state own PhaseActive (subst (IsOpen state) is (open_seat state session))
+
+pub known_idle : (state : State) (session : ℕ) (own : Xid) → seat_of state session ≡ Idle own → is_known state own ≡ true
+known_idle state session own is = known_in state own PhaseIdle (subst (IsOpen state) is (open_seat state session))
 
 unprepared : (state : State) (xid : Xid) → phase_at state xid ≡ Some PhaseActive → is_prepared state xid ≡ false
 unprepared state xid e = ap (λ phase. option_map_or is_prepared_phase phase false) e
@@ -150,43 +157,57 @@ locked_again state own key held = by (map.get state.branches own) refl held
 
 -- ---- statements and their steps
 
--- an accepted statement that was carried out
-pub step_accepted : (old new : State) (session : ℕ) (seat : Seat) (statement : Statement) (reply : Reply) →
-    seat ≡ seat_of old session → reply ≡ table old seat statement → is_refused reply ≡ false → new ≡ effect old session seat statement → Step old session statement reply new
-unfolding reply_to after
-step_accepted old new session seat statement reply is answered accepted done =
-    let told : reply ≡ table old (seat_of old session) statement = answered ∙ ap (λ s. table old s statement) is in
-    (told, done ∙ ap (λ s. effect old session s statement) is ∙ sym (by (table old (seat_of old session) statement) (ap is_refused (sym told) ∙ accepted)))
+-- the seat's own test, as the answers to the session's statements have it
+pub accepted_there : (state : State) (session : ℕ) (statement : Statement) → is_refused (reply_to state session statement) ≡ false → is_refused (table state (seat_of state session) statement) ≡ false
+unfolding reply_to
+accepted_there state session statement e = e
+
+pub accepted_as : (state : State) (session : ℕ) (statement : Statement) (seat : Seat) → seat_of state session ≡ seat → is_refused (reply_to state session statement) ≡ false → is_refused (table state seat statement) ≡ false
+unfolding reply_to
+accepted_as state session statement seat is e = ap (λ s. is_refused (table state s statement)) (sym is) ∙ e
+
+-- an accepted statement leaves its effect
+pub after_accepted : (state : State) (session : ℕ) (statement : Statement) → is_refused (reply_to state session statement) ≡ false → effect state session (seat_of state session) statement ≡ after state session statement
+unfolding after
+after_accepted state session statement accepted = sym (by (reply_to state session statement) accepted)
   where
-    by : (r : Reply) → is_refused r ≡ false → unless_refused r old (effect old session (seat_of old session) statement) ≡ effect old session (seat_of old session) statement
+    by : (r : Reply) → is_refused r ≡ false → unless_refused r state (effect state session (seat_of state session) statement) ≡ effect state session (seat_of state session) statement
     by Accepted e = refl
     by (Value value) e = refl
     by (Recovered xids) e = refl
     by (Refused error) e = absurd (true≢false e)
 
--- a refused statement
-pub step_refused : (old : State) (session : ℕ) (seat : Seat) (statement : Statement) (reply : Reply) →
-    seat ≡ seat_of old session → reply ≡ table old seat statement → is_refused reply ≡ true → Step old session statement reply old
-unfolding reply_to after
-step_refused old session seat statement reply is answered refused =
-    let told : reply ≡ table old (seat_of old session) statement = answered ∙ ap (λ s. table old s statement) is in
-    (told, sym (by (table old (seat_of old session) statement) (ap is_refused (sym told) ∙ refused)))
+-- a refused statement leaves the state
+pub after_refused : (state : State) (session : ℕ) (statement : Statement) → is_refused (reply_to state session statement) ≡ true → state ≡ after state session statement
+unfolding after
+after_refused state session statement refused = sym (by (reply_to state session statement) refused)
   where
-    by : (r : Reply) → is_refused r ≡ true → unless_refused r old (effect old session (seat_of old session) statement) ≡ old
+    by : (r : Reply) → is_refused r ≡ true → unless_refused r state (effect state session (seat_of state session) statement) ≡ state
     by Accepted e = absurd (true≢false (sym e))
     by (Value value) e = absurd (true≢false (sym e))
     by (Recovered xids) e = absurd (true≢false (sym e))
     by (Refused error) e = refl
 
--- want of memory comes only where the statement enters and makes a record
-pub may_run_out : (old : State) (session : ℕ) (seat : Seat) (statement : Statement) (reply : Reply) →
-    seat ≡ seat_of old session → reply ≡ table old seat statement → is_refused reply ≡ false → may_enter old seat statement ≡ true → makes_record statement ≡ true → may_take_memory old session statement ≡ true
-unfolding enters reply_to
-may_run_out old session seat statement reply is answered accepted enters_it makes =
-    ap (λ b. is_recover statement || (not b && may_enter old (seat_of old session) statement && makes_record statement)) (sym (ap is_refused (answered ∙ ap (λ s. table old s statement) is)) ∙ accepted)
-    ∙ ap (λ b. is_recover statement || (b && makes_record statement)) (ap (λ s. may_enter old s statement) (sym is) ∙ enters_it)
+-- the reply that the seat has in the table is the reply to the session
+pub replied : (state : State) (session : ℕ) (seat : Seat) (statement : Statement) (reply : Reply) → seat ≡ seat_of state session → reply ≡ table state seat statement → reply ≡ reply_to state session statement
+unfolding reply_to
+replied state session seat statement reply is answered = answered ∙ ap (λ s. table state s statement) is
+
+-- an allocation fails only where the statement enters and makes a record
+pub may_run_out : (old : State) (session : ℕ) (statement : Statement) →
+    is_refused (reply_to old session statement) ≡ false → may_enter old (seat_of old session) statement ≡ true → makes_record statement ≡ true → may_take_memory old session statement ≡ true
+unfolding enters
+may_run_out old session statement accepted enters_it makes =
+    ap (λ b. is_recover statement || (not b && may_enter old (seat_of old session) statement && makes_record statement)) accepted
+    ∙ ap (λ b. is_recover statement || (b && makes_record statement)) enters_it
     ∙ ap (λ b. is_recover statement || b) makes ∙ or_true (is_recover statement)
   where
     or_true : (b : Bool) → (b || true) ≡ true
     or_true true = refl
     or_true false = refl
+
+pub may_run_out_at : {T E : Type 0} (result : Result T E) (old : State) (session : ℕ) (statement : Statement) →
+    is_refused (reply_to old session statement) ≡ false → OnErr result (may_enter old (seat_of old session) statement ≡ true) → OnErr result (makes_record statement ≡ true)
+    → OnErr result (may_take_memory old session statement ≡ true)
+may_run_out_at (Ok value) old session statement accepted enters_it makes = enters_it
+may_run_out_at (Err error) old session statement accepted enters_it makes = may_run_out old session statement accepted enters_it makes

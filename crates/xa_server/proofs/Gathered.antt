@@ -75,7 +75,7 @@ module _ {K V W : Type 0} {R : K → K → Ordering} (total : IsTotalOrder R) (e
   sorted-map_values change [] = refl
   sorted-map_values change (e ∷ es) = ap (λ b. b && is_sorted R (map_values change es)) (below-map_values change e.0 es) ∙ ap (λ b. below_all R e.0 es && b) (sorted-map_values change es)
 
-  entries-mapped : (change : K → V → W) (records : FinMap R V) → entries (mapped change records) ≡ map_values change (entries records)
+  pub entries-mapped : (change : K → V → W) (records : FinMap R V) → entries (mapped change records) ≡ map_values change (entries records)
   unfolding mapped
   entries-mapped change records = entries-from_sorted R (map_values change (entries records)) (subst T (sym (sorted-map_values change (entries records))) (entries_sorted records))
 

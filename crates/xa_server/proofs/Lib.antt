@@ -22,3 +22,5 @@ pub mod Others
 pub mod Listing
 pub mod Taking
 pub mod Keeping
+pub mod Kept
+pub mod Held

@@ -9,3 +9,5 @@ pub mod Tables
 pub mod Rows
 pub mod View
 pub mod Errors
+pub mod Overview
+pub mod Held

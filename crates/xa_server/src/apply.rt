@@ -1,8 +1,8 @@
 //! What an accepted statement does.
 ghost use Rattle.std.specs.Prelude.{◌≡◌, ℕ, true, false, IfOk, OnOk, OnErr};
-ghost use Rattle.xa_server.specs.Replies.{table};
-ghost use Rattle.xa_server.specs.State.{seat_of, IsOpen};
-ghost use Rattle.xa_server.specs.Step.{Step, effect, is_refused, makes_record, may_enter, may_take_memory, row_written};
+ghost use Rattle.xa_server.specs.Replies.{table, reply_to};
+ghost use Rattle.xa_server.specs.State.{seat_of};
+ghost use Rattle.xa_server.specs.Step.{Step, after, effect, is_refused, makes_record, may_enter, may_take_memory, row_written};
 ghost use Rattle.xa_xid.specs.declared.statement.Statement.TheVariants.{Get, Put, Del, Disconnect};
 
 use crate::lock::Change;
@@ -13,14 +13,14 @@ use xa_xid::{Bytes, Key, NoMemory, SessionNo, Statement, copy_of};
 impl Server {
     /// Has the session's branch share a row that it reads, where it doesn't hold it yet. After `NoMemory` the server is as before.
     #[tactic(auto, unfolding(crate::specs::Step::effect, crate::specs::Step::may_enter))]
-    fn lock_row(&mut self, seat: &Seat, key: &Key) -> Result<(), NoMemory>
-        requires accepted { is_refused (table self.old seat.now (Get key.now)) ≡ false }
-        requires seated { IsOpen self.old seat.now }
-        ensures ok { OnOk result ((session : ℕ) → self.new ≡ effect self.old session seat.now (Get key.now)) }
+    fn lock_row(&mut self, session: SessionNo, key: &Key) -> Result<(), NoMemory>
+        requires { is_refused (reply_to self.old session (Get key.now)) ≡ false }
+        ensures ok { OnOk result (self.new ≡ effect self.old session (seat_of self.old session) (Get key.now)) }
         ensures err { OnErr result (self.new ≡ self.old) }
-        ensures memory { OnErr result (may_enter self.old seat.now (Get key.now) ≡ true) }
+        ensures memory { OnErr result (may_enter self.old (seat_of self.old session) (Get key.now) ≡ true) }
     {
-        let Seat::Active(own) = seat else {
+        let seat = self.seat(session);
+        let Seat::Active(own) = &seat else {
             return Ok(());
         };
         if self.holds(own, key) {
@@ -31,13 +31,13 @@ impl Server {
 
     /// Gives a row a value: at once, or in the session's branch. After `NoMemory` the server is as before.
     #[tactic(auto, unfolding(crate::specs::Step::effect))]
-    fn put(&mut self, seat: &Seat, key: &Key, value: &Bytes) -> Result<(), NoMemory>
-        requires accepted { is_refused (table self.old seat.now (Put key.now value.now)) ≡ false }
-        requires seated { IsOpen self.old seat.now }
-        ensures ok { OnOk result ((session : ℕ) → self.new ≡ effect self.old session seat.now (Put key.now value.now)) }
+    fn put(&mut self, session: SessionNo, key: &Key, value: &Bytes) -> Result<(), NoMemory>
+        requires { is_refused (reply_to self.old session (Put key.now value.now)) ≡ false }
+        ensures ok { OnOk result (self.new ≡ effect self.old session (seat_of self.old session) (Put key.now value.now)) }
         ensures err { OnErr result (self.new ≡ self.old) }
     {
-        match seat {
+        let seat = self.seat(session);
+        match &seat {
             Seat::Free => self.put_row(key, value),
             Seat::Active(own) => self.hold(own, key, Change::Put(copy_of(value))),
             Seat::Idle(_) => Ok(()),
@@ -46,13 +46,13 @@ impl Server {
 
     /// Takes the value of a row away: at once, or in the session's branch. After `NoMemory` the server is as before.
     #[tactic(auto, unfolding(crate::specs::Step::effect))]
-    fn delete(&mut self, seat: &Seat, key: &Key) -> Result<(), NoMemory>
-        requires accepted { is_refused (table self.old seat.now (Del key.now)) ≡ false }
-        requires seated { IsOpen self.old seat.now }
-        ensures ok { OnOk result ((session : ℕ) → self.new ≡ effect self.old session seat.now (Del key.now)) }
+    fn delete(&mut self, session: SessionNo, key: &Key) -> Result<(), NoMemory>
+        requires { is_refused (reply_to self.old session (Del key.now)) ≡ false }
+        ensures ok { OnOk result (self.new ≡ effect self.old session (seat_of self.old session) (Del key.now)) }
         ensures err { OnErr result (self.new ≡ self.old) }
     {
-        match seat {
+        let seat = self.seat(session);
+        match &seat {
             Seat::Free => {
                 self.delete_row(key);
                 Ok(())
@@ -64,31 +64,26 @@ impl Server {
 
     /// Rolls back the branch that a session leaves open.
     #[tactic(auto, unfolding(crate::specs::Step::effect))]
-    fn disconnect(&mut self, seat: &Seat)
-        requires { IsOpen self.old seat.now }
-        ensures { (session : ℕ) → self.new ≡ effect self.old session seat.now Disconnect }
+    fn disconnect(&mut self, session: SessionNo)
+        ensures { self.new ≡ effect self.old session (seat_of self.old session) Disconnect }
     {
-        match seat {
+        let seat = self.seat(session);
+        match &seat {
             Seat::Free => {}
             Seat::Active(own) => self.end_branch(own, false),
             Seat::Idle(own) => self.end_branch(own, false),
         }
     }
 
-    /// Carries out a statement that the table of replies accepts. After `NoMemory` the server is as before.
+    /// Carries out a statement that the table of replies accepts. After `NoMemory` the server is as before. Only the row
+    /// statements and `DISCONNECT` need what the session has open.
     #[tactic(auto, unfolding(crate::specs::Step::effect, crate::specs::Step::may_enter))]
-    fn carry_out(
-        &mut self,
-        session: SessionNo,
-        seat: &Seat,
-        statement: &Statement,
-    ) -> Result<(), NoMemory>
-        requires seat { seat.now ≡ seat_of self.old session }
-        requires accepted { is_refused (table self.old seat.now statement.now) ≡ false }
-        ensures ok { OnOk result (self.new ≡ effect self.old session seat.now statement.now) }
+    fn carry_out(&mut self, session: SessionNo, statement: &Statement) -> Result<(), NoMemory>
+        requires { is_refused (reply_to self.old session statement.now) ≡ false }
+        ensures ok { OnOk result (self.new ≡ effect self.old session (seat_of self.old session) statement.now) }
         ensures err { OnErr result (self.new ≡ self.old) }
         ensures memory { OnErr result (makes_record statement.now ≡ true) }
-        ensures enters { OnErr result (may_enter self.old seat.now statement.now ≡ true) }
+        ensures enters { OnErr result (may_enter self.old (seat_of self.old session) statement.now ≡ true) }
     {
         match statement {
             Statement::Start(xid) => return self.start_branch(session, xid),
@@ -98,12 +93,27 @@ impl Server {
             Statement::Rollback(xid) => self.end_branch(xid, false),
             Statement::Recover { convert: _ } => {}
             Statement::Unsupported => {}
-            Statement::Get(key) => return self.lock_row(seat, key),
-            Statement::Put(key, value) => return self.put(seat, key, value),
-            Statement::Del(key) => return self.delete(seat, key),
-            Statement::Disconnect => self.disconnect(seat),
+            Statement::Get(key) => return self.lock_row(session, key),
+            Statement::Put(key, value) => return self.put(session, key, value),
+            Statement::Del(key) => return self.delete(session, key),
+            Statement::Disconnect => self.disconnect(session),
         }
         Ok(())
+    }
+
+    /// Carries out a session's statement that `reply` accepts, without answering it again.
+    ///
+    /// Errors: `NoMemory`, after which the server is as before, for an `XA START`, `PUT`, `DEL` or `GET` that makes a record.
+    ///
+    /// May answer `NoMemory`. Doesn't wait.
+    /// Source: docs/BEHAVIOR.md, 'Branches', which says line by line what is the manual's, C193's or our own.
+    pub fn accept(&mut self, session: SessionNo, statement: &Statement) -> Result<(), NoMemory>
+        requires { is_refused (reply_to self.old session statement.now) ≡ false }
+        ensures ok { OnOk result (self.new ≡ after self.old session statement.now) }
+        ensures unchanged { OnErr result (self.new ≡ self.old) }
+        ensures memory { OnErr result (may_take_memory self.old session statement.now ≡ true) }
+    {
+        self.carry_out(session, statement)
     }
 
     /// Answers a session's statement and carries it out. A refused statement changes nothing.
@@ -119,7 +129,7 @@ impl Server {
         let seat = self.seat(session);
         let reply = self.decide(&seat, statement)?;
         if !reply.is_refused() {
-            self.carry_out(session, &seat, statement)?;
+            self.accept(session, statement)?;
         }
         Ok(reply)
     }

@@ -1,5 +1,5 @@
 //! The record of a transaction branch.
-ghost use Rattle.std.specs.Prelude.{◌≡◌, false};
+ghost use Rattle.std.specs.Prelude.{◌≡◌, true, false};
 ghost use Rattle.std.specs.Option.{option_map_or};
 ghost use Rattle.xa_server.specs.State.{is_prepared_phase};
 
@@ -40,6 +40,30 @@ impl Clone for BranchRecord {
             owner: self.owner,
             held: self.held.copy()?,
         })
+    }
+}
+
+/// Whether two sessions are the same, or neither is there.
+fn is_same_owner(left: Option<SessionNo>, right: Option<SessionNo>) -> bool
+    ensures { result ≡ true → left ≡ right }
+{
+    match left {
+        None => right.is_none(),
+        Some(session) => match right {
+            None => false,
+            Some(other) => session.get() == other.get(),
+        },
+    }
+}
+
+impl BranchRecord {
+    /// Whether both say the same of a branch, and list the rows that it holds in one order.
+    pub fn is_same(&self, other: &BranchRecord) -> bool
+        ensures { result ≡ true → self.now ≡ other.now }
+    {
+        self.phase == other.phase
+            && is_same_owner(self.owner, other.owner)
+            && self.held.is_same(&other.held)
     }
 }
 

@@ -1,5 +1,5 @@
 //! The records of all branches, found by identifier and by session.
-ghost use Rattle.std.specs.Prelude.{◌≡◌, ◌≢◌, ℕ, [], ◌∷◌, ◌++◌, OnOk, OnErr, IfOk, IfSome, IfNone, MatchOption, ◌<◌, length};
+ghost use Rattle.std.specs.Prelude.{◌≡◌, true, ◌≢◌, ℕ, [], ◌∷◌, ◌++◌, OnOk, OnErr, IfOk, IfSome, IfNone, MatchOption, ◌<◌, length};
 ghost use Rattle.std.specs.Option.{option_map, option_and_then};
 ghost use Rattle.std.specs.BTreeMap as tree;
 ghost use Rattle.std.specs.FinMap as map;
@@ -9,6 +9,8 @@ ghost use Rattle.xa_server.specs.Tables.{owned_at, prepared_keys, without_last};
 
 use crate::branch::{self, BranchRecord, Phase};
 use crate::keys::Keys;
+use crate::lock::is_same_xid;
+use crate::overview::{BranchEntry, entries_in};
 use std::alloc::Global;
 use std::collections::BTreeMap;
 use std::marker::Model;
@@ -115,6 +117,23 @@ fn prepared_in(alloc: Global, by_xid: &BTreeMap<Xid, BranchRecord>) -> Result<Ve
     Ok(xids)
 }
 
+/// Whether the same branches have the same records.
+fn has_same_records(
+    by_xid: &BTreeMap<Xid, BranchRecord>,
+    others: &BTreeMap<Xid, BranchRecord>,
+) -> bool
+    ensures { result ≡ true → by_xid.now.entries ≡ others.now.entries }
+{
+    let mut rest = others.iter();
+    for (xid, branch) in by_xid {
+        match rest.next() {
+            Some((other, record)) if is_same_xid(xid, other) && branch.is_same(record) => {}
+            _ => return false,
+        }
+    }
+    rest.next().is_none()
+}
+
 /// A copy of the records.
 fn copy_of_records(
     by_xid: &BTreeMap<Xid, BranchRecord>,
@@ -139,6 +158,7 @@ fn copy_of_places(owned: &[Option<Xid>; PLACES]) -> [Option<Xid>; PLACES]
 }
 
 impl BranchTable {
+    ghost use Rattle.xa_server.specs.Held.{recorded_entries};
     ghost use Rattle.xa_server.specs.Tables.{owner_of, prepared_among, with_record};
 
     /// No branches.
@@ -150,6 +170,13 @@ impl BranchTable {
             owned: empty_places(),
             alloc,
         }
+    }
+
+    /// Whether both are the same records.
+    pub fn is_same(&self, other: &BranchTable) -> bool
+        ensures { result ≡ true → self.now ≡ other.now }
+    {
+        has_same_records(&self.by_xid, &other.by_xid)
     }
 
     /// A copy of the records.
@@ -186,6 +213,13 @@ impl BranchTable {
         ensures { IfOk result (λ xids. xids.items ≡ prepared_among self.now) }
     {
         prepared_in(self.alloc, &self.by_xid)
+    }
+
+    /// Every branch without its rows, ascending by identifier.
+    pub fn entries(&self, alloc: Global) -> Result<Vec<BranchEntry>, NoMemory>
+        ensures { IfOk result (λ branches. branches.items ≡ recorded_entries self.now) }
+    {
+        entries_in(alloc, &self.by_xid)
     }
 
     /// Starts a branch for a session. After `NoMemory` the records are as before.

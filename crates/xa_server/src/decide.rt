@@ -1,5 +1,5 @@
 //! What a statement is answered: the table of replies.
-ghost use Rattle.std.specs.Prelude.{◌≡◌, true, IfOk, OnErr};
+ghost use Rattle.std.specs.Prelude.{◌≡◌, true, Ok, IfOk, OnErr};
 ghost use Rattle.xa_server.specs.Locks.{LockLaw};
 ghost use Rattle.xa_server.specs.Replies.{table, reply_to, ok_if as ok_reply_if};
 ghost use Rattle.xa_server.specs.Step.{may_enter as may_enter_in, enters, is_recover};
@@ -10,36 +10,38 @@ use crate::seat::{Seat, is_same};
 use crate::{BranchState, Reply, Server, XaError};
 use xa_xid::{Key, NoMemory, SessionNo, Statement, Xid};
 
+// Each reply is made as the result that `reply` returns, so that it is moved once and not wrapped behind every call.
+
 /// Carried out where the test holds, and else refused.
-fn ok_if(holds: bool, error: XaError) -> Reply
-    ensures { result ≡ ok_reply_if holds error }
+fn ok_if(holds: bool, error: XaError) -> Result<Reply, NoMemory>
+    ensures { result ≡ Ok (ok_reply_if holds error) }
 {
     if holds {
-        Reply::Ok
+        Ok(Reply::Ok)
     } else {
-        Reply::Refused(error)
+        Ok(Reply::Refused(error))
     }
 }
 
 /// A refusal in a state that doesn't allow the statement.
-fn rmfail(state: BranchState) -> Reply
-    ensures { result ≡ Reply.Refused (XaError.Rmfail state) }
+fn rmfail(state: BranchState) -> Result<Reply, NoMemory>
+    ensures { result ≡ Ok (Reply.Refused (XaError.Rmfail state)) }
 {
-    Reply::Refused(XaError::Rmfail(state))
+    Ok(Reply::Refused(XaError::Rmfail(state)))
 }
 
 impl Server {
     /// The reply to `XA START`.
     #[tactic(auto, unfolding(crate::specs::Replies::table))]
-    fn reply_to_start(&self, seat: &Seat, xid: &Xid) -> Reply
-        ensures { result ≡ table self.now seat.now (Start xid.now) }
+    fn reply_to_start(&self, seat: &Seat, xid: &Xid) -> Result<Reply, NoMemory>
+        ensures { result ≡ Ok (table self.now seat.now (Start xid.now)) }
     {
         match seat {
             Seat::Free => {
                 if self.knows(xid) {
-                    Reply::Refused(XaError::Dupid)
+                    Ok(Reply::Refused(XaError::Dupid))
                 } else {
-                    Reply::Ok
+                    Ok(Reply::Ok)
                 }
             }
             Seat::Active(_) => rmfail(BranchState::Active),
@@ -49,8 +51,8 @@ impl Server {
 
     /// The reply to `XA END`.
     #[tactic(auto, unfolding(crate::specs::Replies::table))]
-    fn reply_to_end(&self, seat: &Seat, xid: &Xid) -> Reply
-        ensures { result ≡ table self.now seat.now (End xid.now) }
+    fn reply_to_end(&self, seat: &Seat, xid: &Xid) -> Result<Reply, NoMemory>
+        ensures { result ≡ Ok (table self.now seat.now (End xid.now)) }
     {
         match seat {
             Seat::Free => rmfail(BranchState::NonExisting),
@@ -61,8 +63,8 @@ impl Server {
 
     /// The reply to `XA PREPARE`.
     #[tactic(auto, unfolding(crate::specs::Replies::table))]
-    fn reply_to_prepare(&self, seat: &Seat, xid: &Xid) -> Reply
-        ensures { result ≡ table self.now seat.now (Prepare xid.now) }
+    fn reply_to_prepare(&self, seat: &Seat, xid: &Xid) -> Result<Reply, NoMemory>
+        ensures { result ≡ Ok (table self.now seat.now (Prepare xid.now)) }
     {
         match seat {
             Seat::Free => rmfail(BranchState::NonExisting),
@@ -73,17 +75,17 @@ impl Server {
 
     /// The reply to `XA COMMIT`.
     #[tactic(auto, unfolding(crate::specs::Replies::table))]
-    fn reply_to_commit(&self, seat: &Seat, xid: &Xid, one_phase: bool) -> Reply
-        ensures { result ≡ table self.now seat.now (Commit xid.now one_phase) }
+    fn reply_to_commit(&self, seat: &Seat, xid: &Xid, one_phase: bool) -> Result<Reply, NoMemory>
+        ensures { result ≡ Ok (table self.now seat.now (Commit xid.now one_phase)) }
     {
         match seat {
             Seat::Free => {
                 if !self.has_prepared(xid) {
-                    Reply::Refused(XaError::Nota)
+                    Ok(Reply::Refused(XaError::Nota))
                 } else if one_phase {
                     rmfail(BranchState::Prepared)
                 } else {
-                    Reply::Ok
+                    Ok(Reply::Ok)
                 }
             }
             Seat::Active(_) => rmfail(BranchState::Active),
@@ -99,8 +101,8 @@ impl Server {
 
     /// The reply to `XA ROLLBACK`.
     #[tactic(auto, unfolding(crate::specs::Replies::table))]
-    fn reply_to_rollback(&self, seat: &Seat, xid: &Xid) -> Reply
-        ensures { result ≡ table self.now seat.now (Rollback xid.now) }
+    fn reply_to_rollback(&self, seat: &Seat, xid: &Xid) -> Result<Reply, NoMemory>
+        ensures { result ≡ Ok (table self.now seat.now (Rollback xid.now)) }
     {
         match seat {
             Seat::Free => ok_if(self.has_prepared(xid), XaError::Nota),
@@ -111,16 +113,16 @@ impl Server {
 
     /// The reply to `GET`.
     #[tactic(auto, unfolding(crate::specs::Replies::table))]
-    fn reply_to_get(&self, seat: &Seat, key: &Key) -> Reply
-        ensures { result ≡ table self.now seat.now (Get key.now) }
+    fn reply_to_get(&self, seat: &Seat, key: &Key) -> Result<Reply, NoMemory>
+        ensures { result ≡ Ok (table self.now seat.now (Get key.now)) }
     {
         match seat {
-            Seat::Free => Reply::Value(self.committed_value(key)),
+            Seat::Free => Ok(Reply::Value(self.committed_value(key))),
             Seat::Active(own) => {
                 if self.is_locked_against(seat, key) {
-                    Reply::Refused(XaError::RowLocked)
+                    Ok(Reply::Refused(XaError::RowLocked))
                 } else {
-                    Reply::Value(self.value_within(own, key))
+                    Ok(Reply::Value(self.value_within(own, key)))
                 }
             }
             Seat::Idle(_) => rmfail(BranchState::Idle),
@@ -129,9 +131,9 @@ impl Server {
 
     /// The reply to `PUT` and `DEL`.
     #[tactic(auto, unfolding(crate::specs::Replies::table))]
-    fn reply_to_write(&self, seat: &Seat, key: &Key) -> Reply
-        ensures put { (value : Text) → result ≡ table self.now seat.now (Put key.now value) }
-        ensures del { result ≡ table self.now seat.now (Del key.now) }
+    fn reply_to_write(&self, seat: &Seat, key: &Key) -> Result<Reply, NoMemory>
+        ensures put { (value : Text) → result ≡ Ok (table self.now seat.now (Put key.now value)) }
+        ensures del { result ≡ Ok (table self.now seat.now (Del key.now)) }
     {
         match seat {
             Seat::Idle(_) => rmfail(BranchState::Idle),
@@ -147,16 +149,16 @@ impl Server {
         ensures memory { OnErr result (is_recover statement.now ≡ true) }
     {
         match statement {
-            Statement::Start(xid) => Ok(self.reply_to_start(seat, xid)),
-            Statement::End(xid) => Ok(self.reply_to_end(seat, xid)),
-            Statement::Prepare(xid) => Ok(self.reply_to_prepare(seat, xid)),
-            Statement::Commit { xid, one_phase } => Ok(self.reply_to_commit(seat, xid, *one_phase)),
-            Statement::Rollback(xid) => Ok(self.reply_to_rollback(seat, xid)),
+            Statement::Start(xid) => self.reply_to_start(seat, xid),
+            Statement::End(xid) => self.reply_to_end(seat, xid),
+            Statement::Prepare(xid) => self.reply_to_prepare(seat, xid),
+            Statement::Commit { xid, one_phase } => self.reply_to_commit(seat, xid, *one_phase),
+            Statement::Rollback(xid) => self.reply_to_rollback(seat, xid),
             Statement::Recover { convert: _ } => Ok(Reply::Recovered(self.prepared_xids()?)),
             Statement::Unsupported => Ok(Reply::Refused(XaError::Inval)),
-            Statement::Get(key) => Ok(self.reply_to_get(seat, key)),
-            Statement::Put(key, _) => Ok(self.reply_to_write(seat, key)),
-            Statement::Del(key) => Ok(self.reply_to_write(seat, key)),
+            Statement::Get(key) => self.reply_to_get(seat, key),
+            Statement::Put(key, _) => self.reply_to_write(seat, key),
+            Statement::Del(key) => self.reply_to_write(seat, key),
             Statement::Disconnect => Ok(Reply::Ok),
         }
     }

@@ -1,5 +1,5 @@
 //! A list of keys.
-ghost use Rattle.std.specs.Prelude.{◌≡◌, [], ◌∷◌, ◌++◌, IfOk, OnOk, OnErr, MatchOption};
+ghost use Rattle.std.specs.Prelude.{◌≡◌, [], ◌∷◌, ◌++◌, true, IfOk, OnOk, OnErr, MatchOption};
 
 use std::alloc::Global;
 use std::marker::Model;
@@ -43,6 +43,13 @@ impl Keys {
         ensures { MatchOption result ((self.old ≡ []) × (self.new ≡ [])) (λ key. self.old ≡ self.new ++ key ∷ []) }
     {
         self.list.pop()
+    }
+
+    /// Whether both are the same keys in one order.
+    pub fn is_same(&self, other: &Keys) -> bool
+        ensures { result ≡ true → self.now ≡ other.now }
+    {
+        self.list == other.list
     }
 
     /// A copy of the keys.

@@ -5,21 +5,22 @@ mod apply;
 mod branch;
 mod branch_table;
 mod decide;
+mod hold;
 mod keys;
 pub mod laws;
 mod lock;
+mod overview;
 mod reply;
 mod row;
 mod row_table;
 mod seat;
 mod server;
 mod sharers;
-#[cfg(test)]
-mod sharing_tests;
-#[cfg(test)]
-mod tests;
 mod xa_error;
 
+pub use branch::Phase;
+pub use hold::{HeldRow, Hold};
+pub use overview::BranchEntry;
 pub use reply::{Reply, XidList};
 pub use server::Server;
 pub use xa_error::{BranchState, XaError};

@@ -1,5 +1,5 @@
 //! Who holds a row.
-ghost use Rattle.std.specs.Prelude.{◌≡◌, is_some, IfOk, OnOk, OnErr};
+ghost use Rattle.std.specs.Prelude.{◌≡◌, true, is_some, IfOk, OnOk, OnErr};
 ghost use Rattle.std.specs.FinSet as set;
 ghost use Rattle.std.specs.Option.{option_map};
 ghost use Rattle.xa_server.specs.Rows.{write_of, write_in, mode_in, held_beside, locked_beside, with_sharer, freed_lock};
@@ -32,6 +32,20 @@ pub enum Lock {
     Shared(Sharers),
 }
 
+/// Whether two identifiers are known to be one.
+pub fn is_same_xid(left: &Xid, right: &Xid) -> bool
+    ensures { result ≡ true → left.now ≡ right.now }
+{
+    is_same(left, right)
+}
+
+/// Whether two texts have the same bytes.
+pub fn is_same_text(left: &Bytes, right: &Bytes) -> bool
+    ensures { result ≡ true → left.now ≡ right.now }
+{
+    left.as_slice() == right.as_slice()
+}
+
 impl Change {
     /// A copy of the change.
     fn copy(&self) -> Change
@@ -40,6 +54,19 @@ impl Change {
         match self {
             Change::Put(value) => Change::Put(copy_of(value)),
             Change::Delete => Change::Delete,
+        }
+    }
+
+    /// Whether both do the same to a row.
+    pub fn is_same(&self, other: &Change) -> bool
+        ensures { result ≡ true → self.now ≡ other.now }
+    {
+        match self {
+            Change::Put(value) => match other {
+                Change::Put(another) => is_same_text(value, another),
+                Change::Delete => false,
+            },
+            Change::Delete => matches!(other, Change::Delete),
         }
     }
 
@@ -72,6 +99,28 @@ impl Lock {
                 change: change.copy(),
             }),
             Lock::Shared(sharers) => Ok(Lock::Shared(sharers.copy()?)),
+        }
+    }
+
+    /// Whether both are held by the same branches in the same way.
+    pub fn is_same(&self, other: &Lock) -> bool
+        ensures { result ≡ true → self.now ≡ other.now }
+    {
+        match self {
+            Lock::Exclusive { holder, change } => match other {
+                Lock::Exclusive {
+                    holder: another,
+                    change: other_change,
+                } => is_same_xid(holder, another) && change.is_same(other_change),
+                Lock::Shared(_) => false,
+            },
+            Lock::Shared(sharers) => match other {
+                Lock::Exclusive {
+                    holder: _,
+                    change: _,
+                } => false,
+                Lock::Shared(others) => sharers.is_same(others),
+            },
         }
     }
 

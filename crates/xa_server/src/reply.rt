@@ -1,9 +1,9 @@
 //! What a statement is answered.
-ghost use Rattle.std.specs.Prelude.{◌≡◌};
+ghost use Rattle.std.specs.Prelude.{◌≡◌, IfOk};
 
 use crate::XaError;
 use std::marker::Model;
-use xa_xid::{Bytes, Xid};
+use xa_xid::{Bytes, NoMemory, Xid, copy_of};
 
 /// What a statement is answered.
 #[derive(Debug, Drop)]
@@ -20,6 +20,21 @@ pub enum Reply {
 
 impl Reply {
     ghost use Rattle.xa_server.specs.Step.{is_refused as is_refused_reply};
+
+    /// The same reply.
+    ///
+    /// May answer `NoMemory`, for a list of identifiers alone. Doesn't wait.
+    pub fn copy(&self) -> Result<Reply, NoMemory>
+        ensures { IfOk result (λ copy. copy ≡ self.now) }
+    {
+        Ok(match self {
+            Reply::Ok => Reply::Ok,
+            Reply::Value(None) => Reply::Value(None),
+            Reply::Value(Some(value)) => Reply::Value(Some(copy_of(value))),
+            Reply::Recovered(xids) => Reply::Recovered(xids.copy()?),
+            Reply::Refused(error) => Reply::Refused(*error),
+        })
+    }
 
     /// Whether the statement was refused.
     ///
@@ -61,6 +76,17 @@ impl XidList {
         ensures { result ≡ xids.items }
     {
         XidList { xids }
+    }
+
+    /// The same list.
+    ///
+    /// May answer `NoMemory`. Doesn't wait.
+    pub fn copy(&self) -> Result<XidList, NoMemory>
+        ensures { IfOk result (λ copy. copy ≡ self.now) }
+    {
+        Ok(XidList {
+            xids: self.xids.clone()?,
+        })
     }
 
     /// The identifiers, in order.

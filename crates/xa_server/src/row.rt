@@ -1,9 +1,9 @@
 //! The record of a row.
-ghost use Rattle.std.specs.Prelude.{◌≡◌, is_some};
+ghost use Rattle.std.specs.Prelude.{◌≡◌, true, is_some};
 ghost use Rattle.std.specs.Option.{option_copied, option_and_then};
 ghost use Rattle.xa_server.specs.Rows.{committed_of, held_against, locked_against, value_seen, lock_by, freed_row, is_needed};
 
-use crate::lock::{Change, Lock};
+use crate::lock::{Change, Lock, is_same_text};
 use crate::seat::{Seat, is_same};
 use std::alloc::{AllocError, Global};
 use xa_xid::{Bytes, Xid, copy_of};
@@ -25,6 +25,28 @@ impl Clone for RowRecord {
             committed: copy_of_value(&self.committed),
             lock: self.lock.copy()?,
         })
+    }
+}
+
+/// Whether two values are the same, or neither is there.
+fn is_same_value(left: &Option<Bytes>, right: &Option<Bytes>) -> bool
+    ensures { result ≡ true → left.now ≡ right.now }
+{
+    match left {
+        None => right.is_none(),
+        Some(value) => match right {
+            None => false,
+            Some(other) => is_same_text(value, other),
+        },
+    }
+}
+
+impl RowRecord {
+    /// Whether both say the same of a row.
+    pub fn is_same(&self, other: &RowRecord) -> bool
+        ensures { result ≡ true → self.now ≡ other.now }
+    {
+        is_same_value(&self.committed, &other.committed) && self.lock.is_same(&other.lock)
     }
 }
 

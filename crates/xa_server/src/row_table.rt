@@ -5,8 +5,10 @@ ghost use Rattle.std.specs.BTreeMap as tree;
 ghost use Rattle.std.specs.FinMap as map;
 ghost use Rattle.std.specs.FinSet as set;
 ghost use Rattle.xa_xid.specs.Xid.{bytes_cmp};
+ghost use Rattle.xa_server.specs.Held.{held_among};
 ghost use Rattle.xa_server.specs.Rows.{held_row, shared_row, with_sharer, freed_row, is_needed, Frees};
 
+use crate::hold::{HeldRow, held_in};
 use crate::keys::Keys;
 use crate::lock::{Change, Lock};
 use crate::row::{RowRecord, free};
@@ -93,6 +95,20 @@ fn take_out(by_key: &mut BTreeMap<Key, RowRecord>, key: &Key)
     let _row = by_key.remove(key);
 }
 
+/// Whether the same rows have the same records.
+fn has_same_records(by_key: &BTreeMap<Key, RowRecord>, others: &BTreeMap<Key, RowRecord>) -> bool
+    ensures { result ≡ true → by_key.now.entries ≡ others.now.entries }
+{
+    let mut rest = others.iter();
+    for (key, row) in by_key {
+        match rest.next() {
+            Some((other, record)) if key == other && row.is_same(record) => {}
+            _ => return false,
+        }
+    }
+    rest.next().is_none()
+}
+
 /// A copy of the records.
 fn copy_of_records(by_key: &BTreeMap<Key, RowRecord>) -> Result<BTreeMap<Key, RowRecord>, NoMemory>
     ensures { IfOk result (λ copy. copy.entries ≡ by_key.now.entries) }
@@ -111,6 +127,13 @@ impl RowTable {
         }
     }
 
+    /// Whether both are the same records.
+    pub fn is_same(&self, other: &RowTable) -> bool
+        ensures { result ≡ true → self.now ≡ other.now }
+    {
+        has_same_records(&self.by_key, &other.by_key)
+    }
+
     /// A copy of the records.
     pub fn copy(&self) -> Result<RowTable, NoMemory>
         ensures { IfOk result (λ copy. copy ≡ self.now) }
@@ -126,6 +149,13 @@ impl RowTable {
         ensures { option_copied result ≡ map.get self.now key.now }
     {
         self.by_key.get(key)
+    }
+
+    /// The rows that this branch holds, ascending by key.
+    pub fn held_by(&self, alloc: Global, xid: &Xid) -> Result<Vec<HeldRow>, NoMemory>
+        ensures { IfOk result (λ rows. rows.items ≡ held_among xid.now (map.entries self.now)) }
+    {
+        held_in(alloc, &self.by_key, xid)
     }
 
     /// Has a branch hold a row exclusively, and do this to it. After `NoMemory` the records are as before.

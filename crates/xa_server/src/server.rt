@@ -6,7 +6,9 @@ ghost use Rattle.xa_server.specs.Tables.{with_record, without_last};
 
 use crate::branch::{self, Phase};
 use crate::branch_table::BranchTable;
+use crate::hold::HeldRow;
 use crate::lock::Change;
+use crate::overview::BranchEntry;
 use crate::reply::XidList;
 use crate::row;
 use crate::row_table::RowTable;
@@ -65,6 +67,7 @@ impl Server {
     ghost use Rattle.xa_server.specs.State.{no_state, is_known, is_prepared, seat_of, prepared_xids as prepared_xids_of, committed_value as committed_value_of, value_within as value_within_of};
     ghost use Rattle.xa_server.specs.Locks.{LockLaw, holds as holds_of, is_held_against as is_held_against_of, is_locked_against as is_locked_against_of};
     ghost use Rattle.xa_server.specs.Step.{started_by, with_branch, with_changed, with_lock, with_write, without_branch, committed};
+    ghost use Rattle.xa_server.specs.Overview.{branches_of, rows_of};
     ghost use Rattle.xa_server.specs.Rows.{with_change};
     ghost use Rattle.xa_server.specs.declared.branch.Phase.TheVariants.{Idle as PhaseIdle, Prepared as PhasePrepared};
     ghost use Rattle.xa_server.specs.declared.seat.Seat.TheVariants.{Free, Active};
@@ -97,6 +100,16 @@ impl Server {
             branches: self.branches.copy()?,
             rows: self.rows.copy()?,
         })
+    }
+
+    /// Whether both servers are known to have the same branches and rows. Two that have the same may be told apart by the
+    /// order in which a branch came to hold its rows.
+    ///
+    /// Takes no memory. Doesn't wait.
+    pub fn is_same(&self, other: &Server) -> bool
+        ensures { result ≡ true → self.now ≡ other.now }
+    {
+        self.branches.is_same(&other.branches) && self.rows.is_same(&other.rows)
     }
 
     /// Every server keeps the lock law: a row that one branch holds exclusively is held by no other, a session owns at most one
@@ -174,6 +187,21 @@ impl Server {
         ensures { IfOk result (λ xids. xids ≡ prepared_xids_of self.now) }
     {
         Ok(XidList::of(self.branches.prepared()?))
+    }
+
+    /// Every branch without its rows, ascending by identifier.
+    pub(crate) fn branch_entries(&self, alloc: Global) -> Result<Vec<BranchEntry>, NoMemory>
+        ensures { IfOk result (λ branches. branches.items ≡ branches_of self.now) }
+    {
+        self.branches.entries(alloc)
+    }
+
+    /// The rows that a branch holds, ascending by key.
+    pub(crate) fn held_rows(&self, alloc: Global, xid: &Xid) -> Result<Vec<HeldRow>, NoMemory>
+        requires { is_known self.now xid.now ≡ true }
+        ensures { IfOk result (λ rows. rows.items ≡ rows_of self.now xid.now) }
+    {
+        self.rows.held_by(alloc, xid)
     }
 
     /// Starts a branch for a free session, under an identifier that no branch has. After `NoMemory` the server is as before.

@@ -1,10 +1,11 @@
 //! The branches that share a row.
-ghost use Rattle.std.specs.Prelude.{◌≡◌, IfOk, OnOk, OnErr};
+ghost use Rattle.std.specs.Prelude.{◌≡◌, true, IfOk, OnOk, OnErr};
 ghost use Rattle.std.specs.FinSet as set;
 ghost use Rattle.std.specs.BTreeSet.{keys};
 ghost use Rattle.std.specs.List.{list_any};
 ghost use Rattle.xa_server.specs.Locks.{is_another as is_another_of};
 
+use crate::lock::is_same_xid;
 use crate::seat::Seat;
 use std::alloc::Global;
 use std::collections::BTreeSet;
@@ -40,6 +41,20 @@ fn has_another_in(xids: &BTreeSet<Xid>, seat: &Seat) -> bool
     false
 }
 
+/// Whether two sets have the same members.
+fn is_same_set(left: &BTreeSet<Xid>, right: &BTreeSet<Xid>) -> bool
+    ensures { result ≡ true → keys left.now ≡ keys right.now }
+{
+    let mut rest = right.iter();
+    for xid in left {
+        match rest.next() {
+            Some(other) if is_same_xid(xid, other) => {}
+            _ => return false,
+        }
+    }
+    rest.next().is_none()
+}
+
 /// A copy of a set.
 fn copy_of_set(xids: &BTreeSet<Xid>) -> Result<BTreeSet<Xid>, NoMemory>
     ensures { IfOk result (λ copy. keys copy ≡ keys xids.now) }
@@ -55,6 +70,13 @@ impl Sharers {
         Sharers {
             xids: BTreeSet::new(alloc),
         }
+    }
+
+    /// Whether both are the same set.
+    pub fn is_same(&self, other: &Sharers) -> bool
+        ensures { result ≡ true → self.now ≡ other.now }
+    {
+        is_same_set(&self.xids, &other.xids)
     }
 
     /// A copy of the set.

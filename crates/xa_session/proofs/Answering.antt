@@ -1,18 +1,19 @@
 -- What a look, a reply and an add make of an answer or a fault, and what tries one after another come to.
-use Rattle.std.proofs.Common.{◌≡◌, ◌+◌, ℕ, Bool, true, false, List, [], ◌∷◌, ◌++◌, length, take, refl, ap, sym, ◌∙◌, subst, Some, arith, length-append}
-use Rattle.std.specs.Prelude.{slice_get}
+use Rattle.std.proofs.Common.{◌≡◌, ◌+◌, ℕ, Bool, true, false, List, [], ◌∷◌, ◌++◌, length, take, refl, ap, sym, ◌∙◌, subst, ⊎_elim, inl, inr, Some, Ok, Err, arith, length-append}
+use Rattle.std.specs.Prelude.{slice_get, ◌⊎◌, Result, OnOk, OnErr}
 use Rattle.xa_words.specs.Entry.{Entry}
 use Rattle.xa_xid.specs.declared.statement.Statement.{Statement}
 use Rattle.xa_server.specs.State.{State}
 use Rattle.xa_server.specs.Replies.{reply_to}
-use Rattle.xa_server.specs.Step.{enters}
+use Rattle.xa_server.specs.Step.{enters, may_take_memory}
 use Rattle.decision_log.specs.History.{Begins}
 use Rattle.decision_log.specs.Calls.{Looked, IsAdded, IsOvertaken, IsBusy}
 use Rattle.decision_log.specs.declared.known.Known.{Known}
 use Rattle.decision_log.proofs.Histories.{begins_itself, begins_append, begins_through, length_begins}
 use Rattle.xa_session.specs.Replay.{state_after, state_at}
-use Rattle.xa_session.specs.Answer.{entry_of, AnswersAt, Advances, IsAnswered, IsUnanswered, IsFull, Fails}
+use Rattle.xa_session.specs.Answer.{entry_of, AnswersAt, Advances, IsAnswered, IsUnanswered, IsFull, IsKept, Fails}
 use Rattle.xa_session.specs.declared.answer.Answer.{Answer}
+use Rattle.xa_session.specs.declared.replica.Replica.{Replica}
 use Rattle.xa_session.specs.declared.fault.Fault.{Fault}
 use Rattle.xa_session.specs.declared.fault.Fault.TheVariants.{Overtaken, Full, NoMemory, Busy}
 use Rattle.xa_server.specs.declared.reply.Reply.TheVariants.{Ok as Accepted}
@@ -20,7 +21,7 @@ use Rattle.xa_xid.specs.declared.statement.Statement.TheVariants.{Disconnect}
 use Rattle.xa_session.proofs.Entering.{disconnect_accepted}
 use Rattle.xa_session.proofs.Replaying.{state_at-begins, state_at-whole}
 
-slice_get-last : (xs : List Entry) (entry : Entry) → slice_get (xs ++ entry ∷ []) (length xs) ≡ Some entry
+pub slice_get-last : (xs : List Entry) (entry : Entry) → slice_get (xs ++ entry ∷ []) (length xs) ≡ Some entry
 slice_get-last [] entry = refl
 slice_get-last (x ∷ xs) entry = slice_get-last xs entry
 
@@ -106,6 +107,26 @@ answered_entered base statement answer old mid new looked is added =
       };
       outside = λ other. absurd (cc (entering, other));
     }
+
+-- the entry that was added stands behind all that was seen
+pub next_added : (entry : Entry) (old new : Known) (replayed : ℕ) → IsAdded entry old new → replayed ≡ length old.seen → slice_get new.seen replayed ≡ Some entry
+next_added entry old new replayed added whole = ap (slice_get new.seen) whole ∙ ap (λ list. slice_get list (length old.seen)) added.seen ∙ slice_get-last old.seen entry
+
+-- a replica that has replayed all goes on by that entry, or there was no memory
+pub kept_by : {E M : Type 0} (result : Result (Unit {0}) E) (entry : Entry) (old new : Known) (replayed grown : ℕ) → IsAdded entry old new → replayed ≡ length old.seen
+    → OnOk result (grown ≡ replayed + 1) → OnErr result M → (grown ≡ length new.seen) ⊎ M
+kept_by (Ok _) entry old new replayed grown added whole next memory = let longer = ap length added.seen ∙ length-append old.seen (entry ∷ []) in inl (omega arith)
+kept_by (Err _) entry old new replayed grown added whole next memory = inr memory
+
+-- the same, as the answer's place has it
+pub kept_entered : (base : State) (statement : Statement) (answer : Answer) (entry : Entry) (mid new : Known) (replica : Replica) (server : State) (session replayed : ℕ)
+    → answer.place ≡ length mid.seen → server ≡ state_at base mid.seen replayed → replayed ≡ length mid.seen → session ≡ mid.number → IsAdded entry mid new
+    → (replica.replayed ≡ length new.seen) ⊎ (may_take_memory server session statement ≡ true) → IsKept base statement answer replica new
+kept_entered base statement answer entry mid new replica server session replayed place state whole number added kept =
+    let begins : Begins mid.seen new.seen = subst (λ list. Begins mid.seen list) (sym added.seen) (begins_append mid.seen (entry ∷ [])) in
+    let there : state_at base new.seen answer.place ≡ server =
+    ap (state_at base new.seen) place ∙ state_at-begins base mid.seen new.seen (length mid.seen) begins (omega arith) ∙ ap (state_at base mid.seen) (sym whole) ∙ sym state in
+    ⊎_elim (λ e. inl e) (λ m. inr (ap (λ s. may_take_memory s new.number statement) there ∙ ap (λ n. may_take_memory server n statement) (added.number ∙ sym number) ∙ m)) kept
 
 pub unanswered_looked : (old new : Known) → Looked old new → IsUnanswered old new
 unanswered_looked old new looked = record { advances = advances_looked old new looked; mine = looked.mine }

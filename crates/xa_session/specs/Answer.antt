@@ -10,6 +10,7 @@
 --     Fails            why a statement was not answered
 --     IsFinal          trying again is of no use
 --     RepliesAfter     an answer, or Full, comes only once the replica stands for what it was found on
+--     IsKept           an answered statement has been replayed
 --     WantsMemory      the only causes of want of memory
 --     Tries            how often an attempt without an answer has tried to add
 --     LooksLast        no try to add has followed the last look
@@ -18,7 +19,7 @@ use Rattle.xa_words.specs.Entry.{Entry}
 use Rattle.xa_xid.specs.declared.statement.Statement.{Statement}
 use Rattle.xa_server.specs.State.{State}
 use Rattle.xa_server.specs.Replies.{reply_to}
-use Rattle.xa_server.specs.Step.{enters, is_recover}
+use Rattle.xa_server.specs.Step.{enters, is_recover, may_take_memory}
 use Rattle.xa_server.specs.declared.reply.Reply.{Reply}
 use Rattle.decision_log.specs.History.{Begins}
 use Rattle.decision_log.specs.Calls.{IsOvertaken}
@@ -97,6 +98,10 @@ RepliesAfter (Err (Overtaken front)) replica known = Unit {0}
 RepliesAfter (Err Full) replica known = replica.replayed ≡ length known.seen
 RepliesAfter (Err NoMemory) replica known = Unit {0}
 RepliesAfter (Err Busy) replica known = Unit {0}
+
+-- all that is seen has been replayed, an added statement too, but for one that may take memory there
+abbrev pub IsKept : State → Statement → Answer → Replica → Known → Type 0
+IsKept base statement answer replica known = (replica.replayed ≡ length known.seen) ⊎ (may_take_memory (state_at base known.seen answer.place) known.number statement ≡ true)
 
 -- there is no memory only for the list of an XA RECOVER, or for a replica that hasn't replayed all that is seen
 abbrev pub WantsMemory : Statement → Fault → Replica → Known → Type 0

@@ -1,12 +1,13 @@
 //! One try to have a statement answered.
-ghost use Rattle.std.specs.Prelude.{◌≡◌, ◌<◌, ◌≤◌, ◌+◌, ◌^◌, length, IfOk, IfErr, OnOk, OnErr};
-ghost use Rattle.decision_log.specs.Calls.{Looked};
-ghost use Rattle.xa_session.specs.Answer.{IsAnswered, Fails, RepliesAfter, WantsMemory, Tries};
+ghost use Rattle.std.specs.Prelude.{◌≡◌, ◌⊎◌, ◌<◌, ◌≤◌, ◌+◌, ◌^◌, true, length, slice_get, Some, IfOk, IfErr, OnOk, OnErr};
+ghost use Rattle.decision_log.specs.Calls.{Looked, Adds};
+ghost use Rattle.xa_server.specs.Step.{enters, may_take_memory};
+ghost use Rattle.xa_session.specs.Answer.{entry_of, IsAnswered, Fails, RepliesAfter, WantsMemory, Tries, IsKept};
 
 use crate::{Answer, Fault, Session};
 use decision_log::{AddFault, DecisionLog};
 use xa_words::Entry;
-use xa_xid::{NoMemory, Statement};
+use xa_xid::{NoMemory, SessionNo, Statement};
 
 impl<'a, L: DecisionLog> Session<'a, L> {
     /// Replays the entry behind those that the replica has replayed.
@@ -53,6 +54,41 @@ impl<'a, L: DecisionLog> Session<'a, L> {
         Ok(count)
     }
 
+    /// Has the replica carry out the entry that it has to replay next, a statement of the session's own that enters there.
+    fn keep(&mut self, session: SessionNo, statement: &Statement) -> Result<(), NoMemory>
+        requires enters { enters self.old.replica.server session statement.now ≡ true }
+        requires next { slice_get (L.known self.old.pass).seen self.old.replica.replayed ≡ Some (entry_of session statement.now) }
+        ensures home { L.home self.new.pass ≡ L.home self.old.pass }
+        ensures base { self.new.base.now ≡ self.old.base.now }
+        ensures known { L.known self.new.pass ≡ L.known self.old.pass }
+        ensures next { OnOk result (self.new.replica.replayed ≡ self.old.replica.replayed + 1) }
+        ensures err { OnErr result (self.new.replica ≡ self.old.replica) }
+        ensures memory { OnErr result (may_take_memory self.old.replica.server session statement.now ≡ true) }
+    {
+        // It bounds the count of entries.
+        let _capacity = self.log.capacity();
+        self.replica.accept(session, statement)
+    }
+
+    /// Adds a statement that enters where all that is seen has been replayed, and has the replica carry it out. Where there is no
+    /// memory for that, the replica replays it later.
+    fn add(&mut self, session: SessionNo, statement: &Statement) -> Result<(), AddFault>
+        requires own { session ≡ (L.known self.old.pass).number }
+        requires whole { self.old.replica.replayed ≡ length (L.known self.old.pass).seen }
+        requires enters { enters self.old.replica.server session statement.now ≡ true }
+        ensures home { L.home self.new.pass ≡ L.home self.old.pass }
+        ensures base { self.new.base.now ≡ self.old.base.now }
+        ensures added { Adds L.TURNS (L.home self.old.pass).capacity (entry_of session statement.now) result (L.known self.old.pass) (L.known self.new.pass) }
+        ensures folds { self.old.replica.replayed ≤ self.new.replica.replayed }
+        ensures kept { OnOk result ((self.new.replica.replayed ≡ length (L.known self.new.pass).seen) ⊎ (may_take_memory self.old.replica.server session statement.now ≡ true)) }
+        ensures err { OnErr result (self.new.replica ≡ self.old.replica) }
+    {
+        let entry = Entry::entering(session, statement.copy());
+        self.log.try_add(&mut self.pass, &entry)?;
+        let _kept = self.keep(session, statement);
+        Ok(())
+    }
+
     /// Answers a statement from the whole history, as it is at one step of the call, and adds it there if it enters.
     ///
     /// The answer's place is how long the history was. Errors, in this order: `NoMemory`, where an entry couldn't be replayed or
@@ -73,6 +109,7 @@ impl<'a, L: DecisionLog> Session<'a, L> {
         ensures replayed { RepliesAfter result self.new.replica (L.known self.new.pass) }
         ensures folds { self.old.replica.replayed ≤ self.new.replica.replayed }
         ensures memory { IfErr result (λ fault. WantsMemory statement.now fault self.new.replica (L.known self.new.pass)) }
+        ensures kept { IfOk result (λ answer. IsKept self.old.base.now statement.now answer self.new.replica (L.known self.new.pass)) }
     {
         let Ok(place) = self.observe() else {
             return Err(Fault::NoMemory);
@@ -85,8 +122,7 @@ impl<'a, L: DecisionLog> Session<'a, L> {
         if !enters {
             return Ok(answer);
         }
-        let entry = Entry::of(session, statement).unwrap();
-        match self.log.try_add(&mut self.pass, &entry) {
+        match self.add(session, statement) {
             Ok(()) => Ok(answer),
             Err(AddFault::Overtaken { front }) => Err(Fault::Overtaken { front }),
             Err(AddFault::Full) => Err(Fault::Full),

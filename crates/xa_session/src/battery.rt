@@ -141,8 +141,8 @@ fn ask_again<L: DecisionLog>(
     session.attempt(statement)
 }
 
-/// A branch with a row is prepared in a log with room for eight entries. Another session then reads the row, and has replayed all four
-/// entries; asked again, it answers the same with nothing to replay.
+/// A branch with a row is prepared in a log with room for eight entries, by a session that has replayed each of its entries once it is
+/// answered. Another session then reads the row, and has replayed all four; asked again, it answers the same with nothing to replay.
 ///
 /// May take memory. Waits where other sessions are faster.
 pub fn kept_replica_answers_again<L: DecisionLog, R: Wait>(
@@ -157,6 +157,7 @@ pub fn kept_replica_answers_again<L: DecisionLog, R: Wait>(
         && is_ok_at(&first.execute(rt, &put_k), 1)
         && is_ok_at(&first.execute(rt, &Statement::End(xid(b'a'))), 2)
         && is_ok_at(&first.execute(rt, &Statement::Prepare(xid(b'a'))), 3)
+        && first.folded() == 4
         && is_value_at(&second.attempt(&get_k), 4, None)
         && second.folded() == 4
         && second.seen() == 4

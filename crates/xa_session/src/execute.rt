@@ -2,7 +2,7 @@
 ghost use Rattle.std.specs.Prelude.{◌≡◌, ◌≤◌, ℕ, Err, IfOk, IfErr, OnErr};
 ghost use Rattle.xa_server.specs.declared.reply.Reply.TheVariants.{Ok as Accepted};
 ghost use Rattle.xa_xid.specs.declared.statement.Statement.TheVariants.{Disconnect};
-ghost use Rattle.xa_session.specs.Answer.{IsAnswered, Fails, IsFinal, RepliesAfter, WantsMemory, LooksLast};
+ghost use Rattle.xa_session.specs.Answer.{IsAnswered, Fails, IsFinal, IsKept, RepliesAfter, WantsMemory, LooksLast};
 
 use crate::{Answer, Fault, Session};
 use decision_log::DecisionLog;
@@ -26,6 +26,7 @@ impl<'a, L: DecisionLog> Session<'a, L> {
         ensures replayed { RepliesAfter result self.new.replica (L.known self.new.pass) }
         ensures folds { self.old.replica.replayed ≤ self.new.replica.replayed }
         ensures memory { IfErr result (λ fault. WantsMemory statement.now fault self.new.replica (L.known self.new.pass)) }
+        ensures kept { IfOk result (λ answer. IsKept self.old.base.now statement.now answer self.new.replica (L.known self.new.pass)) }
         ensures tried { OnErr result (LooksLast (L.known self.old.pass) (L.known self.new.pass)) }
     {
         for _ in rt.forever() {

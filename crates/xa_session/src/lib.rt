@@ -8,8 +8,6 @@ mod execute;
 mod fault;
 mod replica;
 mod session;
-#[cfg(test)]
-mod tests;
 mod whole;
 
 pub use answer::Answer;

@@ -1,12 +1,15 @@
 //! A session's own server.
-ghost use Rattle.std.specs.Prelude.{◌≡◌, ◌<◌, ◌+◌, ◌^◌, List, slice_get, Some, IfOk, OnOk, OnErr};
+ghost use Rattle.std.specs.Prelude.{◌≡◌, ◌<◌, ◌+◌, ◌^◌, true, false, List, slice_get, Some, IfOk, OnOk, OnErr};
 ghost use Rattle.xa_words.specs.Entry.{Entry as EntryValue};
 ghost use Rattle.xa_server.specs.State.{State};
+ghost use Rattle.xa_server.specs.Replies.{reply_to};
+ghost use Rattle.xa_server.specs.Step.{is_refused, may_take_memory};
+ghost use Rattle.xa_session.specs.Answer.{entry_of};
 ghost use Rattle.xa_session.specs.Replay.{Stands};
 
 use xa_server::Server;
 use xa_words::Entry;
-use xa_xid::NoMemory;
+use xa_xid::{NoMemory, SessionNo, Statement};
 
 /// The server that a session has for itself: what a prefix of the history leaves of the state that the history begins in.
 #[derive(Drop)]
@@ -39,6 +42,26 @@ impl Replica {
         ensures err { OnErr result (self.new ≡ self.old) }
     {
         self.server.apply(entry.session(), entry.statement())?;
+        self.replayed += 1;
+        Ok(())
+    }
+
+    /// Replays the next entry, which is this statement of this session and was accepted here already.
+    ///
+    /// May answer `NoMemory`, after which the replica is as before.
+    pub(crate) fn accept(
+        &mut self,
+        session: SessionNo,
+        statement: &Statement,
+    ) -> Result<(), NoMemory>
+        requires accepted { is_refused (reply_to self.old.server session statement.now) ≡ false }
+        requires fits { self.old.replayed + 1 < 2 ^ 64 }
+        ensures ok { OnOk result ((base : State) (seen : List EntryValue) → Stands base seen self.old → slice_get seen self.old.replayed ≡ Some (entry_of session statement.now) → Stands base seen self.new) }
+        ensures next { OnOk result (self.new.replayed ≡ self.old.replayed + 1) }
+        ensures err { OnErr result (self.new ≡ self.old) }
+        ensures memory { OnErr result (may_take_memory self.old.server session statement.now ≡ true) }
+    {
+        self.server.accept(session, statement)?;
         self.replayed += 1;
         Ok(())
     }

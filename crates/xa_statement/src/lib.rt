@@ -5,8 +5,6 @@ pub mod laws;
 mod reader;
 mod state;
 mod syntax_fault;
-#[cfg(test)]
-mod tests;
 mod token;
 mod writer;
 

@@ -25,7 +25,7 @@ either_way true = inl refl
 either_way false = inr refl
 
 -- where the next answer may stand, after all of these
-pub reached : State → List Entry → ℕ → ℕ → List Statement → List Answer → ℕ
+unfoldable pub reached : State → List Entry → ℕ → ℕ → List Statement → List Answer → ℕ
 reached base history session from [] answers = from
 reached base history session from (statement ∷ statements) [] = from
 reached base history session from (statement ∷ statements) (answer ∷ answers) = reached base history session (next_place base history session statement answer) statements answers
@@ -85,7 +85,7 @@ module _ (base : State) (history longer : List Entry) (session : ℕ) (begins : 
   next_longer statement answer at =
       ap (λ s. cond (enters s session statement) (answer.place + 1) answer.place) (state_at-begins base history longer answer.place begins at.within)
 
-  answered_longer : (from : ℕ) (statements : List Statement) (answers : List Answer) → Answered base history session from statements answers → Answered base longer session from statements answers
+  pub answered_longer : (from : ℕ) (statements : List Statement) (answers : List Answer) → Answered base history session from statements answers → Answered base longer session from statements answers
   answered_longer from [] [] before = tt
   answered_longer from [] (a ∷ answers) before = absurd before
   answered_longer from (s ∷ statements) [] before = absurd before
@@ -95,7 +95,7 @@ module _ (base : State) (history longer : List Entry) (session : ℕ) (begins : 
     subst (λ n. Answered base longer session n statements answers) (sym (next_longer s a before.1)) (answered_longer (next_place base history session s a) statements answers before.2),
   )
 
-  reached_longer : (from : ℕ) (statements : List Statement) (answers : List Answer) → Answered base history session from statements answers
+  pub reached_longer : (from : ℕ) (statements : List Statement) (answers : List Answer) → Answered base history session from statements answers
       → reached base longer session from statements answers ≡ reached base history session from statements answers
   unfolding reached
   reached_longer from [] [] before = refl
@@ -104,7 +104,7 @@ module _ (base : State) (history longer : List Entry) (session : ℕ) (begins : 
   reached_longer from (s ∷ statements) (a ∷ answers) before =
       ap (λ n. reached base longer session n statements answers) (next_longer s a before.1) ∙ reached_longer (next_place base history session s a) statements answers before.2
 
-  entered_longer : (from : ℕ) (statements : List Statement) (answers : List Answer) → Answered base history session from statements answers
+  pub entered_longer : (from : ℕ) (statements : List Statement) (answers : List Answer) → Answered base history session from statements answers
       → entered base longer session statements answers ≡ entered base history session statements answers
   entered_longer from [] [] before = refl
   entered_longer from [] (a ∷ answers) before = absurd before

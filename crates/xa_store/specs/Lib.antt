@@ -4,3 +4,4 @@ pub mod Legal
 pub mod Renewal
 pub mod Faults
 pub mod Spread
+pub mod Rounds

@@ -12,7 +12,7 @@ use xa_session::{Answer, Fault, Session};
 use xa_xid::Statement;
 
 /// Asks the gate, and executes the session's statement at `line`.
-fn answer_one<L: DecisionLog, G: Gate, R: Wait>(
+pub(crate) fn answer_one<L: DecisionLog, G: Gate, R: Wait>(
     rt: &R,
     session: &mut Session<'_, L>,
     line: u64,

@@ -8,6 +8,9 @@ pub trait Gate {
     // the answers that the gate can give to a session at a line; a gate that doesn't say so can give both
     ghost may_answer: { Self → ℕ → ℕ → Bool → Type 0 } = { λ _ _ _ _. Unit {0} };
 
+    /// Takes note of how many runs of a race have a statement, before the first of them is started. A gate needs no note.
+    fn announce(&self, _runs: u64) {}
+
     /// Whether the session may give its statement at `line`, counted from 0.
     ///
     /// The answer is one that the gate can give there, and nothing else is promised of it: it may change from call to call.

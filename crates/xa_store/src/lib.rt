@@ -3,25 +3,34 @@
 
 mod answering;
 mod blame;
+mod carrying;
+mod ended;
 mod gate;
 mod gather;
 mod history;
+mod holding;
 mod leaving;
 mod outcome;
+mod progress;
 mod race_fault;
 mod racing;
 mod renew;
-#[cfg(test)]
-mod renewal_tests;
+mod resuming;
+mod round;
+mod rounding;
+mod rounds;
 mod run;
+mod shuffled;
 mod spread;
 mod store;
-#[cfg(test)]
-mod tests;
+mod together;
 
 pub use gate::{Gate, OpenGate};
 pub use outcome::Outcome;
 pub use race_fault::RaceFault;
 pub use racing::race;
+pub use rounds::race_in_rounds;
 pub use run::Run;
+pub use shuffled::ShuffledGate;
 pub use store::{Log, Pass, Store};
+pub use together::TogetherGate;

@@ -33,6 +33,17 @@ fn start_all<'a>(
     Ok(all)
 }
 
+/// How many runs have a statement.
+pub(crate) fn count_speakers(runs: &[Run]) -> u64 {
+    let mut count: u64 = 0;
+    for run in runs {
+        if !run.lines.is_empty() {
+            count = count.saturating_add(1);
+        }
+    }
+    count
+}
+
 /// All that a race gives, once its runs have ended: the sessions meet, and leave.
 fn conclude(alloc: Global, store: &Store, ended: AllEnded<'_, Log>) -> Result<Outcome, NoMemory>
     requires { All (λ session. home_of session.pass ≡ place_of store.now.log) ended.sessions.items }
@@ -75,6 +86,7 @@ pub fn race<G: Gate + Sync, R: Threads + Wait + Sync>(
     ensures opened { OnOk result (All (λ run. LetsIn (G.may_answer gate.now) (known_of run.pass).number (length run.lines.items)) runs.items) }
     ensures fault { IfErr result (λ fault. Blames (G.may_answer gate.now) store.now.base runs.items fault) }
 {
+    gate.announce(count_speakers(runs.as_slice()));
     let Ok(started) = start_all(alloc, store, runs) else {
         return Err(RaceFault::NoMemory);
     };

@@ -26,7 +26,22 @@ fn disconnect_all(mut server: Server, sessions: u64) -> Server
 }
 
 impl Store {
-    /// The server that the last pass's history leaves, and an empty log of the same sizes with its passes.
+    /// A store that begins with this server, with an empty log of this store's sizes, and its passes.
+    pub(crate) fn reopened(
+        &self,
+        alloc: Global,
+        base: Server,
+    ) -> Result<(Store, Vec<Pass>), NoMemory>
+        ensures base { IfOk result (λ opened. opened.0.base ≡ base) }
+        ensures ok { IfOk result (λ opened. Opens home_of known_of (place_of self.now.log).capacity (place_of self.now.log).sessions (place_of opened.0.log) opened.1.items) }
+    {
+        let Ok((log, passes)) = Log::open(alloc, self.log.capacity(), self.log.sessions()) else {
+            return Err(AllocError);
+        };
+        Ok((Store { base, log }, passes))
+    }
+
+    /// The server that the last pass's history leaves once all sessions have ended, and an empty log with its passes.
     fn anew(&self, alloc: Global, last: &mut Pass) -> Result<(Store, Vec<Pass>), NoMemory>
         requires { home_of last.old ≡ place_of self.now.log }
         ensures home { home_of last.new ≡ home_of last.old }
@@ -35,12 +50,8 @@ impl Store {
         ensures ok { IfOk result (λ opened. Opens home_of known_of (place_of self.now.log).capacity (place_of self.now.log).sessions (place_of opened.0.log) opened.1.items) }
     {
         let server = replayed(&self.log, &self.base, last)?;
-        let sessions = self.log.sessions();
-        let base = disconnect_all(server, sessions);
-        let Ok((log, passes)) = Log::open(alloc, self.log.capacity(), sessions) else {
-            return Err(AllocError);
-        };
-        Ok((Store { base, log }, passes))
+        let base = disconnect_all(server, self.log.sessions());
+        self.reopened(alloc, base)
     }
 
     /// This store with an empty history of the same capacity, and new passes of all its sessions: all that the last of the given

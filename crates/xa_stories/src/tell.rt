@@ -1,23 +1,24 @@
-//! A line of a script, and its answer below it.
-ghost use Rattle.std.specs.Prelude.{◌≡◌, ◌++◌, codes, IfOk, OnOk, string_bytes};
-ghost use Rattle.xa_transcript.specs.Script.{line_of};
-ghost use Rattle.xa_transcript.specs.Transcript.{answer_of, state_after};
+//! A line of a script, its answer below it, and the store below that.
+ghost use Rattle.std.specs.Prelude.{◌≡◌, ◌++◌, ℕ, List, codes, IfOk};
+ghost use Rattle.xa_serve.specs.Answer.{bytes_of};
+ghost use Rattle.xa_serve.specs.Heard.{Whole};
+ghost use Rattle.xa_show.specs.Shown.{Shows};
 
 use std::alloc::Global;
-use xa_server::Server;
-use xa_transcript::answer_line;
+use xa_serve::LineServer;
+use xa_show::Shown;
 use xa_xid::NoMemory;
 
-/// Gives the line to the server. What is told is `> `, the line and a line feed, and then the line's answer, if it has one.
+/// Gives the line to the server. Returns `> `, the line and a line feed, and then what answers it, with the store behind
+/// the answer.
 ///
-/// Errors: `NoMemory` where a growth was refused; then nothing is said of the server.
-/// Takes memory for what is told. Doesn't wait.
+/// The line has at most 65,536 bytes. Errors: `NoMemory` where an allocation for the text fails; then nothing is said of the server.
+/// Takes memory for the text. Doesn't wait.
 /// Own rule: docs/BEHAVIOR.md, 'Stories'.
-pub fn tell_line(alloc: Global, server: &mut Server, line: &[u8]) -> Result<Vec<u8>, NoMemory>
-    ensures told { IfOk result (λ told. told.items ≡ codes "> " ++ (line.now ++ (codes "\n" ++ answer_of server.old (line_of line.now)))) }
-    ensures after { OnOk result (server.new ≡ state_after server.old (line_of line.now)) }
+pub fn tell_line(alloc: Global, server: &mut Shown, line: &[u8]) -> Result<Vec<u8>, NoMemory>
+    ensures { IfOk result (λ told. (text : List ℕ) × Shows server.old (Whole line.now) text server.new × (told.items ≡ codes "> " ++ (line.now ++ (codes "\n" ++ text)))) }
 {
-    let answer = answer_line(alloc, server, line)?;
+    let answer = server.answer(alloc, line);
     let mut told = Vec::from_slice(alloc, b"> ")?;
     told.extend_from_slice(line)?;
     told.extend_from_slice(b"\n")?;

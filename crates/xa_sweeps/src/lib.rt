@@ -12,6 +12,8 @@ mod made;
 #[cfg(test)]
 mod race;
 #[cfg(test)]
+mod renewal;
+#[cfg(test)]
 mod script;
 #[cfg(test)]
 mod server;

@@ -6,7 +6,7 @@ use std::process::Abort;
 use std::sync::Wait;
 use std::thread::Threads;
 use xa_store::OpenGate;
-use xa_transcript::{ScriptFault, race_script, run_script};
+use xa_transcript::{ScriptFault, race_script, race_script_in_rounds, run_script};
 
 /// A writer with room for a whole text, which wants no memory.
 type Page = ArrayVec<u8, 256>;
@@ -67,4 +67,32 @@ fn race_swept<R: Abort + Threads + Wait + Sync>(rt: &R, alloc: Global) {
 #[test]
 fn race_of_a_script_survives(rt: HostRuntime) {
     race_swept(&rt, rt.alloc());
+}
+
+const LONG: &[u8] = b"1 XA START 'a'\n1 XA END 'a'\n1 XA PREPARE 'a'\n";
+
+const LONG_TEXT: &[u8] =
+    b"HISTORY 3\n0 1 XA START 0x61,X'',1\n1 1 XA END 0x61,X'',1\n2 1 XA PREPARE 0x61,X'',1\n1 0 OK\n1 1 OK\n1 2 OK\n";
+
+/// A race of a script in rounds of one entry. Where there was no memory or a thread's start was refused, in whichever round, nothing
+/// was written, and the script is raced again.
+fn rounds_swept<R: Abort + Threads + Wait + Sync>(rt: &R, alloc: Global) {
+    let mut page = Page::new();
+    let mut input = LONG;
+    let first = race_script_in_rounds(rt, alloc, &mut input, &mut page, 1, &OpenGate);
+    if first.is_ok() {
+        assert!(rt; page.as_slice() == LONG_TEXT);
+        return;
+    }
+    assert!(rt; first == Err(ScriptFault::NoMemory) || first == Err(ScriptFault::ThreadRefused));
+    assert!(rt; page.is_empty());
+    let mut page = Page::new();
+    let mut input = LONG;
+    assert!(rt; race_script_in_rounds(rt, alloc, &mut input, &mut page, 1, &OpenGate).is_ok());
+    assert!(rt; page.as_slice() == LONG_TEXT);
+}
+
+#[test]
+fn race_of_a_script_in_rounds_survives(rt: HostRuntime) {
+    rounds_swept(&rt, rt.alloc());
 }

@@ -80,3 +80,11 @@ pub own_room : (place : Place) (history : List Entry) (runs : List Run) (passes 
 own_room place history runs passes homes zip is =
     let P : List Entry → Type 0 = λ list. length list ≤ place.capacity in
     subst P (sym is) (last_keeps (λ p k. length k.seen ≤ p.capacity) (λ pass. pass.state.within) place history runs passes (omega arith) homes zip)
+
+-- the same of a history of several rounds, which is empty where there is no run
+pub own_in_rounds : (sessions : ℕ) (history : List Entry) (runs : List Run) → sessions ≡ max (length runs) 1 → AllOf sessions history → (length runs ≡ 0 → history ≡ []) → AllOf (length runs) history
+own_in_rounds sessions history [] count own none = let P : List Entry → Type 0 = λ list. AllOf 0 list in subst P (sym (none refl)) (All-nil (λ entry. (1 ≤ entry.session) × (entry.session ≤ 0)))
+own_in_rounds sessions history (run ∷ runs) count own none =
+    let same : sessions ≡ length (run ∷ runs) = omega (arith, count) in
+    let P : ℕ → Type 0 = λ n. AllOf n history in
+    subst P same own

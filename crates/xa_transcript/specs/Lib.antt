@@ -6,3 +6,4 @@ pub mod Outcome
 pub mod Cut
 pub mod Limits
 pub mod Faults
+pub mod LongRace

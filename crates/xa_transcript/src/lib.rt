@@ -5,22 +5,20 @@ mod answer;
 mod cut_reader;
 mod cut_writer;
 mod lines;
+mod long_race;
 mod print;
 mod race_lines;
-#[cfg(test)]
-mod race_tests;
 mod race_text;
 mod racing;
 mod run;
 mod script_fault;
 mod streams;
-#[cfg(test)]
-mod tests;
 
 pub use answer::{answer_line, answer_statement, converts};
 pub use cut_reader::CutReader;
 pub use cut_writer::CutWriter;
 pub use lines::{ScriptLine, read_line, skip_blanks, split_line, split_word};
+pub use long_race::race_script_in_rounds;
 pub use print::{push_number, push_reply, push_syntax_fault};
 pub use racing::race_script;
 pub use run::run_script;

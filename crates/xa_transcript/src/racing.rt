@@ -22,7 +22,7 @@ use xa_store::{Gate, Pass, RaceFault, Run, Store, race};
 use xa_xid::NoMemory;
 
 /// The runs of the sessions that have these passes, session 1 first.
-fn runs_of(alloc: Global, script: &[u8], passes: Vec<Pass>) -> Result<Vec<Run>, NoMemory>
+pub(crate) fn runs_of(alloc: Global, script: &[u8], passes: Vec<Pass>) -> Result<Vec<Run>, NoMemory>
     requires { (index : ℕ) (pass : _) → slice_get passes.items index ≡ Some pass → known_of pass ≡ newcomer (index + 1) }
     ensures runs { IfOk result (λ runs. AreRunsFrom 1 (lines_of script.now) runs.items) }
     ensures passes { IfOk result (λ runs. map (λ run. run.pass) runs.items ≡ passes.items) }
@@ -36,7 +36,7 @@ fn runs_of(alloc: Global, script: &[u8], passes: Vec<Pass>) -> Result<Vec<Run>, 
 }
 
 /// How a race's fault is told.
-fn told_as(fault: RaceFault) -> ScriptFault
+pub(crate) fn told_as(fault: RaceFault) -> ScriptFault
     ensures { result ≡ script_fault_of fault }
 {
     match fault {

@@ -1,8 +1,10 @@
 -- A text and its eight words: each gives the other back.
-use Rattle.std.proofs.Common.{◌≡◌, ℕ, zero, suc, ◌+◌, ◌*◌, ◌/◌, ◌%◌, ◌^◌, ◌<◌, List, length, get_or, refl, ap, sym, ◌∙◌, arith, lit<}
+use Rattle.std.proofs.Common.{◌≡◌, ℕ, zero, suc, ◌+◌, ◌*◌, ◌/◌, ◌%◌, ◌^◌, ◌<◌, ◌≤◌, ◌-◌, List, [], ◌∷◌, ◌++◌, length, get_or, refl, ap, sym, ◌∙◌, arith, lit<}
 use Rattle.std.specs.Int.{w64, from_be_bytes, to_be_bytes}
-use Rattle.std.proofs.lemmas.List.{ext_get_or}
+use Rattle.std.proofs.lemmas.List.{ext_get_or, get_or_past, get_or_append_left, get_or-append_right}
 use Rattle.std.proofs.lemmas.Nat.{from_be_bytes-to_be_bytes_8, be_bytes_8}
+use mathlib.Core.Logic.{dite}
+use native.Mathlib.Decide.{dec_lt}
 use Rattle.xa_words.specs.Entry.{IsText}
 use Rattle.xa_words.specs.Words.{eight_bytes, text_word, text_words, byte_of}
 
@@ -88,3 +90,32 @@ text_word-fits text is place =
     let g = is.bytes (place + 6) in
     let h = is.bytes (place + 7) in
     omega arith
+
+-- behind the end of a text its words are 0
+pub past_the_end : (text : List ℕ) (place : ℕ) → length text ≤ place → text_word text place ≡ 0
+unfolding text_word
+past_the_end text place past =
+    let zeros : List ℕ = 0 ∷ 0 ∷ 0 ∷ 0 ∷ 0 ∷ 0 ∷ 0 ∷ 0 ∷ [] in
+    let zero_at : (i : ℕ) → get_or text (place + i) 0 ≡ 0 = λ i. get_or_past text (place + i) 0 (omega (arith, past)) in
+    let none_else : (i : ℕ) → i < 8 → get_or zeros i 0 ≡ 0 = below_eight (λ n. get_or zeros n 0 ≡ 0) refl refl refl refl refl refl refl refl in
+    ap (from_be_bytes w64) (ext_get_or 0 (eight_bytes text place) zeros refl (λ i below. byte_at text place i below ∙ zero_at i ∙ sym (none_else i below)))
+
+-- bytes of the first words, and those of the next one behind them
+pub one_word_more : (words text : List ℕ) (index : ℕ) → length text ≡ 8 * index → ((place : ℕ) → place < length text → get_or text place 0 ≡ byte_of words place)
+    → (place : ℕ) → place < 8 * (index + 1) → get_or (text ++ to_be_bytes w64 (get_or words index 0)) place 0 ≡ byte_of words place
+unfolding byte_of
+one_word_more words text index size bytes place below =
+    dite (dec_lt place (length text))
+    (λ within. get_or_append_left text (to_be_bytes w64 (get_or words index 0)) 0 place within ∙ bytes place within)
+    (λ behind.
+    let q : index ≡ place / 8 = omega (arith, size, behind, below) in
+    let r : place - 8 * index ≡ place % 8 = omega (arith, size, behind, below) in
+    get_or-append_right text (to_be_bytes w64 (get_or words index 0)) (8 * index) place 0 size (omega (arith, size, behind))
+    ∙ ap (λ n. get_or (to_be_bytes w64 (get_or words index 0)) n 0) r
+    ∙ ap (λ n. get_or (to_be_bytes w64 (get_or words n 0)) (place % 8) 0) q)
+
+-- bytes that are those of the words of a text of the same length are that text
+pub only_text : (words text other : List ℕ) → IsText other → length text ≡ length other → ((place : ℕ) → place < length text → get_or text place 0 ≡ byte_of words place) → text_words other ≡ words → text ≡ other
+only_text words text other is len bytes same =
+    ext_get_or 0 text other len
+    (λ i below. bytes i below ∙ ap (λ ws. byte_of ws i) (sym same) ∙ spread other is i (omega (arith, is.fits, len)))

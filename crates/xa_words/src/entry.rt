@@ -1,5 +1,5 @@
 //! An entry of the history.
-ghost use Rattle.std.specs.Prelude.{◌≡◌, if◌then◌else◌, Some, None};
+ghost use Rattle.std.specs.Prelude.{◌≡◌, if◌then◌else◌, Some, None, IsTrue};
 ghost use Rattle.xa_words.specs.Entry.{IsEntry, may_enter};
 
 use crate::limits;
@@ -47,6 +47,18 @@ impl Entry {
                 })
             }
         }
+    }
+
+    /// The entry of a session and a statement that may enter.
+    ///
+    /// Takes no memory. Doesn't wait.
+    pub fn entering(session: SessionNo, statement: Statement) -> Entry
+        requires { IsTrue (may_enter statement) }
+        ensures { result ≡ record { session = session; statement = statement } }
+    {
+        limits::of_statement(&statement);
+        let _number = session.get();
+        Entry { session, statement }
     }
 
     /// The session.

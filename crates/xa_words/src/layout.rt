@@ -1,6 +1,6 @@
 //! What the words of an entry hold, and where.
 ghost use Rattle.std.specs.Prelude.{◌≡◌, ◌<◌, length, slice_index};
-ghost use Rattle.xa_words.specs.Words.{parts_of, text_word, text_words, byte_of};
+ghost use Rattle.xa_words.specs.Words.{parts_of, text_word, text_words};
 
 use xa_xid::{Key, Statement, Xid};
 
@@ -72,8 +72,31 @@ fn byte_or_zero(text: &[u8], place: usize) -> u8
     if place < text.len() { text[place] } else { 0 }
 }
 
-/// The eight bytes of a text from a place on, as one number.
+/// The eight bytes of a text from a place on, as one number. Most texts are short, so most words are past their end.
 fn text_word(text: &[u8], place: usize) -> u64
+    requires { place < 64 }
+    ensures { result ≡ text_word text.now place }
+{
+    if text.len() <= place {
+        return 0;
+    }
+    if text.len() - place < 8 {
+        return last_word(text, place);
+    }
+    u64::from_be_bytes([
+        text[place],
+        text[place + 1],
+        text[place + 2],
+        text[place + 3],
+        text[place + 4],
+        text[place + 5],
+        text[place + 6],
+        text[place + 7],
+    ])
+}
+
+/// The same of a text that may end among the eight bytes.
+fn last_word(text: &[u8], place: usize) -> u64
     requires { place < 64 }
     ensures { result ≡ text_word text.now place }
 {
@@ -103,13 +126,4 @@ pub(crate) fn text_words(text: &[u8]) -> [u64; 8]
         text_word(text, 48),
         text_word(text, 56),
     ]
-}
-
-/// The byte that eight words hold at a place.
-pub(crate) fn byte_of(words: &[u64], place: usize) -> u8
-    requires length { length words.now ≡ 8 }
-    requires place { place < 64 }
-    ensures { result ≡ byte_of words.now place }
-{
-    words[place / 8].to_be_bytes()[place % 8]
 }

@@ -1,13 +1,37 @@
 //! Reading an entry.
-ghost use Rattle.std.specs.Prelude.{◌≡◌, ◌<◌, ◌≤◌, ℕ, List, length, Some, IfSome, IfNone, IsTrue};
+ghost use Rattle.std.specs.Prelude.{◌≡◌, ◌<◌, ◌≤◌, ◌+◌, ◌++◌, ℕ, List, length, slice_index, Some, IfSome, IfNone, IsTrue};
 ghost use Rattle.xa_words.specs.Entry.{IsText, IsEntry, KeepsLimits, may_enter};
-ghost use Rattle.xa_words.specs.Words.{parts_of, of_xid, of_texts, text_words, words_of, RowParts};
+ghost use Rattle.xa_words.specs.Words.{parts_of, of_xid, of_texts, text_words, words_of, byte_of, RowParts};
 ghost use Rattle.xa_words.specs.Entry.{Entry};
 ghost use Rattle.xa_xid.specs.declared.statement.Statement.{Statement};
+ghost use Rattle.std.specs.Int.{w64, to_be_bytes};
 
-use crate::layout::{MOST_BYTES, WORDS, byte_of};
+use crate::layout::{MOST_BYTES, WORDS, text_words};
 use crate::{Entry, limits};
 use xa_xid::{Bytes, Key, SessionNo, Statement, Xid};
+
+/// Appends the eight bytes of a word.
+fn push_word(text: &mut Bytes, word: u64)
+    requires { length text.old.items + 8 ≤ 64 }
+    ensures { text.new.items ≡ text.old.items ++ to_be_bytes w64 word }
+{
+    text.try_extend_from_slice(&word.to_be_bytes()).unwrap();
+}
+
+/// The first bytes of eight words, as many as asked for.
+fn bytes_of(words: &[u64], size: usize) -> Bytes
+    requires length { length words.now ≡ 8 }
+    requires fits { size ≤ 64 }
+    ensures size { length result.items ≡ size }
+    ensures bytes { (place : ℕ) → place < size → slice_index result.items place ≡ byte_of words.now place }
+{
+    let mut text = Bytes::new();
+    for index in 0..size.div_ceil(8) {
+        push_word(&mut text, words[index]);
+    }
+    text.truncate(size);
+    text
+}
 
 /// The text of this many bytes that eight words hold, or `None` where they hold none.
 fn text_of(words: &[u64], size: u64) -> Option<Bytes>
@@ -19,14 +43,9 @@ fn text_of(words: &[u64], size: u64) -> Option<Bytes>
     if size > MOST_BYTES {
         return None;
     }
-    let mut text = Bytes::new();
-    for place in 0..64 {
-        let byte = byte_of(words, place);
-        if (place as u64) < size {
-            text.push(byte);
-        } else if byte != 0 {
-            return None;
-        }
+    let text = bytes_of(words, size as usize);
+    if text_words(text.as_slice()).as_slice() != words {
+        return None;
     }
     limits::of_text(&text);
     Some(text)
@@ -109,5 +128,5 @@ pub fn decode(words: &[u64; WORDS]) -> Option<Entry>
     let first = text_of(&words[5..13], words[2])?;
     let second = text_of(&words[13..21], words[3])?;
     let statement = statement_of(words[1], words[4], first, second)?;
-    Entry::of(session, &statement)
+    Some(Entry::entering(session, statement))
 }

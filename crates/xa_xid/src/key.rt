@@ -1,7 +1,7 @@
 //! The key of a row.
 ghost use Rattle.std.specs.Prelude.{◌≡◌, ◌<◌, ◌≤◌, ◌↔◌, length, IsSome, IfSome};
 
-use crate::Bytes;
+use crate::{Bytes, copy_of};
 use std::marker::Model;
 
 /// The key of a row: 1 to 64 bytes. A contract sees it as the list of its bytes.
@@ -58,6 +58,8 @@ impl Key {
     pub fn copy(&self) -> Key
         ensures { result ≡ self.now }
     {
-        self.clone().unwrap()
+        Key {
+            bytes: copy_of(&self.bytes),
+        }
     }
 }

@@ -15,8 +15,6 @@ mod number;
 mod quoted;
 mod session_no;
 mod statement;
-#[cfg(test)]
-mod tests;
 mod xid;
 mod xid_text;
 
@@ -47,5 +45,7 @@ pub type Bytes = ArrayVec<u8, 64>;
 pub fn copy_of(text: &Bytes) -> Bytes
     ensures { result ≡ text.now }
 {
-    text.clone().unwrap()
+    let mut copy = Bytes::new();
+    copy.try_extend_from_slice(text.as_slice()).unwrap();
+    copy
 }

@@ -1,7 +1,8 @@
 //! A statement of a session.
 ghost use Rattle.std.specs.Prelude.{◌≡◌};
+ghost use Rattle.xa_xid.specs.declared.statement.Statement.TheVariants.{Start, End, Prepare, Commit, Rollback, Get, Put, Del};
 
-use crate::{Bytes, Key, Xid};
+use crate::{Bytes, Key, Xid, copy_of};
 
 /// A statement that a session gives to a server.
 ///
@@ -41,6 +42,67 @@ pub enum Statement {
     Disconnect,
 }
 
+// An arm of `copy` with a large value is a function of its own, so that only the arm that is taken has a place to fill.
+
+/// A copy of `XA START`.
+fn start_of(xid: &Xid) -> Statement
+    ensures { result ≡ Start xid.now }
+{
+    Statement::Start(xid.copy())
+}
+
+/// A copy of `XA END`.
+fn end_of(xid: &Xid) -> Statement
+    ensures { result ≡ End xid.now }
+{
+    Statement::End(xid.copy())
+}
+
+/// A copy of `XA PREPARE`.
+fn prepare_of(xid: &Xid) -> Statement
+    ensures { result ≡ Prepare xid.now }
+{
+    Statement::Prepare(xid.copy())
+}
+
+/// A copy of `XA COMMIT`.
+fn commit_of(xid: &Xid, one_phase: bool) -> Statement
+    ensures { result ≡ Commit xid.now one_phase }
+{
+    Statement::Commit {
+        xid: xid.copy(),
+        one_phase,
+    }
+}
+
+/// A copy of `XA ROLLBACK`.
+fn rollback_of(xid: &Xid) -> Statement
+    ensures { result ≡ Rollback xid.now }
+{
+    Statement::Rollback(xid.copy())
+}
+
+/// A copy of `GET`.
+fn get_of(key: &Key) -> Statement
+    ensures { result ≡ Get key.now }
+{
+    Statement::Get(key.copy())
+}
+
+/// A copy of `PUT`.
+fn put_of(key: &Key, value: &Bytes) -> Statement
+    ensures { result ≡ Put key.now value.now }
+{
+    Statement::Put(key.copy(), copy_of(value))
+}
+
+/// A copy of `DEL`.
+fn del_of(key: &Key) -> Statement
+    ensures { result ≡ Del key.now }
+{
+    Statement::Del(key.copy())
+}
+
 impl Statement {
     /// A copy of the statement.
     ///
@@ -48,6 +110,18 @@ impl Statement {
     pub fn copy(&self) -> Statement
         ensures { result ≡ self.now }
     {
-        self.clone().unwrap()
+        match self {
+            Statement::Start(xid) => start_of(xid),
+            Statement::End(xid) => end_of(xid),
+            Statement::Prepare(xid) => prepare_of(xid),
+            Statement::Commit { xid, one_phase } => commit_of(xid, *one_phase),
+            Statement::Rollback(xid) => rollback_of(xid),
+            Statement::Recover { convert } => Statement::Recover { convert: *convert },
+            Statement::Unsupported => Statement::Unsupported,
+            Statement::Get(key) => get_of(key),
+            Statement::Put(key, value) => put_of(key, value),
+            Statement::Del(key) => del_of(key),
+            Statement::Disconnect => Statement::Disconnect,
+        }
     }
 }

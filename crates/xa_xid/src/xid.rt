@@ -1,7 +1,7 @@
 //! The identifier of a transaction branch.
 ghost use Rattle.std.specs.Prelude.{◌≡◌, Ok};
 
-use crate::Bytes;
+use crate::{Bytes, copy_of};
 
 /// The identifier of a transaction branch: which global transaction, and which branch of it.
 ///
@@ -27,6 +27,10 @@ impl Xid {
     pub fn copy(&self) -> Xid
         ensures { result ≡ self.now }
     {
-        self.clone().unwrap()
+        Xid {
+            format_id: self.format_id,
+            gtrid: copy_of(&self.gtrid),
+            bqual: copy_of(&self.bqual),
+        }
     }
 }

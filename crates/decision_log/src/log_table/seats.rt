@@ -1,7 +1,7 @@
 //! The steps at which seats are split and joined, and that of two passes which meet. They leave the counts.
 ghost use Rattle.std.specs.Prelude.{◌≡◌, ◌<◌, ◌≤◌, List, length};
 ghost use Rattle.xa_words.specs.Entry.{Entry};
-ghost use Rattle.decision_log.specs.AtTable.{KeepsSeats, KnowsOne, KnowsTwo, KnowsRest};
+ghost use Rattle.decision_log.specs.AtTable.{KeepsSeats, KnowsNone, KnowsOne, KnowsTwo, KnowsRest};
 ghost use Rattle.decision_log.specs.Observed.{met, MetAt};
 ghost use Rattle.decision_log.specs.Seats.{following, hand, second};
 
@@ -20,6 +20,7 @@ impl<R: LogWords> LogTable<R> {
         requires seat { KnowsOne self.now.inner.shared.table_id seat.old }
         ensures seat { KnowsOne self.now.inner.shared.table_id seat.new }
         ensures same { hand seat.new ≡ hand seat.old }
+        ensures spare { KnowsNone self.now.inner.shared.table_id result }
     {
         self.inner.shared.split_seat::<Seating>(seat)
     }

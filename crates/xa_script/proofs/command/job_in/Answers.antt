@@ -1,7 +1,7 @@
 use Rattle.std.proofs.Common.{sym, codes}
 use Rattle.std.proofs.lemmas.Slice.Eq.{bytes_eq-Decides}
 use Rattle.clap.specs.Words.{found_of, rows_of}
-use Rattle.xa_script.proofs.Jobs.{rows_are, races_if, no_race, coordinates_if, no_coordinates}
+use Rattle.xa_script.proofs.Jobs.{rows_are, races_if, no_race, coordinates_if, no_coordinates, judges_if, no_judge}
 use Rattle.xa_script.proofs.command.job_in.Goals as goal
 
 pub returns-then-eq-2-clause-some : goal.returns-then-eq-2-clause-some
@@ -27,3 +27,15 @@ returns-then-eq-3-clause-none c none =
     let named = (bytes_eq-Decides c.in-Some.name.now (codes "coordinate")).0 (sym c.if-eq-3.ensures) in
     let rows = rows_are c.args.matches.now c.in-Some.name.now (rows_of (found_of c.in-Some.found.now)) c.in-Some.ensures.name c.in-Some.ensures.rows in
     no_coordinates c.args.matches.now c.in-Some.found.now c.in-Some.name.now rows named (c.coordinate_in.ensures.none none)
+
+pub returns-then-eq-6-clause-some : goal.returns-then-eq-6-clause-some
+returns-then-eq-6-clause-some c =
+    let named = (bytes_eq-Decides c.in-Some.name.now (codes "judge")).0 (sym c.if-eq-6.ensures) in
+    let rows = rows_are c.args.matches.now c.in-Some.name.now (rows_of (found_of c.in-Some.found.now)) c.in-Some.ensures.name c.in-Some.ensures.rows in
+    judges_if c.args.matches.now c.in-Some.found.now c.in-Some.name.now c.judge_in.result rows named c.judge_in.ensures.some
+
+pub returns-then-eq-6-clause-none : goal.returns-then-eq-6-clause-none
+returns-then-eq-6-clause-none c none =
+    let named = (bytes_eq-Decides c.in-Some.name.now (codes "judge")).0 (sym c.if-eq-6.ensures) in
+    let rows = rows_are c.args.matches.now c.in-Some.name.now (rows_of (found_of c.in-Some.found.now)) c.in-Some.ensures.name c.in-Some.ensures.rows in
+    no_judge c.args.matches.now c.in-Some.found.now c.in-Some.name.now rows named (c.judge_in.ensures.none none)

@@ -1,24 +1,20 @@
-use Rattle.std.proofs.Common.{◌≡◌, ℕ, List, ◌<◌, ◌≤◌, length, get_or, ap, sym, ◌∙◌, arith}
-use Rattle.std.proofs.lemmas.List.{get_or_past}
-use Rattle.xa_words.specs.Words.{byte_of}
-use Rattle.xa_words.proofs.Texts.{spread, gathered}
+use Rattle.std.proofs.Common.{◌≡◌, ◌==◌, ℕ, Bool, List, [], ◌∷◌, true, false, not, refl, ap, sym, ◌∙◌, arith, length}
+use Rattle.std.proofs.lemmas.Bool.{eq-eqb, true≢false}
+use Rattle.std.specs.Cmp.Lexicographic.{pointwise}
+use lib.Dec.{eqb}
+use Rattle.xa_words.specs.Words.{text_words}
+use Rattle.xa_words.proofs.Texts.{only_text}
 use Rattle.xa_words.proofs.reader.text_of.Goals as goal
 
-pub returns-then-byte-ne0-clause-none : goal.returns-then-byte-ne0-clause-none
-returns-then-byte-ne0-clause-none c text is len same =
-    c.if-byte-ne0.true
-    (c.byte_of-byte.ensures ∙ ap (λ ws. byte_of ws c.loop-place.place) (sym same) ∙ spread text is c.loop-place.place c.loop-place-test.true
-    ∙ get_or_past text c.loop-place.place 0 (omega arith))
+-- a list is the same as itself
+pointwise-itself : (xs : List ℕ) → pointwise eqb xs xs ≡ true
+pointwise-itself [] = refl
+pointwise-itself (x ∷ xs) = rw (eq-eqb x x refl) (pointwise-itself xs)
 
--- bytes that were kept, and zeros behind them
-filled : (words text : List ℕ) (size : ℕ) → length text ≡ size → ((k : ℕ) → k < length text → get_or text k 0 ≡ byte_of words k) → ((k : ℕ) → size ≤ k → k < 64 → byte_of words k ≡ 0) → (place : ℕ) → place < 64 → byte_of words place ≡ get_or text place 0
-filled words text size len kept zeros place within =
-    grind (arith, kept place, zeros place, get_or_past text place 0)
-
-pub returns-clause-read : goal.returns-clause-read
-returns-clause-read c =
-    let len : length c.loop-place.text.items ≡ c.args.size = omega arith in (
-      len,
-      gathered c.args.words.now c.loop-place.text.items c.requires (λ i. omega (arith, c.type_inv.words i))
-          (filled c.args.words.now c.loop-place.text.items c.args.size len c.loop-place.invariant.kept (λ k l h. c.loop-place.invariant.zeros k l (omega arith))),
-    )
+pub returns-then-ne-clause-none : goal.returns-then-ne-clause-none
+returns-then-ne-clause-none c text is len same =
+    let there = only_text c.args.words.now c.bytes_of-text.result.items text is (omega (arith, len, c.bytes_of-text.ensures.size)) (λ k l. c.bytes_of-text.ensures.bytes k (omega (arith, l, c.bytes_of-text.ensures.size))) same in
+    let equal : c.as_slice-2.result.now ≡ c.args.words.now = c.as_slice-2.ensures ∙ c.text_words.ensures ∙ ap text_words (c.as_slice.ensures.value ∙ there) ∙ same in
+    let told : true ≡ not (pointwise eqb c.as_slice-2.result.now c.args.words.now) = sym c.if-ne.true ∙ c.ne.ensures in
+    let never : true ≡ false = told ∙ ap (λ xs. not (pointwise eqb xs c.args.words.now)) equal ∙ ap not (pointwise-itself c.args.words.now) in
+    absurd (true≢false never)

@@ -1,11 +1,18 @@
-use Rattle.std.proofs.Common.{sym}
+use Rattle.std.proofs.Common.{ap, sym, ◌∙◌}
+use Rattle.xa_xid.specs.declared.statement.Statement.TheVariants.{Get}
 use Rattle.xa_server.specs.Step.{effect}
 use Rattle.xa_server.proofs.Accepted
 use Rattle.xa_server.proofs.server.Server.lock_row.Goals as goal
 
 pub returns-then-holds-clause-ok : goal.returns-then-holds-clause-ok
 unfolding effect
-returns-then-holds-clause-ok c = rw c.in-Active.is (λ session. sym (Accepted.locked_again c.args.self.now c.in-Active.own c.args.key.now (sym c.if-holds.ensures)))
+returns-then-holds-clause-ok c =
+    sym (ap (λ seat. effect c.args.self.now c.args.session seat (Get c.args.key.now)) (sym c.seat-seat.ensures.seat ∙ c.in-Active.is)
+    ∙ Accepted.locked_again c.args.self.now c.in-Active.own c.args.key.now (sym c.if-holds.ensures))
+
+pub share-requires-clause-known : goal.share-requires-clause-known
+share-requires-clause-known c = Accepted.known_active c.args.self.now c.args.session c.in-Active.own (sym c.seat-seat.ensures.seat ∙ c.in-Active.is)
 
 pub share-requires-clause-unlocked : goal.share-requires-clause-unlocked
-share-requires-clause-unlocked c = Accepted.accepted_get c.args.self.now c.in-Active.own c.args.key.now (rw c.in-Active.is at c.requires.accepted)
+share-requires-clause-unlocked c =
+    Accepted.accepted_get c.args.self.now c.in-Active.own c.args.key.now (Accepted.accepted_as c.args.self.now c.args.session _ _ (sym c.seat-seat.ensures.seat ∙ c.in-Active.is) c.requires)

@@ -1,7 +1,6 @@
-use Rattle.std.proofs.Common.{◌≡◌, [], ◌∷◌, ◌++◌, map, sym, ◌∙◌, refl, ap}
+use Rattle.std.proofs.Common.{◌≡◌, refl}
 use Rattle.std.proofs.lemmas.List.Elements.{AllZip-push}
 use Rattle.xa_store.specs.Passes.{home_of, known_of}
-use Rattle.xa_store.specs.Gathered.{last_known}
 use Rattle.xa_store.proofs.Gathering.{last_known_of, zip_itself}
 use Rattle.xa_store.proofs.store.Store.renew.Goals as goal
 

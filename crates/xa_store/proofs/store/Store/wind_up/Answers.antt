@@ -1,11 +1,10 @@
-use Rattle.std.proofs.Common.{◌≡◌, ◌<◌, length, map, ap, sym, subst, ◌∙◌, arith}
+use Rattle.std.proofs.Common.{◌≡◌, map, ap, sym, subst, ◌∙◌, arith}
 use Rattle.std.specs.List.{All, AllZip}
 use Rattle.std.proofs.lemmas.List.{length-map}
 use Rattle.std.proofs.lemmas.List.Elements.{All-map, length_all_zip}
 use Rattle.xa_store.specs.Passes.{place_of, home_of, known_of}
 use Rattle.xa_store.specs.Gathered.{IsTakenIn, Keeps, last_known}
 use Rattle.xa_store.proofs.Spreading.{zip_mapped, map_twice}
-use Rattle.xa_store.specs.Renewal.{AreGathered}
 use Rattle.xa_store.proofs.Gathering.{all_kept}
 use Rattle.xa_store.proofs.store.Store.wind_up.Goals as goal
 

@@ -1,0 +1,11 @@
+pub use Rattle.xa_xid.specs as xid
+pub use Rattle.xa_statement.specs as statement
+pub use Rattle.xa_server.specs as server
+pub use Rattle.xa_words.specs as words
+pub use Rattle.decision_log.specs as log
+pub use Rattle.xa_session.specs as session
+pub use Rattle.xa_store.specs as store
+pub use Rattle.xa_coordinator.specs as coordinator
+pub use Rattle.xa_transcript.specs as transcript
+pub use Rattle.xa_serve.specs as serve
+pub use Rattle.xa_show.specs as show

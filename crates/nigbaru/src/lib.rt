@@ -1,0 +1,23 @@
+//! Nigbaru for who embeds it: the public surface of its crates under one name.
+//!
+//! What a session, a store or a coordinator is made of stands here. `script` has scripts and what they write, `conversation` who is
+//! answered line by line, and `history` the entries of a history and the logs that keep it.
+#![tactic(auto)]
+
+pub mod conversation;
+pub mod history;
+pub mod script;
+
+pub use xa_coordinator::{
+    Ballot, BeginFault, Cause, Closed, Closing, Coordinator, Decisions, Ending, FORMAT_ID, Fused,
+    Prepared, RecoverFault, Report, Speak, Standing, Transaction, Vote, WorkFault, xid_of_branch,
+};
+pub use xa_server::{
+    BranchEntry, BranchState, HeldRow, Hold, Phase, Reply, Server, XaError, XidList,
+};
+pub use xa_session::{Answer, Fault, Session};
+pub use xa_statement::{SyntaxFault, read_statement, write_statement};
+pub use xa_store::{Gate, Log, OpenGate, Outcome, Pass, RaceFault, Run, Store, race};
+pub use xa_xid::{
+    Bytes, Key, LiteralFault, NoMemory, SessionNo, Statement, Xid, copy_of, read_xid, write_xid,
+};

@@ -1,0 +1,105 @@
+//! A transaction over two stores, committed in two phases.
+ghost use Rattle.std.specs.Prelude.{◌≡◌, ◌<◌, ◌∷◌, [], IfOk, vec_len};
+ghost use Rattle.nigbaru.specs.coordinator.Work.{IsRow};
+ghost use Rattle.nigbaru.specs.store.Passes.{home_of, place_of};
+
+use crate::opened;
+use anyhow::{Result, bail};
+use nigbaru::{
+    Bytes, Coordinator, Decisions, Ending, Key, Log, Pass, Reply, Session, Speak, Statement, Store,
+    Transaction, Vote,
+};
+use std::alloc::Global;
+use std::sync::Wait;
+
+/// A text of one byte.
+fn text(byte: u8) -> Bytes
+    ensures { result.items ≡ byte ∷ [] }
+{
+    let mut text = Bytes::new();
+    text.push(byte);
+    text
+}
+
+/// Whether a store carries a transaction's work out. The transaction stays the coordinator's.
+pub fn work<S: Speak, R: Wait>(
+    rt: &R,
+    coordinator: &mut Coordinator<S>,
+    transaction: &mut Transaction,
+    store: u8,
+    statement: &Statement,
+) -> bool
+    requires name { transaction.old.name.items ≡ coordinator.old.name.items }
+    requires stores { transaction.old.stores ≡ vec_len coordinator.old.stores }
+    requires store { store < vec_len coordinator.old.stores }
+    requires row { IsRow statement.now }
+    ensures name { transaction.new.name.items ≡ coordinator.new.name.items }
+    ensures stores { transaction.new.stores ≡ vec_len coordinator.new.stores }
+    ensures count { vec_len coordinator.new.stores ≡ vec_len coordinator.old.stores }
+{
+    matches!(
+        coordinator.work(rt, transaction, store, statement),
+        Ok(Reply::Ok)
+    )
+}
+
+/// Finishes a transaction in which two stores have done their work: both commit, or both roll back.
+pub fn finish<S: Speak, R: Wait>(
+    rt: &R,
+    coordinator: &mut Coordinator<S>,
+    decisions: &mut Decisions,
+    transaction: Transaction,
+) -> Result<Ending>
+    requires name { transaction.name.items ≡ coordinator.old.name.items }
+    requires stores { transaction.stores ≡ vec_len coordinator.old.stores }
+{
+    match coordinator.prepare(rt, transaction) {
+        Vote::Ready(prepared) => {
+            let Ok(()) = decisions.decide(&prepared) else {
+                bail!("a recovery has closed the number");
+            };
+            Ok(coordinator.finish(rt, decisions, prepared))
+        }
+        Vote::OnePhase(prepared) => Ok(coordinator.finish(rt, decisions, prepared)),
+        Vote::No { prepared, .. } => Ok(coordinator.finish(rt, decisions, prepared)),
+        Vote::Nothing => bail!("no store takes part"),
+    }
+}
+
+/// A coordinator of the name `c` over a session of each of two stores.
+pub fn over_both<'a>(
+    alloc: Global,
+    north: &'a Store,
+    first: Pass,
+    south: &'a Store,
+    second: Pass,
+) -> Result<Coordinator<Session<'a, Log>>>
+    requires north { home_of first ≡ place_of north.now.log }
+    requires south { home_of second ≡ place_of south.now.log }
+    ensures { IfOk result (λ coordinator. vec_len coordinator.stores ≡ 2) }
+{
+    let (Ok(first), Ok(second)) = (north.connect(first), south.connect(second)) else {
+        bail!("out of memory");
+    };
+    let sessions = vec![in alloc; first, second]?;
+    Ok(Coordinator::new(text(b'c'), sessions))
+}
+
+/// A row is written in both of two stores, or in neither.
+pub fn in_both<R: Wait>(rt: &R, alloc: Global) -> Result<Ending> {
+    let (north, first, _) = opened(alloc)?;
+    let (south, second, _) = opened(alloc)?;
+    let mut coordinator = over_both(alloc, &north, first, &south, second)?;
+    let mut decisions = Decisions::new(alloc);
+    let Some(key) = Key::of(text(b'k')) else {
+        bail!("an empty key");
+    };
+    let put = Statement::Put(key, text(b'v'));
+    let mut transaction = coordinator.begin(&mut decisions)?;
+    let worked = work(rt, &mut coordinator, &mut transaction, 0, &put)
+        && work(rt, &mut coordinator, &mut transaction, 1, &put);
+    if !worked {
+        return Ok(coordinator.abandon(rt, transaction));
+    }
+    finish(rt, &mut coordinator, &mut decisions, transaction)
+}

@@ -1,0 +1,33 @@
+//! A pass that comes back, whatever becomes of a statement.
+ghost use Rattle.std.specs.Prelude.{◌≡◌};
+ghost use Rattle.nigbaru.specs.store.Passes.{home_of, place_of};
+
+use crate::{opened, say};
+use anyhow::{Result, bail};
+use nigbaru::{Pass, Reply, Store};
+use std::alloc::Global;
+use std::sync::Wait;
+
+/// What a session of a pass answers to the statement of a text, and the pass, which comes back after an error too.
+fn ask<R: Wait>(rt: &R, store: &Store, pass: Pass, text: &str) -> (Pass, Result<Reply>)
+    requires { home_of pass ≡ place_of store.now.log }
+    ensures { home_of result.0 ≡ home_of pass }
+{
+    let mut session = match store.connect(pass) {
+        Ok(session) => session,
+        Err((pass, error)) => return (pass, Err(error.into())),
+    };
+    let reply = say(rt, &mut session, text);
+    (session.leave(), reply)
+}
+
+/// A text is no statement, and then the pass is used once more.
+pub fn asked_again<R: Wait>(rt: &R, alloc: Global) -> Result<Reply> {
+    let (store, pass, _) = opened(alloc)?;
+    let (pass, reply) = ask(rt, &store, pass, "XA GO 'a'");
+    if reply.is_ok() {
+        bail!("a statement");
+    }
+    let (_, reply) = ask(rt, &store, pass, "GET 'k'");
+    reply
+}

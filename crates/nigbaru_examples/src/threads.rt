@@ -1,0 +1,133 @@
+//! Sessions of one store on threads of their own.
+ghost use Rattle.std.specs.Prelude.{◌≡◌};
+
+use crate::opened;
+use anyhow::{Result, bail};
+use nigbaru::history::DecisionLog;
+use nigbaru::{
+    Answer, Bytes, Fault, OpenGate, Outcome, Reply, Run, Session, Statement, Xid, race,
+    read_statement,
+};
+use std::alloc::Global;
+use std::snapshot::Snapshot;
+use std::sync::Wait;
+use std::thread;
+use std::thread::{Promise, Threads};
+
+/// Two runs of one statement each, raced: each on a thread of its own, and one history that explains all answers.
+pub fn raced<R: Threads + Wait + Sync>(rt: &R, alloc: Global) -> Result<Outcome> {
+    let (store, first, second) = opened(alloc)?;
+    let left = vec![in alloc; read_statement(b"XA START 'a'")?]?;
+    let right = vec![in alloc; read_statement(b"XA START 'a'")?]?;
+    let runs = vec![in alloc;
+        Run {
+            pass: first,
+            lines: left
+        },
+        Run {
+            pass: second,
+            lines: right
+        },
+    ]?;
+    Ok(race(rt, alloc, &store, runs, &OpenGate)?)
+}
+
+/// The identifier of a branch, whose gtrid is one byte.
+fn branch(letter: u8) -> Xid {
+    let mut gtrid = Bytes::new();
+    gtrid.push(letter);
+    Xid {
+        format_id: 1,
+        gtrid,
+        bqual: Bytes::new(),
+    }
+}
+
+/// Whether a statement was carried out.
+fn is_ok(answer: &Result<Answer, Fault>) -> bool {
+    matches!(
+        answer,
+        Ok(Answer {
+            reply: Reply::Ok,
+            ..
+        })
+    )
+}
+
+/// Prepares a branch, and gives the session back with whether each statement was carried out. It stays a session of its store.
+fn prepare<'a, L: DecisionLog, R: Wait>(
+    rt: &R,
+    mut session: Session<'a, L>,
+    xid: Xid,
+) -> (Session<'a, L>, bool)
+    ensures { L.home result.0.pass ≡ L.home session.entry.pass }
+{
+    let prepared = is_ok(&session.execute(rt, &Statement::Start(xid.copy())))
+        && is_ok(&session.execute(rt, &Statement::End(xid.copy())))
+        && is_ok(&session.execute(rt, &Statement::Prepare(xid)));
+    (session, prepared)
+}
+
+/// What a thread promises of the session that it gives back: that it is still one of its store.
+#[derive(Drop)]
+struct StaysHome<'a, L: DecisionLog>(Snapshot<Session<'a, L>>);
+
+impl<'a, L: DecisionLog> Promise<(Session<'a, L>, bool)> for StaysHome<'a, L> {
+    ghost kept_by = { λ promise ended. L.home ended.0.pass ≡ L.home promise.0.value.pass };
+}
+
+/// Two sessions of one store prepare a branch each, on threads of their own; then they meet, and the second lists what is prepared.
+/// None where a thread can't be started or a branch isn't prepared.
+fn listed_by_second<'a, L: DecisionLog + Sync, R: Threads + Wait + Sync>(
+    rt: &R,
+    first: Session<'a, L>,
+    second: Session<'a, L>,
+    left: Xid,
+    right: Xid,
+) -> Option<Reply>
+where
+    L::Pass: Send + Drop,
+    requires { L.home first.pass ≡ L.home second.pass }
+{
+    thread::scope(
+        thread::scope_env(),
+        rt,
+        |scope|
+            requires { L.home first.pass ≡ L.home second.pass }
+        {
+            let first = scope.spawn_with(
+                StaysHome(Snapshot::of(&first)),
+                move || prepare(rt, first, left),
+            );
+            let second = scope.spawn_with(
+                StaysHome(Snapshot::of(&second)),
+                move || prepare(rt, second, right),
+            );
+            let (Ok(first), Ok(second)) = (first, second) else {
+                return None;
+            };
+            let (mut first, first_prepared) = first.join(rt);
+            let (mut second, second_prepared) = second.join(rt);
+            if !first_prepared || !second_prepared {
+                return None;
+            }
+            first.meet(&mut second);
+            let answer = second
+                .execute(rt, &Statement::Recover { convert: false })
+                .ok()?;
+            Some(answer.reply)
+        },
+    )
+}
+
+/// The list of prepared branches of a store, of which two sessions have prepared one each, on threads of their own.
+pub fn side_by_side<R: Threads + Wait + Sync>(rt: &R, alloc: Global) -> Result<Reply> {
+    let (store, first, second) = opened(alloc)?;
+    let (Ok(first), Ok(second)) = (store.connect(first), store.connect(second)) else {
+        bail!("out of memory");
+    };
+    let Some(reply) = listed_by_second(rt, first, second, branch(b'a'), branch(b'b')) else {
+        bail!("a branch isn't prepared");
+    };
+    Ok(reply)
+}

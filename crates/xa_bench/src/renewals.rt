@@ -1,0 +1,161 @@
+//! What the renewal of a store costs.
+ghost use Rattle.std.specs.Prelude.{◌≡◌, IfOk};
+ghost use Rattle.xa_store.specs.Passes.{place_of, home_of};
+ghost use Rattle.xa_store.specs.Renewal.{AreGathered};
+
+use crate::commits::{key, put, xid};
+use anyhow::{Result, bail};
+use std::alloc::Global;
+use std::sync::Wait;
+use std::time::{Clock, Instant};
+use xa_store::{Pass, Store};
+use xa_xid::{Bytes, Statement};
+
+/// How many entries a history is given before it is renewed, at most.
+const ENTRIES: u32 = 1_000;
+
+/// The number from which on keys are those of branches, and not of rows that are there before.
+const BRANCH_KEYS: u32 = 0x4000_0000;
+
+/// Which statements are given.
+#[derive(Clone, Copy, Drop)]
+enum Work {
+    /// Each writes a row of its own, outside branches.
+    Rows,
+    /// Four by four: a branch that writes a row of its own, and is prepared.
+    Branches,
+}
+
+impl Work {
+    /// The statement of a number.
+    fn statement(self, number: u32) -> Result<Statement> {
+        let branch = number / 4;
+        Ok(match self {
+            Work::Rows => put(number)?,
+            Work::Branches => match number % 4 {
+                0 => Statement::Start(xid(branch)?),
+                1 => Statement::Put(key(BRANCH_KEYS.saturating_add(branch))?, Bytes::new()),
+                2 => Statement::End(xid(branch)?),
+                _ => Statement::Prepare(xid(branch)?),
+            },
+        })
+    }
+}
+
+/// A store of one session, whose history is empty, and the session's pass.
+#[derive(Drop)]
+struct Kept {
+    store: Store,
+    pass: Pass,
+    ghost home: { home_of pass ≡ place_of store.log },
+}
+
+/// A store whose session has left.
+#[derive(Drop)]
+struct Left {
+    store: Store,
+    passes: Vec<Pass>,
+    ghost gathered: { AreGathered (place_of store.log) passes.items },
+}
+
+/// A store without rows.
+fn opened(alloc: Global) -> Result<Kept> {
+    let Ok((store, mut passes)) = Store::open(alloc, 1024, 1) else {
+        bail!("no store");
+    };
+    let Some(pass) = passes.pop() else {
+        bail!("no pass");
+    };
+    Ok(Kept { store, pass })
+}
+
+/// Has the session give the statements of these numbers, and leave.
+fn executed<R: Wait + Alloc<A = Global>>(
+    rt: &R,
+    store: &Store,
+    pass: Pass,
+    work: Work,
+    from: u32,
+    to: u32,
+) -> Result<Vec<Pass>>
+    requires { home_of pass ≡ place_of store.now.log }
+    ensures { IfOk result (λ passes. AreGathered (place_of store.now.log) passes.items) }
+{
+    let Ok(mut session) = store.connect(pass) else {
+        bail!("not connected");
+    };
+    for number in from..to {
+        let statement = work.statement(number)?;
+        if session.execute(rt, &statement).is_err() {
+            bail!("not answered");
+        }
+    }
+    let sessions = vec![in rt.alloc(); session]?;
+    let Ok((_, passes)) = store.wind_up(rt.alloc(), sessions) else {
+        bail!("not wound up");
+    };
+    Ok(passes)
+}
+
+/// The store once its session has given the statements of these numbers.
+fn left<R: Wait + Alloc<A = Global>>(
+    rt: &R,
+    kept: Kept,
+    work: Work,
+    from: u32,
+    to: u32,
+) -> Result<Left> {
+    let Kept { store, pass } = kept;
+    let passes = executed(rt, &store, pass, work, from, to)?;
+    Ok(Left { store, passes })
+}
+
+/// The store with an empty history.
+fn renewed(alloc: Global, left: Left) -> Result<Kept> {
+    let Left { store, passes } = left;
+    let Ok((store, mut passes)) = store.renew(alloc, passes) else {
+        bail!("not renewed");
+    };
+    let Some(pass) = passes.pop() else {
+        bail!("no pass");
+    };
+    Ok(Kept { store, pass })
+}
+
+/// The store once the statements of the numbers below `count` were given, as many a history as it may have.
+fn filled<R: Wait + Alloc<A = Global>>(
+    rt: &R,
+    mut kept: Kept,
+    work: Work,
+    count: u32,
+) -> Result<Kept> {
+    for round in 0..count.div_ceil(ENTRIES) {
+        let from = round.saturating_mul(ENTRIES);
+        let to = from.saturating_add(ENTRIES).min(count);
+        kept = renewed(rt.alloc(), left(rt, kept, work, from, to)?)?;
+    }
+    Ok(kept)
+}
+
+/// The nanoseconds that a renewal takes in a store of so many rows and prepared branches, once its history has so many entries: the
+/// least of some tries.
+pub fn nanoseconds_a_renewal<R: Clock + Wait + Alloc<A = Global>>(
+    rt: &R,
+    rows: u32,
+    prepared: u32,
+    entries: u32,
+    tries: u32,
+) -> Result<u64> {
+    let rowed = filled(rt, opened(rt.alloc())?, Work::Rows, rows)?;
+    let mut kept = filled(rt, rowed, Work::Branches, prepared.saturating_mul(4))?;
+    let mut least = u64::MAX;
+    for _ in 0..tries {
+        let worked = left(rt, kept, Work::Rows, 0, entries.min(ENTRIES))?;
+        let begun = Instant::now(rt)?;
+        kept = renewed(rt.alloc(), worked)?;
+        let taken = begun.elapsed(rt)?.as_nanos();
+        least = least.min(u64::try_from(taken).unwrap_or(u64::MAX));
+    }
+    let Kept { store: _, pass: _ } = kept;
+    Ok(least)
+}

@@ -1,0 +1,14 @@
+use Rattle.std.proofs.Common.{◌≤◌, ◌-◌}
+use Rattle.xa_judge.specs.Found.{Grows, IsClosedBelow}
+use Rattle.xa_judge.proofs.closing.close.Given as goal
+
+-- the list has grown, and is closed before the place
+abbrev pub invariant-loop-place : goal.invariant-loop-place
+invariant-loop-place l = record {
+  grows : Grows l.initial.known.items l.known.items;
+  closed : IsClosedBelow l.place l.returning l.known.items;
+  within : l.place ≤ l.known.len;
+}
+
+abbrev pub decreases-loop-place : goal.decreases-loop-place
+decreases-loop-place l = l.limit - l.place

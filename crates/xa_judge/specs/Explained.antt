@@ -1,0 +1,170 @@
+-- Whether an order explains what clients saw. All of it is our own: docs/JUDGE.md.
+--     answer_to, next_state      what a request is answered, and the state after it
+--     Config, opening            a state of the server, and what each session is about;  before all events
+--     effect_of                  an act of a session takes effect
+--     agrees                     a return shows this answer
+--     observed                   an event is seen
+--     Runs                       the moves lead through all of the events
+--     Explained                  some moves do, from the opening
+use Rattle.std.specs.Prelude.{◌≡◌, ℕ, ◌≤◌, Bool, true, false, cond, ◌&&◌, ◌==◌, Option, Some, None, List, [], ◌∷◌, slice_get, slice_set}
+use Rattle.std.specs.Prelude.{replicate}
+use Rattle.std.specs.Cmp.Lexicographic.{pointwise}
+use Rattle.std.specs.Prelude.{nat_eq}
+use Rattle.xa_xid.specs.declared.xid.Xid.{Xid}
+use Rattle.xa_xid.specs.declared.statement.Statement.TheVariants.{Disconnect}
+use Rattle.xa_xid.specs.Xid.{Text, same_xid}
+use Rattle.xa_server.specs.declared.reply.Reply.TheVariants.{Ok as Accepted, Value, Recovered, Refused}
+use Rattle.xa_server.specs.State.{State}
+use Rattle.xa_server.specs.Replies.{reply_to}
+use Rattle.xa_server.specs.Step.{after}
+use Rattle.xa_server.specs.Errors.{number_of}
+use Rattle.xa_judge.specs.declared.request.Request.{Request}
+use Rattle.xa_judge.specs.declared.request.Request.TheVariants.{Statement as Given, Unread}
+use Rattle.xa_judge.specs.declared.answer.Answer.{Answer}
+use Rattle.xa_judge.specs.declared.answer.Answer.TheVariants.{Reply as Replied, Unread as NotRead}
+use Rattle.xa_judge.specs.declared.event.Seen.{Seen}
+use Rattle.xa_judge.specs.declared.event.Seen.TheVariants.{Ok as SeenOk, Value as SeenValue, Rows as SeenRows, Error as SeenError}
+use Rattle.xa_judge.specs.declared.event.Event.{Event}
+use Rattle.xa_judge.specs.declared.event.Event.TheVariants.{Call, Return, Lost}
+use Rattle.xa_judge.specs.declared.standing.Standing.{Standing}
+use Rattle.xa_judge.specs.declared.standing.Standing.TheVariants.{Idle, Called, Answered, Gone, Left}
+use Rattle.xa_judge.specs.declared.moves.Act.{Act}
+use Rattle.xa_judge.specs.declared.moves.Act.TheVariants.{Statement as ItsStatement, Disconnect as ItsDisconnect}
+use Rattle.xa_judge.specs.declared.moves.Move.{Move}
+use Rattle.xa_judge.specs.declared.moves.Move.TheVariants.{Event as Seeing, Effect}
+
+-- what a request is answered
+abbrev pub answer_to : State → ℕ → Request → Answer
+answer_to state session (Given statement) = Replied (reply_to state session statement)
+answer_to state session Unread = NotRead
+
+-- the state after a request; a text that isn't a statement does nothing
+abbrev pub next_state : State → ℕ → Request → State
+next_state state session (Given statement) = after state session statement
+next_state state session Unread = state
+
+-- a state of the server, and what each session is about, at the place of its number
+pub record Config : Type 0 where
+  pub state : State
+  pub standings : List Standing
+
+-- before all events; place 0 is no session's
+unfoldable pub opening : State → Config
+opening base = record { state = base; standings = replicate 17 Idle }
+
+-- the session is about this from now on
+abbrev pub with_standing : Config → ℕ → Standing → Config
+with_standing config session standing = record { state = config.state; standings = slice_set config.standings session standing }
+
+-- what a session called for takes effect: it is answered, or nobody hears the answer
+unfoldable pub carried_out : Option Standing → Config → ℕ → Option Config
+carried_out None config session = None
+carried_out (Some Idle) config session = None
+carried_out (Some (Called request)) config session =
+    Some (with_standing (record config { state = next_state config.state session request }) session (Answered (answer_to config.state session request)))
+carried_out (Some (Answered answer)) config session = None
+carried_out (Some (Gone None)) config session = None
+carried_out (Some (Gone (Some request))) config session = Some (with_standing (record config { state = next_state config.state session request }) session (Gone None))
+carried_out (Some Left) config session = None
+
+-- the DISCONNECT of a session whose client is gone takes effect; what it had called for then never does
+unfoldable pub disconnected : Option Standing → Config → ℕ → Option Config
+disconnected None config session = None
+disconnected (Some Idle) config session = None
+disconnected (Some (Called request)) config session = None
+disconnected (Some (Answered answer)) config session = None
+disconnected (Some (Gone request)) config session = Some (with_standing (record config { state = after config.state session Disconnect }) session Left)
+disconnected (Some Left) config session = None
+
+-- an act of a session takes effect
+unfoldable pub effect_of : Config → ℕ → Act → Option Config
+effect_of config session ItsStatement = carried_out (slice_get config.standings session) config session
+effect_of config session ItsDisconnect = disconnected (slice_get config.standings session) config session
+
+-- two texts have the same bytes
+abbrev pub same_text : Text → Text → Bool
+same_text left right = pointwise nat_eq left.items right.items
+
+abbrev pub same_values : Option Text → Option Text → Bool
+same_values None None = true
+same_values None (Some value) = false
+same_values (Some text) None = false
+same_values (Some text) (Some value) = same_text text value
+
+abbrev pub same_rows : List Xid → List Xid → Bool
+same_rows [] [] = true
+same_rows [] (xid ∷ xids) = false
+same_rows (row ∷ rows) [] = false
+same_rows (row ∷ rows) (xid ∷ xids) = same_xid row xid && same_rows rows xids
+
+-- a return shows this answer; of a refusal the number alone counts
+abbrev pub agrees : Seen → Answer → Bool
+agrees SeenOk (Replied Accepted) = true
+agrees SeenOk (Replied (Value value)) = false
+agrees SeenOk (Replied (Recovered xids)) = false
+agrees SeenOk (Replied (Refused error)) = false
+agrees (SeenValue seen) (Replied Accepted) = false
+agrees (SeenValue seen) (Replied (Value value)) = same_values seen value
+agrees (SeenValue seen) (Replied (Recovered xids)) = false
+agrees (SeenValue seen) (Replied (Refused error)) = false
+agrees (SeenRows rows) (Replied Accepted) = false
+agrees (SeenRows rows) (Replied (Value value)) = false
+agrees (SeenRows rows) (Replied (Recovered xids)) = same_rows rows.items xids
+agrees (SeenRows rows) (Replied (Refused error)) = false
+agrees (SeenError number) (Replied Accepted) = false
+agrees (SeenError number) (Replied (Value value)) = false
+agrees (SeenError number) (Replied (Recovered xids)) = false
+agrees (SeenError number) (Replied (Refused error)) = number == number_of error
+agrees SeenOk NotRead = false
+agrees (SeenValue seen) NotRead = false
+agrees (SeenRows rows) NotRead = false
+agrees (SeenError number) NotRead = number == 1064
+
+-- an idle session calls
+unfoldable pub called : Option Standing → Config → ℕ → Request → Option Config
+called None config session request = None
+called (Some Idle) config session request = Some (with_standing config session (Called request))
+called (Some (Called other)) config session request = None
+called (Some (Answered answer)) config session request = None
+called (Some (Gone other)) config session request = None
+called (Some Left) config session request = None
+
+-- the call of an answered session returns so
+unfoldable pub returned : Option Standing → Config → ℕ → Seen → Option Config
+returned None config session seen = None
+returned (Some Idle) config session seen = None
+returned (Some (Called request)) config session seen = None
+returned (Some (Answered answer)) config session seen = cond (agrees seen answer) (Some (with_standing config session Idle)) None
+returned (Some (Gone request)) config session seen = None
+returned (Some Left) config session seen = None
+
+-- the client of a session is gone; an open call may still take effect, and nobody hears its answer
+unfoldable pub lost : Option Standing → Config → ℕ → Option Config
+lost None config session = None
+lost (Some Idle) config session = Some (with_standing config session (Gone None))
+lost (Some (Called request)) config session = Some (with_standing config session (Gone (Some request)))
+lost (Some (Answered answer)) config session = Some (with_standing config session (Gone None))
+lost (Some (Gone request)) config session = None
+lost (Some Left) config session = None
+
+-- an event is seen
+unfoldable pub observed : Config → Event → Option Config
+observed config (Call session request) = called (slice_get config.standings session) config session request
+observed config (Return session seen) = returned (slice_get config.standings session) config session seen
+observed config (Lost session) = lost (slice_get config.standings session) config session
+
+-- a session's number
+abbrev pub IsSession : ℕ → Type 0
+IsSession session = (1 ≤ session) × (session ≤ 16)
+
+-- the moves lead from old through all of the events to new
+abbrev pub Runs : Config → List Event → List Move → Config → Type 0
+Runs old events (Effect session act ∷ moves) new = (mid : Config) × IsSession session × (effect_of old session act ≡ Some mid) × Runs mid events moves new
+Runs old [] (Seeing ∷ moves) new = ⊥
+Runs old (event ∷ events) (Seeing ∷ moves) new = (mid : Config) × (observed old event ≡ Some mid) × Runs mid events moves new
+Runs old [] [] new = new ≡ old
+Runs old (event ∷ events) [] new = ⊥
+
+-- some order explains the events
+abbrev pub Explained : State → List Event → Type 0
+Explained base events = (moves : List Move) × (new : Config) × Runs (opening base) events moves new

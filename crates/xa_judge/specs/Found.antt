@@ -1,0 +1,129 @@
+-- The configurations that a judge keeps.
+--     config_of        a configuration as the definitions see it
+--     called_for       what a session has called for, where that has taken no effect yet
+--     settled          the configuration once that has taken effect
+--     is_answered      the session's call was answered
+--     Reaches          its path leads to it, behind the trunk
+--     AllReached       so it is with each of a list
+--     Has              a list has a configuration that stands so
+--     Grows            a list has more at its end, which is reached where the list is
+--     IsExpandedBelow, IsClosedBelow      what acts of other sessions lead to is in the list
+use Rattle.std.specs.Prelude.{◌≡◌, ◌≢◌, ◌⊎◌, ℕ, ◌<◌, Bool, true, false, Option, Some, None, List, [], ◌∷◌, ◌++◌, map, slice_get, slice_set}
+use Rattle.std.specs.List.{All, Contains}
+use Rattle.xa_server.specs.State.{State}
+use Rattle.xa_judge.specs.declared.request.Request.{Request}
+use Rattle.xa_judge.specs.declared.event.Event.{Event}
+use Rattle.xa_judge.specs.declared.standing.Standing.{Standing}
+use Rattle.xa_judge.specs.declared.standing.Standing.TheVariants.{Idle, Called, Answered, Gone, Left}
+use Rattle.xa_judge.specs.declared.answer.Answer.{Answer}
+use Rattle.xa_judge.specs.declared.moves.Act.{Act}
+use Rattle.xa_judge.specs.declared.moves.Act.TheVariants.{Statement}
+use Rattle.xa_judge.specs.declared.moves.Move.TheVariants.{Event as Seeing, Effect}
+use Rattle.xa_judge.specs.declared.moves.Move.{Move}
+use Rattle.xa_judge.specs.declared.configuration.Configuration.{Configuration}
+use Rattle.xa_judge.specs.Explained.{Config, opening, effect_of, observed, Runs, IsSession, answer_to, next_state}
+
+-- a configuration as the definitions see it
+abbrev pub config_of : Configuration → Config
+config_of one = record { state = one.server; standings = one.standings.items }
+
+abbrev pub configs : List Configuration → List Config
+configs list = map config_of list
+
+-- what a session has called for, where that has taken no effect yet
+abbrev pub called_for : Option Standing → Option Request
+called_for None = None
+called_for (Some Idle) = None
+called_for (Some (Called request)) = Some request
+called_for (Some (Answered answer)) = None
+called_for (Some (Gone request)) = None
+called_for (Some Left) = None
+
+abbrev pub settled_by : Option Request → Config → ℕ → Config
+settled_by None config session = config
+settled_by (Some request) config session = record { state = next_state config.state session request; standings = slice_set config.standings session (Answered (answer_to config.state session request)) }
+
+-- the configuration once what the session has called for has taken effect
+unfoldable pub settled : Config → ℕ → Config
+settled config session = settled_by (called_for (slice_get config.standings session)) config session
+
+abbrev pub answered_so : Option Standing → Bool
+answered_so None = false
+answered_so (Some Idle) = false
+answered_so (Some (Called request)) = false
+answered_so (Some (Answered answer)) = true
+answered_so (Some (Gone request)) = false
+answered_so (Some Left) = false
+
+-- the session's call was answered
+abbrev pub is_answered : Config → ℕ → Bool
+is_answered config session = answered_so (slice_get config.standings session)
+
+-- the trunk and its path lead to it
+unfoldable pub Reaches : State → List Event → List Move → Configuration → Type 0
+Reaches base events trunk one = Runs (opening base) events (trunk ++ one.path.items) (config_of one)
+
+-- the list has a configuration that stands so
+abbrev pub Has : List Configuration → Config → Type 0
+Has list config = Contains (configs list) config
+
+-- what is reached where the old list is
+abbrev pub KeepsReach : List Configuration → List Configuration → Type 0
+KeepsReach old new = (base : State) (events : List Event) (trunk : List Move) → All (Reaches base events trunk) old → All (Reaches base events trunk) new
+
+-- each of the new list is reached by one event more where the old list is
+abbrev pub ReachesPast : Event → List Configuration → List Configuration → Type 0
+ReachesPast event old new = (base : State) (events : List Event) (trunk : List Move) → All (Reaches base events trunk) old → All (Reaches base (events ++ event ∷ []) trunk) new
+
+-- the configuration is as it was, or its path has one effect more
+abbrev pub IsSettledFrom : ℕ → Configuration → Configuration → Type 0
+IsSettledFrom session old new = (new ≡ old) ⊎ (IsSession session × (effect_of (config_of old) session Statement ≡ Some (config_of new)) × (new.path.items ≡ old.path.items ++ Effect session Statement ∷ []))
+
+-- the list is as it was, and things stood so in one of it; or it has this one more
+abbrev pub IsAdded : List Configuration → Configuration → List Configuration → Type 0
+IsAdded old one new = (Has old (config_of one) × (new ≡ old)) ⊎ (new ≡ old ++ one ∷ [])
+
+-- the event can't be seen, and the list is as it was; or what it leads to is added
+abbrev pub IsSeenAdded : Event → Configuration → List Configuration → List Configuration → Type 0
+IsSeenAdded event one old new =
+    ((observed (config_of one) event ≡ None) × (new ≡ old))
+    ⊎ ((next : Configuration) × (observed (config_of one) event ≡ Some (config_of next)) × (next.path.items ≡ one.path.items ++ Seeing ∷ []) × IsAdded old next new)
+
+-- the list is as it was, or has this answer more
+abbrev pub IsAnswerAdded : Option Standing → List Answer → List Answer → Type 0
+IsAnswerAdded standing old new = (new ≡ old) ⊎ ((answer : Answer) × (standing ≡ Some (Answered answer)) × (new ≡ old ++ answer ∷ []))
+
+-- the session was answered so in a configuration of the list
+pub record IsAnsweredIn (list : List Configuration) (session : ℕ) (answer : Answer) : Type 0 where
+  pub one : Config
+  pub has : Has list one
+  pub stands : slice_get one.standings session ≡ Some (Answered answer)
+
+-- the one configuration before all events
+abbrev pub IsOpening : State → List Configuration → Type 0
+IsOpening base list = (one : Configuration) × (list ≡ one ∷ []) × (config_of one ≡ opening base) × (one.path.items ≡ [])
+
+-- the moves are the trunk and the path of the first configuration
+abbrev pub IsPathOf : List Move → List Configuration → List Move → Type 0
+IsPathOf trunk list moves = (one : Configuration) × (slice_get list 0 ≡ Some one) × (moves ≡ trunk ++ one.path.items)
+
+-- the same configurations are reached, with another trunk
+pub record IsShortened (trunk longer : List Move) (old new : List Configuration) : Type 0 where
+  pub same : configs new ≡ configs old
+  pub reach : (base : State) (events : List Event) → All (Reaches base events trunk) old → All (Reaches base events longer) new
+
+-- the list has more at its end, which is reached where the list is
+pub record Grows (old new : List Configuration) : Type 0 where
+  pub more : List Configuration
+  pub parts : new ≡ old ++ more
+  pub reach : KeepsReach old new
+
+-- what acts of other sessions below a number lead to from this configuration is in the list, unless the session was answered
+abbrev pub IsExpandedBelow : ℕ → Configuration → ℕ → List Configuration → Type 0
+IsExpandedBelow count one returning list =
+    (session : ℕ) (act : Act) (new : Config) → session < count → IsSession session → session ≢ returning → is_answered (config_of one) returning ≡ false
+    → effect_of (config_of one) session act ≡ Some new → Has list new
+
+-- so it is with each configuration before this place
+abbrev pub IsClosedBelow : ℕ → ℕ → List Configuration → Type 0
+IsClosedBelow count returning list = (place : ℕ) (one : Configuration) → place < count → slice_get list place ≡ Some one → IsExpandedBelow 17 one returning list

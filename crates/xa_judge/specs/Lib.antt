@@ -1,0 +1,4 @@
+pub mod Explained
+pub mod Found
+pub mod Advances
+pub mod Verdicts

@@ -1,0 +1,75 @@
+//! One event more.
+ghost use Rattle.std.specs.Prelude.{◌≡◌, ◌<◌, vec_len, IfOk};
+ghost use Rattle.xa_judge.specs.Advances.{IsAdvance, IsSeenFrom, IsReturnOf};
+
+use crate::answer::Answer;
+use crate::closing::{answers_in, close, observe_all, settle_all};
+use crate::configuration::Configuration;
+use crate::event::Event;
+use std::alloc::Global;
+use xa_xid::{NoMemory, SessionNo};
+
+/// What one event more leads to.
+#[derive(Drop)]
+pub enum Advance {
+    /// To these configurations, at least one.
+    Known(Vec<Configuration>),
+    /// To none. The call could have been answered so.
+    Impossible(Vec<Answer>),
+    /// To more configurations than are allowed.
+    TooMany,
+}
+
+/// What is left of these configurations once the event is seen.
+fn seen(
+    alloc: Global,
+    ready: Vec<Configuration>,
+    answers: Vec<Answer>,
+    event: &Event,
+) -> Result<Advance, NoMemory>
+    ensures { IfOk result (IsSeenFrom ready.items answers.items event.now) }
+{
+    let next = observe_all(alloc, ready, event)?;
+    if next.is_empty() {
+        Ok(Advance::Impossible(answers))
+    } else {
+        Ok(Advance::Known(next))
+    }
+}
+
+/// What a return leads to: before it, what its session called for takes effect, and before that what others do.
+fn return_seen(
+    alloc: Global,
+    mut known: Vec<Configuration>,
+    returning: SessionNo,
+    event: &Event,
+    limit: usize,
+) -> Result<Advance, NoMemory>
+    requires { IsReturnOf returning event.now }
+    ensures { IfOk result (IsAdvance known.items event.now limit) }
+{
+    let is_closed = close(&mut known, returning, limit)?;
+    if !is_closed {
+        return Ok(Advance::TooMany);
+    }
+    let settled = settle_all(alloc, known, returning)?;
+    let answers = answers_in(alloc, settled.as_slice(), returning)?;
+    let next = seen(alloc, settled, answers, event)?;
+    Ok(next)
+}
+
+/// What one event more leads to.
+pub fn see_event(
+    alloc: Global,
+    known: Vec<Configuration>,
+    event: &Event,
+    limit: usize,
+) -> Result<Advance, NoMemory>
+    ensures { IfOk result (IsAdvance known.items event.now limit) }
+{
+    match event {
+        Event::Call(_, _) => seen(alloc, known, Vec::new(alloc), event),
+        Event::Return(session, _) => return_seen(alloc, known, *session, event, limit),
+        Event::Lost(_) => seen(alloc, known, Vec::new(alloc), event),
+    }
+}

@@ -1,0 +1,120 @@
+//! What can have come before a return.
+ghost use Rattle.std.specs.Prelude.{◌≡◌, ◌<◌, ℕ, List, Some, true, false, slice_get, vec_len, length, IfOk, OnOk};
+ghost use Rattle.std.specs.List.{All};
+ghost use Rattle.xa_judge.specs.Explained.{Config, observed};
+ghost use Rattle.xa_judge.specs.Found.{Has, Grows, KeepsReach, ReachesPast, settled, IsClosedBelow, IsAnsweredIn, IsAnswerAdded, IsSeenAdded};
+
+use crate::answer::Answer;
+use crate::configuration::Configuration;
+use crate::event::Event;
+use crate::known::{add, expand};
+use crate::standing::Standing;
+use std::alloc::Global;
+use xa_xid::{NoMemory, SessionNo};
+
+/// Adds all that acts of other sessions than `returning` lead to, as long as `returning` isn't answered, and answers true; or
+/// false, once there are more than `limit` configurations.
+pub fn close(
+    known: &mut Vec<Configuration>,
+    returning: SessionNo,
+    limit: usize,
+) -> Result<bool, NoMemory>
+    ensures grows { OnOk result (Grows known.old.items known.new.items) }
+    ensures closed { IfOk result (λ done. done ≡ true → IsClosedBelow (length known.new.items) returning known.new.items) }
+    ensures wide { IfOk result (λ done. done ≡ false → limit < vec_len known.new) }
+{
+    let mut place = 0;
+    while place < known.len() {
+        if limit < known.len() {
+            return Ok(false);
+        }
+        expand(known, place, returning)?;
+        place += 1;
+    }
+    Ok(true)
+}
+
+/// The configurations once what the session has called for has taken effect.
+pub fn settle_all(
+    alloc: Global,
+    mut known: Vec<Configuration>,
+    session: SessionNo,
+) -> Result<Vec<Configuration>, NoMemory>
+    ensures has { IfOk result (λ list. (one : Config) → Has known.items one → Has list.items (settled one session)) }
+    ensures reach { IfOk result (λ list. KeepsReach known.items list.items) }
+{
+    let mut list = Vec::new(alloc);
+    while let Some(one) = known.pop() {
+        list.push(one.settled(session)?)?;
+    }
+    Ok(list)
+}
+
+/// Adds the configuration once the event is seen, where it can be.
+fn add_seen(
+    list: &mut Vec<Configuration>,
+    one: Configuration,
+    event: &Event,
+) -> Result<(), NoMemory>
+    ensures { OnOk result (IsSeenAdded event.now one list.old.items list.new.items) }
+{
+    match one.observed(event)? {
+        None => Ok(()),
+        Some(next) => {
+            add(list, next)?;
+            Ok(())
+        }
+    }
+}
+
+/// The configurations once the event is seen, of those in which it can be.
+pub fn observe_all(
+    alloc: Global,
+    mut known: Vec<Configuration>,
+    event: &Event,
+) -> Result<Vec<Configuration>, NoMemory>
+    ensures has { IfOk result (λ list. (one new : Config) → Has known.items one → observed one event.now ≡ Some new → Has list.items new) }
+    ensures reach { IfOk result (λ list. ReachesPast event.now known.items list.items) }
+{
+    let mut list = Vec::new(alloc);
+    while let Some(one) = known.pop() {
+        add_seen(&mut list, one, event)?;
+    }
+    Ok(list)
+}
+
+/// Adds what the session is answered in a configuration, where it is.
+fn add_answer(
+    answers: &mut Vec<Answer>,
+    one: &Configuration,
+    session: SessionNo,
+) -> Result<(), NoMemory>
+    ensures { OnOk result (IsAnswerAdded (slice_get one.now.standings.items session) answers.old.items answers.new.items) }
+{
+    match one.standing(session) {
+        None => Ok(()),
+        Some(Standing::Idle) => Ok(()),
+        Some(Standing::Called(_)) => Ok(()),
+        Some(Standing::Answered(answer)) => {
+            answers.push(answer.copy()?)?;
+            Ok(())
+        }
+        Some(Standing::Gone(_)) => Ok(()),
+        Some(Standing::Left) => Ok(()),
+    }
+}
+
+/// What the session is answered in these configurations.
+pub fn answers_in(
+    alloc: Global,
+    known: &[Configuration],
+    session: SessionNo,
+) -> Result<Vec<Answer>, NoMemory>
+    ensures { IfOk result (λ answers. All (IsAnsweredIn known.now session) answers.items) }
+{
+    let mut answers = Vec::new(alloc);
+    for one in known {
+        add_answer(&mut answers, one, session)?;
+    }
+    Ok(answers)
+}

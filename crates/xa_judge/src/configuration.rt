@@ -1,0 +1,256 @@
+//! How things can stand after some events.
+ghost use Rattle.std.specs.Prelude.{◌≡◌, ◌<◌, ◌∷◌, ◌++◌, [], true, cond, Some, None, slice_get, slice_set, vec_len, length, IfOk, IfSome};
+ghost use Rattle.std.specs.Option.{option_copied, option_map};
+ghost use Rattle.std.specs.Prelude.{replicate};
+ghost use Rattle.xa_xid.specs.declared.statement.Statement.TheVariants.{Disconnect};
+ghost use Rattle.xa_server.specs.Step.{after};
+ghost use Rattle.xa_judge.specs.Explained.{opening, answer_to, next_state, effect_of, IsSession};
+ghost use Rattle.xa_judge.specs.Found.{config_of, called_for, is_answered, settled, IsSettledFrom};
+
+use crate::moves::{Act, Move};
+use crate::request::Request;
+use crate::standing::Standing;
+use std::alloc::Global;
+use xa_server::Server;
+use xa_xid::{NoMemory, SessionNo, Statement};
+
+/// One place for each session number; place 0 stays idle.
+const PLACES: usize = 17;
+
+/// How things can stand after some events, and how it came to that.
+#[derive(Drop)]
+pub struct Configuration {
+    /// The server.
+    pub server: Server,
+    /// What each session is about, at the place of its number.
+    pub standings: Vec<Standing>,
+    /// The moves that led here, from where the trunk ends.
+    pub path: Vec<Move>,
+}
+
+/// What each session is about before all events.
+fn all_idle(alloc: Global) -> Result<Vec<Standing>, NoMemory>
+    ensures { IfOk result (λ all. all.items ≡ replicate 17 Standing.Idle) }
+{
+    let mut all = Vec::new(alloc);
+    for _ in 0..PLACES {
+        all.push(Standing::Idle)?;
+    }
+    Ok(all)
+}
+
+/// Whether two lists are known to be the same.
+fn is_same_list(left: &[Standing], right: &[Standing]) -> bool
+    ensures { result ≡ true → left.now ≡ right.now }
+{
+    match left {
+        [] => right.is_empty(),
+        [one, rest @ ..] => match right {
+            [] => false,
+            [other, others @ ..] => one.is_same(other) && is_same_list(rest, others),
+        },
+    }
+}
+
+impl Configuration {
+    /// How things stand before all events.
+    #[tactic(auto, unfolding(crate::specs::Explained::opening))]
+    pub fn opening(alloc: Global, base: &Server) -> Result<Configuration, NoMemory>
+        ensures config { IfOk result (λ first. config_of first ≡ opening base.now) }
+        ensures path { IfOk result (λ first. first.path.items ≡ []) }
+    {
+        Ok(Configuration {
+            server: base.copy()?,
+            standings: all_idle(alloc)?,
+            path: Vec::new(alloc),
+        })
+    }
+
+    /// The same, with no path.
+    pub fn without_path(mut self) -> Configuration
+        ensures config { config_of result ≡ config_of self }
+        ensures path { result.path.items ≡ [] }
+    {
+        self.path.clear();
+        self
+    }
+
+    /// A copy.
+    pub fn copy(&self) -> Result<Configuration, NoMemory>
+        ensures config { IfOk result (λ copy. config_of copy ≡ config_of self.now) }
+        ensures path { IfOk result (λ copy. copy.path.items ≡ self.now.path.items) }
+    {
+        Ok(Configuration {
+            server: self.server.copy()?,
+            standings: self.standings.clone()?,
+            path: self.path.clone()?,
+        })
+    }
+
+    /// Whether things are known to stand the same in both. How it came to that is not compared.
+    pub fn is_same(&self, other: &Configuration) -> bool
+        ensures { result ≡ true → config_of self.now ≡ config_of other.now }
+    {
+        is_same_list(self.standings.as_slice(), other.standings.as_slice())
+            && self.server.is_same(&other.server)
+    }
+
+    /// What the session is about.
+    pub fn standing(&self, session: SessionNo) -> Option<&Standing>
+        ensures value { option_copied result ≡ slice_get self.now.standings.items session }
+        ensures session { IsSession session }
+    {
+        self.standings.get(session.get() as usize)
+    }
+
+    /// What the session has called for, where that has taken no effect yet.
+    fn called_for(&self, session: SessionNo) -> Option<Request>
+        ensures value { result ≡ called_for (slice_get self.now.standings.items session) }
+        ensures session { IsSession session }
+    {
+        match self.standing(session) {
+            None => None,
+            Some(Standing::Idle) => None,
+            Some(Standing::Called(request)) => Some(request.copy()),
+            Some(Standing::Answered(_)) => None,
+            Some(Standing::Gone(_)) => None,
+            Some(Standing::Left) => None,
+        }
+    }
+
+    /// The session is about this from now on, by this move.
+    pub fn moved(
+        mut self,
+        session: SessionNo,
+        standing: Standing,
+        by: Move,
+    ) -> Result<Configuration, NoMemory>
+        requires { session < vec_len self.standings }
+        ensures config { IfOk result (λ new. config_of new ≡ record { state = self.server; standings = slice_set self.standings.items session standing }) }
+        ensures path { IfOk result (λ new. new.path.items ≡ self.path.items ++ by ∷ []) }
+    {
+        self.standings[session.get() as usize] = standing;
+        self.path.push(by)?;
+        Ok(self)
+    }
+
+    /// What the session has called for takes effect, and it is answered.
+    fn answered(mut self, session: SessionNo, request: &Request) -> Result<Configuration, NoMemory>
+        requires { session < vec_len self.standings }
+        ensures config { IfOk result (λ new. config_of new ≡ record { state = next_state self.server session request.now; standings = slice_set self.standings.items session (Standing.Answered (answer_to self.server session request.now)) }) }
+        ensures path { IfOk result (λ new. new.path.items ≡ self.path.items ++ Move.Effect session Act.Statement ∷ []) }
+    {
+        let answer = request.carry_out(&mut self.server, session)?;
+        self.moved(
+            session,
+            Standing::Answered(answer),
+            Move::Effect(session, Act::Statement),
+        )
+    }
+
+    /// What the session had called for takes effect, and nobody hears the answer.
+    fn unheard(mut self, session: SessionNo, request: &Request) -> Result<Configuration, NoMemory>
+        requires { session < vec_len self.standings }
+        ensures config { IfOk result (λ new. config_of new ≡ record { state = next_state self.server session request.now; standings = slice_set self.standings.items session (Standing.Gone None) }) }
+        ensures path { IfOk result (λ new. new.path.items ≡ self.path.items ++ Move.Effect session Act.Statement ∷ []) }
+    {
+        let _answer = request.carry_out(&mut self.server, session)?;
+        self.moved(
+            session,
+            Standing::Gone(None),
+            Move::Effect(session, Act::Statement),
+        )
+    }
+
+    /// The session's DISCONNECT takes effect.
+    fn left(mut self, session: SessionNo) -> Result<Configuration, NoMemory>
+        requires { session < vec_len self.standings }
+        ensures config { IfOk result (λ new. config_of new ≡ record { state = after self.server session Disconnect; standings = slice_set self.standings.items session Standing.Left }) }
+        ensures path { IfOk result (λ new. new.path.items ≡ self.path.items ++ Move.Effect session Act.Disconnect ∷ []) }
+    {
+        let _reply = self.server.apply(session, &Statement::Disconnect)?;
+        self.moved(
+            session,
+            Standing::Left,
+            Move::Effect(session, Act::Disconnect),
+        )
+    }
+
+    /// Whether the session's call was answered.
+    pub fn is_answered(&self, session: SessionNo) -> bool
+        ensures { result ≡ is_answered (config_of self.now) session }
+    {
+        match self.standing(session) {
+            None => false,
+            Some(Standing::Idle) => false,
+            Some(Standing::Called(_)) => false,
+            Some(Standing::Answered(_)) => true,
+            Some(Standing::Gone(_)) => false,
+            Some(Standing::Left) => false,
+        }
+    }
+
+    /// How things stand once what the session has called for has taken effect; as they do, where it has called for nothing.
+    #[tactic(auto, unfolding(crate::specs::Found::settled))]
+    pub fn settled(self, session: SessionNo) -> Result<Configuration, NoMemory>
+        ensures config { IfOk result (λ new. config_of new ≡ settled (config_of self) session) }
+        ensures reach { IfOk result (IsSettledFrom session self) }
+    {
+        match self.called_for(session) {
+            None => Ok(self),
+            Some(request) => {
+                let new = self.answered(session, &request)?;
+                Ok(new)
+            }
+        }
+    }
+
+    /// How things stand once what the session called for has taken effect, where that can be.
+    #[tactic(auto, unfolding(crate::specs::Explained::effect_of, crate::specs::Explained::carried_out))]
+    fn carried_out(&self, session: SessionNo) -> Result<Option<Configuration>, NoMemory>
+        ensures config { IfOk result (λ found. option_map config_of found ≡ effect_of (config_of self.now) session Act.Statement) }
+        ensures path { IfOk result (λ found. IfSome found (λ new. new.path.items ≡ self.now.path.items ++ Move.Effect session Act.Statement ∷ [])) }
+        ensures session { IsSession session }
+    {
+        match self.standing(session) {
+            None => Ok(None),
+            Some(Standing::Idle) => Ok(None),
+            Some(Standing::Called(request)) => Ok(Some(self.copy()?.answered(session, request)?)),
+            Some(Standing::Answered(_)) => Ok(None),
+            Some(Standing::Gone(None)) => Ok(None),
+            Some(Standing::Gone(Some(request))) => {
+                Ok(Some(self.copy()?.unheard(session, request)?))
+            }
+            Some(Standing::Left) => Ok(None),
+        }
+    }
+
+    /// How things stand once the session's DISCONNECT has taken effect, where that can be.
+    #[tactic(auto, unfolding(crate::specs::Explained::effect_of, crate::specs::Explained::disconnected))]
+    fn disconnected(&self, session: SessionNo) -> Result<Option<Configuration>, NoMemory>
+        ensures config { IfOk result (λ found. option_map config_of found ≡ effect_of (config_of self.now) session Act.Disconnect) }
+        ensures path { IfOk result (λ found. IfSome found (λ new. new.path.items ≡ self.now.path.items ++ Move.Effect session Act.Disconnect ∷ [])) }
+        ensures session { IsSession session }
+    {
+        match self.standing(session) {
+            None => Ok(None),
+            Some(Standing::Idle) => Ok(None),
+            Some(Standing::Called(_)) => Ok(None),
+            Some(Standing::Answered(_)) => Ok(None),
+            Some(Standing::Gone(_)) => Ok(Some(self.copy()?.left(session)?)),
+            Some(Standing::Left) => Ok(None),
+        }
+    }
+
+    /// How things stand once the session's act has taken effect, where that can be.
+    pub fn effected(&self, session: SessionNo, act: Act) -> Result<Option<Configuration>, NoMemory>
+        ensures config { IfOk result (λ found. option_map config_of found ≡ effect_of (config_of self.now) session act) }
+        ensures path { IfOk result (λ found. IfSome found (λ new. new.path.items ≡ self.now.path.items ++ Move.Effect session act ∷ [])) }
+        ensures session { IsSession session }
+    {
+        match act {
+            Act::Statement => self.carried_out(session),
+            Act::Disconnect => self.disconnected(session),
+        }
+    }
+}

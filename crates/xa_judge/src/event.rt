@@ -1,0 +1,82 @@
+//! What was seen.
+ghost use Rattle.std.specs.Prelude.{◌≡◌};
+ghost use Rattle.xa_judge.specs.Explained.{agrees};
+
+use crate::answer::Answer;
+use crate::request::Request;
+use crate::same::{is_same_rows, is_same_value};
+use xa_server::Reply;
+use xa_xid::{Bytes, SessionNo, Xid};
+
+/// What a call was seen to return.
+#[derive(Debug, Drop)]
+pub enum Seen {
+    /// The statement was carried out.
+    Ok,
+    /// The value of a row, or none.
+    Value(Option<Bytes>),
+    /// Identifiers of prepared branches. They are to be in ascending order.
+    Rows(Vec<Xid>),
+    /// A refusal of this number.
+    Error(u16),
+}
+
+/// Something that was seen.
+#[derive(Debug, Drop)]
+pub enum Event {
+    /// The session calls.
+    Call(SessionNo, Request),
+    /// The session's call returns so.
+    Return(SessionNo, Seen),
+    /// The session's client is gone.
+    Lost(SessionNo),
+}
+
+impl Seen {
+    /// Whether the server's reply shows so.
+    fn shows_reply(&self, reply: &Reply) -> bool
+        ensures { result ≡ agrees self.now (Answer.Reply reply.now) }
+    {
+        match self {
+            Seen::Ok => match reply {
+                Reply::Ok => true,
+                Reply::Value(_) => false,
+                Reply::Recovered(_) => false,
+                Reply::Refused(_) => false,
+            },
+            Seen::Value(seen) => match reply {
+                Reply::Ok => false,
+                Reply::Value(value) => is_same_value(seen, value),
+                Reply::Recovered(_) => false,
+                Reply::Refused(_) => false,
+            },
+            Seen::Rows(rows) => match reply {
+                Reply::Ok => false,
+                Reply::Value(_) => false,
+                Reply::Recovered(xids) => is_same_rows(rows.as_slice(), xids.as_slice()),
+                Reply::Refused(_) => false,
+            },
+            Seen::Error(number) => match reply {
+                Reply::Ok => false,
+                Reply::Value(_) => false,
+                Reply::Recovered(_) => false,
+                Reply::Refused(error) => *number == error.number(),
+            },
+        }
+    }
+
+    /// Whether the answer shows so.
+    pub(crate) fn shows(&self, answer: &Answer) -> bool
+        ensures { result ≡ agrees self.now answer.now }
+    {
+        match answer {
+            Answer::Reply(reply) => self.shows_reply(reply),
+            Answer::Unread => match self {
+                Seen::Ok => false,
+                Seen::Value(_) => false,
+                Seen::Rows(_) => false,
+                Seen::Error(number) => *number == 1064,
+            },
+        }
+    }
+}

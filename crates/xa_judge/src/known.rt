@@ -1,0 +1,123 @@
+//! Lists in which each configuration is kept once.
+ghost use Rattle.std.specs.Prelude.{◌≡◌, ◌∷◌, ◌++◌, ◌≢◌, ◌<◌, ℕ, true, Some, slice_get, vec_len, OnOk};
+ghost use Rattle.xa_judge.specs.declared.configuration.Configuration.{Configuration as Found};
+ghost use Rattle.xa_judge.specs.Explained.{Config, IsSession, effect_of};
+ghost use Rattle.xa_judge.specs.Found.{config_of, is_answered, Has, Grows, IsAdded, IsExpandedBelow};
+
+use crate::configuration::Configuration;
+use crate::moves::Act;
+use xa_xid::{NoMemory, SessionNo};
+
+/// Whether things are known to stand so in a configuration of the list.
+fn is_known(known: &[Configuration], one: &Configuration) -> bool
+    ensures { result ≡ true → Has known.now (config_of one.now) }
+{
+    for other in known {
+        if one.is_same(other) {
+            return true;
+        }
+    }
+    false
+}
+
+/// Adds a configuration, unless things are known to stand so in one that is there.
+pub fn add(known: &mut Vec<Configuration>, one: Configuration) -> Result<(), NoMemory>
+    ensures { OnOk result (IsAdded known.old.items one known.new.items) }
+{
+    if is_known(known.as_slice(), &one) {
+        return Ok(());
+    }
+    known.push(one)?;
+    Ok(())
+}
+
+/// Adds what the session's act leads to from the configuration at this place.
+fn add_effect(
+    known: &mut Vec<Configuration>,
+    place: usize,
+    session: SessionNo,
+    act: Act,
+) -> Result<(), NoMemory>
+    requires { place < vec_len known.old }
+    ensures grows { OnOk result (Grows known.old.items known.new.items) }
+    ensures has { OnOk result ((one : Found) (new : Config) → slice_get known.old.items place ≡ Some one → effect_of (config_of one) session act ≡ Some new → Has known.new.items new) }
+{
+    match known[place].effected(session, act)? {
+        None => Ok(()),
+        Some(next) => {
+            add(known, next)?;
+            Ok(())
+        }
+    }
+}
+
+/// Adds what the acts of the session lead to from the configuration at this place.
+fn add_effects(
+    known: &mut Vec<Configuration>,
+    place: usize,
+    session: SessionNo,
+) -> Result<(), NoMemory>
+    requires { place < vec_len known.old }
+    ensures grows { OnOk result (Grows known.old.items known.new.items) }
+    ensures has { OnOk result ((one : Found) (act : _) (new : Config) → slice_get known.old.items place ≡ Some one → effect_of (config_of one) session act ≡ Some new → Has known.new.items new) }
+{
+    add_effect(known, place, session, Act::Statement)?;
+    add_effect(known, place, session, Act::Disconnect)?;
+    Ok(())
+}
+
+/// Adds what the acts of the session of this number lead to from the configuration at this place, unless it is `returning`.
+fn add_others(
+    known: &mut Vec<Configuration>,
+    place: usize,
+    number: u64,
+    returning: SessionNo,
+) -> Result<(), NoMemory>
+    requires { place < vec_len known.old }
+    ensures grows { OnOk result (Grows known.old.items known.new.items) }
+    ensures has { OnOk result ((one : Found) (act : _) (new : Config) → slice_get known.old.items place ≡ Some one → IsSession number → number ≢ returning → effect_of (config_of one) number act ≡ Some new → Has known.new.items new) }
+{
+    if number == returning.get() {
+        return Ok(());
+    }
+    match SessionNo::of(number) {
+        None => Ok(()),
+        Some(session) => {
+            add_effects(known, place, session)?;
+            Ok(())
+        }
+    }
+}
+
+/// Adds what acts of other sessions than `returning` lead to from the configuration at this place.
+fn add_all(
+    known: &mut Vec<Configuration>,
+    place: usize,
+    returning: SessionNo,
+) -> Result<(), NoMemory>
+    requires { place < vec_len known.old }
+    ensures grows { OnOk result (Grows known.old.items known.new.items) }
+    ensures all { OnOk result ((one : Found) → slice_get known.old.items place ≡ Some one → IsExpandedBelow 17 one returning known.new.items) }
+{
+    for number in 1..17 {
+        add_others(known, place, number, returning)?;
+    }
+    Ok(())
+}
+
+/// Adds what acts of other sessions than `returning` lead to from the configuration at this place, unless `returning` was
+/// answered there.
+pub fn expand(
+    known: &mut Vec<Configuration>,
+    place: usize,
+    returning: SessionNo,
+) -> Result<(), NoMemory>
+    requires { place < vec_len known.old }
+    ensures grows { OnOk result (Grows known.old.items known.new.items) }
+    ensures all { OnOk result ((one : Found) → slice_get known.old.items place ≡ Some one → IsExpandedBelow 17 one returning known.new.items) }
+{
+    if known[place].is_answered(returning) {
+        return Ok(());
+    }
+    add_all(known, place, returning)
+}

@@ -1,0 +1,21 @@
+//! The moves of an order that explains a record.
+
+use xa_xid::SessionNo;
+
+/// What of a session takes effect.
+#[derive(Clone, Copy, Debug, PartialEq, Eq)]
+pub enum Act {
+    /// The statement that it called for.
+    Statement,
+    /// Its DISCONNECT, once its client is gone.
+    Disconnect,
+}
+
+/// A move of an order that explains a record.
+#[derive(Clone, Copy, Debug, PartialEq, Eq)]
+pub enum Move {
+    /// The next event is seen.
+    Event,
+    /// The session's act takes effect.
+    Effect(SessionNo, Act),
+}

@@ -1,0 +1,24 @@
+-- How many calls the sessions have left, once each of the first was limited.
+use Rattle.std.proofs.Common.{◌≡◌, ◌≢◌, ◌<◌, ◌+◌, ℕ, List, map, sym, ◌∙◌, ap, subst, inl, inr, Some, arith}
+use Rattle.std.specs.Prelude.{slice_get}
+use Rattle.std.specs.Option.{option_map}
+use Rattle.std.proofs.lemmas.Bool.{cases_lt}
+use Rattle.std.proofs.lemmas.Option.{slice_get-map}
+use Rattle.xa_coordinator.specs.declared.fused.Fused.{Fused}
+use Rattle.xa_coordinator.specs.Stores.{ChangesAt}
+use Rattle.xa_manager.specs.Limits.{Passes}
+
+pub passes_grown : {S : Type 0} (store calls : ℕ) (old new : List (Fused S)) → ((other : ℕ) → other < store → Passes other calls old) → Passes store calls new → ChangesAt store old new →
+    (other : ℕ) → other < store + 1 → Passes other calls new
+passes_grown {S} store calls old new so_far there changes = λ other below.
+    elim (cases_lt other store) [
+      | inl less ↦
+          let same : slice_get new other ≡ slice_get old other = changes.others other (λ is. omega (arith, less, is)) in
+          slice_get-map (λ (s : Fused S). s.left) new other
+          ∙ ap (option_map (λ (s : Fused S). s.left)) same
+          ∙ sym (slice_get-map (λ (s : Fused S). s.left) old other)
+          ∙ so_far other less
+      | inr least ↦
+          let here : store ≡ other = omega arith in
+          subst (λ s. Passes s calls new) here there
+    ]

@@ -1,0 +1,15 @@
+-- What the sessions of a coordinator pass on, and what is open in them.
+--     Passes           a store's session passes so many calls on
+--     StartsAnew       nothing is open in any store, and no session fails
+use Rattle.std.specs.Prelude.{◌≡◌, ◌<◌, ◌-◌, ◌^◌, ℕ, List, length, map, Option, Some, None, slice_get}
+use Rattle.xa_coordinator.specs.declared.fused.Fused.{Fused}
+use Rattle.xa_coordinator.specs.declared.open_branch.OpenBranch.{OpenBranch}
+
+-- a store's session passes so many calls on, and then answers out of memory to all
+abbrev pub Passes : {S : Type 0} → (store calls : ℕ) → List (Fused S) → Type 0
+Passes {S} store calls sessions = slice_get (map (λ (s : Fused S). s.left) sessions) store ≡ Some calls
+
+-- nothing is open in any store, and no session fails before its 2 ^ 64 th call
+pub record StartsAnew {S : Type 0} (branches : List (Option OpenBranch)) (sessions : List (Fused S)) : Type 0 where
+  pub free : (store : ℕ) → store < length sessions → slice_get branches store ≡ Some None
+  pub passes : (store : ℕ) → store < length sessions → Passes store (2 ^ 64 - 1) sessions

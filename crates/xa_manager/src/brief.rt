@@ -1,0 +1,96 @@
+//! Answers of few words, which take no memory.
+ghost use Rattle.std.specs.Prelude.{◌≡◌, ◌≤◌, ◌++◌, Bool, List, None, IfSome, false, length, codes, decimal};
+ghost use Rattle.xa_transcript.specs.Printed.{reply_text};
+ghost use Rattle.xa_serve.specs.Answer.{bytes_of};
+ghost use Rattle.xa_manager.specs.Served.{has_few_words, is_word, is_plain_vote, is_plain_ending};
+ghost use Rattle.xa_manager.specs.Texts.{answer_text, ending_text, poll_text};
+
+use crate::{Poll, Response};
+use arrayvec::ArrayVec;
+use itoa::Buffer;
+use xa_coordinator::{Ending, Standing, WorkFault};
+use xa_serve::Answer;
+use xa_server::Reply;
+
+/// An answer of at most 64 bytes.
+pub(crate) fn short_answer(text: &[u8]) -> Answer
+    requires { length text.now ≤ 64 }
+    ensures { bytes_of result ≡ text.now }
+{
+    let mut bytes = ArrayVec::new();
+    let _ = bytes.try_extend_from_slice(text);
+    Answer::Short(bytes)
+}
+
+/// What is told of a transaction that began.
+fn begun(number: u64) -> Answer
+    ensures { bytes_of result ≡ (codes "TRANSACTION " ++ decimal number) ++ codes "\n" }
+{
+    let mut buffer = Buffer::new();
+    let mut bytes = ArrayVec::new();
+    let _ = bytes.try_extend_from_slice(b"TRANSACTION ");
+    let _ = bytes.try_extend_from_slice(buffer.format(number).as_bytes());
+    let _ = bytes.try_extend_from_slice(b"\n");
+    Answer::Short(bytes)
+}
+
+/// A reply of one word.
+fn word_of(reply: &Reply) -> Option<Answer>
+    ensures words { IfSome result (λ answer. (convert : Bool) → bytes_of answer ≡ reply_text convert reply.now ++ codes "\n") }
+    ensures none { result ≡ None → is_word reply.now ≡ false }
+{
+    match reply {
+        Reply::Ok => Some(short_answer(b"OK\n")),
+        Reply::Value(None) => Some(short_answer(b"NONE\n")),
+        _ => None,
+    }
+}
+
+/// What is told of a vote without a cause.
+fn vote_of(poll: &Poll) -> Option<Answer>
+    ensures words { IfSome result (λ answer. bytes_of answer ≡ poll_text poll.now ++ codes "\n") }
+    ensures none { result ≡ None → is_plain_vote poll.now ≡ false }
+{
+    match poll {
+        Poll::Ready => Some(short_answer(b"READY\n")),
+        Poll::OnePhase => Some(short_answer(b"ONE PHASE\n")),
+        Poll::Nothing => Some(short_answer(b"NOTHING\n")),
+        Poll::No { .. } => None,
+    }
+}
+
+/// What is told of an ending without stores and a cause.
+fn ending_of(ending: &Ending) -> Option<Answer>
+    ensures words { IfSome result (λ answer. bytes_of answer ≡ ending_text ending.now ++ codes "\n") }
+    ensures none { result ≡ None → is_plain_ending ending.now ≡ false }
+{
+    match ending {
+        Ending::Committed => Some(short_answer(b"COMMITTED\n")),
+        Ending::RolledBack => Some(short_answer(b"ROLLED BACK\n")),
+        _ => None,
+    }
+}
+
+/// The answer to a call that was carried out, where its words are few. It takes no memory.
+pub(crate) fn few_words(response: &Response) -> Option<Answer>
+    ensures words { IfSome result (λ answer. (decisions : List Standing) → bytes_of answer ≡ answer_text decisions response.now) }
+    ensures none { result ≡ None → has_few_words response.now ≡ false }
+{
+    match response {
+        Response::Begun(number) => Some(begun(*number)),
+        Response::NumbersSpent => Some(short_answer(b"NUMBERS SPENT\n")),
+        Response::Worked(Ok(reply)) => word_of(reply),
+        Response::Worked(Err(WorkFault::Lost)) => Some(short_answer(b"LOST\n")),
+        Response::Voted(poll) => vote_of(poll),
+        Response::Decided => Some(short_answer(b"DECIDED\n")),
+        Response::Closed => Some(short_answer(b"CLOSED\n")),
+        Response::Ended(ending) => ending_of(ending),
+        Response::Limited => Some(short_answer(b"OK\n")),
+        Response::Stopped => Some(short_answer(b"STOPPED\n")),
+        Response::Replied {
+            answer: Ok(reply),
+            ..
+        } => word_of(reply),
+        _ => None,
+    }
+}

@@ -1,0 +1,5 @@
+pub mod Tests
+pub mod Steps
+pub mod Histories
+pub mod Schedules
+pub mod Outcomes

@@ -1,0 +1,32 @@
+-- Reading a record line by line.
+use Rattle.std.proofs.Common.{◌≡◌, ℕ, ◌+◌, ◌==◌, true, Option, None, List, [], ◌∷◌, ◌++◌, length, slice_get, slice_set, refl, ap, sym, ◌∙◌, arith}
+use Rattle.std.proofs.lemmas.Grind.{common_steps}
+use Rattle.xa_transcript.specs.Script.{lines_of}
+use Rattle.xa_record.specs.declared.line_fault.LineFault.{LineFault}
+use Rattle.xa_record.specs.declared.presence.Presence.{Presence}
+use Rattle.xa_record.specs.Lines.{Told}
+use Rattle.xa_record.specs.Reading.{Noted, Notes, session_of, presence_after, cause_of, noted, noted_if, noted_line, noted_lines}
+
+-- one line was cut off
+pub noted_lines-line : (notes : Notes) (number : ℕ) (text line rest : List ℕ) → lines_of text ≡ line ∷ lines_of rest
+    → noted_lines notes number (lines_of text) ≡ noted_lines (noted_line notes number line) (number + 1) (lines_of rest)
+unfolding noted_lines
+noted_lines-line notes number text line rest cut = rw cut refl
+
+-- no line is left
+pub noted_lines-end : (notes : Notes) (number : ℕ) (text : List ℕ) → (length text == 0) ≡ true → noted_lines notes number (lines_of text) ≡ notes
+unfolding noted_lines lines_of
+noted_lines-end notes number [] empty = refl
+noted_lines-end notes number (x ∷ xs) empty = absurd (let none : length (x ∷ xs) ≡ 0 = grind (arith, common_steps) in omega arith)
+
+-- the notes with another list of what happens, and other words on the sessions
+abbrev pub made : Notes → List Noted → List Presence → Notes
+made notes list presence = record notes { told = list; presence = presence }
+
+-- what happens was noted, with what is then said of its session
+pub noted-so : (notes : Notes) (number : ℕ) (told : Told) (list : List Noted) (presence : List Presence) → cause_of (slice_get notes.presence (session_of told)) told ≡ None
+    → list ≡ notes.told ++ record { number = number; told = told } ∷ [] → presence ≡ slice_set notes.presence (session_of told) (presence_after told)
+    → made notes list presence ≡ noted notes number told
+unfolding noted_if
+noted-so notes number told list presence no_fault one two =
+    ap (λ (l : List Noted). made notes l presence) one ∙ ap (made notes (notes.told ++ record { number = number; told = told } ∷ [])) two ∙ sym (ap (λ (c : Option LineFault). noted_if c notes number told) no_fault)

@@ -1,0 +1,107 @@
+-- What a line of a record says. All of it is our own: docs/JUDGE.md, 'Records'.
+--     Shown            what a return shows
+--     Told             what happens to a session: it calls for a text, its call returns, or its client is gone
+--     LineSaid         what a line says
+--     is_remark        it is blank, or its first byte that isn't is `#`
+--     trimmed          a text without the blanks at its end
+--     line_said        what this line says
+use Rattle.std.specs.Prelude.{ℕ, ◌==◌, nat_lt, Bool, true, bytes_eq, if◌then◌else◌, Option, Some, None, Ok, Err, List, [], ◌∷◌, codes, reverse}
+use Rattle.xa_xid.specs.Bytes.{unblank}
+use Rattle.xa_xid.specs.Literal.{Reading, literal_at}
+use Rattle.xa_xid.specs.Xid.{Text}
+use Rattle.xa_xid.specs.declared.xid.Xid.{Xid}
+use Rattle.xa_transcript.specs.Script.{Line, Blank, Bad as BadLine, Given, line_of, without_blanks, first_word}
+use Rattle.xa_record.specs.Rows.{behind_word, leading_number, number_named}
+
+-- what a return shows
+pub data Shown : Type 0 where
+  -- the statement was carried out
+  ShowsOk : Shown
+  -- the value of a row, or none
+  ShowsValue : Option Text → Shown
+  -- identifiers of prepared branches, in the order of their lines
+  ShowsRows : List Xid → Shown
+  -- a refusal of this number
+  ShowsError : ℕ → Shown
+
+-- what happens to a session
+pub data Told : Type 0 where
+  -- it calls for what this text asks for
+  Calls : ℕ → List ℕ → Told
+  -- its call returns so
+  Returns : ℕ → Shown → Told
+  -- its client is gone
+  Leaves : ℕ → Told
+
+-- what a line says
+pub data LineSaid : Type 0 where
+  -- nothing
+  Nothing : LineSaid
+  -- it isn't written as a line of a record is
+  Bad : LineSaid
+  -- this happens
+  Says : Told → LineSaid
+  -- a session's call returns so many rows, which stand on the next lines
+  Awaits : ℕ → ℕ → LineSaid
+
+abbrev pub begins_remark : List ℕ → Bool
+begins_remark [] = true
+begins_remark (byte ∷ bytes) = byte == 35
+
+-- it is blank, or its first byte that isn't is `#`
+abbrev pub is_remark : List ℕ → Bool
+is_remark line = begins_remark (without_blanks line)
+
+-- a text without the blanks at its end
+unfoldable pub trimmed : List ℕ → List ℕ
+trimmed text = reverse (unblank (reverse text))
+
+-- nothing stands behind what is said
+abbrev pub alone : LineSaid → List ℕ → LineSaid
+alone said [] = said
+alone said (byte ∷ rest) = Bad
+
+-- the value behind VALUE
+abbrev pub value_said : ℕ → Reading Text → LineSaid
+value_said session (Ok (value, rest)) = alone (Says (Returns session (ShowsValue (Some value)))) (without_blanks rest)
+value_said session (Err fault) = Bad
+
+-- how many rows stand behind ROWS
+abbrev pub rows_said : ℕ → Option ℕ → List ℕ → LineSaid
+rows_said session None rest = Bad
+rows_said session (Some count) rest = alone (Awaits session count) rest
+
+-- the number of a refusal, 0 to 65,535; what stands behind it says nothing
+abbrev pub error_said : ℕ → Option ℕ → LineSaid
+error_said session None = Bad
+error_said session (Some number) = if nat_lt number 65536 then Says (Returns session (ShowsError number)) else Bad
+
+-- what stands behind `<`: a word, and the text behind it
+unfoldable pub return_said : ℕ → List ℕ → List ℕ → LineSaid
+return_said session word text =
+    if bytes_eq word (codes "OK") then alone (Says (Returns session ShowsOk)) text else
+    if bytes_eq word (codes "NONE") then alone (Says (Returns session (ShowsValue None))) text else
+    if bytes_eq word (codes "VALUE") then value_said session (literal_at text) else
+    if bytes_eq word (codes "ROWS") then rows_said session (number_named (first_word text)) (behind_word text) else
+    if bytes_eq word (codes "ERROR") then error_said session (leading_number text) else Bad
+
+-- what stands behind `!`
+abbrev pub loss_said : ℕ → List ℕ → List ℕ → LineSaid
+loss_said session word text = if bytes_eq word (codes "LOST") then alone (Says (Leaves session)) text else Bad
+
+-- what a session's line says: a sign, and the text behind it
+unfoldable pub session_said : ℕ → List ℕ → List ℕ → LineSaid
+session_said session sign text =
+    if bytes_eq sign (codes ">") then Says (Calls session (trimmed text)) else
+    if bytes_eq sign (codes "<") then return_said session (first_word text) (behind_word text) else
+    if bytes_eq sign (codes "!") then loss_said session (first_word text) (behind_word text) else Bad
+
+-- what a line says that is no remark, by its session and the text behind that
+abbrev pub filled_said : Line → LineSaid
+filled_said Blank = Nothing
+filled_said BadLine = Bad
+filled_said (Given session text) = session_said session (first_word text) (behind_word text)
+
+-- what a line says
+unfoldable pub line_said : List ℕ → LineSaid
+line_said line = if is_remark line then Nothing else filled_said (line_of line)

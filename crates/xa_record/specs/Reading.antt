@@ -1,0 +1,135 @@
+-- How a record is read, line by line. All of it is our own: docs/JUDGE.md, 'Records'.
+--     cause_of            why what happens to a session is faulty, by what the lines before say of it
+--     fault_text          what is written for a faulty line
+--     Awaited             rows that are still to come
+--     Notes               what was read so far
+--     noted               the notes once this has happened
+--     noted_line          the notes after a line
+--     notes_of            the notes after these lines
+--     faults_in, told_in  what is written for the faulty lines of a record;  what happens in it, each with its line's number
+use Rattle.std.specs.Prelude.{ℕ, ◌+◌, ◌-◌, ◌==◌, if◌then◌else◌, Option, Some, None, List, [], ◌∷◌, ◌++◌, codes, decimal, slice_get, slice_set, replicate}
+use Rattle.xa_xid.specs.declared.xid.Xid.{Xid}
+use Rattle.xa_transcript.specs.Script.{lines_of, without_blanks}
+use Rattle.xa_record.specs.declared.line_fault.LineFault.{LineFault}
+use Rattle.xa_record.specs.declared.line_fault.LineFault.TheVariants.{NotALine, NotARow, RowsMissing, OpenCall, NoOpenCall, Lost as WasLost}
+use Rattle.xa_record.specs.declared.presence.Presence.{Presence}
+use Rattle.xa_record.specs.declared.presence.Presence.TheVariants.{Idle, Open, Lost}
+use Rattle.xa_record.specs.Lines.{ShowsRows, Told, Calls, Returns, Leaves, LineSaid, Nothing, Bad, Says, Awaits, line_said, is_remark}
+use Rattle.xa_record.specs.Rows.{row_said}
+
+-- the session to which this happens
+abbrev pub session_of : Told → ℕ
+session_of (Calls session text) = session
+session_of (Returns session shown) = session
+session_of (Leaves session) = session
+
+-- what is then said of the session
+abbrev pub presence_after : Told → Presence
+presence_after (Calls session text) = Open
+presence_after (Returns session shown) = Idle
+presence_after (Leaves session) = Lost
+
+-- a call of a session with an open call is faulty, a return to one without, and anything of one that is lost
+abbrev pub cause_of : Option Presence → Told → Option LineFault
+cause_of None told = None
+cause_of (Some Idle) (Calls session text) = None
+cause_of (Some Idle) (Returns session shown) = Some (NoOpenCall session)
+cause_of (Some Idle) (Leaves session) = None
+cause_of (Some Open) (Calls session text) = Some (OpenCall session)
+cause_of (Some Open) (Returns session shown) = None
+cause_of (Some Open) (Leaves session) = None
+cause_of (Some Lost) (Calls session text) = Some (WasLost session)
+cause_of (Some Lost) (Returns session shown) = Some (WasLost session)
+cause_of (Some Lost) (Leaves session) = Some (WasLost session)
+
+abbrev pub cause_text : LineFault → List ℕ
+cause_text NotALine = codes "not a line of a record"
+cause_text NotARow = codes "not a row"
+cause_text RowsMissing = codes "rows are missing"
+cause_text (OpenCall session) = codes "session " ++ decimal session ++ codes " has an open call"
+cause_text (NoOpenCall session) = codes "session " ++ decimal session ++ codes " has no open call"
+cause_text (WasLost session) = codes "session " ++ decimal session ++ codes " is lost"
+
+-- what is written for a faulty line
+abbrev pub fault_text : ℕ → LineFault → List ℕ
+fault_text number fault = codes "LINE " ++ decimal number ++ codes ": " ++ cause_text fault ++ codes "\n"
+
+-- rows that are still to come, to a session, behind the line of this number; and those that have come
+pub record Awaited : Type 0 where
+  pub session : ℕ
+  pub number : ℕ
+  pub missing : ℕ
+  pub rows : List Xid
+
+-- what happens on the line of this number
+pub record Noted : Type 0 where
+  pub number : ℕ
+  pub told : Told
+
+-- what was read so far
+pub record Notes : Type 0 where
+  pub told : List Noted
+  pub faults : List ℕ
+  pub presence : List Presence
+  pub awaited : Option Awaited
+
+-- before the first line; place 0 is no session's
+abbrev pub no_notes : Notes
+no_notes = record { told = []; faults = []; presence = replicate 17 Idle; awaited = None }
+
+-- the line of this number is faulty
+unfoldable pub blamed : Notes → ℕ → LineFault → Notes
+blamed notes number fault = record notes { faults = notes.faults ++ fault_text number fault }
+
+unfoldable pub noted_if : Option LineFault → Notes → ℕ → Told → Notes
+noted_if None notes number told =
+    record notes { told = notes.told ++ record { number = number; told = told } ∷ []; presence = slice_set notes.presence (session_of told) (presence_after told) }
+noted_if (Some fault) notes number told = blamed notes number fault
+
+-- this happens on the line of this number, or the line is faulty
+abbrev pub noted : Notes → ℕ → Told → Notes
+noted notes number told = noted_if (cause_of (slice_get notes.presence (session_of told)) told) notes number told
+
+-- where all rows have come, the call returns them; else the others are still to come
+abbrev pub awaiting : Notes → Awaited → Notes
+awaiting notes awaited =
+    if awaited.missing == 0 then noted notes awaited.number (Returns awaited.session (ShowsRows awaited.rows))
+    else record notes { awaited = Some awaited }
+
+-- one row has come, or a line that isn't written as one is
+unfoldable pub with_row : Notes → Awaited → ℕ → Option Xid → Notes
+with_row notes awaited number None = awaiting (blamed notes number NotARow) (record awaited { missing = awaited.missing - 1 })
+with_row notes awaited number (Some xid) = awaiting notes (record awaited { missing = awaited.missing - 1; rows = awaited.rows ++ xid ∷ [] })
+
+-- a line where a row is to stand
+unfoldable pub noted_row : Notes → Awaited → ℕ → List ℕ → Notes
+noted_row notes awaited number line = if is_remark line then notes else with_row (record notes { awaited = None }) awaited number (row_said (without_blanks line))
+
+-- a line where none is
+unfoldable pub noted_said : Notes → ℕ → LineSaid → Notes
+noted_said notes number Nothing = notes
+noted_said notes number Bad = blamed notes number NotALine
+noted_said notes number (Says told) = noted notes number told
+noted_said notes number (Awaits session count) = awaiting notes (record { session = session; number = number; missing = count; rows = [] })
+
+abbrev pub noted_by : Option Awaited → Notes → ℕ → List ℕ → Notes
+noted_by None notes number line = noted_said notes number (line_said line)
+noted_by (Some awaited) notes number line = noted_row notes awaited number line
+
+-- the notes after the line of this number
+unfoldable pub noted_line : Notes → ℕ → List ℕ → Notes
+noted_line notes number line = noted_by notes.awaited notes number line
+
+-- the notes after these lines, the first of which has this number
+unfoldable pub noted_lines : Notes → ℕ → List (List ℕ) → Notes
+noted_lines notes number [] = notes
+noted_lines notes number (line ∷ lines) = noted_lines (noted_line notes number line) (number + 1) lines
+
+-- rows that are still to come where the record ends are missing
+abbrev pub ended_by : Option Awaited → Notes → Notes
+ended_by None notes = notes
+ended_by (Some awaited) notes = blamed notes awaited.number RowsMissing
+
+-- what was read of a record
+unfoldable pub notes_of : List ℕ → Notes
+notes_of text = let notes = noted_lines no_notes 1 (lines_of text) in ended_by notes.awaited notes

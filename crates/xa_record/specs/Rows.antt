@@ -1,0 +1,60 @@
+-- The rows of a return, as XA RECOVER CONVERT XID prints them: formatID, the lengths of gtrid and bqual, and the bytes of both as one.
+--     leading_number     the number that a text's first digits are
+--     number_named       the number that a word is
+--     row_said           the identifier that a line is written as
+use Rattle.std.specs.Prelude.{ℕ, ◌+◌, ◌==◌, ◌&&◌, nat_le, if◌then◌else◌, Option, Some, None, Result, Ok, Err, List, [], ◌∷◌, take, drop}
+use Rattle.hex.specs.Hex.{decode_sized}
+use Rattle.hex.specs.declared.error.FromHexError.{FromHexError}
+use Rattle.xa_xid.specs.Bytes.{belongs, front, only}
+use Rattle.xa_xid.specs.Literal.{Reading}
+use Rattle.xa_xid.specs.Number.{number_at}
+use Rattle.xa_xid.specs.declared.byte_class.ByteClass.TheVariants.{Decimal}
+use Rattle.xa_xid.specs.declared.xid.Xid.{Xid}
+use Rattle.xa_transcript.specs.Script.{is_empty, without_blanks, first_word, after_word}
+
+-- the text behind a word and the blanks after it
+abbrev pub behind_word : List ℕ → List ℕ
+behind_word text = without_blanks (after_word text)
+
+abbrev pub number_read : Reading ℕ → Option ℕ
+number_read (Ok (number, rest)) = Some number
+number_read (Err fault) = None
+
+-- the number that a text's first digits are, below 2^64
+unfoldable pub leading_number : List ℕ → Option ℕ
+leading_number text = number_read (number_at (front (belongs Decimal) text))
+
+-- the number that a word is: decimal digits alone, below 2^64
+unfoldable pub number_named : List ℕ → Option ℕ
+number_named word = if only (belongs Decimal) word then leading_number word else None
+
+-- the digits of a word behind its `0x`
+abbrev pub digits_named : List ℕ → Option (List ℕ)
+digits_named [] = None
+digits_named (zero_digit ∷ []) = None
+digits_named (zero_digit ∷ letter ∷ digits) = if zero_digit == 48 && letter == 120 then Some digits else None
+
+-- the identifier of these bytes, the first of which are its gtrid
+abbrev pub xid_of : ℕ → ℕ → Result (List ℕ) FromHexError → Option Xid
+xid_of format_id gtrid (Ok bytes) = Some (record { format_id = format_id; gtrid = record { items = take gtrid bytes }; bqual = record { items = drop gtrid bytes } })
+xid_of format_id gtrid (Err fault) = None
+
+-- the identifier of a formatID, of the lengths of gtrid and bqual, and of the digits of both
+unfoldable pub xid_written : ℕ → ℕ → ℕ → List ℕ → Option Xid
+xid_written format_id gtrid bqual digits = if nat_le gtrid 64 && nat_le bqual 64 then xid_of format_id gtrid (decode_sized digits (gtrid + bqual)) else None
+
+abbrev pub xid_with : Option ℕ → Option ℕ → Option ℕ → Option (List ℕ) → Option Xid
+xid_with None gtrid bqual digits = None
+xid_with (Some format_id) None bqual digits = None
+xid_with (Some format_id) (Some gtrid) None digits = None
+xid_with (Some format_id) (Some gtrid) (Some bqual) None = None
+xid_with (Some format_id) (Some gtrid) (Some bqual) (Some digits) = xid_written format_id gtrid bqual digits
+
+-- the identifier of four words, behind which nothing stands
+unfoldable pub row_of : List ℕ → List ℕ → List ℕ → List ℕ → Option Xid
+row_of first second third fourth =
+    if is_empty (behind_word fourth) then xid_with (number_named (first_word first)) (number_named (first_word second)) (number_named (first_word third)) (digits_named (first_word fourth)) else None
+
+-- the identifier that a line is written as, from its first byte on that isn't a blank
+unfoldable pub row_said : List ℕ → Option Xid
+row_said text = row_of text (behind_word text) (behind_word (behind_word text)) (behind_word (behind_word (behind_word text)))

@@ -1,0 +1,123 @@
+-- How a verdict is written. All of it is our own: docs/JUDGE.md, 'The verdict'.
+--     call_text          a statement in its canonical form, or what a session called for as it was written
+--     order_text         the effects of an order as a script
+--     answer_text        what could have been answered
+--     texts_of           the texts of answers, each once, ascending by their bytes
+--     number_at          the number of the line on which something happens
+--     verdict_text       what is written for a verdict
+--     outcome_of         which of the four ends it is
+use Rattle.std.specs.Prelude.{ℕ, true, Option, Some, None, Result, Ok, Err, List, [], ◌∷◌, ◌++◌, codes, decimal, slice_get, slice_set, replicate}
+use Rattle.std.specs.BTreeSet.{insert_key}
+use Rattle.xa_xid.specs.Xid.{bytes_cmp}
+use Rattle.xa_xid.specs.declared.statement.Statement.{Statement}
+use Rattle.xa_xid.specs.declared.statement.Statement.TheVariants.{Start, End, Prepare, Commit, Rollback, Recover, Unsupported, Get, Put, Del, Disconnect}
+use Rattle.xa_statement.specs.Canonical.{statement_text}
+use Rattle.xa_statement.specs.Reading.{read_of}
+use Rattle.xa_transcript.specs.Printed.{reply_text}
+use Rattle.xa_judge.specs.declared.answer.Answer.{Answer}
+use Rattle.xa_judge.specs.declared.answer.Answer.TheVariants.{Reply as Replied, Unread as NotRead}
+use Rattle.xa_judge.specs.declared.moves.Act.{Act}
+use Rattle.xa_judge.specs.declared.moves.Act.TheVariants.{Statement as ItsStatement, Disconnect as ItsDisconnect}
+use Rattle.xa_judge.specs.declared.moves.Move.{Move}
+use Rattle.xa_judge.specs.declared.moves.Move.TheVariants.{Event as Seeing, Effect}
+use Rattle.xa_judge.specs.declared.verdict.Verdict.{Verdict}
+use Rattle.xa_judge.specs.declared.verdict.Verdict.TheVariants.{Legal, Illegal, Undecided}
+use Rattle.xa_record.specs.declared.outcome.Outcome.{Outcome}
+use Rattle.xa_record.specs.declared.outcome.Outcome.TheVariants.{Legal as IsLegal, Illegal as IsIllegal, Undecided as IsUndecided}
+use Rattle.xa_record.specs.Lines.{Told, Calls, Returns, Leaves}
+use Rattle.xa_record.specs.Reading.{Noted}
+
+-- the canonical form of a statement, or its text where it has none
+abbrev pub canonical_text : Statement → List ℕ → List ℕ
+canonical_text (Start xid) text = statement_text (Start xid)
+canonical_text (End xid) text = statement_text (End xid)
+canonical_text (Prepare xid) text = statement_text (Prepare xid)
+canonical_text (Commit xid one_phase) text = statement_text (Commit xid one_phase)
+canonical_text (Rollback xid) text = statement_text (Rollback xid)
+canonical_text (Recover convert) text = statement_text (Recover convert)
+canonical_text Unsupported text = text
+canonical_text (Get key) text = statement_text (Get key)
+canonical_text (Put key value) text = statement_text (Put key value)
+canonical_text (Del key) text = statement_text (Del key)
+canonical_text Disconnect text = statement_text Disconnect
+
+abbrev pub text_read : Result Statement ℕ → List ℕ → List ℕ
+text_read (Ok statement) text = canonical_text statement text
+text_read (Err place) text = text
+
+-- what is written for a text that a session called for
+abbrev pub call_text : List ℕ → List ℕ
+call_text text = text_read (read_of text) text
+
+-- at each session's number, the text that it called for last
+abbrev pub with_call : Told → List (List ℕ) → List (List ℕ)
+with_call (Calls session text) calls = slice_set calls session text
+with_call (Returns session shown) calls = calls
+with_call (Leaves session) calls = calls
+
+abbrev pub text_of_call : Option (List ℕ) → List ℕ
+text_of_call None = []
+text_of_call (Some text) = call_text text
+
+-- what of a session takes effect
+abbrev pub act_text : Act → Option (List ℕ) → List ℕ
+act_text ItsStatement call = text_of_call call
+act_text ItsDisconnect call = codes "DISCONNECT"
+
+-- the line of an effect: the session, and the statement
+abbrev pub effect_text : List (List ℕ) → ℕ → Act → List ℕ
+effect_text calls session act = decimal session ++ codes " " ++ act_text act (slice_get calls session) ++ codes "\n"
+
+-- the effects of an order, where what happens is this and the sessions called for these texts before
+unfoldable pub order_text : List (List ℕ) → List Noted → List Move → List ℕ
+order_text calls noted [] = []
+order_text calls noted (Effect session act ∷ moves) = effect_text calls session act ++ order_text calls noted moves
+order_text calls [] (Seeing ∷ moves) = order_text calls [] moves
+order_text calls (noted ∷ more) (Seeing ∷ moves) = order_text (with_call noted.told calls) more moves
+
+-- no session has called
+abbrev pub no_calls : List (List ℕ)
+no_calls = replicate 17 []
+
+-- a reply as `run` prints it, rows as CONVERT XID prints them
+abbrev pub answer_text : Answer → List ℕ
+answer_text (Replied reply) = reply_text true reply
+answer_text NotRead = codes "ERROR 1064"
+
+-- texts with those of answers put among them, each once, ascending by their bytes
+unfoldable pub with_answers : List (List ℕ) → List Answer → List (List ℕ)
+with_answers texts [] = texts
+with_answers texts (answer ∷ answers) = with_answers (insert_key bytes_cmp texts (answer_text answer)) answers
+
+-- the texts of answers, each once, ascending by their bytes
+abbrev pub texts_of : List Answer → List (List ℕ)
+texts_of answers = with_answers [] answers
+
+-- what is written for texts of answers
+unfoldable pub answers_text : List (List ℕ) → List ℕ
+answers_text [] = []
+answers_text (text ∷ texts) = codes "COULD BE " ++ text ++ codes "\n" ++ answers_text texts
+
+abbrev pub number_of_line : Option Noted → ℕ
+number_of_line None = 0
+number_of_line (Some noted) = noted.number
+
+-- the number of the line on which something happens
+abbrev pub number_at : List Noted → ℕ → ℕ
+number_at noted place = number_of_line (slice_get noted place)
+
+-- the first line of a verdict that names a line
+abbrev pub line_text : List ℕ → ℕ → List ℕ
+line_text word number = word ++ codes " line " ++ decimal number ++ codes "\n"
+
+-- what is written for a verdict
+abbrev pub verdict_text : List Noted → Verdict → List ℕ
+verdict_text noted (Legal moves) = codes "LEGAL\n" ++ order_text no_calls noted moves.items
+verdict_text noted (Illegal place answers) = line_text (codes "ILLEGAL") (number_at noted place) ++ answers_text (texts_of answers.items)
+verdict_text noted (Undecided place) = line_text (codes "UNDECIDED") (number_at noted place)
+
+-- which of the four ends it is
+abbrev pub outcome_of : Verdict → Outcome
+outcome_of (Legal moves) = IsLegal
+outcome_of (Illegal place answers) = IsIllegal
+outcome_of (Undecided place) = IsUndecided

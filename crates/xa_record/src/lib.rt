@@ -1,0 +1,21 @@
+//! Records of what clients of a server saw: read, judged, and the verdict written.
+#![tactic(auto)]
+
+mod events;
+mod happening;
+mod judging;
+mod line;
+mod line_fault;
+mod notes;
+mod order;
+mod outcome;
+mod pending;
+mod presence;
+mod reading;
+mod rows;
+mod run;
+mod verdict_text;
+
+pub use judging::{Judged, judge_text};
+pub use outcome::Outcome;
+pub use run::judge_record;

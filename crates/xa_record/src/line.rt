@@ -1,0 +1,172 @@
+//! What a line of a record says.
+ghost use Rattle.std.specs.Prelude.{◌≡◌};
+ghost use Rattle.xa_transcript.specs.Script.{first_word};
+ghost use Rattle.xa_record.specs.Rows.{behind_word as behind_word_of, leading_number as leading_number_of, number_named};
+ghost use Rattle.xa_record.specs.Lines.{alone, begins_remark, is_remark as is_remark_line, trimmed as trimmed_text, value_said, rows_said, error_said, return_said, loss_said, session_said, line_said, Says, Awaits, Calls, Returns, Leaves};
+ghost use Rattle.xa_record.specs.Kept.{shown_kept, line_kept};
+ghost use Rattle.xa_xid.specs.Literal.{literal_at};
+
+use crate::happening::Happening;
+use crate::rows::{behind_word, leading_number, number_in};
+use xa_judge::Seen;
+use xa_transcript::{ScriptLine, read_line, skip_blanks, split_word};
+use xa_xid::{ByteClass, SessionNo, literal_of};
+
+/// What a line of a record says.
+#[derive(Drop)]
+pub enum RecordLine<'a> {
+    /// Nothing.
+    Nothing,
+    /// It isn't written as a line of a record is.
+    Bad,
+    /// This happens.
+    Happens(Happening<'a>),
+    /// A call of the session returns so many rows, which stand on the next lines.
+    Rows(SessionNo, u64),
+}
+
+/// Whether the line is blank, or its first byte that isn't is `#`.
+pub fn is_remark(line: &[u8]) -> bool
+    ensures { result ≡ is_remark_line line.now }
+{
+    match skip_blanks(line) {
+        [] => true,
+        [first, ..] => *first == b'#',
+    }
+}
+
+/// The text without the blanks at its end.
+#[tactic(auto, using(crate::proofs::Trimmed::trimmed_blank, crate::proofs::Trimmed::trimmed_full, crate::proofs::Trimmed::trimmed_none))]
+fn trimmed(text: &[u8]) -> &[u8]
+    ensures { result.now ≡ trimmed_text text.now }
+{
+    let mut rest = text;
+    while let Some((last, front)) = rest.split_last() {
+        if !ByteClass::Blank.has(*last) {
+            return rest;
+        }
+        rest = front;
+    }
+    rest
+}
+
+/// The return, where nothing stands behind it.
+fn alone(session: SessionNo, seen: Seen, rest: &[u8]) -> RecordLine<'static>
+    ensures { line_kept result ≡ alone (Says (Returns session (shown_kept seen))) rest.now }
+{
+    if rest.is_empty() {
+        RecordLine::Happens(Happening::Return(session, seen))
+    } else {
+        RecordLine::Bad
+    }
+}
+
+/// What `VALUE` says, with the text behind it.
+fn value(session: SessionNo, text: &[u8]) -> RecordLine<'static>
+    ensures { line_kept result ≡ value_said session (literal_at text.now) }
+{
+    match literal_of(text) {
+        Ok((value, rest)) => alone(session, Seen::Value(Some(value)), skip_blanks(rest)),
+        Err(_) => RecordLine::Bad,
+    }
+}
+
+/// What `ROWS` says, with the text behind it.
+fn rows(session: SessionNo, text: &[u8]) -> RecordLine<'static>
+    ensures { line_kept result ≡ rows_said session (number_named (first_word text.now)) (behind_word_of text.now) }
+{
+    let (word, _) = split_word(text);
+    match number_in(word) {
+        None => RecordLine::Bad,
+        Some(count) => {
+            if behind_word(text).is_empty() {
+                RecordLine::Rows(session, count)
+            } else {
+                RecordLine::Bad
+            }
+        }
+    }
+}
+
+/// What `ERROR` says, with the text behind it.
+fn error(session: SessionNo, text: &[u8]) -> RecordLine<'static>
+    ensures { line_kept result ≡ error_said session (leading_number_of text.now) }
+{
+    match leading_number(text) {
+        None => RecordLine::Bad,
+        Some(number) => {
+            if number < 65_536 {
+                RecordLine::Happens(Happening::Return(session, Seen::Error(number as u16)))
+            } else {
+                RecordLine::Bad
+            }
+        }
+    }
+}
+
+/// What stands behind `<`.
+#[tactic(auto, unfolding(crate::specs::Lines::return_said))]
+fn returned(session: SessionNo, word: &[u8], text: &[u8]) -> RecordLine<'static>
+    ensures { line_kept result ≡ return_said session word.now text.now }
+{
+    if word == b"OK".as_slice() {
+        alone(session, Seen::Ok, text)
+    } else if word == b"NONE".as_slice() {
+        alone(session, Seen::Value(None), text)
+    } else if word == b"VALUE".as_slice() {
+        value(session, text)
+    } else if word == b"ROWS".as_slice() {
+        rows(session, text)
+    } else if word == b"ERROR".as_slice() {
+        error(session, text)
+    } else {
+        RecordLine::Bad
+    }
+}
+
+/// What stands behind `!`.
+fn loss(session: SessionNo, word: &[u8], text: &[u8]) -> RecordLine<'static>
+    ensures { line_kept result ≡ loss_said session word.now text.now }
+{
+    if word == b"LOST".as_slice() && text.is_empty() {
+        RecordLine::Happens(Happening::Lost(session))
+    } else {
+        RecordLine::Bad
+    }
+}
+
+/// What a session's line says.
+#[tactic(auto, unfolding(crate::specs::Lines::session_said))]
+fn session_line<'a>(session: SessionNo, sign: &[u8], text: &'a [u8]) -> RecordLine<'a>
+    ensures { line_kept result ≡ session_said session sign.now text.now }
+{
+    if sign == b">".as_slice() {
+        RecordLine::Happens(Happening::Call(session, trimmed(text)))
+    } else if sign == b"<".as_slice() {
+        returned(session, split_word(text).0, behind_word(text))
+    } else if sign == b"!".as_slice() {
+        loss(session, split_word(text).0, behind_word(text))
+    } else {
+        RecordLine::Bad
+    }
+}
+
+/// What a line of a record says.
+///
+/// The line is without its line feed. Takes no memory. Doesn't wait.
+/// Own rule: docs/JUDGE.md, 'Records'.
+#[tactic(auto, unfolding(crate::specs::Lines::line_said))]
+pub fn read_record_line(line: &[u8]) -> RecordLine<'_>
+    ensures { line_kept result ≡ line_said line.now }
+{
+    if is_remark(line) {
+        return RecordLine::Nothing;
+    }
+    match read_line(line) {
+        ScriptLine::Blank => RecordLine::Nothing,
+        ScriptLine::Bad => RecordLine::Bad,
+        ScriptLine::Given(session, text) => {
+            session_line(session, split_word(text).0, behind_word(text))
+        }
+    }
+}

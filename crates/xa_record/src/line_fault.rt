@@ -1,0 +1,70 @@
+//! Why a line of a record is faulty.
+ghost use Rattle.std.specs.Prelude.{◌≡◌, ◌++◌, OnOk, decimal, codes};
+ghost use Rattle.xa_record.specs.Reading.{cause_text, fault_text};
+
+use xa_transcript::push_number;
+use xa_xid::{NoMemory, SessionNo};
+
+/// Why a line of a record is faulty.
+#[derive(Clone, Copy, Debug, PartialEq, Eq)]
+pub enum LineFault {
+    /// It isn't written as a line of a record is.
+    NotALine,
+    /// It isn't written as a row is, where a row is to stand.
+    NotARow,
+    /// The record ends before all rows of a return.
+    RowsMissing,
+    /// The session calls, and has an open call.
+    OpenCall(SessionNo),
+    /// A call of the session returns, and it has none open.
+    NoOpenCall(SessionNo),
+    /// The session's client is gone.
+    Lost(SessionNo),
+}
+
+impl LineFault {
+    /// Appends the cause.
+    fn push_cause(self, text: &mut Vec<u8>) -> Result<(), NoMemory>
+        ensures { OnOk result (text.new.items ≡ text.old.items ++ cause_text self) }
+    {
+        match self {
+            LineFault::NotALine => text.extend_from_slice(b"not a line of a record"),
+            LineFault::NotARow => text.extend_from_slice(b"not a row"),
+            LineFault::RowsMissing => text.extend_from_slice(b"rows are missing"),
+            LineFault::OpenCall(session) => {
+                push_session(text, session)?;
+                text.extend_from_slice(b" has an open call")
+            }
+            LineFault::NoOpenCall(session) => {
+                push_session(text, session)?;
+                text.extend_from_slice(b" has no open call")
+            }
+            LineFault::Lost(session) => {
+                push_session(text, session)?;
+                text.extend_from_slice(b" is lost")
+            }
+        }
+    }
+
+    /// Appends `LINE`, the line's number and the cause, and a line feed.
+    ///
+    /// May answer `NoMemory`. Doesn't wait.
+    /// Own rule: docs/JUDGE.md, 'Records'.
+    pub fn push(self, text: &mut Vec<u8>, number: u64) -> Result<(), NoMemory>
+        ensures { OnOk result (text.new.items ≡ text.old.items ++ fault_text number self) }
+    {
+        text.extend_from_slice(b"LINE ")?;
+        push_number(text, number)?;
+        text.extend_from_slice(b": ")?;
+        self.push_cause(text)?;
+        text.extend_from_slice(b"\n")
+    }
+}
+
+/// Appends a session.
+fn push_session(text: &mut Vec<u8>, session: SessionNo) -> Result<(), NoMemory>
+    ensures { OnOk result (text.new.items ≡ text.old.items ++ (codes "session " ++ decimal session)) }
+{
+    text.extend_from_slice(b"session ")?;
+    push_number(text, session.get())
+}

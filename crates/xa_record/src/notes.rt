@@ -1,0 +1,161 @@
+//! What was read of a record.
+ghost use Rattle.std.specs.Prelude.{◌≡◌, OnOk, slice_get, option_copied};
+ghost use Rattle.std.specs.Option.{option_map};
+ghost use Rattle.xa_record.specs.Reading.{no_notes, blamed, noted, awaiting, with_row, noted_row, noted_said, noted_line, ended_by};
+ghost use Rattle.xa_record.specs.Kept.{told_kept, awaited_kept, line_kept, notes_kept};
+
+use crate::happening::{Happening, Noted};
+use crate::line::{RecordLine, is_remark, read_record_line};
+use crate::line_fault::LineFault;
+use crate::pending::Pending;
+use crate::presence::Presence;
+use crate::rows::read_row;
+use std::alloc::Global;
+use xa_judge::Seen;
+use xa_transcript::skip_blanks;
+use xa_xid::{NoMemory, SessionNo, Xid};
+
+/// What was read of a record so far.
+#[derive(Drop)]
+pub struct Notes<'a> {
+    /// What happens, in order.
+    pub noted: Vec<Noted<'a>>,
+    /// What is written for faulty lines.
+    pub faults: Vec<u8>,
+    /// At each session's number what the lines say of it.
+    pub presence: [Presence; 17],
+    /// Rows that are still to come.
+    pub pending: Option<Pending>,
+}
+
+impl<'a> Notes<'a> {
+    /// Nothing was read.
+    pub fn new(alloc: Global) -> Notes<'a>
+        ensures { notes_kept result ≡ no_notes }
+    {
+        Notes {
+            noted: Vec::new(alloc),
+            faults: Vec::new(alloc),
+            presence: [Presence::Idle; 17],
+            pending: None,
+        }
+    }
+
+    /// The line of this number is faulty.
+    #[tactic(auto, unfolding(crate::specs::Reading::blamed))]
+    pub fn blame(&mut self, number: u64, fault: LineFault) -> Result<(), NoMemory>
+        ensures { OnOk result (notes_kept self.new ≡ blamed (notes_kept self.old) number fault) }
+    {
+        fault.push(&mut self.faults, number)
+    }
+
+    /// What the lines before say of the session.
+    fn presence_of(&self, session: SessionNo) -> Option<&Presence>
+        ensures { option_copied result ≡ slice_get self.now.presence session }
+    {
+        self.presence.get(session.get() as usize)
+    }
+
+    /// This happens on the line of this number, or the line is faulty.
+    #[tactic(auto, unfolding(crate::specs::Reading::noted_if))]
+    fn note(&mut self, number: u64, happening: Happening<'a>) -> Result<(), NoMemory>
+        ensures { OnOk result (notes_kept self.new ≡ noted (notes_kept self.old) number (told_kept happening.entry)) }
+    {
+        let session = happening.session();
+        match happening.fault(self.presence_of(session)) {
+            Some(fault) => self.blame(number, fault),
+            None => {
+                self.presence[session.get() as usize] = happening.presence();
+                self.noted.push(Noted { number, happening })?;
+                Ok(())
+            }
+        }
+    }
+
+    /// Where all rows have come, the call returns them; else the others are still to come.
+    fn wait_for(&mut self, pending: Pending) -> Result<(), NoMemory>
+        ensures { OnOk result (notes_kept self.new ≡ awaiting (notes_kept self.old) (awaited_kept pending)) }
+    {
+        if pending.missing == 0 {
+            self.note(
+                pending.number,
+                Happening::Return(pending.session, Seen::Rows(pending.rows)),
+            )
+        } else {
+            self.pending = Some(pending);
+            Ok(())
+        }
+    }
+
+    /// One row has come, or a line that isn't written as one is.
+    #[tactic(auto, unfolding(crate::specs::Reading::with_row))]
+    fn take_row(
+        &mut self,
+        mut pending: Pending,
+        number: u64,
+        row: Option<Xid>,
+    ) -> Result<(), NoMemory>
+        ensures { OnOk result (notes_kept self.new ≡ with_row (notes_kept self.old) (awaited_kept pending) number row) }
+    {
+        pending.missing = pending.missing.saturating_sub(1);
+        match row {
+            None => self.blame(number, LineFault::NotARow)?,
+            Some(xid) => pending.rows.push(xid)?,
+        }
+        self.wait_for(pending)
+    }
+
+    /// Takes a line that isn't one of rows.
+    #[tactic(auto, unfolding(crate::specs::Reading::noted_said))]
+    fn take_said(
+        &mut self,
+        alloc: Global,
+        number: u64,
+        said: RecordLine<'a>,
+    ) -> Result<(), NoMemory>
+        ensures { OnOk result (notes_kept self.new ≡ noted_said (notes_kept self.old) number (line_kept said.entry)) }
+    {
+        match said {
+            RecordLine::Nothing => Ok(()),
+            RecordLine::Bad => self.blame(number, LineFault::NotALine),
+            RecordLine::Happens(happening) => self.note(number, happening),
+            RecordLine::Rows(session, missing) => self.wait_for(Pending {
+                session,
+                number,
+                missing,
+                rows: Vec::new(alloc),
+            }),
+        }
+    }
+
+    /// Takes the line of this number.
+    #[tactic(auto, unfolding(crate::specs::Reading::noted_line, crate::specs::Reading::noted_row))]
+    pub fn take(&mut self, alloc: Global, number: u64, line: &'a [u8]) -> Result<(), NoMemory>
+        ensures { OnOk result (notes_kept self.new ≡ noted_line (notes_kept self.old) number line.now) }
+    {
+        match self.pending.take() {
+            None => self.take_said(alloc, number, read_record_line(line)),
+            Some(pending) => {
+                if is_remark(line) {
+                    self.pending = Some(pending);
+                    Ok(())
+                } else {
+                    self.take_row(pending, number, read_row(skip_blanks(line)))
+                }
+            }
+        }
+    }
+
+    /// The record ends.
+    pub fn end(&mut self) -> Result<(), NoMemory>
+        ensures { OnOk result (notes_kept self.new ≡ ended_by (option_map awaited_kept self.old.pending) (notes_kept self.old)) }
+    {
+        match &self.pending {
+            None => Ok(()),
+            Some(pending) => {
+                let number = pending.number;
+                self.blame(number, LineFault::RowsMissing)
+            }
+        }
+    }
+}

@@ -1,0 +1,16 @@
+//! Rows that are still to come.
+
+use xa_xid::{SessionNo, Xid};
+
+/// Rows that are still to come.
+#[derive(Drop)]
+pub struct Pending {
+    /// The session that they are returned to.
+    pub session: SessionNo,
+    /// The number of the return's line.
+    pub number: u64,
+    /// How many are still to come.
+    pub missing: u64,
+    /// Those that have come.
+    pub rows: Vec<Xid>,
+}

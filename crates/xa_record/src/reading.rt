@@ -1,0 +1,30 @@
+//! Reads a record line by line.
+ghost use Rattle.std.specs.Prelude.{◌≡◌, IfOk};
+ghost use Rattle.xa_record.specs.Reading.{notes_of};
+ghost use Rattle.xa_record.specs.Kept.{notes_kept};
+
+use crate::notes::Notes;
+use std::alloc::Global;
+use xa_transcript::split_line;
+use xa_xid::NoMemory;
+
+/// What is read of a record.
+///
+/// It is cut into lines as a script is. May answer `NoMemory`. Doesn't wait.
+/// Own rule: docs/JUDGE.md, 'Records'.
+#[tactic(auto, unfolding(crate::specs::Reading::notes_of))]
+pub fn read_notes(alloc: Global, text: &[u8]) -> Result<Notes<'_>, NoMemory>
+    ensures { IfOk result (λ notes. notes_kept notes ≡ notes_of text.now) }
+{
+    let mut notes = Notes::new(alloc);
+    let mut number: u64 = 0;
+    let mut rest = text;
+    while !rest.is_empty() {
+        let (line, lines) = split_line(rest);
+        number += 1;
+        notes.take(alloc, number, line)?;
+        rest = lines;
+    }
+    notes.end()?;
+    Ok(notes)
+}

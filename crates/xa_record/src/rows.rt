@@ -1,0 +1,123 @@
+//! Rows of a return, as `XA RECOVER CONVERT XID` prints them.
+ghost use Rattle.std.specs.Prelude.{◌≡◌, ◌≤◌, ◌+◌, length, take, drop, IfSome, option_copied, Some, Ok};
+ghost use Rattle.hex.specs.Hex.{decode_sized};
+ghost use Rattle.xa_transcript.specs.Script.{first_word};
+ghost use Rattle.xa_record.specs.Rows.{behind_word as behind_word_of, leading_number as leading_number_of, number_named, digits_named, xid_of, xid_written, xid_with, row_of, row_said};
+
+use arrayvec::ArrayVec;
+use xa_transcript::{skip_blanks, split_word};
+use xa_xid::{ByteClass, Bytes, Xid, number_of};
+
+/// The text behind a word and the blanks after it.
+pub fn behind_word(text: &[u8]) -> &[u8]
+    ensures { result.now ≡ behind_word_of text.now }
+{
+    skip_blanks(split_word(text).1)
+}
+
+/// The number that the text's first digits are, below 2^64.
+#[tactic(auto, unfolding(crate::specs::Rows::leading_number))]
+pub fn leading_number(text: &[u8]) -> Option<u64>
+    ensures { result ≡ leading_number_of text.now }
+{
+    match number_of(ByteClass::Decimal.split(text).0) {
+        Ok((number, _)) => Some(number),
+        Err(_) => None,
+    }
+}
+
+/// The number that the word is: decimal digits alone, below 2^64.
+#[tactic(auto, unfolding(crate::specs::Rows::number_named))]
+pub fn number_in(word: &[u8]) -> Option<u64>
+    ensures { result ≡ number_named word.now }
+{
+    if ByteClass::Decimal.split(word).1.is_empty() {
+        leading_number(word)
+    } else {
+        None
+    }
+}
+
+/// The digits of a word behind its `0x`.
+fn digits_in(word: &[u8]) -> Option<&[u8]>
+    ensures { option_copied result ≡ digits_named word.now }
+{
+    match word {
+        [b'0', b'x', digits @ ..] => Some(digits),
+        _ => None,
+    }
+}
+
+/// A text of at most 64 bytes.
+fn text_of(bytes: &[u8]) -> Bytes
+    requires { length bytes.now ≤ 64 }
+    ensures { result.items ≡ bytes.now }
+{
+    let mut text = Bytes::new();
+    let _ = text.try_extend_from_slice(bytes);
+    text
+}
+
+/// The identifier of these bytes, the first of which are its gtrid.
+fn xid_from(format_id: u64, gtrid: usize, bqual: usize, bytes: &[u8]) -> Xid
+    requires gtrid { gtrid ≤ 64 }
+    requires bqual { bqual ≤ 64 }
+    requires whole { length bytes.now ≡ gtrid + bqual }
+    ensures { Some result ≡ xid_of format_id gtrid (Ok bytes.now) }
+{
+    let (front, back) = bytes.split_at(gtrid);
+    Xid {
+        format_id,
+        gtrid: text_of(front),
+        bqual: text_of(back),
+    }
+}
+
+/// The identifier of a formatID, of the lengths of gtrid and bqual, and of the digits of both.
+#[tactic(auto, unfolding(crate::specs::Rows::xid_written))]
+fn written(format_id: u64, gtrid: u64, bqual: u64, digits: &[u8]) -> Option<Xid>
+    ensures { result ≡ xid_written format_id gtrid bqual digits.now }
+{
+    if gtrid > 64 || bqual > 64 {
+        return None;
+    }
+    let mut bytes = ArrayVec::<u8, 128>::from([0; 128]);
+    bytes.truncate(gtrid as usize + bqual as usize);
+    match hex::decode_to_slice(digits, bytes.as_mut_slice()) {
+        Ok(()) => Some(xid_from(format_id, gtrid as usize, bqual as usize, bytes.as_slice())),
+        Err(_) => None,
+    }
+}
+
+/// The identifier of four words, behind which nothing stands.
+#[tactic(auto, unfolding(crate::specs::Rows::row_of))]
+fn row_in(first: &[u8], second: &[u8], third: &[u8], fourth: &[u8]) -> Option<Xid>
+    ensures { result ≡ row_of first.now second.now third.now fourth.now }
+{
+    if !behind_word(fourth).is_empty() {
+        return None;
+    }
+    match number_in(split_word(first).0) {
+        None => None,
+        Some(format_id) => match number_in(split_word(second).0) {
+            None => None,
+            Some(gtrid) => match number_in(split_word(third).0) {
+                None => None,
+                Some(bqual) => match digits_in(split_word(fourth).0) {
+                    None => None,
+                    Some(digits) => written(format_id, gtrid, bqual, digits),
+                },
+            },
+        },
+    }
+}
+
+/// The identifier that the text is written as. It begins with no blank.
+#[tactic(auto, unfolding(crate::specs::Rows::row_said))]
+pub fn read_row(text: &[u8]) -> Option<Xid>
+    ensures { result ≡ row_said text.now }
+{
+    let second = behind_word(text);
+    let third = behind_word(second);
+    row_in(text, second, third, behind_word(third))
+}

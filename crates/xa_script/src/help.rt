@@ -1,0 +1,72 @@
+//! What the help of each job shows behind its options.
+
+/// The version that the program prints.
+pub const VERSION: &str = "0.1.0";
+
+/// What a line of statements looks like, as the help of the jobs that read such lines shows it.
+pub const LINES: &str =
+    "A line is the number of a session, from 1 to 16, and a statement of that session:
+  1 XA START 'abc','def',7
+It is answered in that session's name:
+  1 OK
+Statements:
+  XA START x, XA END x, XA PREPARE x, XA COMMIT x [ONE PHASE], XA ROLLBACK x
+                           x is an identifier: 'gtrid'[,'bqual'[,formatID]]
+  XA RECOVER [CONVERT XID] lists the prepared branches
+  GET 'k', PUT 'k','v', DEL 'k'
+                           reads a row, gives it a value, takes its value away
+  DISCONNECT               ends the session
+A text is 'abc', X'616263' or 0x616263. Blank lines have no answer.";
+
+/// What is shown behind an answer, as the help shows it.
+pub const SHOWN: &str =
+    "A line is the number of a session, from 1 to 16, and a statement of that session, as for serve:
+  1 PUT 'k','v'
+Behind its answer stand lines that begin with two blanks: each branch, with the rows that it holds, and then
+the rows that the line was about:
+  1 OK
+    BRANCH 0x616263,0x646566,7 ACTIVE SESSION 1
+      HOLDS 0x6b WRITES 0x76
+    ROW 0x6b NONE
+Lines that begin with # are said again behind two blanks.";
+
+/// The calls that `coordinate` reads, as its help shows them.
+pub const CALLS: &str = "Calls, one a line; n is a transaction from 1 on, k a store from 0 on:
+  BEGIN                    begins a transaction
+  WORK n k STATEMENT       gives GET, PUT or DEL of the transaction to the store
+  PREPARE n                has the stores of the transaction vote
+  DECIDE n                 decides that the transaction commits
+  FINISH n                 commits what is decided or in one phase, and rolls back the rest
+  ABANDON n                rolls back a transaction that wasn't voted on
+  FAIL k AFTER j           the coordinator's session in the store answers j more calls, and then out of memory
+  STOP                     a new coordinator takes the place of the old one
+  RECOVER                  the coordinator finishes what was left prepared
+  AT k STATEMENT           gives the statement of a stranger to the store
+  SHOW                     shows what is prepared in each store, and the decisions
+Blank lines, and lines that begin with #, have no answer. A call and its answer:
+  WORK 1 0 PUT 'k','v'
+  OK";
+
+/// The lines of a record that `judge` reads, as its help shows them.
+pub const RECORDS: &str =
+    "A record is what clients of a server saw, in that order. Its lines; n is the number of a session, from 1 to 16:
+  n > STATEMENT            the session calls for the statement, as a script writes it
+  n < OK                   its call returns so; also n < NONE, n < VALUE literal, n < ERROR number
+  n < ROWS k               it returns k identifiers, which stand on the next k lines:
+                           formatID gtrid_length bqual_length 0xDATA
+  n ! LOST                 its client is gone
+Blank lines, and lines that begin with #, say nothing. A record, and the verdict on it:
+  1 > PUT 'k','v'
+  2 > GET 'k'
+  2 < VALUE 'v'
+  1 < OK
+
+  LEGAL
+  1 PUT 0x6b,0x76
+  2 GET 0x6b
+Verdicts:
+  LEGAL                    the lines below it are an order that explains the record; the status is 0
+  ILLEGAL line l           no order explains the record up to this line, where it could be what the lines
+                           below it say; the status is 4
+  UNDECIDED line l         more than N configurations would have to be kept there; the status is 5
+Without a verdict each faulty line is named, LINE l: CAUSE; the status is 6.";

@@ -1,0 +1,77 @@
+//! Judges a record, and gives the exit status for how that ended.
+ghost use Rattle.std.specs.Prelude.{◌≡◌, IfOk};
+ghost use Rattle.xa_script.specs.CommandLine.{IsLimit};
+ghost use Rattle.xa_script.specs.Status.{status_for, AppendsVerdict};
+
+use std::alloc::Global;
+use std::io::{Read, Write};
+use xa_record::{Outcome, judge_record};
+use xa_transcript::ScriptFault;
+
+/// The status of a record that some order explains.
+const LEGAL: u8 = 0;
+
+/// The status of a record that no order explains.
+const ILLEGAL: u8 = 4;
+
+/// The status of a record for which the limit was passed.
+const UNDECIDED: u8 = 5;
+
+/// The status of a record with faulty lines.
+const FAULTY: u8 = 6;
+
+/// The status for how judging a record ended.
+fn status_of_outcome(outcome: Outcome) -> u8
+    ensures { result ≡ status_for outcome }
+{
+    match outcome {
+        Outcome::Legal => LEGAL,
+        Outcome::Illegal => ILLEGAL,
+        Outcome::Undecided => UNDECIDED,
+        Outcome::Faulty => FAULTY,
+    }
+}
+
+/// Judges a record, writes the verdict or its faulty lines, and gives the exit status for it.
+///
+/// A limit is in `[1, 1_000_000]`.
+/// Errors, and what stands in the writer after them: those of `judge_record`.
+/// May answer `NoMemory`. Doesn't wait, unless the reader or the writer does.
+/// Own rule: docs/BEHAVIOR.md, 'The program'.
+pub fn judge_within<R: Read, W: Write>(
+    alloc: Global,
+    reader: &mut R,
+    writer: &mut W,
+    limit: u64,
+) -> Result<u8, ScriptFault>
+    requires { IsLimit limit }
+    ensures judged { IfOk result (λ status. AppendsVerdict limit status (R.remaining reader.old) (W.contents writer.old) (W.contents writer.new)) }
+{
+    let outcome = judge_record(alloc, reader, writer, limit as usize)?;
+    Ok(status_of_outcome(outcome))
+}
+
+#[cfg(test)]
+mod tests {
+    use super::*;
+
+    #[test]
+    fn each_end_has_its_status(rt: HostRuntime) {
+        let wide = b"1 > PUT 'a','v'\n2 > PUT 'b','v'\n1 < OK\n".as_slice();
+        let ends: [(&[u8], u64, u8); 5] = [
+            (b"1 > GET 'k'\n1 < NONE\n", 1, 0),
+            (b"1 > GET 'k'\n1 < OK\n", 1, 4),
+            (wide, 1, 5),
+            (wide, 1_000_000, 0),
+            (b"1 < OK\n", 1, 6),
+        ];
+        for (record, limit, status) in ends {
+            let mut reader = record;
+            let mut writer = Vec::new(rt.alloc());
+            assert_eq!(rt;
+                judge_within(rt.alloc(), &mut reader, &mut writer, limit).ok(),
+                Some(status)
+            );
+        }
+    }
+}

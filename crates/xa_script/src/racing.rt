@@ -1,0 +1,52 @@
+//! Races of the script of the standard input.
+ghost use Rattle.decision_log.specs.Opens.{IsCapacity};
+
+use crate::Manner;
+use std::alloc::{Alloc, Global};
+use std::io::{Read, Write};
+use std::sync::Wait;
+use std::thread::Threads;
+use xa_store::{Gate, OpenGate, ShuffledGate, TogetherGate};
+use xa_transcript::{ScriptFault, race_script, race_script_in_rounds};
+
+/// Races a script behind a gate, in rounds where it renews.
+fn race_behind<I: Read, O: Write, G: Gate + Sync, R: Alloc<A = Global> + Threads + Wait + Sync>(
+    rt: &R,
+    input: &mut I,
+    output: &mut O,
+    capacity: u64,
+    gate: &G,
+    renews: bool,
+) -> Result<(), ScriptFault>
+    requires { IsCapacity capacity }
+{
+    if renews {
+        race_script_in_rounds(rt, rt.alloc(), input, output, capacity, gate)
+    } else {
+        race_script(rt, rt.alloc(), input, output, capacity, gate)
+    }
+}
+
+/// Races a script, by the gate of a manner, in rounds where it renews.
+pub fn race_by<I: Read, O: Write, R: Alloc<A = Global> + Threads + Wait + Sync>(
+    rt: &R,
+    input: &mut I,
+    output: &mut O,
+    capacity: u64,
+    manner: Manner,
+    renews: bool,
+) -> Result<(), ScriptFault>
+    requires { IsCapacity capacity }
+{
+    match manner {
+        Manner::Freely => race_behind(rt, input, output, capacity, &OpenGate, renews),
+        Manner::Together => {
+            let gate = TogetherGate::new();
+            race_behind(rt, input, output, capacity, &gate, renews)
+        }
+        Manner::Shuffled(seed) => {
+            let gate = ShuffledGate::new(seed);
+            race_behind(rt, input, output, capacity, &gate, renews)
+        }
+    }
+}

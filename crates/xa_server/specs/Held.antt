@@ -1,0 +1,43 @@
+-- What the records say of the branches, and of the rows that a branch holds.
+--     recorded_entry     a branch without its rows, by its record
+--     hold_in            how this branch holds a row, where it does, by the row's lock
+--     held_among         the rows that this branch holds in a list of records
+use Rattle.std.specs.Prelude.{ℕ, cond, Option, Some, None, List, [], ◌∷◌, map}
+use Rattle.std.specs.Option.{option_map_or}
+use Rattle.std.specs.FinMap as fin
+use Rattle.std.specs.FinSet as set
+use Rattle.xa_xid.specs.declared.xid.Xid.{Xid}
+use Rattle.xa_xid.specs.Xid.{same_xid}
+use Rattle.xa_server.specs.declared.branch.BranchRecord.{BranchRecord}
+use Rattle.xa_server.specs.declared.hold.Hold.{Hold}
+use Rattle.xa_server.specs.declared.hold.Hold.TheVariants.{Shared as Shares}
+use Rattle.xa_server.specs.declared.hold.HeldRow.{HeldRow}
+use Rattle.xa_server.specs.declared.lock.Lock.{Lock}
+use Rattle.xa_server.specs.declared.lock.Lock.TheVariants.{Exclusive as HeldBy, Shared as SharedBy}
+use Rattle.xa_server.specs.declared.overview.BranchEntry.{BranchEntry}
+use Rattle.xa_server.specs.declared.row.RowRecord.{RowRecord}
+use Rattle.xa_server.specs.Overview.{hold_of}
+use Rattle.xa_server.specs.Rows.{write_of}
+use Rattle.xa_server.specs.Tables.{BranchMap}
+
+-- a branch without its rows, by its record
+abbrev pub recorded_entry : Xid × BranchRecord → BranchEntry
+recorded_entry named = record { xid = named.0; phase = named.1.phase; owner = named.1.owner }
+
+-- every branch, by its record
+abbrev pub recorded_entries : BranchMap → List BranchEntry
+recorded_entries branches = map recorded_entry (fin.entries branches)
+
+-- how this branch holds a row, where it does
+abbrev pub hold_in : Xid → Lock → Option Hold
+hold_in xid (HeldBy holder change) = cond (same_xid holder xid) (Some (hold_of (Some (write_of change)))) None
+hold_in xid (SharedBy sharers) = cond (set.contains sharers xid) (Some Shares) None
+
+-- the row, before others, where the branch holds it
+abbrev pub with_held : List ℕ → Option Hold → List HeldRow → List HeldRow
+with_held key held rows = option_map_or (λ hold. record { key = key; hold = hold } ∷ rows) held rows
+
+-- the rows that this branch holds in a list of records
+abbrev pub held_among : Xid → List (List ℕ × RowRecord) → List HeldRow
+held_among xid [] = []
+held_among xid (row ∷ rows) = with_held row.0 (hold_in xid row.1.lock) (held_among xid rows)

@@ -1,0 +1,68 @@
+-- A state as a person looks at it.
+--     entry_of, branches_of      a branch without its rows;  every branch, ascending
+--     hold_of                    how a branch holds a row, by its newest write of the row
+--     rows_held, rows_of         the rows that a branch holds, ascending;  that the branch of an identifier holds
+--     keys_of                    the keys of these rows
+--     keys_about                 the rows that a statement is about
+use Rattle.std.specs.Prelude.{ℕ, Option, Some, None, List, [], ◌∷◌, map}
+use Rattle.std.specs.Option.{option_map_or}
+use Rattle.std.specs.FinMap as fin
+use Rattle.xa_xid.specs.declared.xid.Xid.{Xid}
+use Rattle.xa_xid.specs.declared.statement.Statement.{Statement}
+use Rattle.xa_xid.specs.declared.statement.Statement.TheVariants.{Start, End, Prepare, Commit, Rollback, Recover, Unsupported, Get, Put, Del, Disconnect}
+use Rattle.xa_server.specs.declared.hold.Hold.{Hold}
+use Rattle.xa_server.specs.declared.hold.Hold.TheVariants.{Shared as Shares, Put as Puts, Delete as Deletes}
+use Rattle.xa_server.specs.declared.hold.HeldRow.{HeldRow}
+use Rattle.xa_server.specs.declared.overview.BranchEntry.{BranchEntry}
+use Rattle.xa_server.specs.declared.seat.Seat.{Seat}
+use Rattle.xa_server.specs.declared.seat.Seat.TheVariants.{Free, Active, Idle}
+use Rattle.xa_server.specs.State.{Write, LockMode, Branch, State, seat_of}
+
+-- a branch, without its rows
+abbrev pub entry_of : Xid × Branch → BranchEntry
+entry_of named = record { xid = named.0; phase = named.1.phase; owner = named.1.owner }
+
+-- every branch, ascending by identifier
+unfoldable pub branches_of : State → List BranchEntry
+branches_of state = map entry_of (fin.entries state.branches)
+
+-- a branch shares a row that it holds and didn't write; one that it wrote it holds exclusively
+abbrev pub hold_of : Option Write → Hold
+hold_of None = Shares
+hold_of (Some (Some value)) = Puts value
+hold_of (Some None) = Deletes
+
+abbrev pub held_row : Branch → List ℕ × LockMode → HeldRow
+held_row branch lock = record { key = lock.0; hold = hold_of (fin.get branch.writes lock.0) }
+
+-- the rows that a branch holds, ascending by key
+abbrev pub rows_held : Branch → List HeldRow
+rows_held branch = map (held_row branch) (fin.entries branch.locks)
+
+-- the rows that the branch of this identifier holds, ascending by key; none, where there is no such branch
+unfoldable pub rows_of : State → Xid → List HeldRow
+rows_of state xid = option_map_or rows_held (fin.get state.branches xid) []
+
+-- the keys of rows
+abbrev pub keys_of : List HeldRow → List (List ℕ)
+keys_of rows = map (λ row. row.key) rows
+
+-- the rows that the session's branch holds
+abbrev pub keys_open : State → Seat → List (List ℕ)
+keys_open state Free = []
+keys_open state (Active own) = keys_of (rows_of state own)
+keys_open state (Idle own) = keys_of (rows_of state own)
+
+-- the rows that a statement is about: the one that it names, or those of the branch that it is to end (own rule)
+unfoldable pub keys_about : State → ℕ → Statement → List (List ℕ)
+keys_about state session (Start xid) = []
+keys_about state session (End xid) = []
+keys_about state session (Prepare xid) = []
+keys_about state session (Commit xid one_phase) = keys_of (rows_of state xid)
+keys_about state session (Rollback xid) = keys_of (rows_of state xid)
+keys_about state session (Recover convert) = []
+keys_about state session Unsupported = []
+keys_about state session (Get key) = key ∷ []
+keys_about state session (Put key value) = key ∷ []
+keys_about state session (Del key) = key ∷ []
+keys_about state session Disconnect = keys_open state (seat_of state session)

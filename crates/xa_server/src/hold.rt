@@ -1,0 +1,79 @@
+//! How a branch holds a row.
+ghost use Rattle.std.specs.Prelude.{◌≡◌, IfOk};
+ghost use Rattle.std.specs.BTreeMap as tree;
+ghost use Rattle.xa_xid.specs.Xid.{bytes_cmp};
+ghost use Rattle.xa_server.specs.Held.{hold_in as hold_in_lock, held_among};
+
+use crate::lock::{Change, Lock};
+use crate::row::RowRecord;
+use crate::seat::is_same;
+use std::alloc::Global;
+use std::collections::BTreeMap;
+use xa_xid::{Bytes, Key, NoMemory, Xid, copy_of};
+
+/// How a branch holds a row, until it ends.
+///
+/// Own rule: docs/BEHAVIOR.md, 'Rows'.
+#[derive(Debug, Drop, PartialEq, Eq)]
+pub enum Hold {
+    /// In share, as others may too.
+    Shared,
+    /// Exclusively: at its commit the row gets this value.
+    Put(Bytes),
+    /// Exclusively: at its commit the row loses its value.
+    Delete,
+}
+
+/// A row that a branch holds.
+#[derive(Debug, Drop, PartialEq, Eq)]
+pub struct HeldRow {
+    /// The row's key.
+    pub key: Key,
+    /// How the branch holds it.
+    pub hold: Hold,
+}
+
+/// How this branch holds a row, where it does.
+fn hold_in(xid: &Xid, lock: &Lock) -> Option<Hold>
+    ensures { result ≡ hold_in_lock xid.now lock.now }
+{
+    match lock {
+        Lock::Exclusive { holder, change } => {
+            if !is_same(holder, xid) {
+                return None;
+            }
+            match change {
+                Change::Put(value) => Some(Hold::Put(copy_of(value))),
+                Change::Delete => Some(Hold::Delete),
+            }
+        }
+        Lock::Shared(sharers) => {
+            if sharers.contains(xid) {
+                Some(Hold::Shared)
+            } else {
+                None
+            }
+        }
+    }
+}
+
+/// The rows that this branch holds, in order.
+pub fn held_in(
+    alloc: Global,
+    by_key: &BTreeMap<Key, RowRecord>,
+    xid: &Xid,
+) -> Result<Vec<HeldRow>, NoMemory>
+    ensures listed { IfOk result (λ rows. rows.items ≡ held_among xid.now by_key.now.entries) }
+    ensures ordered { tree.IsOrdered bytes_cmp by_key.now }
+{
+    let mut rows = Vec::new(alloc);
+    for (key, row) in by_key {
+        if let Some(hold) = hold_in(xid, &row.lock) {
+            rows.push(HeldRow {
+                key: key.copy(),
+                hold,
+            })?;
+        }
+    }
+    Ok(rows)
+}

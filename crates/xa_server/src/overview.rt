@@ -1,0 +1,146 @@
+//! A server as a person looks at it.
+ghost use Rattle.std.specs.Prelude.{◌≡◌, [], ◌∷◌, IfOk, map};
+ghost use Rattle.std.specs.BTreeMap as tree;
+ghost use Rattle.xa_xid.specs.Xid.{xid_cmp};
+ghost use Rattle.xa_server.specs.Held.{recorded_entry};
+ghost use Rattle.xa_server.specs.Overview.{keys_of as keys_of_rows};
+
+use crate::branch::{BranchRecord, Phase};
+use crate::seat::Seat;
+use crate::{HeldRow, Server};
+use std::alloc::Global;
+use std::collections::BTreeMap;
+use xa_xid::{Bytes, Key, NoMemory, SessionNo, Statement, Xid};
+
+/// A branch, without its rows.
+#[derive(Debug, Drop, PartialEq, Eq)]
+pub struct BranchEntry {
+    /// Its identifier.
+    pub xid: Xid,
+    /// How far it has come.
+    pub phase: Phase,
+    /// The session that owns it, until it is prepared.
+    pub owner: Option<SessionNo>,
+}
+
+/// The branches of the records, in order.
+pub fn entries_in(
+    alloc: Global,
+    by_xid: &BTreeMap<Xid, BranchRecord>,
+) -> Result<Vec<BranchEntry>, NoMemory>
+    ensures listed { IfOk result (λ branches. branches.items ≡ map recorded_entry by_xid.now.entries) }
+    ensures ordered { tree.IsOrdered xid_cmp by_xid.now }
+{
+    let mut branches = Vec::new(alloc);
+    for (xid, branch) in by_xid {
+        branches.push(BranchEntry {
+            xid: xid.copy(),
+            phase: branch.phase,
+            owner: branch.owner,
+        })?;
+    }
+    Ok(branches)
+}
+
+/// The keys of rows, in order.
+fn keys_of(alloc: Global, rows: &[HeldRow]) -> Result<Vec<Key>, NoMemory>
+    ensures { IfOk result (λ keys. keys.items ≡ keys_of_rows rows.now) }
+{
+    let mut keys = Vec::new(alloc);
+    for row in rows {
+        keys.push(row.key.copy())?;
+    }
+    Ok(keys)
+}
+
+/// A list of one key.
+fn one_key(alloc: Global, key: &Key) -> Result<Vec<Key>, NoMemory>
+    ensures { IfOk result (λ keys. keys.items ≡ key.now ∷ []) }
+{
+    let mut keys = Vec::new(alloc);
+    keys.push(key.copy())?;
+    Ok(keys)
+}
+
+impl Server {
+    ghost use Rattle.xa_server.specs.State.{committed_value as committed_value_of, seat_of};
+    ghost use Rattle.xa_server.specs.Overview.{branches_of, rows_of as rows_of_branch, keys_open as keys_open_at, keys_about as keys_about_statement};
+
+    /// Every branch, once, ascending by identifier.
+    ///
+    /// May answer `NoMemory`. Doesn't wait. Own rule: docs/BEHAVIOR.md, 'Showing'.
+    pub fn branches(&self, alloc: Global) -> Result<Vec<BranchEntry>, NoMemory>
+        ensures { IfOk result (λ branches. branches.items ≡ branches_of self.now) }
+    {
+        self.branch_entries(alloc)
+    }
+
+    /// The rows that the branch of this identifier holds, each once, ascending by key; none, where there is no such branch.
+    ///
+    /// Looks at every row of the server. May answer `NoMemory`. Doesn't wait. Own rule: docs/BEHAVIOR.md, 'Showing'.
+    pub fn rows_of(&self, alloc: Global, xid: &Xid) -> Result<Vec<HeldRow>, NoMemory>
+        ensures { IfOk result (λ rows. rows.items ≡ rows_of_branch self.now xid.now) }
+    {
+        if !self.knows(xid) {
+            return Ok(Vec::new(alloc));
+        }
+        self.held_rows(alloc, xid)
+    }
+
+    /// The value of a row that all sessions see, where it has one.
+    ///
+    /// Takes no memory. Doesn't wait. Own rule: docs/BEHAVIOR.md, 'Rows'.
+    pub fn value_of(&self, key: &Key) -> Option<Bytes>
+        ensures { result ≡ committed_value_of self.now key.now }
+    {
+        self.committed_value(key)
+    }
+
+    /// The keys of the rows that the session's branch holds.
+    fn keys_open(&self, alloc: Global, session: SessionNo) -> Result<Vec<Key>, NoMemory>
+        ensures { IfOk result (λ keys. keys.items ≡ keys_open_at self.now (seat_of self.now session)) }
+    {
+        match self.seat(session) {
+            Seat::Free => Ok(Vec::new(alloc)),
+            Seat::Active(own) => self.keys_held(alloc, &own),
+            Seat::Idle(own) => self.keys_held(alloc, &own),
+        }
+    }
+
+    /// The keys of the rows that the branch of this identifier holds.
+    fn keys_held(&self, alloc: Global, xid: &Xid) -> Result<Vec<Key>, NoMemory>
+        ensures { IfOk result (λ keys. keys.items ≡ keys_of_rows (rows_of_branch self.now xid.now)) }
+    {
+        let rows = self.rows_of(alloc, xid)?;
+        keys_of(alloc, rows.as_slice())
+    }
+
+    /// The keys of the rows that a session's statement is about, ascending: of `GET`, `PUT` and `DEL` the row's; of `XA COMMIT` and
+    /// `XA ROLLBACK` those of all rows that the branch holds; of `DISCONNECT` those of all rows that the session's branch holds; of
+    /// another statement none. Whether the statement would be refused doesn't matter.
+    ///
+    /// May answer `NoMemory`. Doesn't wait. Own rule: docs/BEHAVIOR.md, 'Showing'.
+    #[tactic(auto, unfolding(crate::specs::Overview::keys_about))]
+    pub fn keys_about(
+        &self,
+        alloc: Global,
+        session: SessionNo,
+        statement: &Statement,
+    ) -> Result<Vec<Key>, NoMemory>
+        ensures { IfOk result (λ keys. keys.items ≡ keys_about_statement self.now session statement.now) }
+    {
+        match statement {
+            Statement::Get(key) => one_key(alloc, key),
+            Statement::Put(key, _) => one_key(alloc, key),
+            Statement::Del(key) => one_key(alloc, key),
+            Statement::Commit { xid, one_phase: _ } => self.keys_held(alloc, xid),
+            Statement::Rollback(xid) => self.keys_held(alloc, xid),
+            Statement::Disconnect => self.keys_open(alloc, session),
+            Statement::Start(_) => Ok(Vec::new(alloc)),
+            Statement::End(_) => Ok(Vec::new(alloc)),
+            Statement::Prepare(_) => Ok(Vec::new(alloc)),
+            Statement::Recover { convert: _ } => Ok(Vec::new(alloc)),
+            Statement::Unsupported => Ok(Vec::new(alloc)),
+        }
+    }
+}

@@ -1,0 +1,9 @@
+//! Worked cases of the sequential server.
+#![tactic(auto)]
+
+#[cfg(test)]
+mod overview;
+#[cfg(test)]
+mod sharing;
+#[cfg(test)]
+mod worked;

@@ -1,0 +1,5 @@
+//! Sessions over each of the two logs.
+#![tactic(auto)]
+
+#[cfg(test)]
+mod logs;

@@ -1,0 +1,41 @@
+use Rattle.std.proofs.Common.{◌≡◌, ◌≤◌, length, map, ap, sym, subst, arith}
+use Rattle.std.specs.List.{All}
+use Rattle.std.proofs.lemmas.List.{length-map}
+use Rattle.std.proofs.lemmas.List.Elements.{All-map, recursion_from_All}
+use Rattle.xa_store.specs.Passes.{place_of, home_of}
+use Rattle.xa_store.specs.Legal.{Legal}
+use Rattle.xa_store.specs.Rounds.{AllAnswered}
+use Rattle.xa_store.proofs.InRounds.{legal_all, legal_runs}
+use Rattle.xa_store.proofs.rounds.race_in_rounds.Goals as goal
+
+pub hold_rounds-requires-clause-homes : goal.hold_rounds-requires-clause-homes
+hold_rounds-requires-clause-homes g c κs within =
+    subst (λ passes. All (λ pass. home_of pass ≡ place_of c.args.store.log) passes) (sym c.in-Ok.ensures.passes)
+    (All-map (λ pass. home_of pass ≡ place_of c.args.store.log) (λ run. run.pass) c.args.runs.items c.requires.homes)
+
+pub returns-clause-legal : goal.returns-clause-legal
+returns-clause-legal g c =
+    let base = c.args.store.base in
+    let ended = c.in_ok-store.ended in
+    let held = c.in_ok-store.ensures in
+    let history = ended.history.items in
+    let answers = map (λ one. one.answers.items) ended.progress.items in
+    let all : AllAnswered base history 1 (map (λ one. one.lines.items) c.in-Ok.progress.items) answers =
+    legal_all base history 1 (map (λ one. one.lines.items) c.in-Ok.progress.items) ended.progress.items held.legal
+    (recursion_from_All (λ one. length one.lines.items ≤ length one.answers.items) ended.progress.items held.done) in
+    subst (λ list. Legal base history c.args.runs.items list) (sym c.in-Ok-answers_of.ensures)
+    (legal_runs base history 1 c.args.runs.items answers c.requires.fresh
+    (subst (λ lines. AllAnswered base history 1 lines answers) c.in-Ok.ensures.lines all))
+
+pub returns-clause-gathered : goal.returns-clause-gathered
+returns-clause-gathered g c some =
+    let progress = c.in-Ok.progress in
+    c.in_ok-store.ensures.gathered
+    (omega (
+      arith,
+      some,
+      ap length c.in-Ok.ensures.lines,
+      length-map progress.items (λ one. one.lines.items),
+      length-map c.args.runs.items (λ run. run.lines.items),
+      progress.ok.0,
+    ))

@@ -1,0 +1,17 @@
+use Rattle.std.proofs.Common.{◌≡◌, refl}
+use Rattle.std.proofs.lemmas.List.Elements.{AllZip-push}
+use Rattle.xa_store.specs.Passes.{home_of, known_of}
+use Rattle.xa_store.proofs.Gathering.{last_known_of, zip_itself}
+use Rattle.xa_store.proofs.store.Store.carry_over.Goals as goal
+
+pub returns-in-Ok-clause-base : goal.returns-in-Ok-clause-base
+returns-in-Ok-clause-base c =
+    rw (c.take_last-last.ensures.items, last_known_of known_of c.take_last-last.new.self.items c.take_last-last.result)
+    c.in-Ok.ensures.base
+
+pub returns-in-Err-clause-passes : goal.returns-in-Err-clause-passes
+returns-in-Err-clause-passes c =
+    rw (c.take_last-last.ensures.items, c.push_reserved.ensures.items)
+    (AllZip-push (λ old new. (home_of new ≡ home_of old) × (known_of new ≡ known_of old)) c.take_last-last.new.self.items c.take_last-last.new.self.items c.take_last-last.result c.onward.new.last
+    (zip_itself _ (λ pass. (refl, refl)) c.take_last-last.new.self.items)
+    (c.onward.ensures.home, c.onward.ensures.same))

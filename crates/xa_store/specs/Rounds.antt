@@ -1,0 +1,100 @@
+-- Races in rounds: each round has a log of its own, and one history explains the answers of all rounds.
+--     later           an answer whose place counts over all rounds
+--     Gains           what a session was answered in one round
+--     GoesOn          the same of what its pass knows, before the round and after it
+--     HasGoneOn       the same of a session that is on the log and the base that it was on
+--     AllGain         what the sessions, each of which knew nothing at first, were answered in one round
+--     AllLegalSoFar   what they were answered so far
+--     AllAnswered     all that they were answered
+--     AreFresh        the passes of the sessions 1 to the last, none of which knows anything
+--     CanShut         a gate can shut a session's statement
+--     StopsInRound    why a session gives no more statements
+--     ShutsOne        a gate can shut a statement of one of the sessions
+--     BlamesRounds    why a race in rounds gives nothing
+use Rattle.std.specs.Prelude.{◌≡◌, ◌<◌, ◌+◌, ℕ, Bool, false, List, [], ◌∷◌, ◌++◌, length, map, take, drop, slice_get, Some}
+use Rattle.xa_xid.specs.declared.statement.Statement.{Statement}
+use Rattle.xa_words.specs.Entry.{Entry}
+use Rattle.xa_server.specs.State.{State}
+use Rattle.decision_log.specs.Known.{Place, newcomer}
+use Rattle.decision_log.specs.declared.known.Known.{Known}
+use Rattle.xa_session.specs.declared.answer.Answer.{Answer}
+use Rattle.xa_store.specs.Passes.{Pass, known_of}
+use Rattle.xa_store.specs.Legal.{IsLegal}
+use Rattle.xa_store.specs.declared.progress.Progress.{Progress}
+use Rattle.xa_store.specs.declared.race_fault.RaceFault.{RaceFault}
+use Rattle.xa_store.specs.declared.race_fault.RaceFault.TheVariants.{GateShut, Full, NoMemory, ThreadRefused}
+
+-- an answer behind so many entries of earlier rounds
+abbrev pub later : ℕ → Answer → Answer
+later before answer = record { place = answer.place + before; reply = answer.reply }
+
+-- the statements are the same, and the next of them were answered, legally in the round's history
+pub record Gains (base : State) (before : ℕ) (history : List Entry) (known : Known) (old new : Progress) : Type 0 where
+  pub lines : new.lines.items ≡ old.lines.items
+  pub answers : List Answer
+  pub more : new.answers.items ≡ old.answers.items ++ map (later before) answers
+  pub legal : IsLegal base history known (take (length answers) (drop (length old.answers.items) old.lines.items)) answers
+
+-- they are legal in what the session has seen in the end
+pub record GoesOn (base : State) (before : ℕ) (known after : Known) (old new : Progress) : Type 0 where
+  pub number : after.number ≡ known.number
+  pub gains : Gains base before after.seen known old new
+
+-- a session's base, its pass and how far it has come, before a round and after it
+pub record HasGoneOn {Pass : Type 0} (home : Pass → Place) (known : Pass → Known) (base : State) (pass : Pass) (before : ℕ) (old : Progress) (base' : State) (pass' : Pass) (new : Progress) : Type 0 where
+  pub same_base : base' ≡ base
+  pub same_log : home pass' ≡ home pass
+  pub goes_on : GoesOn base before (known pass) (known pass') old new
+
+-- the sessions from this number on
+abbrev pub AllGain : State → ℕ → List Entry → ℕ → List Progress → List Progress → Type 0
+AllGain base before history session [] [] = Unit {0}
+AllGain base before history session [] (new ∷ news) = ⊥
+AllGain base before history session (old ∷ olds) [] = ⊥
+AllGain base before history session (old ∷ olds) (new ∷ news) = Gains base before history (newcomer session) old new × AllGain base before history (session + 1) olds news
+
+-- the statements of the sessions from this number on, of which the first were answered, legally in the history of all rounds
+abbrev pub AllLegalSoFar : State → List Entry → ℕ → List (List Statement) → List Progress → Type 0
+AllLegalSoFar base history session [] [] = Unit {0}
+AllLegalSoFar base history session [] (one ∷ others) = ⊥
+AllLegalSoFar base history session (statements ∷ rest) [] = ⊥
+AllLegalSoFar base history session (statements ∷ rest) (one ∷ others) =
+    (one.lines.items ≡ statements) × IsLegal base history (newcomer session) (take (length one.answers.items) statements) one.answers.items × AllLegalSoFar base history (session + 1) rest others
+
+-- all statements of the sessions from this number on were answered, legally in the history
+abbrev pub AllAnswered : State → List Entry → ℕ → List (List Statement) → List (List Answer) → Type 0
+AllAnswered base history session [] [] = Unit {0}
+AllAnswered base history session [] (answers ∷ others) = ⊥
+AllAnswered base history session (statements ∷ rest) [] = ⊥
+AllAnswered base history session (statements ∷ rest) (answers ∷ others) = IsLegal base history (newcomer session) statements answers × AllAnswered base history (session + 1) rest others
+
+-- sessions 1 to the last, none of which has seen or added anything
+abbrev pub AreFresh : List Pass → Type 0
+AreFresh passes = (index : ℕ) (pass : Pass) → slice_get passes index ≡ Some pass → known_of pass ≡ newcomer (index + 1)
+
+-- the gate can shut one of the session's statements
+pub record CanShut (gate : ℕ → ℕ → Bool → Type 0) (session count named line : ℕ) : Type 0 where
+  pub number : named ≡ session
+  pub below : line < count
+  pub shut : gate session line false
+
+-- why a session of so many statements gives no more; a full history only ends its round
+abbrev pub StopsInRound : (ℕ → ℕ → Bool → Type 0) → ℕ → ℕ → RaceFault → Type 0
+StopsInRound gate session count (GateShut named line) = CanShut gate session count named line
+StopsInRound gate session count (Full named line) = ⊥
+StopsInRound gate session count NoMemory = Unit {0}
+StopsInRound gate session count ThreadRefused = ⊥
+
+-- the gate can shut a statement of one of the sessions, the first of which is session 1
+pub record ShutsOne (gate : ℕ → ℕ → Bool → Type 0) (lines : List (List Statement)) (named line : ℕ) : Type 0 where
+  pub index : ℕ
+  pub statements : List Statement
+  pub found : slice_get lines index ≡ Some statements
+  pub shut : CanShut gate (index + 1) (length statements) named line
+
+-- there is no memory or no thread, or else the gate can shut a statement; a full history is no fault
+abbrev pub BlamesRounds : (ℕ → ℕ → Bool → Type 0) → List (List Statement) → RaceFault → Type 0
+BlamesRounds gate lines (GateShut named line) = ShutsOne gate lines named line
+BlamesRounds gate lines (Full named line) = ⊥
+BlamesRounds gate lines NoMemory = Unit {0}
+BlamesRounds gate lines ThreadRefused = Unit {0}

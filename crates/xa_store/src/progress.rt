@@ -1,0 +1,22 @@
+//! How far a session of a race in rounds has come.
+
+ghost use Rattle.std.specs.Prelude.{◌≡◌, ◌≤◌, true, length};
+
+use xa_session::Answer;
+use xa_xid::Statement;
+
+/// A session's statements, and the answers to as many of the first of them.
+#[derive(Drop)]
+pub(crate) struct Progress {
+    pub(crate) lines: Vec<Statement>,
+    pub(crate) answers: Vec<Answer>,
+}
+
+impl Progress {
+    /// Whether each statement was answered.
+    pub(crate) fn is_done(&self) -> bool
+        ensures { result ≡ true → length self.now.lines.items ≤ length self.now.answers.items }
+    {
+        self.answers.len() >= self.lines.len()
+    }
+}

@@ -1,0 +1,24 @@
+"""The scripts, calls and records of the repository, which the page offers to open."""
+
+KINDS = {
+    "stories": ["crates/xa_stories/data/*.script"],
+    "scripts": ["examples/*.script", "examples/schedules/*.script"],
+    "races": ["drivers/page/races/*.script", "examples/races/*.script"],
+    "calls": ["examples/*.calls"],
+    "stops": ["examples/stops/*.calls"],
+    "records": ["drivers/page/records/*.record", "examples/**/*.record"],
+}
+MOST = 1 << 18  # a longer file isn't offered
+
+
+def examples(root):
+    return {kind: [entry(path) for pattern in patterns for path in sorted(root.glob(pattern)) if path.stat().st_size <= MOST]
+            for kind, patterns in KINDS.items()}
+
+
+def entry(path):
+    """A file's name, what its first remark says, and its bytes, each as a character."""
+    text = path.read_bytes().decode("latin-1")
+    first = text.split("\n", 1)[0]
+    title = first[1:].strip().encode("latin-1").decode(errors="replace") if first.startswith("#") else ""
+    return {"name": path.stem, "title": title, "text": text}

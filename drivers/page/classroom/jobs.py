@@ -1,0 +1,129 @@
+"""What the page asks for: each function takes the page's question, as JSON has it, and gives what is sent back.
+
+Bytes go both ways as strings of the characters U+0000 to U+00FF, one a byte.
+"""
+from .child import Trouble
+from .probe import calls_in
+from .talk import Talk, remark, unknown_transaction
+
+
+class BadQuestion(Exception):
+    """A question that the page doesn't ask."""
+
+
+def field(question, name, kind, default=None):
+    found = question.get(name, default)
+    if type(found) is not kind:
+        raise BadQuestion(f"{name} is missing, or of another kind")
+    return found
+
+
+def number(question, name, least, most, default):
+    found = field(question, name, int, default)
+    if not least <= found <= most:
+        raise BadQuestion(f"{name} is from {least} to {most}")
+    return found
+
+
+def as_bytes(text, name):
+    try:
+        return text.encode("latin-1")
+    except UnicodeEncodeError:
+        raise BadQuestion(f"{name} has characters that aren't bytes") from None
+
+
+def script(question, name):
+    return as_bytes(field(question, name, str), name)
+
+
+def lines_in(question):
+    lines = [as_bytes(line, "lines") if type(line) is str else b"\n" for line in field(question, "lines", list)]
+    if any(b"\n" in line for line in lines):
+        raise BadQuestion("lines are texts without line feeds")
+    return lines
+
+
+def coordinate_words(question):
+    stores, capacity = number(question, "stores", 1, 16, 3), number(question, "capacity", 1, 1024, 1024)
+    return ["coordinate", "--stores", str(stores), "--capacity", str(capacity)]
+
+
+def talk(pool, question):
+    """Gives the lines to a child that answers each, and sends back the answers from `known` on."""
+    name, job = field(question, "talk", str), field(question, "job", str)
+    lines = lines_in(question)
+    if not 1 <= len(name) <= 64:
+        raise BadQuestion("a talk has a name of 1 to 64 characters")
+    known = number(question, "known", 0, len(lines), 0)
+    if job == "show":
+        words, marker, after = ["show"], remark, []
+    elif job == "coordinate":
+        words, marker, after = coordinate_words(question), unknown_transaction, [b"SHOW"]
+    else:
+        raise BadQuestion("a talk's job is show or coordinate")
+    found = pool.talk(f"{name} {' '.join(words)}", lambda: Talk(pool, words, marker, after)).ask(lines, known)
+    found["answers"] = [[part.decode("latin-1") for part in answer] for answer in found["answers"]]
+    return found
+
+
+def run_once(pool, words, text, seconds):
+    """One child that reads the whole text: what it writes, and how it ends."""
+    child = pool.start(words)
+    try:
+        output = child.exchange(text, None, seconds, pool.limits.output_bytes)
+        return {"output": output.decode("latin-1"), **child.how_it_ended()}
+    except Trouble as trouble:
+        return {"output": "", "status": None, "error": str(trouble)}
+    finally:
+        pool.end(child)
+
+
+def race(pool, question):
+    """Races a script so often, each time in a child of its own, and sends back what each wrote."""
+    text, times = script(question, "script"), number(question, "times", 1, pool.limits.batch, 1)
+    words = ["race", "--capacity", str(number(question, "capacity", 1, 1024, 1024))]
+    words += [f"--{option}" for option in ("together", "renew") if field(question, option, bool, False)]
+    seed = question.get("seed")
+    if seed is not None:
+        seed = number(question, "seed", 0, 2 ** 53, 0)
+    ran = []
+    for turn in range(times):
+        shuffled = [] if seed is None else ["--shuffle", str(seed + turn)]
+        ran.append(run_once(pool, words + shuffled, text, pool.limits.answer_seconds))
+        if ran[-1]["status"] != 0:
+            break
+    return {"words": words, "ran": ran}
+
+
+def calls(pool, question):
+    """How many calls the last of the lines makes in each store."""
+    words, lines = coordinate_words(question), lines_in(question)
+    if not lines:
+        raise BadQuestion("there is no line to look at")
+
+    def run(text):
+        return run_once(pool, words, text, pool.limits.answer_seconds)["output"].encode("latin-1")
+
+    return {"calls": [calls_in(run, lines, store) for store in range(int(words[2]))]}
+
+
+def judge(pool, question):
+    """Judges a record."""
+    words = ["judge", "--limit", str(number(question, "limit", 1, 1_000_000, 100_000))]
+    return run_once(pool, words, script(question, "record"), pool.limits.judge_seconds)
+
+
+def program(pool, _):
+    """The program's version, and the help that lists its jobs."""
+    seconds = pool.limits.answer_seconds
+    return {"version": run_once(pool, ["--version"], b"", seconds)["output"].strip(),
+            "help": run_once(pool, ["--help"], b"", seconds)["output"]}
+
+
+def end(pool, question):
+    """The page is gone, or has begun anew: the children of this name end."""
+    pool.forget(field(question, "talk", str) + " ")
+    return {}
+
+
+JOBS = {"talk": talk, "calls": calls, "race": race, "judge": judge, "program": program, "end": end}

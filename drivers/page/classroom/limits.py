@@ -1,0 +1,16 @@
+"""What the page may take."""
+from dataclasses import dataclass
+
+
+@dataclass(frozen=True)
+class Limits:
+    request_bytes: int = 1 << 20    # of the body of a request
+    connections: int = 64           # that are answered at a time
+    children: int = 32              # child processes at a time
+    idle_seconds: float = 600       # after which a child that nobody asks is ended
+    memory_kib: object = 1 << 20    # of a child's address space, or "unlimited"
+    answer_seconds: float = 10      # for the answer to a line, and for a run of a race
+    judge_seconds: float = 60       # for a verdict
+    output_bytes: int = 8 << 20     # of what a child may answer to one request
+    runs: int = 200                 # of a race
+    batch: int = 25                 # runs of a race for one request, so that the page can show how far it is

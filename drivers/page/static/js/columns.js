@@ -1,0 +1,71 @@
+// The lines of a script in a column for each session, each with its answer below it.
+import { asLiteral, isBlank } from "./bytes.js";
+import { el, sessionClass, shown } from "./dom.js";
+import { ruleOf } from "./rules.js";
+
+const LINE = /^[ \t\r]*([1-9]|1[0-6])(?:[ \t\r]+|$)([^]*)$/;
+
+// The column in which a line is shown, and its statement: what answers it is the program's alone.
+export function cut(line) {
+  const found = LINE.exec(line);
+  return found ? { session: Number(found[1]), statement: found[2] } : { session: null, statement: line };
+}
+
+export function widestSession(lines) {
+  return Math.max(0, ...lines.map((line) => cut(line).session ?? 0));
+}
+
+// A statement with the byte marked at which it isn't read.
+function statementText(statement, refusal) {
+  if (!refusal || refusal.at === null) return shown(statement, "bdi.statement");
+  const marked = statement.slice(refusal.at, refusal.at + 1);
+  return el("bdi.statement", {}, shown(statement.slice(0, refusal.at)),
+    el("mark.fault", { title: `byte ${refusal.at}` }, marked === "" ? " " : shown(marked)), shown(statement.slice(refusal.at + 1)));
+}
+
+// A table's text, of which what stands between backticks is code.
+function withCode(text) {
+  return text.split("`").map((part, at) => (at % 2 ? el("code", {}, part) : part));
+}
+
+function ruleText(refusal, statement, state) {
+  const found = ruleOf(refusal, statement, state);
+  if (!found) return null;
+  const { rule } = found;
+  return el("p.rule", {}, el("span.where", {}, withCode(found.where)),
+    rule ? el("span.table", {}, `${rule.statement}, ${rule.state}: `, withCode(rule.cell)) : null);
+}
+
+function valueText(reply) {
+  const value = /^VALUE (\S+)$/.exec(reply);
+  const text = value ? asLiteral(value[1]) : null;
+  return text && text !== value[1] ? el("bdi.literal", {}, text) : null;
+}
+
+export function replyText(answer, statement) {
+  const { reply, rows, refusal, session, branches } = answer;
+  if (reply === null) return null;
+  const own = branches.find((branch) => branch.session === session);
+  return el(refusal ? "div.answer.refused" : "div.answer", {},
+    el("span.reply", {}, shown(reply)), " ", valueText(reply),
+    rows ? el("pre.rows", {}, shown(rows.replace(/\n$/, ""))) : null,
+    refusal ? ruleText(refusal, statement, own ? own.phase : "Free") : null);
+}
+
+// A line at its place; `answer` is null for one that waits.
+export function lineItem(line, place, answer, goTo) {
+  const { session, statement } = cut(line);
+  const kind = line.startsWith("#") ? "remark" : session === null ? "bad" : "spoken";
+  const label = `Run to here: line ${place + 1}`;
+  const item = el(`li.line.${kind}`, { "data-line": place + 1 },
+    el("button.here", { type: "button", title: label, "aria-label": label, onclick: () => goTo(place + 1) }, String(place + 1)));
+  const cell = el("div.cell", {}, statementText(kind === "spoken" ? statement : line, kind === "spoken" ? answer?.refusal : null),
+    answer ? replyText(answer, statement) : null);
+  if (session !== null) {
+    cell.classList.add(sessionClass(session));
+    cell.style.setProperty("--column", session);
+  }
+  if (isBlank(line)) item.classList.add("blank");
+  item.append(cell);
+  return item;
+}

@@ -1,0 +1,201 @@
+// The view of two-phase commit: calls of a transaction manager, one after another, over stores of its own.
+import { ask, Failure } from "./api.js";
+import { fromText, linesOf } from "./bytes.js";
+import { asksStores, lastBegun } from "./calls.js";
+import { enable, wire } from "./controls.js";
+import { bringIntoView, byId, el, fill, keepingFocus, options, printedInto, remarkOf } from "./dom.js";
+import { followed } from "./fuses.js";
+import { callItem, doubtList, heads } from "./lanes.js";
+import { Patch } from "./patch.js";
+import { readStores } from "./shown_stores.js";
+import { Tape } from "./tape.js";
+import { follow, titleOf } from "./titles.js";
+
+const STORES = 3;
+const PEEK = 60; // so much of the calls that wait is seen
+const NUMBERS = ["UNDECIDED", "DECIDED", "CLOSED"];
+
+export class Commit {
+  constructor(app) {
+    this.app = app;
+    this.view = byId("commit");
+    this.stores = STORES;
+    this.tape = new Tape({ job: "coordinate", stores: STORES }, (news) => this.changed(news));
+    this.read = [];
+    this.list = el("ol.calls-list");
+    this.head = el("div.lane-heads");
+    this.wanted = []; // for each line how many calls it makes of the session in each store, as far as the program was asked
+    this.looked = []; // the lines of which that is known
+    byId("lanes").append(this.head, this.list);
+    this.patch = new Patch(this.list);
+    this.does = {
+      goTo: (place) => this.tape.goTo(place),
+      fail: (place, { store, call }) => this.tape.insert(place, [`FAIL ${store} AFTER ${call}`], 1),
+      stop: (place) => this.tape.insert(place + 1, ["STOP"]),
+      remove: (place) => this.tape.remove(place),
+    };
+    wire(this.view, this.tape, (lines, at) => this.open(lines, at, this.stores));
+    byId("calls-form").addEventListener("submit", (event) => this.submit(event));
+    byId("any-call").addEventListener("keydown", (event) => this.enterKey(event));
+    byId("stores").addEventListener("change", (event) => this.open(this.tape.lines, this.tape.at, Number(event.target.value)));
+    byId("calls-example").addEventListener("change", (event) => this.openExample(this.examples[Number(event.target.value)]));
+  }
+
+  offer({ calls, stops }) {
+    this.examples = calls;
+    this.stops = stops;
+    options(byId("calls-example"), [["Calls", calls.map((story, at) => [String(at), titleOf(story)])]]);
+    fill(byId("stops"), stops.map((stop) => {
+      const [, number, decided] = /^after-0?(\d+)-?(.*)$/.exec(stop.name);
+      return el("button", { type: "button", title: stop.title, "data-stop": stop.name, onclick: () => this.openExample(stop) },
+        decided ? `${number} ${decided}` : number);
+    }));
+  }
+
+  openExample(example) {
+    if (example) this.open(linesOf(example.text), linesOf(example.text).length, STORES);
+  }
+
+  enter(state) {
+    const lines = linesOf(state.calls ?? "");
+    const at = state.at === undefined ? lines.length : Number(state.at);
+    const stores = Math.max(1, Math.min(16, Number(state.stores) || STORES));
+    byId("stores").value = stores;
+    if (stores === this.stores && lines.join("\n") === this.tape.lines.join("\n") && at === this.tape.at) return this.changed({});
+    this.stores = stores;
+    this.tape.question = { job: "coordinate", stores };
+    this.looked = [];
+    this.wanted = [];
+    return this.tape.open(lines, at);
+  }
+
+  open(lines, at, stores) {
+    this.app.visit("commit", { calls: lines.join("\n"), at: lines.length && at !== lines.length ? at : "", stores: stores === STORES ? "" : stores });
+  }
+
+  state() {
+    const { lines, at } = this.tape;
+    return { calls: lines.join("\n"), at: at !== lines.length ? at : "", stores: this.stores === STORES ? "" : this.stores };
+  }
+
+  // A button's call, with the numbers and the statement of the form.
+  written(form) {
+    const value = (id) => fromText(byId(id).value);
+    return form.replace(/\b[nkjs]\b/g, (name) => value(name === "s" ? "statement" : name));
+  }
+
+  submit(event) {
+    event.preventDefault();
+    const form = event.submitter?.value;
+    if (form === "any") this.giveAny();
+    else if (form) this.tape.give(this.written(form));
+  }
+
+  enterKey(event) {
+    if (event.key !== "Enter" || event.isComposing) return;
+    event.preventDefault();
+    this.giveAny();
+  }
+
+  giveAny() {
+    const line = fromText(byId("any-call").value);
+    byId("any-call").value = "";
+    this.tape.give(line);
+  }
+
+  changed(news) {
+    this.app.notify(news);
+    const answers = this.tape.answers;
+    this.read = answers.map(([answer, text], at) => (this.read[at]?.text === text ? this.read[at] : { text, ...readStores(text) }));
+    this.view.style.setProperty("--stores", this.stores);
+    heads(this.head, this.stores);
+    this.drawCalls(answers);
+    this.showCursor();
+    const behind = this.read[this.tape.at - 1];
+    doubtList(byId("doubt"), behind);
+    fill(byId("decisions"), NUMBERS.flatMap((name) => [el("dt", {}, name), el("dd", {}, behind?.[name].join(" ") || "none")]));
+    const last = answers[this.tape.at - 1];
+    printedInto(byId("calls-printed"), last ? last.join("") : "");
+    fill(byId("calls-remark"), remarkOf(this.tape.lines));
+    const isOpen = (example) => linesOf(example.text).join("\n") === this.tape.lines.join("\n");
+    follow(byId("calls-example"), this.examples, isOpen);
+    this.stops.forEach((stop, at) => byId("stops").children[at].setAttribute("aria-pressed", String(isOpen(stop))));
+    this.followNumber(answers);
+    enable(this.view, this.tape);
+    this.app.keep("commit", this.state());
+    if (news.asked) this.app.measured(news.asked);
+    this.look();
+  }
+
+  // Asks the program how many calls of sessions each line made, one line after another, and draws them.
+  async look() {
+    const { lines, at } = this.tape;
+    const same = this.looked.findIndex((line, place) => line !== lines[place]);
+    if (same >= 0) this.looked.length = this.wanted.length = same;
+    if (this.looking || this.looked.length >= at) return;
+    const asked = { lines: lines.slice(0, this.looked.length + 1), stores: this.stores };
+    this.looking = true;
+    const wanted = await this.callsOf(asked);
+    this.looking = false;
+    if (this.isNext(asked)) {
+      this.looked.push(asked.lines.at(-1));
+      this.wanted.push(wanted);
+      if (wanted.some((count) => count)) this.keepingPlace(() => this.drawCalls(this.tape.answers));
+    }
+    this.look();
+  }
+
+  // Whether what was asked is still what is to be known next: lines may have changed meanwhile.
+  isNext({ lines, stores }) {
+    return stores === this.stores && lines.length === this.looked.length + 1 && lines.every((line, at) => line === this.tape.lines[at]);
+  }
+
+  async callsOf(asked) {
+    if (!asksStores(asked.lines.at(-1))) return [];
+    try {
+      return (await ask("calls", asked)).calls;
+    } catch (fault) {
+      if (!(fault instanceof Failure)) throw fault;
+      return [];
+    }
+  }
+
+  // The form speaks of the transaction that was begun last.
+  followNumber(answers) {
+    const begun = lastBegun(answers.slice(0, this.tape.at).map(([answer]) => answer));
+    if (begun === this.begun) return;
+    this.begun = begun;
+    byId("n").value = begun ?? "1";
+  }
+
+  drawCalls(answers) {
+    const { lines, at } = this.tape;
+    const sessions = followed(lines.slice(0, at), this.wanted);
+    const entries = lines.map((line, place) => {
+      const outcome = place < at
+        ? { answer: answers[place][0], behind: this.read[place], before: this.read[place - 1], sessions: sessions[place] } : null;
+      const key = `${this.stores} ${place} ${line}`;
+      return [key, outcome && [outcome.answer, outcome.before?.text, outcome.behind.text, JSON.stringify(outcome.sessions)].join("\n"), () => {
+        const item = callItem(line, place, outcome, this.stores, this.does);
+        item.classList.toggle("waiting", outcome === null);
+        return item;
+      }];
+    });
+    keepingFocus(this.list, () => this.patch.show(entries));
+  }
+
+  // The last answer is to be seen, and a little of what waits.
+  showCursor() {
+    const { at, lines } = this.tape;
+    if (this.view.hidden || at === 0) return;
+    bringIntoView(byId("lanes").parentElement, this.list.children[at - 1], at < lines.length ? PEEK : 0);
+  }
+
+  // What is drawn above the cursor moves nothing at it.
+  keepingPlace(redraw) {
+    const top = () => this.list.children[this.tape.at - 1]?.getBoundingClientRect().bottom ?? 0;
+    const before = top();
+    redraw();
+    byId("lanes").parentElement.scrollTop += top() - before;
+  }
+}

@@ -1,0 +1,27 @@
+// The buttons over a tape, and their keys.
+
+const KEYS = { ArrowRight: "step", End: "end", ArrowLeft: "back" };
+
+export function wire(view, tape, story) {
+  const does = {
+    step: () => tape.step(),
+    end: () => tape.toEnd(),
+    back: () => tape.back(),
+    drop: () => tape.dropRest(),
+    clear: () => story([], 0),
+  };
+  for (const button of view.querySelectorAll("[data-do]")) button.addEventListener("click", () => does[button.dataset.do]());
+  addEventListener("keydown", (event) => {
+    const wanted = event.altKey && !view.hidden ? does[KEYS[event.key]] : null;
+    if (!wanted) return;
+    event.preventDefault();
+    wanted();
+  });
+}
+
+// Which buttons have something to do.
+export function enable(view, tape) {
+  const waits = tape.at < tape.lines.length;
+  const able = { step: waits, end: waits, back: tape.at > 0, drop: waits, clear: tape.lines.length > 0 };
+  for (const button of view.querySelectorAll("[data-do]")) button.disabled = !able[button.dataset.do];
+}

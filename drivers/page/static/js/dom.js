@@ -1,0 +1,68 @@
+// Elements are made of text nodes alone: nothing that comes from the program is ever read as HTML.
+import { pieces } from "./bytes.js";
+
+export const byId = (id) => document.getElementById(id);
+
+// An element: "tag.class.class", its properties (on.. for listeners, others as attributes), and what stands in it.
+export function el(kind, properties = {}, ...inside) {
+  const [tag, ...classes] = kind.split(".");
+  const made = document.createElement(tag);
+  made.classList.add(...classes);
+  for (const [name, value] of Object.entries(properties)) {
+    if (name.startsWith("on")) made.addEventListener(name.slice(2), value);
+    else if (value === true) made.setAttribute(name, "");
+    else if (value !== false && value !== null && value !== undefined) made.setAttribute(name, value);
+  }
+  made.append(...inside.flat().filter((part) => part !== null && part !== undefined));
+  return made;
+}
+
+export function fill(element, ...inside) {
+  element.replaceChildren(...inside.flat().filter((part) => part !== null && part !== undefined));
+}
+
+// Bytes as text that keeps to itself, with each byte that can't be seen in digits.
+export function shown(bytes, kind = "bdi.bytes") {
+  return el(kind, {}, pieces(bytes).map((piece) =>
+    piece.byte === undefined ? piece.text : el("span.byte", { title: `byte 0x${piece.byte}` }, piece.byte)));
+}
+
+// The same for bytes that are printed in lines: the line feeds stay.
+export function shownLines(bytes) {
+  return bytes.split("\n").flatMap((line, at) => (at ? ["\n", shown(line)] : [shown(line)]));
+}
+
+export function printedInto(element, bytes) {
+  fill(element, shownLines(bytes));
+}
+
+// What a first line that is a remark says.
+export function remarkOf(lines) {
+  const first = lines[0] ?? "";
+  return first.startsWith("#") ? shown(first.slice(1).trim(), "bdi") : null;
+}
+
+export function options(select, groups) {
+  fill(select, el("option", { value: "" }, "…"), groups.map(([name, entries]) =>
+    el("optgroup", { label: name }, entries.map(([value, text]) => el("option", { value }, text)))));
+}
+
+// Moves a room so that an element's bottom is seen, and so much below it; where the room doesn't move by itself, the page does.
+export function bringIntoView(room, element, below) {
+  if (room.scrollHeight > room.clientHeight) {
+    room.scrollTop += element.getBoundingClientRect().bottom - room.getBoundingClientRect().bottom + below;
+  } else element.scrollIntoView({ block: "nearest" });
+}
+
+// Draws a room anew; a button in it that had the focus has it afterwards, or else the number of its line.
+export function keepingFocus(room, redraw) {
+  const focused = room.contains(document.activeElement) ? document.activeElement : null;
+  const label = focused?.getAttribute("aria-label");
+  const line = focused?.closest("[data-line]")?.dataset.line;
+  redraw();
+  if (!focused || room.contains(document.activeElement)) return;
+  const same = label ? room.querySelector(`[aria-label="${CSS.escape(label)}"]`) : null;
+  (same ?? room.querySelector(`[data-line="${line}"] .here`))?.focus({ preventScroll: true });
+}
+
+export const sessionClass = (session) => `s${session}`;

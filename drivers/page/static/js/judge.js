@@ -1,0 +1,103 @@
+// The view of the judge: a record of what clients saw, and the program's verdict on it.
+import { ask, Failure } from "./api.js";
+import { fromText, linesOf, toText } from "./bytes.js";
+import { byId, el, fill, options, printedInto, sessionClass, shown, shownLines } from "./dom.js";
+import { endingText } from "./ending.js";
+import { follow, titleOf } from "./titles.js";
+import { readVerdict } from "./verdict.js";
+
+// The statuses of a verdict and of a faulty record; the others are faults of the program's.
+const JUDGED = [0, 4, 5, 6];
+const MISUSED = 2;
+
+const WORDS = {
+  LEGAL: () => "LEGAL: an order of the statements explains all that was seen.",
+  ILLEGAL: ({ line }) => `ILLEGAL at line ${line}: no order explains what was seen up to there.`,
+  UNDECIDED: ({ line }) => `UNDECIDED at line ${line}: more configurations than allowed would have to be kept.`,
+  FAULTY: () => "No verdict: the record has faulty lines.",
+};
+
+export class Judge {
+  constructor(app) {
+    this.app = app;
+    this.asks = 0;
+    this.judged = null;
+    byId("judge-form").addEventListener("submit", (event) => {
+      event.preventDefault();
+      this.app.visit("judge", this.asked(true));
+    });
+    byId("record-example").addEventListener("change", (event) => this.openExample(event.target.value));
+    byId("play-order").addEventListener("click", () => this.app.visit("sessions", { script: this.verdict.order.join("\n") }));
+  }
+
+  offer({ records }) {
+    this.records = records;
+    options(byId("record-example"), [["Records", records.map((record, at) => [String(at), titleOf(record)])]]);
+  }
+
+  openExample(choice) {
+    const record = this.records[Number(choice)];
+    if (choice !== "" && record) this.app.visit("judge", { ...this.asked(false), record: record.text });
+  }
+
+  asked(go) {
+    return { record: this.record(), limit: byId("limit").value, go: go ? ++this.asks : "" };
+  }
+
+  record() {
+    const typed = byId("record").value;
+    return this.opened && typed === this.opened.text ? this.opened.bytes : fromText(typed);
+  }
+
+  enter(state) {
+    const bytes = state.record ?? "";
+    byId("record").value = toText(bytes) ?? bytes;
+    this.opened = { bytes, text: byId("record").value };
+    follow(byId("record-example"), this.records, (record) => record.text === bytes);
+    byId("limit").value = state.limit ?? "100000";
+    this.asks = Math.max(this.asks, Number(state.go) || 0);
+    const wanted = JSON.stringify(state);
+    if (wanted === this.judged) return;
+    byId("verdict-room").hidden = true;
+    if (state.go) this.judge(wanted);
+  }
+
+  async judge(wanted) {
+    this.judged = wanted;
+    const record = this.record();
+    try {
+      const ran = await ask("judge", { record, limit: Number(byId("limit").value) });
+      if (this.judged === wanted) this.draw(record, ran);
+    } catch (fault) {
+      if (!(fault instanceof Failure)) throw fault;
+      this.app.notify({ fault: fault.message });
+    }
+  }
+
+  draw(record, ran) {
+    this.verdict = readVerdict(ran.output);
+    byId("verdict-room").hidden = false;
+    const { kind } = this.verdict;
+    byId("verdict").className = (kind ?? "none").toLowerCase();
+    if (!JUDGED.includes(ran.status) || kind === null) {
+      const lacks = ran.status === MISUSED && !/^ +judge /m.test(this.app.help ?? "");
+      fill(byId("verdict"), lacks ? "This program has no job that judges records." : endingText(ran));
+    } else fill(byId("verdict"), WORDS[kind](this.verdict));
+    byId("play-order").hidden = kind !== "LEGAL";
+    const faulty = new Map(this.verdict.faults.map(({ line, cause }) => [line, cause]));
+    fill(byId("record-lines"), linesOf(record).map((line, at) => this.lineItem(line, at + 1, faulty.get(at + 1))));
+    printedInto(byId("judge-printed"), ran.output);
+    byId("record-lines").querySelector(".marked")?.scrollIntoView({ block: "nearest" });
+  }
+
+  lineItem(line, number, fault) {
+    const event = /^[ \t\r]*([1-9]|1[0-6])[ \t\r]+([<>!])/.exec(line);
+    const marked = number === this.verdict.line || fault !== undefined;
+    const item = el("li", { "data-line": number }, shown(line));
+    if (event) item.classList.add(sessionClass(event[1]), { ">": "called", "<": "returned", "!": "lost" }[event[2]]);
+    if (marked) item.classList.add("marked");
+    if (number === this.verdict.line) item.append(...this.verdict.could.map((reply) => el("span.could", {}, "could be ", shownLines(reply))));
+    if (fault !== undefined) item.append(" ", el("span.fault", {}, fault));
+    return item;
+  }
+}

@@ -1,0 +1,172 @@
+// The view of races: a script is raced so often, and each history that came is counted.
+import { ask, Failure } from "./api.js";
+import { fromText, linesOf, toText } from "./bytes.js";
+import { byId, el, fill, options, printedInto, sessionClass, shown } from "./dom.js";
+import { endingText } from "./ending.js";
+import { orderOf, readOutcome, tie } from "./outcome.js";
+import { draw } from "./timeline.js";
+import { follow, titleOf } from "./titles.js";
+
+const BATCH = 10;
+const STRIP = 48; // entries that a bar shows
+
+// A race takes no remarks.
+const withoutRemarks = (text) => linesOf(text).filter((line) => !line.startsWith("#")).join("\n");
+
+export class Race {
+  constructor(app) {
+    this.app = app;
+    this.runs = 0; // how often a race was begun: an older one doesn't go on
+    this.begun = null;
+    this.histories = new Map();
+    this.picked = null;
+    byId("race-form").addEventListener("submit", (event) => {
+      event.preventDefault();
+      this.app.visit("race", this.asked(true));
+    });
+    byId("race-example").addEventListener("change", (event) => this.openExample(event.target.value));
+    byId("outcome").addEventListener("change", (event) => this.drawOutcome(Number(event.target.value)));
+    byId("open-order").addEventListener("click", () => this.app.visit("sessions", { script: orderOf(this.drawn).join("\n") }));
+  }
+
+  offer(examples) {
+    this.examples = [...examples.races, ...examples.scripts, ...examples.stories];
+    let from = 0;
+    const listed = (kind) => examples[kind].map((story) => [String(from++), titleOf(story)]);
+    options(byId("race-example"), [["Races", listed("races")], ["Examples", listed("scripts")], ["Stories", listed("stories")]]);
+  }
+
+  openExample(choice) {
+    const example = this.examples[Number(choice)];
+    if (choice === "" || !example) return;
+    this.app.visit("race", { ...this.asked(false), script: withoutRemarks(example.text) });
+  }
+
+  asked(go) {
+    const number = (id) => byId(id).value;
+    return { script: this.script(), together: byId("together").checked ? 1 : "", renew: byId("renew").checked ? 1 : "",
+      seed: byId("shuffled").checked ? number("seed") : "", runs: number("runs"), capacity: number("capacity"), go: go ? ++this.runs : "" };
+  }
+
+  // The text of the box; bytes that aren't text stay as the address had them while the box isn't touched.
+  script() {
+    const typed = byId("race-script").value;
+    return this.opened && typed === this.opened.text ? this.opened.bytes : fromText(typed);
+  }
+
+  enter(state) {
+    const bytes = state.script ?? "";
+    this.opened = { bytes, text: toText(bytes) ?? Array.from(bytes).join("") };
+    byId("race-script").value = this.opened.text;
+    this.opened.text = byId("race-script").value;
+    follow(byId("race-example"), this.examples, (example) => withoutRemarks(example.text) === bytes);
+    byId("together").checked = Boolean(state.together);
+    byId("renew").checked = Boolean(state.renew);
+    byId("shuffled").checked = state.seed !== undefined;
+    for (const [id, plain] of [["seed", "1"], ["runs", "50"], ["capacity", "1024"]]) byId(id).value = state[id] ?? plain;
+    this.runs = Math.max(this.runs, Number(state.go) || 0);
+    const wanted = JSON.stringify(state);
+    if (state.go && wanted !== this.begun) this.race(wanted);
+  }
+
+  async race(wanted) {
+    this.begun = wanted;
+    this.raced = this.script();
+    this.histories = new Map();
+    this.picked = null;
+    byId("one-history").hidden = true;
+    const times = Math.max(1, Math.min(200, Number(byId("runs").value) || 1));
+    const question = { script: this.raced, together: byId("together").checked, renew: byId("renew").checked,
+      capacity: Number(byId("capacity").value) };
+    const seed = byId("shuffled").checked ? Number(byId("seed").value) : null;
+    this.app.notify({});
+    try {
+      for (let done = 0; done < times && this.begun === wanted; ) {
+        const { ran } = await ask("race", { ...question, times: Math.min(BATCH, times - done), seed: seed === null ? null : seed + done });
+        if (this.begun !== wanted) return;
+        done += ran.length;
+        if (!this.take(ran)) break;
+        fill(byId("race-progress"), `${done} of ${times} runs`);
+      }
+    } catch (fault) {
+      if (!(fault instanceof Failure)) throw fault;
+      this.app.notify({ fault: fault.message });
+    }
+  }
+
+  // Counts what came; false where a child ended badly, or the script has faulty lines.
+  take(ran) {
+    for (const { output, status, error } of ran) {
+      if (status !== 0) {
+        this.app.notify({ fault: endingText({ status, error }) });
+        return false;
+      }
+      const outcome = readOutcome(output);
+      if (outcome.faults.length || !outcome.history) return this.drawFaults(outcome.faults);
+      this.count(outcome, output);
+    }
+    this.drawFaults([]);
+    this.drawBars();
+    return true;
+  }
+
+  count(outcome, output) {
+    if (!this.histories.has(outcome.key)) this.histories.set(outcome.key, { key: outcome.key, count: 0, history: outcome.history, outcomes: new Map() });
+    const found = this.histories.get(outcome.key);
+    found.count += 1;
+    found.outcomes.set(output, (found.outcomes.get(output) ?? 0) + 1);
+  }
+
+  drawFaults(faults) {
+    const lines = linesOf(this.raced);
+    fill(byId("race-faults"), faults.map((fault) => {
+      const number = /^LINE (\d+) /.exec(fault);
+      return el("li", {}, shown(fault), number ? [": ", shown(lines[Number(number[1]) - 1] ?? "")] : null);
+    }));
+    if (faults.length) fill(byId("histories"));
+    return faults.length === 0;
+  }
+
+  sorted() {
+    return [...this.histories.values()].sort((a, b) => b.count - a.count || (a.key < b.key ? -1 : 1));
+  }
+
+  drawBars() {
+    const all = this.sorted();
+    if (this.picked === null && all.length) return this.pick(all[0]);
+    const room = byId("histories");
+    const focused = room.contains(document.activeElement);
+    const most = Math.max(...all.map((it) => it.count));
+    fill(room, all.map((it) => this.bar(it, most)));
+    if (focused) room.querySelector('[aria-pressed="true"]').focus();
+  }
+
+  bar(found, most) {
+    const strip = found.history.slice(0, STRIP).map((entry) => el(`span.entry.${sessionClass(entry.session)}`, {}, String(entry.session)));
+    const bar = el("span.bar");
+    bar.style.setProperty("--part", found.count / most);
+    return el("button.history", { type: "button", "aria-pressed": String(found.key === this.picked), "data-count": found.count,
+      "aria-label": `History of ${found.history.length} entries, by sessions ${found.history.map((it) => it.session).join(" ")}: came ${found.count} times`,
+      onclick: () => this.pick(found) },
+    el("span.count", {}, String(found.count)), bar,
+    el("span.strip", {}, strip, found.history.length > STRIP ? "…" : null, found.history.length === 0 ? "no entries" : null));
+  }
+
+  pick(found) {
+    this.picked = found.key;
+    const outcomes = [...found.outcomes].sort(([a, m], [b, n]) => n - m || (a < b ? -1 : 1));
+    this.outcomes = outcomes.map(([text]) => text);
+    fill(byId("outcome"), outcomes.map(([, count], at) => el("option", { value: at }, `${at + 1} of ${outcomes.length}: came ${count} times`)));
+    byId("outcome-choice").hidden = outcomes.length < 2;
+    byId("one-history").hidden = false;
+    this.drawBars();
+    this.drawOutcome(0);
+  }
+
+  drawOutcome(at) {
+    const text = this.outcomes[at];
+    this.drawn = tie(readOutcome(text), this.raced);
+    draw(byId("history"), this.drawn);
+    printedInto(byId("race-printed"), text);
+  }
+}

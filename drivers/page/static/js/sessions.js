@@ -1,0 +1,156 @@
+// The view of sessions: a column each, the branches as cards, and the rows.
+import { fromText, linesOf } from "./bytes.js";
+import { card, rowLine, rowsOf, xidText } from "./cards.js";
+import { lineItem, widestSession } from "./columns.js";
+import { enable, wire } from "./controls.js";
+import { bringIntoView, byId, el, fill, keepingFocus, options, printedInto, remarkOf, sessionClass } from "./dom.js";
+import { readShown } from "./listing.js";
+import { Patch } from "./patch.js";
+import { Tape } from "./tape.js";
+import { follow, titleOf } from "./titles.js";
+
+const FEWEST = 2;
+const MOST = 16;
+const PEEK = 70; // so much of the lines that wait is seen
+
+export class Sessions {
+  constructor(app) {
+    this.app = app;
+    this.view = byId("sessions");
+    this.columns = FEWEST;
+    this.tape = new Tape({ job: "show" }, (news) => this.changed(news));
+    this.read = [];  // the answers, read
+    this.given = new Patch(byId("given"));
+    this.pending = new Patch(byId("pending"));
+    wire(this.view, this.tape, (lines, at) => this.open(lines, at));
+    byId("add-session").addEventListener("click", () => this.addSession());
+    byId("race-this").addEventListener("click", () => this.raceThese());
+    byId("story").addEventListener("change", (event) => this.openStory(event.target.value));
+    byId("entry").addEventListener("submit", (event) => event.preventDefault());
+  }
+
+  offer(examples) {
+    this.stories = [...examples.stories, ...examples.scripts];
+    const listed = (kind, from) => examples[kind].map((story, at) => [String(from + at), titleOf(story)]);
+    options(byId("story"), [["Stories", listed("stories", 0)], ["Examples", listed("scripts", examples.stories.length)]]);
+  }
+
+  // A script as the address has it; what is there already is left as it is.
+  enter(state) {
+    const lines = linesOf(state.script ?? "");
+    const at = state.at === undefined ? lines.length : Number(state.at);
+    if (lines.join("\n") === this.tape.lines.join("\n") && at === this.tape.at) return this.changed({});
+    this.columns = FEWEST;
+    return this.tape.open(lines, at);
+  }
+
+  state() {
+    const { lines, at } = this.tape;
+    return { script: lines.join("\n"), at: lines.length && at !== lines.length ? at : "" };
+  }
+
+  open(lines, at) {
+    this.app.visit("sessions", { script: lines.join("\n"), at: lines.length ? at : "" });
+  }
+
+  openStory(choice) {
+    const story = this.stories[Number(choice)];
+    if (choice !== "" && story) this.open(linesOf(story.text), 0);
+  }
+
+  raceThese() {
+    const lines = this.tape.lines.filter((line) => !line.startsWith("#"));
+    this.app.visit("race", { script: lines.join("\n") });
+  }
+
+  addSession() {
+    this.columns = Math.min(MOST, this.columns + 1);
+    this.drawHeads();
+    byId("entry").querySelector(`input[name="${this.columns}"]`)?.focus();
+  }
+
+  give(session, input) {
+    const text = input.value;
+    input.value = "";
+    return this.tape.give(fromText(`${session} ${text}`));
+  }
+
+  changed(news) {
+    this.app.notify(news);
+    this.read = this.tape.answers.map(([text], at) => (text === this.read[at]?.text ? this.read[at] : { text, ...readShown(text) }));
+    this.columns = Math.max(this.columns, widestSession(this.tape.lines));
+    this.drawHeads();
+    this.drawLines();
+    this.drawStore();
+    enable(this.view, this.tape);
+    fill(byId("story-remark"), remarkOf(this.tape.lines));
+    follow(byId("story"), this.stories, (story) => linesOf(story.text).join("\n") === this.tape.lines.join("\n"));
+    this.app.keep("sessions", this.state());
+    if (news.asked) this.app.measured(news.asked);
+  }
+
+  now() {
+    return this.read.slice(0, this.tape.at);
+  }
+
+  branchesNow() {
+    return this.now().findLast((it) => it.session !== null)?.branches ?? [];
+  }
+
+  drawHeads() {
+    const branches = this.branchesNow();
+    this.view.style.setProperty("--columns", this.columns);
+    const numbers = Array.from({ length: this.columns }, (_, at) => at + 1);
+    fill(byId("heads"), el("span.gutter"), numbers.map((session) => {
+      const own = branches.find((branch) => branch.session === String(session));
+      return el(`div.head.${sessionClass(session)}`, {}, el("strong", {}, `Session ${session}`), " ",
+        own ? el("span.seat", {}, own.phase, " ", xidText(own.xid)) : el("span.seat", {}, "free"));
+    }));
+    const entry = byId("entry");
+    if (entry.children.length === this.columns + 1) return;
+    const kept = new Map([...entry.querySelectorAll("input")].map((input) => [input.name, input.value]));
+    fill(entry, el("span.gutter", { "aria-hidden": "true" }, "▸"), numbers.map((session) => this.input(session, kept)));
+  }
+
+  input(session, kept) {
+    const input = el("input", { name: session, type: "text", spellcheck: "false", autocapitalize: "off", "aria-label": `Statement of session ${session}`,
+      placeholder: "statement, Enter" });
+    input.value = kept.get(String(session)) ?? "";
+    input.addEventListener("keydown", (event) => {
+      if (event.key !== "Enter" || event.isComposing) return;
+      event.preventDefault();
+      this.give(session, input);
+    });
+    return el(`div.${sessionClass(session)}`, {}, input);
+  }
+
+  drawLines() {
+    const { lines, at } = this.tape;
+    const item = (line, place, answer) => [`${place} ${line}`, answer, () => this.item(line, place, answer)];
+    keepingFocus(byId("given").parentElement, () => {
+      this.given.show(lines.slice(0, at).map((line, place) => item(line, place, this.read[place])));
+      this.pending.show(lines.slice(at).map((line, place) => item(line, at + place, null)));
+    });
+    const last = byId("given").lastElementChild;
+    if (last && !this.view.hidden) bringIntoView(byId("given").parentElement, last, byId("entry").offsetHeight + (at < lines.length ? PEEK : 0));
+  }
+
+  item(line, place, answer) {
+    const made = lineItem(line, place, answer, (wanted) => this.tape.goTo(wanted));
+    if (answer === null) {
+      const label = `Remove line ${place + 1}`;
+      made.append(el("button.remove", { type: "button", title: label, "aria-label": label, onclick: () => this.tape.remove(place) }, "×"));
+    }
+    return made;
+  }
+
+  drawStore() {
+    const branches = this.branchesNow();
+    fill(byId("branches"), branches.length ? branches.map(card) : el("p.hint", {}, "There is no branch."));
+    const rows = rowsOf(this.now(), branches);
+    fill(byId("rows").tBodies[0], rows.map(rowLine));
+    byId("rows").hidden = rows.length === 0;
+    byId("no-rows").hidden = rows.length > 0;
+    printedInto(byId("printed"), this.now().at(-1)?.text ?? "");
+  }
+}

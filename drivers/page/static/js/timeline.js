@@ -1,0 +1,41 @@
+// Draws a history as a line of entries, each answer at its place in its session's column.
+import { asLiteral } from "./bytes.js";
+import { replyText } from "./columns.js";
+import { el, fill, sessionClass, shown } from "./dom.js";
+import { hungAt } from "./outcome.js";
+
+// A statement as the program prints it, with literals as a person would write them.
+export const readable = (statement) => statement.replace(/0x[0-9a-f]+/g, asLiteral);
+
+function answerBox(answer) {
+  const plain = { ...answer, session: null, branches: [] };
+  return el(`div.hung.${sessionClass(answer.session)}`, { "data-place": answer.place, "data-session": answer.session },
+    shown(answer.statement, "bdi.statement"), replyText(plain, answer.statement));
+}
+
+function cells(columns, boxes) {
+  return Array.from({ length: columns }, (_, at) =>
+    el("td", {}, boxes.filter((answer) => answer.session === at + 1).map(answerBox)));
+}
+
+function betweenRow(outcome, place, columns) {
+  const boxes = hungAt(outcome, place);
+  if (!boxes.length) return null;
+  return el("tr.between", {}, el("th.node", { scope: "row" }, el("span.dot", {}, "")), el("td"), cells(columns, boxes));
+}
+
+function entryRow(entry, columns) {
+  return el(`tr.entry.${sessionClass(entry.session)}`, { "data-place": entry.place },
+    el("th.node", { scope: "row" }, el("span.dot", {}, String(entry.place))),
+    el("td.canonical", { title: entry.statement }, el("span.who", {}, String(entry.session)), " ", el("bdi", {}, readable(entry.statement))),
+    cells(columns, entry.answer ? [entry.answer] : []));
+}
+
+export function draw(room, outcome) {
+  const columns = Math.max(1, ...outcome.answers.map((answer) => answer.session));
+  const heads = Array.from({ length: columns }, (_, at) => el(`th.${sessionClass(at + 1)}`, { scope: "col" }, `Session ${at + 1}`));
+  const rows = outcome.history.flatMap((entry) => [betweenRow(outcome, entry.place, columns), entryRow(entry, columns)]);
+  fill(room, el("table.timeline", {},
+    el("thead", {}, el("tr", {}, el("th", { scope: "col" }, "Place"), el("th", { scope: "col" }, "Entry"), heads)),
+    el("tbody", {}, [...rows, betweenRow(outcome, outcome.history.length, columns)].filter((row) => row))));
+}

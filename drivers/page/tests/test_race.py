@@ -1,0 +1,141 @@
+"""The view of races, driven by keys."""
+import re
+import unittest
+from urllib.parse import unquote_plus
+
+from selenium.webdriver.common.keys import Keys
+from support import ROOT, help_of, says
+from views import View, replies
+
+WRITERS = (ROOT / "drivers/page/races/two_writers.script").read_bytes()
+HUNG = """return [...document.querySelectorAll('#history .hung')].map((it) => [Number(it.dataset.session), Number(it.dataset.place),
+    it.querySelector('.statement').textContent, it.querySelector('.reply').textContent])"""
+PLAYED = """return [...document.querySelectorAll('#given .cell')].map((it) =>
+    [Number(it.style.getPropertyValue('--column')), it.querySelector('.statement').textContent, it.querySelector('.reply').textContent])"""
+ENTRIES = "return [...document.querySelectorAll('#history tr.entry')].map((it) => [Number(it.dataset.place), it.querySelector('.canonical').title])"
+
+
+class Race(View):
+    view = "race"
+
+    def race(self, times):
+        self.browser.replace("#runs", str(times))
+        self.browser.push('#race-form button[type="submit"]')
+        self.until(lambda: self.browser.text("#race-progress") == f"{times} of {times} runs", "all runs came back")
+
+    def bars(self):
+        return [int(count) for count in self.browser.run("return [...document.querySelectorAll('#histories .history')].map((it) => it.dataset.count)")]
+
+    def opened(self):
+        """The lines of the script that the address has in Sessions, or None elsewhere."""
+        found = re.fullmatch(r"#sessions\?script=(.*)", self.browser.run("return location.hash"))
+        return unquote_plus(found[1]).splitlines() if found else None
+
+    def assert_drawn(self):
+        """What is drawn is what the program printed: each entry at its place, each answer at its own, in its session's column."""
+        text = self.browser.text("#race-printed")
+        head, *lines = text.splitlines()
+        count = int(head.removeprefix("HISTORY "))
+        entries = [line.split(" ", 2) for line in lines[:count]]
+        self.assertEqual(self.browser.run(ENTRIES), [[int(place), statement] for place, _, statement in entries])
+        answers = [line.split(" ", 2) for line in lines[count:]]
+        wanted = sorted([int(session), int(place), reply] for session, place, reply in answers)
+        self.assertEqual(sorted([session, place, reply] for session, place, _, reply in self.browser.run(HUNG)), wanted)
+        return text
+
+    def test_histories_are_counted(self):
+        self.browser.choose("#race-example", "first come")
+        self.until(lambda: self.browser.one("#race-script").get_property("value").startswith("1 XA START 'a'"), "the script")
+        self.race(30)
+        bars = self.bars()
+        self.assertEqual(sum(bars), 30)
+        self.assertEqual(bars, sorted(bars, reverse=True))
+        self.assertIn(len(bars), (1, 2), "one of the two sessions is first")
+        self.assert_drawn()
+
+    def test_each_history_is_drawn_and_opened_as_one_order(self):
+        self.open(script=WRITERS, runs=25, go=1)
+        self.until(lambda: self.browser.text("#race-progress") == "25 of 25 runs", "all runs came back")
+        self.assertEqual(sum(self.bars()), 25)
+        self.pictures()
+        address = None
+        for at in range(min(3, len(self.bars()))):
+            self.browser.push(f"#histories .history:nth-child({at + 1})")
+            self.until(lambda at=at: self.browser.all(f"#histories .history:nth-child({at + 1})[aria-pressed=true]"), "it is picked")
+            self.assert_drawn()
+            raced = sorted((session, statement, reply) for session, _, statement, reply in self.browser.run(HUNG))
+            address = address or self.browser.run("return location.href")
+            self.browser.push("#open-order")
+            self.until(lambda: [f"{session} {statement}" for session, statement, _ in self.browser.run(PLAYED)] == self.opened(), "the order is played")
+            played = self.browser.run(PLAYED)
+            self.assertEqual(sorted(map(tuple, played)), raced, "each statement is answered as in the race")
+            order = "".join(f"{session} {statement}\n" for session, statement, _ in played).encode()
+            self.assertEqual([reply for _, _, reply in played], replies(says("run", order)[0].decode()))
+            self.browser.run("history.back()")
+            self.until(lambda: self.browser.run("return location.href") == address, "back at the race")
+
+    def test_one_session_has_one_history(self):
+        """What enters nothing hangs before the entry at its place, and so it is played."""
+        script = ["XA END 'a'", "XA START 'a'", "GET 'k'", "GET 'k'", "PUT 'k','v'", "XA PREPARE 'a'", "XA END 'a'", "XA RECOVER", "XA PREPARE 'a'",
+                  "XA RECOVER CONVERT XID", "XA COMMIT 'a'", "GET 'k'"]
+        enter = [False, True, True, False, True, False, True, False, True, False, True, False]
+        self.open(script="\n".join(f"1 {statement}" for statement in script), runs=3, go=1)
+        self.until(lambda: self.bars() == [3], "the same history three times")
+        rows = self.browser.run("""return [...document.querySelectorAll('#history tbody tr')].map((row) =>
+            [row.classList.contains('entry'), [...row.querySelectorAll('.statement')].map((it) => it.textContent)])""")
+        self.assertEqual(rows, [[enters, [statement]] for enters, statement in zip(enter, script)])
+        self.browser.push("#open-order")
+        self.until(lambda: len(self.browser.all("#given > li")) == len(script), "the order is played")
+        self.assertEqual([statement for _, statement, _ in self.browser.run(PLAYED)], script)
+        self.assertEqual(self.browser.texts("#given pre.rows"), ["1 1 0 0x61"])
+
+    def test_its_state_is_in_the_address(self):
+        self.browser.type("#race-script", "1 PUT 'k','v'\n2 PUT 'k','w'")
+        self.browser.replace("#capacity", "7")
+        self.race(2)
+        self.reopen()
+        self.until(lambda: self.browser.text("#race-progress") == "2 of 2 runs", "it is raced anew")
+        self.assertEqual(self.browser.one("#race-script").get_property("value"), "1 PUT 'k','v'\n2 PUT 'k','w'")
+        self.assertEqual(self.browser.one("#capacity").get_property("value"), "7")
+
+    def test_faulty_lines_are_shown_as_the_program_names_them(self):
+        script = b"1 XA START 'a'\nwhat <script>window.hacked=1</script>\n2 XA COMIT 'a'\n1 PUT '\xff'"
+        self.open(script=script, go=1)
+        self.until(lambda: self.browser.all("#race-faults li"), "the faulty lines")
+        wanted = [f"{fault}: {line}" for fault, line in zip(says("race", script)[0].decode().splitlines(),
+                                                            ["what <script>window.hacked=1</script>", "2 XA COMIT 'a'", "1 PUT 'ff'"])]
+        self.assertEqual(self.browser.texts("#race-faults li"), wanted)
+        self.assertEqual(self.bars(), [])
+
+    def test_a_full_history_is_said_so(self):
+        self.open(script="1 PUT 'k','v'\n1 PUT 'k','w'", capacity=1, go=1)
+        self.until(lambda: "status 3" in self.browser.text("#notices"), "the status")
+        self.assertIn("log full", self.browser.text("#notices"))
+        self.assertEqual(self.bars(), [])
+
+    def test_the_options_are_the_programs(self):
+        """Each option is passed on: where the program lacks it, that is said."""
+        known = help_of("race")
+        for option, box in [("--together", "#together"), ("--renew", "#renew"), ("--shuffle", "#shuffled")]:
+            with self.subTest(option=option):
+                self.open(script="1 PUT 'k','v'\n2 PUT 'k','w'", runs=3)
+                self.browser.focus(box)
+                self.browser.press(Keys.SPACE)
+                self.browser.push('#race-form button[type="submit"]')
+                if option in known:
+                    self.until(lambda: self.browser.text("#race-progress") == "3 of 3 runs", "it is raced")
+                    self.assertEqual(sum(self.bars()), 3)
+                    self.assert_drawn()
+                else:
+                    self.until(lambda: "status 2" in self.browser.text("#notices"), "the program's refusal")
+                    self.assertRegex(self.browser.text("#notices"), re.escape(option))
+
+    def test_remarks_of_a_story_are_left_out(self):
+        self.browser.choose("#race-example", "own writes")
+        self.until(lambda: self.browser.one("#race-script").get_property("value").startswith("1 PUT 'k','old'"), "the script without its remark")
+        self.race(1)
+        self.assert_drawn()
+
+
+if __name__ == "__main__":
+    unittest.main()
