@@ -14,8 +14,6 @@ mod reading;
 mod response;
 mod run;
 mod stage;
-#[cfg(test)]
-mod tests;
 
 pub use call::Call;
 pub use call_server::CallServer;
@@ -26,5 +24,5 @@ pub use poll::Poll;
 pub use print::write_response;
 pub use reading::read_call;
 pub use response::Response;
-pub use run::{converse, coordinate};
+pub use run::{converse, coordinate, manager_over, open_stores};
 pub use stage::Stage;

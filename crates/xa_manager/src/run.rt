@@ -73,8 +73,13 @@ fn open_store(alloc: Global, capacity: u64) -> Result<(Store, Pass, Pass), NoMem
     Ok((store, first, second))
 }
 
-/// Opens so many stores, and gives the passes of their two sessions.
-pub(crate) fn open_stores(
+/// Opens so many stores, each with room for `capacity` entries and two sessions, and returns them with the passes of their first sessions, the
+/// coordinator's, and of their second ones, the strangers'.
+///
+/// Errors: `NoMemory` where memory can't be had, or where `capacity` isn't in `[1, 1024]`; nothing is kept then.
+/// May return `NoMemory`. Never waits.
+/// Own rule: docs/COORDINATOR.md, 'At the command line'.
+pub fn open_stores(
     alloc: Global,
     count: u64,
     capacity: u64,
@@ -126,8 +131,12 @@ fn fuse_each<S: Speak + Drop>(alloc: Global, sessions: Vec<S>) -> Result<Vec<Fus
     Ok(fused)
 }
 
-/// A manager over these stores, by the passes of their two sessions.
-pub(crate) fn manager_over<'a>(
+/// A manager over 1 to 16 stores, by the passes of their two sessions as `open_stores` returns them: nothing has begun, and no session fails.
+///
+/// Errors: `NoMemory`; the passes are gone then.
+/// May return `NoMemory`. Never waits.
+/// Own rule: docs/COORDINATOR.md, 'At the command line'.
+pub fn manager_over<'a>(
     alloc: Global,
     stores: &'a [Store],
     firsts: Vec<Pass>,

@@ -8,6 +8,8 @@ mod carrying;
 #[cfg(test)]
 mod gates;
 #[cfg(test)]
+mod races;
+#[cfg(test)]
 mod renewal;
 #[cfg(test)]
 mod rounds;
