@@ -10,8 +10,6 @@ mod log_table;
 mod log_words;
 mod seating;
 mod sizes;
-#[cfg(test)]
-mod tests;
 mod turn_log;
 mod view;
 

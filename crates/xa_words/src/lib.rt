@@ -8,8 +8,6 @@ pub mod laws;
 mod layout;
 mod limits;
 mod reader;
-#[cfg(test)]
-mod tests;
 mod writer;
 
 pub use entry::Entry;

@@ -1,6 +1,5 @@
 //! The battery over a log with a turn, and how it is opened.
-
-use super::{AddFault, OpenFault, TurnLog, battery, laws};
+use decision_log::{AddFault, OpenFault, TurnLog, battery, laws};
 
 #[test]
 fn an_add_is_overtaken_then_stands_until_the_log_is_full(rt: HostRuntime) {

@@ -1,7 +1,7 @@
-//! What the clauses mean, by example.
+//! Entries as words and back, by example.
 ghost use Rattle.std.specs.Prelude.{◌≡◌, ◌≤◌, length};
 
-use super::*;
+use xa_words::{Entry, WORDS, decode, encode, laws};
 use xa_xid::{Bytes, Key, SessionNo, Statement, Xid};
 
 fn session(number: u64) -> SessionNo
