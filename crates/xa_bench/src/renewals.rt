@@ -98,7 +98,7 @@ fn executed<R: Wait + Alloc<A = Global>>(
 }
 
 /// The store once its session has given the statements of these numbers.
-fn left<R: Wait + Alloc<A = Global>>(
+fn worked<R: Wait + Alloc<A = Global>>(
     rt: &R,
     kept: Kept,
     work: Work,
@@ -132,7 +132,7 @@ fn filled<R: Wait + Alloc<A = Global>>(
     for round in 0..count.div_ceil(ENTRIES) {
         let from = round.saturating_mul(ENTRIES);
         let to = from.saturating_add(ENTRIES).min(count);
-        kept = renewed(rt.alloc(), left(rt, kept, work, from, to)?)?;
+        kept = renewed(rt.alloc(), worked(rt, kept, work, from, to)?)?;
     }
     Ok(kept)
 }
@@ -150,9 +150,9 @@ pub fn nanoseconds_a_renewal<R: Clock + Wait + Alloc<A = Global>>(
     let mut kept = filled(rt, rowed, Work::Branches, prepared.saturating_mul(4))?;
     let mut least = u64::MAX;
     for _ in 0..tries {
-        let worked = left(rt, kept, Work::Rows, 0, entries.min(ENTRIES))?;
+        let ended = worked(rt, kept, Work::Rows, 0, entries.min(ENTRIES))?;
         let begun = Instant::now(rt)?;
-        kept = renewed(rt.alloc(), worked)?;
+        kept = renewed(rt.alloc(), ended)?;
         let taken = begun.elapsed(rt)?.as_nanos();
         least = least.min(u64::try_from(taken).unwrap_or(u64::MAX));
     }
