@@ -33,13 +33,13 @@ fn number_of<'a>(rt: &impl Abort, text: &'a [u8]) -> (u64, &'a [u8]) {
 
 /// The statement of a line of a script.
 fn said_on(rt: &impl Abort, line: &[u8]) -> Said {
-    let ScriptLine::Given(session, text) = read_line(line) else {
-        panic!(rt; "not a line")
-    };
-    let Ok(statement) = read_statement(text) else {
-        panic!(rt; "not a statement")
-    };
-    Said { session, statement }
+    match read_line(line) {
+        ScriptLine::Given(session, text) => match read_statement(text) {
+            Ok(statement) => Said { session, statement },
+            Err(_) => panic!(rt; "not a statement"),
+        },
+        ScriptLine::Blank | ScriptLine::Bad => panic!(rt; "not a line"),
+    }
 }
 
 /// All statements of a script, in order.

@@ -49,5 +49,5 @@ no_flag_read gives parses (Some text) None none value is same =
 
 -- a race goes on where the flag is given
 pub renewal_of : (renew : Option Text) (renews : Bool) → (renews ≡ true → renew ≡ Some (codes "true")) → (renews ≡ false → renew ≢ Some (codes "true")) → IsRenewalOf renew renews
-renewal_of renew true yes no = yes refl
-renewal_of renew false yes no = no refl
+renewal_of renew true given absent = given refl
+renewal_of renew false given absent = absent refl
