@@ -6,7 +6,8 @@ KINDS = {
     "races": ["drivers/page/races/*.script", "examples/races/*.script"],
     "calls": ["examples/*.calls"],
     "stops": ["examples/stops/*.calls"],
-    "records": ["drivers/page/records/*.record", "examples/**/*.record"],
+    "records": ["drivers/page/records/*.record"],
+    "judged": ["examples/**/*.record"],
 }
 MOST = 1 << 18  # a longer file isn't offered
 

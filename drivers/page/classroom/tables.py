@@ -1,4 +1,4 @@
-"""The tables of docs/BEHAVIOR.md that the page cites: the table of replies, and that of the refusals."""
+"""What the page cites of docs/BEHAVIOR.md: the table of replies, that of the refusals, and what is said elsewhere of an error."""
 import re
 
 
@@ -21,6 +21,15 @@ def tables_in(text, heading):
     return found
 
 
+def notes_in(text):
+    """For the number of an error the first item of a list that has it."""
+    found = {}
+    for item in re.findall(r"^- (.*?)(?=^- |^$|\Z)", text, re.MULTILINE | re.DOTALL):
+        for number in re.findall(r"ERROR (\d{4}) \(", item):
+            found.setdefault(number, " ".join(item.split()))
+    return found
+
+
 def tables(root):
-    found = tables_in((root / "docs/BEHAVIOR.md").read_text(encoding="utf-8"), "Replies")
-    return dict(zip(["replies", "refusals"], found))
+    text = (root / "docs/BEHAVIOR.md").read_text(encoding="utf-8")
+    return {**dict(zip(["replies", "refusals"], tables_in(text, "Replies"))), "notes": notes_in(text)}

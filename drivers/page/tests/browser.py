@@ -1,16 +1,18 @@
 """Chromium without a window, driven by its keys, as a person without a mouse would."""
+import atexit
+import functools
 import os
 import time
 
 from selenium import webdriver
+from selenium.common.exceptions import NoSuchElementException
 from selenium.webdriver.common.action_chains import ActionChains
 from selenium.webdriver.common.by import By
 from selenium.webdriver.common.keys import Keys
 from selenium.webdriver.chrome.options import Options
 from selenium.webdriver.chrome.service import Service
-from selenium.webdriver.support.ui import WebDriverWait
 
-PATIENCE = 60  # seconds: a machine may be busy with other work
+PATIENCE = 240  # seconds: a machine may be busy with other work
 FURTHER = 50  # steps that are taken one by one where the counted ones didn't lead there
 # How many elements the tabulator has to pass from the focus to the wanted one; fewer than 0 where it lies behind.
 STEPS = """
@@ -22,10 +24,26 @@ STEPS = """
 IS_THERE = "return document.activeElement === document.querySelector(arguments[0])"
 
 
-def open_browser(*further):
+ELSEWHERE = "elsewhere.example"  # a name that leads to this machine
+SIZE = (1000, 800)
+WORDS = ("--headless=new", "--disable-gpu", "--disable-dev-shm-usage", "--force-prefers-reduced-motion", "--no-first-run", "--disable-extensions",
+         "--disable-background-networking", "--disable-component-update", "--disable-sync", "--disable-breakpad", "--disable-back-forward-cache",
+         "--disable-features=PreloadTopChromeWebUI,Translate,MediaRouter", f"--window-size={SIZE[0]},{SIZE[1]}",
+         f"--host-resolver-rules=MAP {ELSEWHERE} 127.0.0.1")
+
+
+@functools.cache
+def the_browser():
+    """One browser for all tests: the first that wants it starts it, and it ends with them."""
+    browser = open_browser()
+    atexit.register(browser.close)
+    return browser
+
+
+def open_browser():
     options = Options()
     options.binary_location = "/usr/bin/chromium"
-    for word in ("--headless=new", "--disable-gpu", "--disable-dev-shm-usage", "--window-size=1400,1000", "--force-prefers-reduced-motion", *further):
+    for word in WORDS:
         options.add_argument(word)
     if os.geteuid() == 0:
         options.add_argument("--no-sandbox")  # Chromium doesn't start as root with it
@@ -45,6 +63,11 @@ class Browser:
         self.driver.get(address)
         self.until(lambda: self.text("#program"), "the page says the program's version")
 
+    def leave(self):
+        """Leaves the page while its server is still there, to which it says so; what the browser complained of is no further test's."""
+        self.driver.get("about:blank")
+        self.complaints()
+
     def all(self, css):
         return self.driver.find_elements(By.CSS_SELECTOR, css)
 
@@ -62,7 +85,20 @@ class Browser:
         return self.driver.execute_script(script, *arguments)
 
     def until(self, holds, what):
-        WebDriverWait(self.driver, PATIENCE, 0.05).until(lambda _: holds(), what)
+        """Waits, and asks less and less often: on a busy machine each question takes time from what is waited for."""
+        deadline, pause = time.monotonic() + PATIENCE, 0.01
+        while not self._is_so(holds):
+            if time.monotonic() > deadline:
+                raise AssertionError(f"it didn't come: {what}")
+            time.sleep(pause)
+            pause = min(pause * 1.5, 0.5)
+
+    @staticmethod
+    def _is_so(holds):
+        try:
+            return holds()
+        except NoSuchElementException:
+            return False
 
     # a keyboard
 
@@ -102,22 +138,23 @@ class Browser:
         self.press(Keys.ENTER)
 
     def choose(self, css, beginning):
-        """Chooses an option by typing what it begins with; where that was too slow to be taken for one word, once more."""
+        """Chooses an option by typing its first word; where that was too slow to be taken for one word, once more. (A blank that comes late opens the list.)"""
         self.focus(css)
         for _ in range(5):
-            self.press(beginning)
+            self.press(beginning.split(" ")[0])
             if self.run("return document.querySelector(arguments[0]).selectedOptions[0].textContent", css).startswith(beginning):
-                break
+                return
             time.sleep(2)
-        self.press(Keys.ENTER)
+        raise AssertionError(f"{beginning} can't be chosen in {css}")
 
     def complaints(self):
         """What the browser itself says is wrong, as a breach of the policy or an error of a script."""
         return [it for it in self.driver.get_log("browser") if it["level"] == "SEVERE"]
 
-    def picture(self, path, width, height=1000):
-        self.driver.set_window_size(width, height)
+    def picture(self, path, size):
+        self.driver.set_window_size(*size)
         self.driver.save_screenshot(str(path))
+        self.driver.set_window_size(*SIZE)
 
     def close(self):
         self.driver.quit()

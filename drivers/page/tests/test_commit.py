@@ -54,6 +54,7 @@ class Commit(View):
         self.until(lambda: self.given() == before + 1, f"{call} is answered")
 
     def test_the_table_of_stops(self):
+        self.open()
         self.assertEqual(len(STOPS), 17, "0 to 15, and the twelfth before and behind the decision")
         for stop in STOPS:
             with self.subTest(stop=stop.stem):
@@ -80,6 +81,7 @@ class Commit(View):
         self.pictures()
 
     def test_a_transaction_by_buttons(self):
+        self.open()
         self.push("BEGIN")
         self.push("WORK n k s")
         self.browser.replace("#k", "1")
@@ -123,6 +125,7 @@ class Commit(View):
                          says("coordinate", "\n".join([*calls[:6], "FAIL 1 AFTER 0", calls[6], "STOP", "RECOVER"]).encode() + b"\n")[0].decode())
 
     def test_its_state_is_in_the_address(self):
+        self.open()
         self.browser.replace("#stores", "5\n")
         self.until(lambda: len(self.browser.all(".lane-head")) == 8, "five stores")
         self.browser.replace("#k", "4")

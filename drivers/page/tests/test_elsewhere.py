@@ -7,11 +7,10 @@ import unittest
 from http.server import BaseHTTPRequestHandler, ThreadingHTTPServer
 from pathlib import Path
 
-from browser import open_browser
+from browser import ELSEWHERE, the_browser
 from selenium.webdriver.common.keys import Keys
 from support import Page, ask, room, standing_in
 
-ELSEWHERE = "elsewhere.example"
 TRIES = """<!doctype html><title>trying</title><iframe src="TARGET"></iframe><script>
 const tried = async (path, settings) => {
   try { const answer = await fetch("TARGET" + path, settings); return answer.type + " " + answer.status; } catch { return "refused"; }
@@ -30,8 +29,10 @@ const race = { method: "POST", body: '{"script": ""}' };
 class Elsewhere(unittest.TestCase):
     @classmethod
     def setUpClass(cls):
-        cls.browser = open_browser(f"--host-resolver-rules=MAP {ELSEWHERE} 127.0.0.1")
-        cls.addClassCleanup(cls.browser.close)
+        cls.browser = the_browser()
+
+    def tearDown(self):
+        self.browser.leave()
 
     def test_a_name_that_leads_here_is_refused(self):
         with Page() as page:
@@ -55,6 +56,7 @@ class Elsewhere(unittest.TestCase):
             self.browser.go(f"http://localhost:{page.port}/#sessions")
             self.browser.type('#entry input[name="1"]', "GET 'k'" + Keys.ENTER)
             self.browser.until(lambda: self.browser.texts("#given .reply") == ["NONE"], "it is answered")
+            self.browser.leave()
 
 
 @contextlib.contextmanager

@@ -3,7 +3,7 @@ import re
 import tempfile
 import unittest
 
-from browser import open_browser
+from browser import the_browser
 from judging import Judging
 from support import ROOT, Page, help_of, says
 from views import View
@@ -24,8 +24,8 @@ class Verdicts(View):
         cls.judging = Judging(folder.name)
         cls.page = Page(cls.judging.program)
         cls.addClassCleanup(cls.page.end)
-        cls.browser = open_browser()
-        cls.addClassCleanup(cls.browser.close)
+        cls.browser = the_browser()
+        cls.addClassCleanup(cls.browser.leave)
 
     def judge(self, record, verdict, status):
         self.judging.gives(verdict, status)
@@ -49,7 +49,7 @@ class Verdicts(View):
         self.assertEqual(self.browser.texts("#given .reply"), [line.split(" ", 1)[1] for line in says("run", order)[0].decode().splitlines()])
 
     def test_an_illegal_line_is_marked_with_what_could_have_been_answered(self):
-        record = RECORDS["read_before_commit"]
+        record = RECORDS["dirty_read"]
         place = record.split(b"\n").index(b"2 < VALUE '9'") + 1
         got = self.judge(record, b"ILLEGAL line %d\nCOULD BE NONE\n" % place, 4)
         self.assertRegex(got, f"^ILLEGAL at line {place}:")
@@ -88,6 +88,7 @@ class Verdicts(View):
 
     def test_an_example_is_judged_by_keys_and_its_state_is_in_the_address(self):
         self.judging.gives(b"UNDECIDED line 3\n", 5)
+        self.open()
         self.browser.choose("#record-example", "handed over")
         self.until(lambda: self.browser.one("#record").get_property("value").startswith("# Session 1 prepares"), "the record")
         self.browser.replace("#limit", "7")
@@ -114,7 +115,7 @@ class Program(View):
                     continue
                 wanted, _ = says("judge", record)
                 self.assertEqual(self.browser.text("#judge-printed").encode(), wanted)
-                verdict = "ILLEGAL" if name == "read_before_commit" else "LEGAL"
+                verdict = "ILLEGAL" if name == "dirty_read" else "LEGAL"
                 self.assertTrue(self.browser.text("#verdict").startswith(verdict))
 
 

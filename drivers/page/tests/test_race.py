@@ -44,6 +44,7 @@ class Race(View):
         return text
 
     def test_histories_are_counted(self):
+        self.open()
         self.browser.choose("#race-example", "first come")
         self.until(lambda: self.browser.one("#race-script").get_property("value").startswith("1 XA START 'a'"), "the script")
         self.race(30)
@@ -57,14 +58,13 @@ class Race(View):
         self.open(script=WRITERS, runs=25, go=1)
         self.until(lambda: self.browser.text("#race-progress") == "25 of 25 runs", "all runs came back")
         self.assertEqual(sum(self.bars()), 25)
-        self.pictures()
-        address = None
+        self.pictures(height=1800)
         for at in range(min(3, len(self.bars()))):
             self.browser.push(f"#histories .history:nth-child({at + 1})")
             self.until(lambda at=at: self.browser.all(f"#histories .history:nth-child({at + 1})[aria-pressed=true]"), "it is picked")
             self.assert_drawn()
             raced = sorted((session, statement, reply) for session, _, statement, reply in self.browser.run(HUNG))
-            address = address or self.browser.run("return location.href")
+            address = self.browser.run("return location.href")
             self.browser.push("#open-order")
             self.until(lambda: [f"{session} {statement}" for session, statement, _ in self.browser.run(PLAYED)] == self.opened(), "the order is played")
             played = self.browser.run(PLAYED)
@@ -84,12 +84,14 @@ class Race(View):
         rows = self.browser.run("""return [...document.querySelectorAll('#history tbody tr')].map((row) =>
             [row.classList.contains('entry'), [...row.querySelectorAll('.statement')].map((it) => it.textContent)])""")
         self.assertEqual(rows, [[enters, [statement]] for enters, statement in zip(enter, script)])
+        self.assertEqual(self.browser.texts("#history .rule"), ["the statement can't be given in that state"] * 2, "a race doesn't say the state")
         self.browser.push("#open-order")
         self.until(lambda: len(self.browser.all("#given > li")) == len(script), "the order is played")
         self.assertEqual([statement for _, statement, _ in self.browser.run(PLAYED)], script)
         self.assertEqual(self.browser.texts("#given pre.rows"), ["1 1 0 0x61"])
 
     def test_its_state_is_in_the_address(self):
+        self.open()
         self.browser.type("#race-script", "1 PUT 'k','v'\n2 PUT 'k','w'")
         self.browser.replace("#capacity", "7")
         self.race(2)
@@ -97,6 +99,43 @@ class Race(View):
         self.until(lambda: self.browser.text("#race-progress") == "2 of 2 runs", "it is raced anew")
         self.assertEqual(self.browser.one("#race-script").get_property("value"), "1 PUT 'k','v'\n2 PUT 'k','w'")
         self.assertEqual(self.browser.one("#capacity").get_property("value"), "7")
+
+    def test_what_was_raced_is_there_on_return_and_gone_with_its_script(self):
+        self.open(script=WRITERS, runs=3, go=1)
+        self.until(lambda: sum(self.bars()) == 3, "all runs came back")
+        seen = (self.bars(), self.browser.text("#race-printed"))
+        self.browser.push('nav [data-view="judge"]')
+        self.until(lambda: self.browser.one("#judge").is_displayed(), "another view")
+        self.browser.push('nav [data-view="race"]')
+        self.until(lambda: self.browser.one("#race").is_displayed(), "back")
+        self.assertEqual((self.bars(), self.browser.text("#race-printed")), seen)
+        self.assertEqual(self.browser.one("#race-script").get_property("value").encode(), WRITERS)
+        self.browser.choose("#race-example", "first come")
+        self.until(lambda: self.bars() == [], "these were another script's")
+        self.assertFalse(self.browser.one("#one-history").is_displayed())
+
+    def test_what_is_typed_is_in_the_address_before_it_is_raced(self):
+        self.open()
+        self.browser.type("#race-script", "1 GET 'k'")
+        self.browser.focus("#runs")
+        self.assertEqual(self.browser.run("return location.hash"), "#race?script=1+GET+'k'&runs=50&capacity=1024")
+        self.reopen()
+        self.assertEqual(self.browser.one("#race-script").get_property("value"), "1 GET 'k'")
+        self.assertEqual(self.bars(), [])
+
+    def test_the_history_that_is_looked_at_is_in_the_address(self):
+        script = "1 XA START 'a'\n2 XA START 'a'"
+        self.open(script=script, runs=2, go=1)
+        self.until(lambda: sum(self.bars()) == 2, "both runs came back")
+        self.browser.push("#histories .history:last-child")
+        looked_at = self.browser.text("#race-printed").split("HISTORY 1\n")[1].splitlines()[0]
+        self.assertRegex(self.browser.run("return location.hash"), r"&go=1&history=[0-9a-f]{8}$")
+        self.reopen()
+        self.until(lambda: sum(self.bars()) == 2, "it is raced anew")
+        said = self.browser.text("#notices")
+        self.assertEqual(self.browser.text("#race-printed").splitlines()[1] == looked_at, said == "")
+        self.open(script=script, runs=1, go=1, history="0")
+        self.until(lambda: "didn't come in these runs" in self.browser.text("#notices"), "no history has that name")
 
     def test_faulty_lines_are_shown_as_the_program_names_them(self):
         script = b"1 XA START 'a'\nwhat <script>window.hacked=1</script>\n2 XA COMIT 'a'\n1 PUT '\xff'"
@@ -131,6 +170,7 @@ class Race(View):
                     self.assertRegex(self.browser.text("#notices"), re.escape(option))
 
     def test_remarks_of_a_story_are_left_out(self):
+        self.open()
         self.browser.choose("#race-example", "own writes")
         self.until(lambda: self.browser.one("#race-script").get_property("value").startswith("1 PUT 'k','old'"), "the script without its remark")
         self.race(1)

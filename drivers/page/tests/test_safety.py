@@ -4,7 +4,7 @@ import re
 import socket
 import unittest
 
-from support import PAGE, Page, own, send
+from support import PAGE, ROOT, Page, own, send
 
 PUT = "1 PUT 'k','v'"
 
@@ -74,6 +74,15 @@ class WhoIsServed(unittest.TestCase):
             if path.is_file():
                 found = re.sub(r'xmlns="http://www.w3.org/2000/svg"', "", path.read_text())
                 self.assertNotRegex(found, r"https?://|@import|innerHTML|outerHTML|insertAdjacentHTML|document\.write|\beval\(", path.name)
+
+    def test_the_rules_that_are_cited_are_those_of_the_document(self):
+        text = (ROOT / "docs/BEHAVIOR.md").read_text()
+        found = json.loads(self.get("/api/tables", ("Host", f"127.0.0.1:{self.port}"))[2])
+        for row in [*found["replies"], *found["refusals"]]:
+            self.assertIn("| " + " | ".join(row) + " |\n", text)
+        self.assertEqual([row[0] for row in found["refusals"][1:]], ["1397", "1398", "1399", "1440", "3572", "1064"])
+        self.assertIn(found["notes"]["1037"], " ".join(text.split()))
+        self.assertTrue(found["notes"]["1037"].startswith("A statement for which memory is refused is answered"))
 
     def test_no_other_file_is_sent(self):
         host = ("Host", f"127.0.0.1:{self.port}")

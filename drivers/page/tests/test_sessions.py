@@ -22,6 +22,14 @@ def blocks(script):
     return found
 
 
+def as_literal(text):
+    """How the page writes these bytes in a statement: in quotes where all of them can be seen, and else in digits."""
+    plain = text.decode("utf-8", "replace")
+    if plain.isprintable() and "\ufffd" not in plain:
+        return "'" + plain.replace("\\", "\\\\").replace("'", "''") + "'"
+    return f"0x{text.hex()}"
+
+
 class Sessions(View):
     view = "sessions"
 
@@ -53,6 +61,7 @@ class Sessions(View):
             self.assertEqual(cells[1], wanted)
 
     def test_a_story_step_by_step(self):
+        self.open()
         wanted = blocks(STORY)
         self.browser.choose("#story", "shared rows")
         self.until(lambda: len(self.browser.all("#pending > li")) == len(wanted), "the story waits")
@@ -85,39 +94,47 @@ class Sessions(View):
         self.until(lambda: not self.browser.all("#pending > li"), "nothing waits")
 
     def test_statements_are_typed_and_answered(self):
+        self.open()
         lines = ["1 XA START 'transfer','debit',7", "1 PUT 'alice','90'", "2 GET 'alice'", "2 PUT 'alice','0'", "2 XA COMIT 'x'", "1 XA END 'transfer','debit',7",
                  "1 XA PREPARE 'transfer','debit',7", "2 XA RECOVER CONVERT XID", "2 XA COMMIT 'transfer','debit',7", "2 GET 'alice'"]
         for line in lines:
             self.say(*line.split(" ", 1))
+            if "CONVERT" in line:
+                self.pictures()
         script = "\n".join(lines).encode() + b"\n"
         self.assertEqual("\n".join(f"{reply}" for reply in self.answers()),
                          "\n".join(reply.split("\n")[0] for reply in replies(says("serve", script)[0].decode())))
         self.assertEqual(self.browser.text("#given pre.rows"), replies(says("serve", script)[0].decode())[7].split("\n", 1)[1])
         self.assertEqual(self.browser.text("#given mark.fault"), "C")
-        self.pictures()
 
     def test_a_refusal_says_its_rule_in_the_words_of_the_table(self):
         table = (ROOT / "docs/BEHAVIOR.md").read_text()
-        for script, where, rule in [
-            ("1 XA COMMIT 'a'", "the identifier isn't that of a branch that the statement could mean", "XA COMMIT, Free: 1397 where the branch isn't PREPARED; else OK"),
-            ("1 xa commit 'a' one phase;", "the identifier isn't that of a branch that the statement could mean",
-             "XA COMMIT .. ONE PHASE, Free: 1397 where the branch isn't PREPARED; else 1399 PREPARED"),
-            ("1 XA BEGIN 'a'\n2 XA BEGIN 'a'", "a branch has the identifier already", "XA START, Free: 1440 where a branch has the identifier; else OK"),
-            ("1 XA START'a'\n1 XA PREPARE 'a'", "the statement can't be given in that state", "XA PREPARE, ACTIVE: 1399 ACTIVE"),
-            ("1 XA START 'a'\n1 XA END 'a'\n1 GET 'k'", "the statement can't be given in that state", "GET, IDLE: 1399 IDLE"),
-            ("1 XA START 'a' JOIN", "the clause isn't supported", "JOIN, RESUME, SUSPEND, Free: 1398"),
-            ("1 XA START 'a'\n1 PUT 'k','v'\n2 DEL 'k'", "another branch holds the row exclusively, or at PUT and DEL in either way", "PUT, DEL, Free: 3572 where held; else OK"),
-            ("1 what", "the text isn't a statement", None),
-        ]:
-            with self.subTest(script=script):
-                self.open(script=script)
-                self.until(lambda script=script: self.given() == len(script.split("\n")), "all is answered")
-                self.assertEqual(self.browser.text("#given li:last-child .rule .where"), where)
-                self.assertIn(where.replace("PUT and DEL", "`PUT` and `DEL`"), table)
-                found = self.browser.texts("#given li:last-child .rule .table")
-                self.assertEqual(found, [rule] if rule else [])
-                if rule:
-                    self.assertIn(rule.split(": ", 1)[1], table)
+        unknown, wrong_state = "the identifier isn't that of a branch that the statement could mean", "the statement can't be given in that state"
+        wanted = [
+            ("1 XA COMMIT 'a'", unknown, "XA COMMIT, Free: 1397 where the branch isn't PREPARED; else OK"),
+            ("1 xa commit 'a' one phase;", unknown, "XA COMMIT .. ONE PHASE, Free: 1397 where the branch isn't PREPARED; else 1399 PREPARED"),
+            ("1 XA END 'a'", wrong_state, "XA END, Free: 1399 NON-EXISTING"),
+            ("1 XA BEGIN 'a'", None, None),
+            ("2 XA BEGIN 'a'", "a branch has the identifier already", "XA START, Free: 1440 where a branch has the identifier; else OK"),
+            ("1 XA PREPARE'a'", wrong_state, "XA PREPARE, ACTIVE: 1399 ACTIVE"),
+            ("1 XA END 'b'", unknown, "XA END, ACTIVE: 1397 where not own; else OK"),
+            ("1 XA END 'a'", None, None),
+            ("1 GET 'k'", wrong_state, "GET, IDLE: 1399 IDLE"),
+            ("1 XA ROLLBACK 'b'", wrong_state, "XA ROLLBACK, IDLE: 1399 IDLE where not own; else OK"),
+            ("1 XA START 'a' JOIN", "the clause isn't supported", "JOIN, RESUME, SUSPEND, IDLE: 1398"),
+            ("3 XA START 'c'", None, None),
+            ("3 PUT 'k','v'", None, None),
+            ("2 DEL 'k'", "another branch holds the row exclusively, or at PUT and DEL in either way", "PUT, DEL, Free: 3572 where held; else OK"),
+            ("4 what", "the text isn't a statement", None),
+        ]
+        self.open(script="\n".join(line for line, _, _ in wanted))
+        self.until(lambda: self.given() == len(wanted), "all is answered")
+        found = self.browser.run("""return [...document.querySelectorAll('#given > li')].map((it) =>
+            ['.where', '.table'].map((part) => it.querySelector(`.rule ${part}`)?.textContent ?? null))""")
+        self.assertEqual(found, [[where, rule] for _, where, rule in wanted])
+        for _, where, rule in wanted:
+            self.assertIn((where or "").replace("PUT and DEL", "`PUT` and `DEL`"), table)
+            self.assertIn((rule or "").split(": ", 1)[-1], table)
 
     def test_its_state_is_in_the_address(self):
         self.open(script=STORY, at=9)
@@ -133,25 +150,24 @@ class Sessions(View):
     def test_bytes_of_any_kind_are_shown_as_text(self):
         hostile = [b"<script>window.hacked=1</script>", b"<img src=x onerror=window.hacked=1>", b"\xff\xfe\xc3\x28", b"line\nfeed", bytes(range(0, 64)),
                    bytes(range(192, 256)), b"'; quotes \\ and \"", "\u202eturned\u200b".encode(), "é ü 日本".encode(), b"&amp;&lt;", b"${window.hacked=1}", b"\0"]
-        for text in hostile:
-            with self.subTest(text=text):
-                literal = f"X'{text.hex()}'"
-                lines = [f"1 XA START {literal},{literal}", f"1 PUT {literal},{literal}", f"1 XA END {literal},{literal}", f"1 XA PREPARE {literal},{literal}",
-                         "2 XA RECOVER", f"2 XA COMMIT {literal},{literal}", f"2 GET {literal}"]
-                self.open(script="\n".join(lines[:5]))
-                self.until(lambda: self.given() == 5, "all is answered")
-                plain = text.decode("utf-8", "replace")
-                readable = plain.isprintable() and "\ufffd" not in plain
-                wanted = "'" + plain.replace("\\", "\\\\").replace("'", "''") + "'" if readable else f"0x{text.hex()}"
-                self.assertEqual(self.browser.text("#branches .xid"), f"{wanted},{wanted},1")
-                self.assertEqual(self.browser.texts("#branches .literal"), [wanted, wanted])
-                head, _, rest = says("serve", "\n".join(lines[:5]).encode())[0].removeprefix(b"1 OK\n" * 4).partition(b"\n")
-                self.assertEqual(head, b"2 ROWS 1")
-                self.assertEqual(self.browser.text("#given pre.rows"), shown_bytes(rest.removesuffix(b"\n")))
-                for line in lines[5:]:
-                    self.say(*line.split(" ", 1))
-                self.assertEqual(self.browser.texts("#rows th[scope=row]"), [wanted])
-                self.assertEqual(self.answers()[-1], f"VALUE 0x{text.hex()}")
+        literals = [f"X'{text.hex()}'" for text in hostile]
+        lines = [line for it in literals for line in (f"1 XA START {it},{it}", f"1 PUT {it},{it}", f"1 XA END {it},{it}", f"1 XA PREPARE {it},{it}")]
+        prepared = len(lines) + 1
+        lines += ["2 XA RECOVER", *[f"2 XA COMMIT {it},{it}" for it in literals], *[f"2 GET {it}" for it in literals]]
+        self.open(script="\n".join(lines), at=prepared)
+        self.until(lambda: self.given() == prepared, "all branches are prepared")
+        readable = {text: as_literal(text) for text in hostile}
+        cards = self.browser.run("""return [...document.querySelectorAll('#branches .card')].map((it) =>
+            ['.xid', '.literal'].map((part) => [...it.querySelectorAll(part)].map((text) => text.textContent)))""")
+        self.assertEqual(sorted(cards), sorted([[f"{it},{it},1"], [it, it]] for it in readable.values()))
+        head, _, rest = says("serve", "\n".join(lines[:prepared]).encode())[0].removeprefix(b"1 OK\n" * (prepared - 1)).partition(b"\n")
+        self.assertEqual(head, b"2 ROWS %d" % len(hostile))
+        self.assertEqual(self.browser.text("#given pre.rows"), shown_bytes(rest.removesuffix(b"\n")))
+        self.browser.chord(Keys.ALT, Keys.END)
+        self.until(lambda: self.given() == len(lines), "all are committed and read")
+        self.assertEqual(self.answers()[-len(hostile):], [f"VALUE 0x{text.hex()}" for text in hostile])
+        self.assertEqual(sorted(self.browser.texts("#rows th[scope=row]")), sorted(readable.values()))
+        self.assertEqual(self.browser.text("#branches"), "There is no branch.")
 
     def test_lines_of_any_bytes_are_shown_as_text(self):
         script = b"1 PUT '\xff\xfe<b>','\x01'\n1 GET '\xff\xfe<b>'\n\xc3\x28 <script>window.hacked=1</script>\n#\xff<i>\n17 GET 'k'"
@@ -163,6 +179,7 @@ class Sessions(View):
         self.until(lambda: self.given() == 5, "the address has every byte")
 
     def test_a_child_that_ends_is_said_so_and_the_page_goes_on(self):
+        self.open()
         self.say(1, "PUT 'k','v'")
         for child in self.page.children():
             os.kill(child, signal.SIGKILL)
@@ -175,13 +192,15 @@ class Sessions(View):
         self.assertEqual(self.browser.text("#notices"), "")
 
     def test_a_page_that_is_left_ends_its_child(self):
+        self.open()
         self.say(1, "PUT 'k','v'")
-        self.assertEqual(len(self.page.children()), 1)
+        self.until(lambda: len(self.page.children()) == 1, "those of pages that were left before have ended")
         self.browser.driver.get("about:blank")
         self.until(lambda: not self.page.children(), "its child has ended")
         self.open()
 
     def test_sixteen_sessions(self):
+        self.open()
         for session in range(3, 17):
             self.browser.push("#add-session")
             self.assertEqual(len(self.browser.all("#heads .head")), session)
@@ -201,12 +220,14 @@ class Sessions(View):
 
     def test_how_soon_an_answer_is_seen(self):
         """Measured, and not judged: the machine may be busy."""
+        self.open()
         for at in range(20):
             self.say(1 + at % 2, f"PUT 'k{at}','v'")
         self.until(lambda: self.browser.run("return performance.getEntriesByName('answer shown').length") >= 20, "all were measured")
-        took = sorted(self.browser.run("return performance.getEntriesByName('answer shown').map((it) => it.duration / 1000)"))
-        print(f"an answer was on the screen {took[len(took) // 2]:.3f} s after its return, {took[-1]:.3f} s at most of {len(took)}"
-              f"{'' if took[-1] <= TENTH else ': longer than a tenth of a second'}")
+        for name, since in [("question answered", "the question"), ("answer shown", "the answer had returned")]:
+            took = sorted(self.browser.run("return performance.getEntriesByName(arguments[0]).map((it) => it.duration / 1000)", name))
+            print(f"an answer was on the screen {took[len(took) // 2]:.3f} s after {since}, {took[-1]:.3f} s at most of {len(took)}"
+                  f"{'' if took[-1] <= TENTH else ': longer than a tenth of a second'}")
 
 
 if __name__ == "__main__":

@@ -3,10 +3,10 @@ import re
 import unittest
 from urllib.parse import quote
 
-from browser import open_browser
+from browser import the_browser
 from support import PICTURES, Page
 
-WIDTHS = {"wide": 1400, "narrow": 600}
+NARROW = (600, 2000)
 
 
 def in_address(text):
@@ -21,12 +21,8 @@ class View(unittest.TestCase):
     def setUpClass(cls):
         cls.page = Page()
         cls.addClassCleanup(cls.page.end)
-        cls.browser = open_browser()
-        cls.addClassCleanup(cls.browser.close)
-
-    def setUp(self):
-        self.browser.driver.set_window_size(1400, 1000)
-        self.open()
+        cls.browser = the_browser()
+        cls.addClassCleanup(cls.browser.leave)
 
     def tearDown(self):
         self.assertEqual(self.browser.complaints(), [])
@@ -44,11 +40,11 @@ class View(unittest.TestCase):
     def until(self, holds, what):
         self.browser.until(holds, what)
 
-    def pictures(self):
+    def pictures(self, height=1000):
         """The view as it is now, at two widths."""
         PICTURES.mkdir(parents=True, exist_ok=True)
-        for name, width in WIDTHS.items():
-            self.browser.picture(PICTURES / f"{self.view}-{name}.png", width)
+        for name, size in [("wide", (1400, height)), ("narrow", NARROW)]:
+            self.browser.picture(PICTURES / f"{self.view}-{name}.png", size)
 
 
 def shown_bytes(text):

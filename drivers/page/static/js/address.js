@@ -23,6 +23,12 @@ export function read(fragment) {
   return { view, state: found };
 }
 
+// A whole number of a state, or what stands for it where there is none in that range.
+export function whole(value, least, most, otherwise) {
+  const found = /^\d{1,9}$/.test(value ?? "") ? Number(value) : null;
+  return found !== null && found >= least && found <= most ? found : otherwise;
+}
+
 // Values that are empty stand for themselves by being left out.
 export function write(view, state) {
   const parts = Object.entries(state).filter(([, value]) => value !== "" && value !== null && value !== undefined && value !== false)

@@ -42,15 +42,28 @@ function valueText(reply) {
   return text && text !== value[1] ? el("bdi.literal", {}, text) : null;
 }
 
-export function replyText(answer, statement) {
-  const { reply, rows, refusal, session, branches } = answer;
+// The state of the session that was answered, as it is listed behind the answer.
+function stateOf({ session, branches }) {
+  return branches.find((branch) => branch.session === session)?.phase ?? "Free";
+}
+
+// `state` is the session's, or null where the program doesn't say it.
+function replyText(answer, statement, state) {
+  const { reply, rows, refusal } = answer;
   if (reply === null) return null;
-  const own = branches.find((branch) => branch.session === session);
   return el(refusal ? "div.answer.refused" : "div.answer", {},
     el("span.reply", {}, shown(reply)), " ", valueText(reply),
     rows ? el("pre.rows", {}, shown(rows.replace(/\n$/, ""))) : null,
-    refusal ? ruleText(refusal, statement, own ? own.phase : "Free") : null);
+    refusal ? ruleText(refusal, statement, state) : null);
 }
+
+// A statement with its answer below it, which is null for one that waits.
+export function spoken(statement, answer, state = null) {
+  return [statementText(statement, answer?.refusal), answer ? replyText(answer, statement, state) : null];
+}
+
+// A line that isn't one of a session, with what answers it.
+const spokenBadly = (line, answer) => [statementText(line, null), answer ? replyText(answer, line, null) : null];
 
 // A line at its place; `answer` is null for one that waits.
 export function lineItem(line, place, answer, goTo) {
@@ -59,8 +72,7 @@ export function lineItem(line, place, answer, goTo) {
   const label = `Run to here: line ${place + 1}`;
   const item = el(`li.line.${kind}`, { "data-line": place + 1 },
     el("button.here", { type: "button", title: label, "aria-label": label, onclick: () => goTo(place + 1) }, String(place + 1)));
-  const cell = el("div.cell", {}, statementText(kind === "spoken" ? statement : line, kind === "spoken" ? answer?.refusal : null),
-    answer ? replyText(answer, statement) : null);
+  const cell = el("div.cell", {}, kind === "spoken" ? spoken(statement, answer, answer && stateOf(answer)) : spokenBadly(line, answer));
   if (session !== null) {
     cell.classList.add(sessionClass(session));
     cell.style.setProperty("--column", session);

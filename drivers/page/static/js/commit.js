@@ -1,4 +1,5 @@
 // The view of two-phase commit: calls of a transaction manager, one after another, over stores of its own.
+import { whole } from "./address.js";
 import { ask, Failure } from "./api.js";
 import { fromText, linesOf } from "./bytes.js";
 import { asksStores, lastBegun } from "./calls.js";
@@ -12,6 +13,7 @@ import { Tape } from "./tape.js";
 import { follow, titleOf } from "./titles.js";
 
 const STORES = 3;
+const MOST_STORES = 16;
 const PEEK = 60; // so much of the calls that wait is seen
 const NUMBERS = ["UNDECIDED", "DECIDED", "CLOSED"];
 
@@ -58,8 +60,8 @@ export class Commit {
 
   enter(state) {
     const lines = linesOf(state.calls ?? "");
-    const at = state.at === undefined ? lines.length : Number(state.at);
-    const stores = Math.max(1, Math.min(16, Number(state.stores) || STORES));
+    const at = whole(state.at, 0, lines.length, lines.length);
+    const stores = whole(state.stores, 1, MOST_STORES, STORES);
     byId("stores").value = stores;
     if (stores === this.stores && lines.join("\n") === this.tape.lines.join("\n") && at === this.tape.at) return this.changed({});
     this.stores = stores;
@@ -123,7 +125,7 @@ export class Commit {
     this.followNumber(answers);
     enable(this.view, this.tape);
     this.app.keep("commit", this.state());
-    if (news.asked) this.app.measured(news.asked);
+    if (news.times) this.app.measured(news.times);
     this.look();
   }
 

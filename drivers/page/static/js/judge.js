@@ -1,4 +1,5 @@
 // The view of the judge: a record of what clients saw, and the program's verdict on it.
+import { whole } from "./address.js";
 import { ask, Failure } from "./api.js";
 import { fromText, linesOf, toText } from "./bytes.js";
 import { byId, el, fill, options, printedInto, sessionClass, shown, shownLines } from "./dom.js";
@@ -26,13 +27,17 @@ export class Judge {
       event.preventDefault();
       this.app.visit("judge", this.asked(true));
     });
+    byId("judge-form").addEventListener("change", (event) => {
+      if (event.target.id !== "record-example") this.app.keep("judge", this.asked(false));
+    });
     byId("record-example").addEventListener("change", (event) => this.openExample(event.target.value));
     byId("play-order").addEventListener("click", () => this.app.visit("sessions", { script: this.verdict.order.join("\n") }));
   }
 
-  offer({ records }) {
-    this.records = records;
-    options(byId("record-example"), [["Records", records.map((record, at) => [String(at), titleOf(record)])]]);
+  offer({ records, judged }) {
+    this.records = [...records, ...judged];
+    const listed = (all, from) => all.map((record, at) => [String(from + at), titleOf(record)]);
+    options(byId("record-example"), [["Records", listed(records, 0)], ["Examples", listed(judged, records.length)]]);
   }
 
   openExample(choice) {
@@ -54,22 +59,26 @@ export class Judge {
     byId("record").value = toText(bytes) ?? bytes;
     this.opened = { bytes, text: byId("record").value };
     follow(byId("record-example"), this.records, (record) => record.text === bytes);
-    byId("limit").value = state.limit ?? "100000";
-    this.asks = Math.max(this.asks, Number(state.go) || 0);
+    byId("limit").value = whole(state.limit, 1, 1_000_000, 100_000);
+    this.asks = Math.max(this.asks, whole(state.go, 1, 1e9, 0));
     const wanted = JSON.stringify(state);
     if (wanted === this.judged) return;
+    this.judged = null;
     byId("verdict-room").hidden = true;
+    fill(byId("judge-progress"));
     if (state.go) this.judge(wanted);
   }
 
   async judge(wanted) {
     this.judged = wanted;
     const record = this.record();
+    fill(byId("judge-progress"), "The program judges.");
     try {
       const ran = await ask("judge", { record, limit: Number(byId("limit").value) });
       if (this.judged === wanted) this.draw(record, ran);
     } catch (fault) {
       if (!(fault instanceof Failure)) throw fault;
+      if (this.judged === wanted) fill(byId("judge-progress"));
       this.app.notify({ fault: fault.message });
     }
   }
@@ -77,6 +86,7 @@ export class Judge {
   draw(record, ran) {
     this.verdict = readVerdict(ran.output);
     byId("verdict-room").hidden = false;
+    fill(byId("judge-progress"));
     const { kind } = this.verdict;
     byId("verdict").className = (kind ?? "none").toLowerCase();
     if (!JUDGED.includes(ran.status) || kind === null) {

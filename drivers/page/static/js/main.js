@@ -33,6 +33,7 @@ class App {
   enter() {
     const { view, state } = address.read(location.hash);
     this.current = Object.hasOwn(this.views, view) ? view : FIRST;
+    this.linkOf(this.current).setAttribute("href", location.hash || `#${this.current}`);
     for (const name of Object.keys(this.views)) byId(name).hidden = name !== this.current;
     for (const link of document.querySelectorAll("nav a")) {
       if (link.dataset.view === this.current) link.setAttribute("aria-current", "page");
@@ -51,11 +52,15 @@ class App {
     else location.hash = wanted;
   }
 
-  // The address of the view that is shown follows its state; its links, where it isn't shown.
+  linkOf(view) {
+    return document.querySelector(`nav [data-view="${view}"]`);
+  }
+
+  // The address of the view that is shown follows its state; its link does so also where it isn't shown.
   keep(view, state) {
     const whole = address.write(view, state);
     const wanted = whole.length > LONGEST ? `#${view}` : whole;
-    document.querySelector(`nav [data-view="${view}"]`).setAttribute("href", wanted);
+    this.linkOf(view).setAttribute("href", wanted);
     if (view === this.current && location.hash !== wanted) history.replaceState(null, "", wanted);
   }
 
@@ -68,9 +73,12 @@ class App {
     fill(byId("notices"), said);
   }
 
-  // How long an answer took from its return to the screen, for who measures.
-  measured(returned) {
-    requestAnimationFrame(() => setTimeout(() => performance.measure("answer shown", { start: returned })));
+  // How long it took from a question to its answer on the screen, and from the answer's return, for who measures.
+  measured({ asked, returned }) {
+    requestAnimationFrame(() => setTimeout(() => {
+      performance.measure("question answered", { start: asked });
+      performance.measure("answer shown", { start: returned });
+    }));
   }
 }
 

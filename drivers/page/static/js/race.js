@@ -1,4 +1,5 @@
 // The view of races: a script is raced so often, and each history that came is counted.
+import { whole } from "./address.js";
 import { ask, Failure } from "./api.js";
 import { fromText, linesOf, toText } from "./bytes.js";
 import { byId, el, fill, options, printedInto, sessionClass, shown } from "./dom.js";
@@ -9,6 +10,14 @@ import { follow, titleOf } from "./titles.js";
 
 const BATCH = 10;
 const STRIP = 48; // entries that a bar shows
+const GONE = "The history that the address names didn't come in these runs.";
+
+// A short name for a history, so that an address can say which one is looked at.
+function nameOf(key) {
+  let name = 0x811c9dc5;
+  for (let at = 0; at < key.length; at += 1) name = Math.imul(name ^ key.charCodeAt(at), 0x01000193);
+  return (name >>> 0).toString(16).padStart(8, "0");
+}
 
 // A race takes no remarks.
 const withoutRemarks = (text) => linesOf(text).filter((line) => !line.startsWith("#")).join("\n");
@@ -18,11 +27,15 @@ export class Race {
     this.app = app;
     this.runs = 0; // how often a race was begun: an older one doesn't go on
     this.begun = null;
+    this.address = {};
     this.histories = new Map();
     this.picked = null;
     byId("race-form").addEventListener("submit", (event) => {
       event.preventDefault();
       this.app.visit("race", this.asked(true));
+    });
+    byId("race-form").addEventListener("change", (event) => {
+      if (event.target.id !== "race-example") this.app.keep("race", this.asked(false));
     });
     byId("race-example").addEventListener("change", (event) => this.openExample(event.target.value));
     byId("outcome").addEventListener("change", (event) => this.drawOutcome(Number(event.target.value)));
@@ -59,27 +72,48 @@ export class Race {
     this.opened = { bytes, text: toText(bytes) ?? Array.from(bytes).join("") };
     byId("race-script").value = this.opened.text;
     this.opened.text = byId("race-script").value;
-    follow(byId("race-example"), this.examples, (example) => withoutRemarks(example.text) === bytes);
+    const lines = linesOf(bytes).join("\n");
+    follow(byId("race-example"), this.examples, (example) => withoutRemarks(example.text) === lines);
     byId("together").checked = Boolean(state.together);
     byId("renew").checked = Boolean(state.renew);
     byId("shuffled").checked = state.seed !== undefined;
-    for (const [id, plain] of [["seed", "1"], ["runs", "50"], ["capacity", "1024"]]) byId(id).value = state[id] ?? plain;
-    this.runs = Math.max(this.runs, Number(state.go) || 0);
-    const wanted = JSON.stringify(state);
-    if (state.go && wanted !== this.begun) this.race(wanted);
+    for (const [id, plain] of [["seed", 1], ["runs", 50], ["capacity", 1024]]) {
+      byId(id).value = whole(state[id], Number(byId(id).min), Number(byId(id).max), plain);
+    }
+    this.runs = Math.max(this.runs, whole(state.go, 1, 1e9, 0));
+    this.named = state.history ?? null;
+    const asked = { ...this.asked(false), go: state.go };
+    if (state.go && JSON.stringify(asked) !== this.begun) this.race(asked);
+    else if (this.script() !== this.raced) this.clear();
+    else if (this.named) this.drawBars();
   }
 
-  async race(wanted) {
-    this.begun = wanted;
-    this.raced = this.script();
+  // Leaves what was raced; a race that goes on stops.
+  clear() {
+    this.begun = null;
+    this.raced = null;
     this.histories = new Map();
     this.picked = null;
+    this.chosen = false;
+    fill(byId("histories"));
+    fill(byId("race-faults"));
+    fill(byId("race-progress"));
     byId("one-history").hidden = true;
+  }
+
+  // Races what the form says, which `asked` has as the address has it.
+  async race(asked) {
+    this.clear();
+    const wanted = JSON.stringify(asked);
+    this.begun = wanted;
+    this.address = asked;
+    this.raced = this.script();
     const times = Math.max(1, Math.min(200, Number(byId("runs").value) || 1));
     const question = { script: this.raced, together: byId("together").checked, renew: byId("renew").checked,
       capacity: Number(byId("capacity").value) };
     const seed = byId("shuffled").checked ? Number(byId("seed").value) : null;
     this.app.notify({});
+    fill(byId("race-progress"), `0 of ${times} runs`);
     try {
       for (let done = 0; done < times && this.begun === wanted; ) {
         const { ran } = await ask("race", { ...question, times: Math.min(BATCH, times - done), seed: seed === null ? null : seed + done });
@@ -88,6 +122,7 @@ export class Race {
         if (!this.take(ran)) break;
         fill(byId("race-progress"), `${done} of ${times} runs`);
       }
+      if (this.begun === wanted && this.named && this.histories.size) this.app.notify({ fault: GONE });
     } catch (fault) {
       if (!(fault instanceof Failure)) throw fault;
       this.app.notify({ fault: fault.message });
@@ -133,12 +168,15 @@ export class Race {
 
   drawBars() {
     const all = this.sorted();
-    if (this.picked === null && all.length) return this.pick(all[0]);
+    const named = this.named ? all.find((it) => nameOf(it.key) === this.named) : null;
+    if (named) return this.choose(named);
+    if (!this.chosen && all.length && all[0].key !== this.picked) return this.pick(all[0]);
     const room = byId("histories");
     const focused = room.contains(document.activeElement);
     const most = Math.max(...all.map((it) => it.count));
     fill(room, all.map((it) => this.bar(it, most)));
     if (focused) room.querySelector('[aria-pressed="true"]').focus();
+    this.listOutcomes();
   }
 
   bar(found, most) {
@@ -147,24 +185,41 @@ export class Race {
     bar.style.setProperty("--part", found.count / most);
     return el("button.history", { type: "button", "aria-pressed": String(found.key === this.picked), "data-count": found.count,
       "aria-label": `History of ${found.history.length} entries, by sessions ${found.history.map((it) => it.session).join(" ")}: came ${found.count} times`,
-      onclick: () => this.pick(found) },
+      onclick: () => this.choose(found) },
     el("span.count", {}, String(found.count)), bar,
     el("span.strip", {}, strip, found.history.length > STRIP ? "…" : null, found.history.length === 0 ? "no entries" : null));
   }
 
+  // Picks a history, which the address then names; where nobody has chosen, the one that came most often is picked.
+  choose(found) {
+    this.named = null;
+    this.chosen = true;
+    this.pick(found);
+    this.app.keep("race", { ...this.address, history: nameOf(found.key) });
+  }
+
   pick(found) {
     this.picked = found.key;
+    this.drawn = null;
+    byId("one-history").hidden = false;
+    this.drawBars();
+  }
+
+  // With which answers the picked history came, the most frequent first; the one that is drawn stays.
+  listOutcomes() {
+    const found = this.histories.get(this.picked);
+    if (!found) return;
     const outcomes = [...found.outcomes].sort(([a, m], [b, n]) => n - m || (a < b ? -1 : 1));
     this.outcomes = outcomes.map(([text]) => text);
     fill(byId("outcome"), outcomes.map(([, count], at) => el("option", { value: at }, `${at + 1} of ${outcomes.length}: came ${count} times`)));
     byId("outcome-choice").hidden = outcomes.length < 2;
-    byId("one-history").hidden = false;
-    this.drawBars();
-    this.drawOutcome(0);
+    if (this.drawn === null) this.drawOutcome(0);
+    else byId("outcome").value = this.outcomes.indexOf(this.text);
   }
 
   drawOutcome(at) {
     const text = this.outcomes[at];
+    this.text = text;
     this.drawn = tie(readOutcome(text), this.raced);
     draw(byId("history"), this.drawn);
     printedInto(byId("race-printed"), text);

@@ -1,4 +1,5 @@
 // The view of sessions: a column each, the branches as cards, and the rows.
+import { whole } from "./address.js";
 import { fromText, linesOf } from "./bytes.js";
 import { card, rowLine, rowsOf, xidText } from "./cards.js";
 import { lineItem, widestSession } from "./columns.js";
@@ -38,7 +39,7 @@ export class Sessions {
   // A script as the address has it; what is there already is left as it is.
   enter(state) {
     const lines = linesOf(state.script ?? "");
-    const at = state.at === undefined ? lines.length : Number(state.at);
+    const at = whole(state.at, 0, lines.length, lines.length);
     if (lines.join("\n") === this.tape.lines.join("\n") && at === this.tape.at) return this.changed({});
     this.columns = FEWEST;
     return this.tape.open(lines, at);
@@ -86,7 +87,7 @@ export class Sessions {
     fill(byId("story-remark"), remarkOf(this.tape.lines));
     follow(byId("story"), this.stories, (story) => linesOf(story.text).join("\n") === this.tape.lines.join("\n"));
     this.app.keep("sessions", this.state());
-    if (news.asked) this.app.measured(news.asked);
+    if (news.times) this.app.measured(news.times);
   }
 
   now() {

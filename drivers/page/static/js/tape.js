@@ -88,8 +88,9 @@ export class Tape {
     if (wanted > this.answers.length) {
       const known = this.answers.length;
       const lines = this.lines.slice(0, wanted);
+      const asked = performance.now();
       news = await ask("talk", { ...this.question, talk: NAME, lines, known });
-      news.asked = performance.now();
+      news.times = { asked, returned: performance.now() };
       this.answers.push(...news.answers);
     }
     this.at = Math.min(wanted, this.answers.length);

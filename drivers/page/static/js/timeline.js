@@ -1,16 +1,15 @@
 // Draws a history as a line of entries, each answer at its place in its session's column.
 import { asLiteral } from "./bytes.js";
-import { replyText } from "./columns.js";
-import { el, fill, sessionClass, shown } from "./dom.js";
+import { spoken } from "./columns.js";
+import { el, fill, sessionClass } from "./dom.js";
 import { hungAt } from "./outcome.js";
 
 // A statement as the program prints it, with literals as a person would write them.
 export const readable = (statement) => statement.replace(/0x[0-9a-f]+/g, asLiteral);
 
 function answerBox(answer) {
-  const plain = { ...answer, session: null, branches: [] };
   return el(`div.hung.${sessionClass(answer.session)}`, { "data-place": answer.place, "data-session": answer.session },
-    shown(answer.statement, "bdi.statement"), replyText(plain, answer.statement));
+    spoken(answer.statement, answer));
 }
 
 function cells(columns, boxes) {

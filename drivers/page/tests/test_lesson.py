@@ -1,0 +1,129 @@
+"""The lesson of docs/CLASSROOM.md, step by step, by keys alone: what it says is what is seen."""
+import unittest
+
+from selenium.webdriver.common.keys import Keys
+from views import View
+
+RUNS = 50
+
+
+class Lesson(View):
+    view = "sessions"
+
+    def given(self, view):
+        return len(self.browser.all({"sessions": "#given > li", "commit": ".calls-list > li:not(.waiting)"}[view]))
+
+    def run_to(self, view, line):
+        self.browser.push(f'#{view} [data-line="{line}"] .here')
+        self.until(lambda: self.given(view) == line, f"run to line {line}")
+
+    def say(self, session, statement):
+        before = self.given("sessions")
+        self.browser.type(f'#entry input[name="{session}"]', statement + Keys.ENTER)
+        self.until(lambda: self.given("sessions") == before + 1, f"{statement} is answered")
+        return self.browser.texts("#given .reply")[-1]
+
+    def cards(self):
+        return self.browser.run("""return [...document.querySelectorAll('#branches .card')].map((it) =>
+            ['.xid', '.phase', '.owner'].map((part) => it.querySelector(part).textContent))""")
+
+    def test_what_a_branch_holds(self):
+        self.open()
+        self.browser.choose("#story", "two phase commit")
+        self.until(lambda: self.browser.all("#pending > li"), "the story waits")
+        for line in range(1, 6):
+            self.browser.chord(Keys.ALT, Keys.ARROW_RIGHT)
+            self.until(lambda line=line: self.given("sessions") == line, "a step")
+        self.assertEqual([card[0] for card in self.cards()], ["'transfer','credit',1", "'transfer','debit',1"], "two branches of one transaction")
+        self.run_to("sessions", 8)
+        self.assertIn(["'transfer','debit',1", "PREPARED", "no owner"], self.cards())
+        self.assertEqual(self.browser.text("#heads .s1 .seat"), "free")
+        self.assertIn("'alice'", self.browser.text("#branches .card.prepared"), "it keeps its row")
+        self.run_to("sessions", 10)
+        self.assertEqual(self.say(3, "GET 'alice'"), "VALUE 0x3930")
+        self.assertEqual(self.browser.texts("#given .answer .literal")[-1], "'90'")
+        self.assertEqual(self.say(3, "GET 'bob'"), "NONE")
+
+    def test_a_lock(self):
+        self.open()
+        self.browser.choose("#story", "lock conflict")
+        self.until(lambda: self.browser.all("#pending > li"), "the story waits")
+        self.run_to("sessions", 4)
+        self.assertEqual(self.browser.texts("#given .rule"), [])
+        self.browser.push('#sessions [data-do="step"]')
+        self.until(lambda: self.given("sessions") == 5, "line 5")
+        self.assertEqual(self.browser.text("#given li:last-child .rule .table"), "PUT, DEL, ACTIVE: 3572 where held; else OK")
+
+    def test_one_history(self):
+        self.browser.go(f"{self.page.address}#race")
+        self.browser.choose("#race-example", "two writers")
+        self.until(lambda: self.browser.one("#race-script").get_property("value"), "the script")
+        self.browser.replace("#runs", str(RUNS))
+        self.browser.push('#race-form button[type="submit"]')
+        self.until(lambda: self.browser.text("#race-progress") == f"{RUNS} of {RUNS} runs", "all runs came back")
+        self.assertTrue(self.browser.one("#race-example").get_property("value"), "the example is named")
+        self.browser.push("#histories .history:last-child")
+        refused = self.browser.run("""return [...document.querySelectorAll('#history .hung')].filter((it) => it.querySelector('.refused'))
+            .map((it) => it.querySelector('.statement').textContent.split(' ')[0])""")
+        entered = sum(" PUT " in line for line in self.browser.text("#race-printed").split("\n") if "0x726f77" in line)
+        self.assertEqual(entered + refused.count("PUT"), 2, "a PUT that is missing was refused")
+        reads = self.browser.run("return [...document.querySelectorAll('#history .hung.s3')].map((it) => it.querySelector('.statement').textContent)")
+        self.assertEqual(reads, ["GET 'row'"] * 2)
+        self.browser.push("#open-order")
+        self.until(lambda: self.given("sessions") == 12, "twelve statements in one order")
+
+    def test_a_crash(self):
+        self.browser.go(f"{self.page.address}#commit")
+        self.browser.push('#stops [data-stop="after-12-undecided"]')
+        self.until(lambda: self.given("commit") == len(self.browser.all(".calls-list > li")) > 0, "the example is open")
+        prepare = 1 + self.browser.run("return [...document.querySelectorAll('.calls-list > li')].findIndex((it) => it.textContent.includes('PREPARE 1'))")
+        self.run_to("commit", prepare)
+        self.assertEqual(len(self.browser.all(f'.calls-list [data-line="{prepare}"] .row:last-child .lane.doubt')), 3)
+        self.browser.chord(Keys.ALT, Keys.END)
+        self.until(lambda: self.browser.text("#doubt") == "No branch is in doubt.", "it is over")
+        self.assertIn("RECOVERED committed 0 rolled back 3 missing 0", self.browser.texts(".calls-list .answer-line"))
+        self.browser.push('#stops [data-stop="after-12-decided"]')
+        self.until(lambda: "RECOVERED committed 3 rolled back 0 missing 0" in self.browser.texts(".calls-list .answer-line"), "all commits")
+
+    def test_a_crash_of_ones_own(self):
+        self.browser.go(f"{self.page.address}#commit")
+        self.browser.push('#calls-form button[value="BEGIN"]')
+        self.until(lambda: self.given("commit") == 1, "BEGIN")
+        for store in "01":
+            self.browser.replace("#k", store)
+            before = self.given("commit")
+            self.browser.push('#calls-form button[value="WORK n k s"]')
+            self.until(lambda before=before: self.given("commit") == before + 1, "WORK")
+        for call in ("PREPARE n", "DECIDE n", "FINISH n"):
+            before = self.given("commit")
+            self.browser.push(f'#calls-form button[value="{call}"]')
+            self.until(lambda before=before: self.given("commit") == before + 1, call)
+        cut = '.calls-list [data-line="6"] .arrow.inner[data-store="1"] .crash'
+        self.until(lambda: self.browser.all(cut), "the calls of FINISH")
+        self.browser.push(cut)
+        self.until(lambda: self.given("commit") == 7, "it is carried out again")
+        self.assertTrue(self.browser.texts(".calls-list .answer-line")[-1].startswith("UNFINISHED 1"))
+        self.assertEqual(self.browser.texts("#doubt .card"), ["Store 1: 0x630000000000000001,0x01,22593"])
+        for call, answer in [("SHOW", "CLOSED"), ("STOP", "STOPPED"), ("RECOVER", "RECOVERED committed 1 rolled back 0 missing 0")]:
+            before = self.given("commit")
+            self.browser.push(f'#calls-form button[value="{call}"]')
+            self.until(lambda before=before: self.given("commit") == before + 1, call)
+            self.assertEqual(self.browser.texts(".calls-list .answer-line")[-1], answer)
+
+    def test_who_may_say_so(self):
+        self.browser.go(f"{self.page.address}#judge")
+        self.browser.choose("#record-example", "dirty read")
+        self.until(lambda: self.browser.one("#record").get_property("value"), "the record")
+        self.browser.push('#judge-form button[type="submit"]')
+        self.until(lambda: self.browser.text("#verdict").startswith("ILLEGAL at line 7:"), "the verdict")
+        self.assertEqual(self.browser.texts("#record-lines .marked .could"), ["could be NONE"])
+        self.browser.choose("#record-example", "lost while committing")
+        self.until(lambda: "LOST" in self.browser.one("#record").get_property("value"), "the other record")
+        self.browser.push('#judge-form button[type="submit"]')
+        self.until(lambda: self.browser.text("#verdict").startswith("LEGAL"), "the verdict")
+        self.browser.push("#play-order")
+        self.until(lambda: self.browser.texts("#given .reply") == ["OK", "OK", "OK", "NONE", "OK", "VALUE 0x39"], "the order is played")
+
+
+if __name__ == "__main__":
+    unittest.main()
