@@ -1,5 +1,6 @@
 //! What the renewal of a store costs.
 ghost use Rattle.std.specs.Prelude.{◌≡◌, IfOk};
+ghost use Rattle.std.specs.List.{All};
 ghost use Rattle.xa_store.specs.Passes.{place_of, home_of};
 ghost use Rattle.xa_store.specs.Renewal.{AreGathered};
 
@@ -110,15 +111,24 @@ fn worked<R: Wait + Alloc<A = Global>>(
     Ok(Left { store, passes })
 }
 
+/// The last of the passes of a store.
+fn last_of(store: &Store, mut passes: Vec<Pass>) -> Result<Pass>
+    requires { All (λ pass. home_of pass ≡ place_of store.now.log) passes.items }
+    ensures { IfOk result (λ pass. home_of pass ≡ place_of store.now.log) }
+{
+    match passes.pop() {
+        Some(pass) => Ok(pass),
+        None => bail!("no pass"),
+    }
+}
+
 /// The store with an empty history.
 fn renewed(alloc: Global, left: Left) -> Result<Kept> {
     let Left { store, passes } = left;
-    let Ok((store, mut passes)) = store.renew(alloc, passes) else {
+    let Ok((store, passes)) = store.renew(alloc, passes) else {
         bail!("not renewed");
     };
-    let Some(pass) = passes.pop() else {
-        bail!("no pass");
-    };
+    let pass = last_of(&store, passes)?;
     Ok(Kept { store, pass })
 }
 
