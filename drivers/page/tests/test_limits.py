@@ -13,6 +13,13 @@ PUT = "1 PUT 'k','v'"
 
 
 class HowMuch(unittest.TestCase):
+    def setUp(self):
+        self.before = children_of(os.getpid())  # a browser's driver, where other tests have started it
+
+    def started(self):
+        """The children that this test has started and that are alive."""
+        return [child for child in children_of(os.getpid()) if child not in self.before]
+
     def test_a_request_has_at_most_a_mebibyte(self):
         with room() as served:
             frame = len(json.dumps({"script": ""}))
@@ -51,8 +58,8 @@ class HowMuch(unittest.TestCase):
             status, got = show(served.server_port, "talk 0", PUT, "2 GET 'k'", known=1)
             self.assertEqual((status, got["answers"][0][0].split("\n")[0]), (200, "2 VALUE 0x76"), "its child made room, and another went on")
             self.assertIn("other talks", got["note"])
-            self.assertEqual(len(children_of(os.getpid())), 32)
-        self.assertEqual(children_of(os.getpid()), [], "all ended with the page")
+            self.assertEqual(len(self.started()), 32)
+        self.assertEqual(self.started(), [], "all ended with the page")
 
     def test_where_all_children_work_a_further_one_is_refused(self):
         with standing_in("exec sleep 30") as program, room(program, children=2, answer_seconds=5) as served:
@@ -121,7 +128,7 @@ class HowMuch(unittest.TestCase):
     def test_a_child_that_was_killed_is_said_so_and_the_talk_goes_on(self):
         with room() as served:
             show(served.server_port, "a", PUT)
-            for child in children_of(os.getpid()):
+            for child in self.started():
                 os.kill(child, signal.SIGKILL)
             _, got = show(served.server_port, "a", PUT, "1 GET 'k'", known=1)
             self.assertEqual((got["answers"], got["ended"]["status"]), ([], -9))
