@@ -13,15 +13,18 @@ from selenium.webdriver.chrome.options import Options
 from selenium.webdriver.chrome.service import Service
 
 PATIENCE = 240  # seconds: a machine may be busy with other work
-FURTHER = 50  # steps that are taken one by one where the counted ones didn't lead there
-# How many elements the tabulator has to pass from the focus to the wanted one; fewer than 0 where it lies behind.
+ROUNDS = 50  # the page may change under the keys, so what is left to go is counted anew after each round of them
+# How many elements the tabulator has to pass from the focus to the wanted one; fewer than 0 where it lies behind, 0 where it has the focus.
+# Nothing where it isn't there, or takes no focus.
 STEPS = """
-    const wanted = document.querySelector(arguments[0]);
+    const wanted = document.querySelector(arguments[0]), focus = document.activeElement;
     const all = [...document.querySelectorAll('a[href], button, input, select, textarea, summary, [tabindex="0"]')]
         .filter((it) => !it.disabled && it.checkVisibility({ visibilityProperty: true }));
-    return wanted ? all.indexOf(wanted) - all.indexOf(document.activeElement) : null;
+    if (!all.includes(wanted)) return null;
+    const follows = (one, other) => Boolean(one.compareDocumentPosition(other) & Node.DOCUMENT_POSITION_FOLLOWING);
+    const between = (from, to) => all.filter((it) => follows(from, it) && !follows(to, it)).length;
+    return focus === wanted ? 0 : follows(focus, wanted) ? between(focus, wanted) : -all.filter((it) => follows(it, focus) && !follows(it, wanted)).length;
 """
-IS_THERE = "return document.activeElement === document.querySelector(arguments[0])"
 
 
 ELSEWHERE = "elsewhere.example"  # a name that leads to this machine
@@ -110,18 +113,17 @@ class Browser:
 
     def focus(self, css):
         """Comes to an element by the tabulator alone, from where the focus is."""
-        steps = self.run(STEPS, css)
-        if steps is None:
-            raise AssertionError(f"there is no {css}")
-        if steps > 0:
-            self.press(Keys.TAB * steps)
-        elif steps < 0:
-            self.chord(Keys.SHIFT, Keys.TAB * -steps)
-        for _ in range(FURTHER):
-            if self.run(IS_THERE, css):
+        steps = None
+        for _ in range(ROUNDS):
+            self.until(lambda: self.run(STEPS, css) is not None, f"{css} can take the focus")
+            steps = self.run(STEPS, css)
+            if steps == 0:
                 return
-            self.press(Keys.TAB)
-        raise AssertionError(f"the tabulator doesn't come to {css}")
+            if steps is not None and steps > 0:
+                self.press(Keys.TAB * steps)
+            elif steps is not None:
+                self.chord(Keys.SHIFT, Keys.TAB * -steps)
+        raise AssertionError(f"the tabulator doesn't come to {css}: {steps} steps are left")
 
     def type(self, css, text):
         self.focus(css)
