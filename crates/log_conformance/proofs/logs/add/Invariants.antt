@@ -1,5 +1,5 @@
 use Rattle.std.proofs.Common.{◌≡◌}
-use Rattle.decision_log.proofs.battery.add.Given as goal
+use Rattle.log_conformance.proofs.logs.add.Given as goal
 
 abbrev pub invariant-loop : goal.invariant-loop
 invariant-loop g l = record {

@@ -8,13 +8,13 @@ ghost use Rattle.std.specs.Prelude.{◌≡◌, ◌<◌, false, length, IfSome, I
 ghost use Rattle.xa_server.specs.Step.{is_recover};
 ghost use Rattle.xa_session.specs.declared.fault.Fault.TheVariants.{NoMemory};
 
-use crate::{Answer, Fault, Session};
 use decision_log::DecisionLog;
 use std::snapshot::Snapshot;
 use std::sync::Wait;
 use std::thread;
 use std::thread::{Promise, Threads};
 use xa_server::{Reply, XaError};
+use xa_session::{Answer, Fault, Session};
 use xa_xid::{Bytes, Key, Statement, Xid};
 
 fn name(letter: u8) -> Bytes {

@@ -1,7 +1,7 @@
 use Rattle.std.proofs.Common.{rules}
 use Rattle.decision_log.specs.Calls.{IsAdded}
-use Rattle.decision_log.proofs.Scenes.{added_twice}
-use Rattle.decision_log.proofs.battery.looks_and_meets.Goals as goal
+use Rattle.log_conformance.proofs.Scenes.{added_twice}
+use Rattle.log_conformance.proofs.logs.looks_and_meets.Goals as goal
 
 -- two adds, two meetings and a look
 pub returns-then-length-eq3-clause-first_added : goal.returns-then-length-eq3-clause-first_added

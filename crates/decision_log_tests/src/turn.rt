@@ -1,5 +1,6 @@
-//! The battery over a log with a turn, and how it is opened.
-use decision_log::{AddFault, OpenFault, TurnLog, battery, laws};
+//! What every log has to show, over a log with a turn, and how one is opened.
+use decision_log::{AddFault, OpenFault, TurnLog, laws};
+use log_conformance::logs;
 
 #[test]
 fn an_add_is_overtaken_then_stands_until_the_log_is_full(rt: HostRuntime) {
@@ -9,7 +10,7 @@ fn an_add_is_overtaken_then_stands_until_the_log_is_full(rt: HostRuntime) {
     let (Some(mut second), Some(mut first)) = (passes.pop(), passes.pop()) else {
         panic!(rt; "two passes")
     };
-    assert!(rt; battery::adds_in_turn(&log, &mut first, &mut second));
+    assert!(rt; logs::adds_in_turn(&log, &mut first, &mut second));
 }
 
 #[test]
@@ -20,7 +21,7 @@ fn passes_see_what_others_added(rt: HostRuntime) {
     let (Some(mut second), Some(mut first)) = (passes.pop(), passes.pop()) else {
         panic!(rt; "two passes")
     };
-    assert!(rt; battery::looks_and_meets(&log, &mut first, &mut second));
+    assert!(rt; logs::looks_and_meets(&log, &mut first, &mut second));
 }
 
 #[test]
@@ -31,7 +32,7 @@ fn an_outdated_look_is_overtaken_once(rt: HostRuntime) {
     let (Some(mut second), Some(mut first)) = (passes.pop(), passes.pop()) else {
         panic!(rt; "two passes")
     };
-    assert!(rt; battery::outdated_look_is_overtaken_once(&log, &mut first, &mut second));
+    assert!(rt; logs::outdated_look_is_overtaken_once(&log, &mut first, &mut second));
 }
 
 #[test]
@@ -42,7 +43,7 @@ fn two_threads_add_each_one_in_its_order(rt: HostRuntime) {
     let (Some(second), Some(first)) = (passes.pop(), passes.pop()) else {
         panic!(rt; "two passes")
     };
-    assert!(rt; battery::two_threads_add(&rt, &log, first, second));
+    assert!(rt; logs::two_threads_add(&rt, &log, first, second));
 }
 
 #[test]

@@ -1,5 +1,5 @@
 use Rattle.std.proofs.Common.{◌≡◌}
-use Rattle.decision_log.proofs.battery.add_each.Given as goal
+use Rattle.log_conformance.proofs.logs.add_each.Given as goal
 
 abbrev pub invariant-loop-step : goal.invariant-loop-step
 invariant-loop-step g l = record {

@@ -1,4 +1,4 @@
--- What the scenes of the battery show where they answer true.
+-- What the scenes of a log show where they answer true.
 --     HasAdded        so many entries were added, by so many tries
 use Rattle.std.specs.Prelude.{◌≡◌, ◌+◌, ℕ, length}
 use Rattle.decision_log.specs.declared.known.Known.{Known}

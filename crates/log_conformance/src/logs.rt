@@ -5,9 +5,9 @@
 //!
 //! Own rule: docs/LOG.md, 'What a log promises'.
 ghost use Rattle.std.specs.Prelude.{◌≡◌, length, IfSome, IsTrue};
-ghost use Rattle.decision_log.specs.Scenes.{HasAdded};
+ghost use Rattle.log_conformance.specs.Scenes.{HasAdded};
 
-use crate::{AddFault, DecisionLog};
+use decision_log::{AddFault, DecisionLog};
 use std::snapshot::Snapshot;
 use std::sync::Wait;
 use std::thread;

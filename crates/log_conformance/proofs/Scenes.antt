@@ -4,7 +4,7 @@ use Rattle.std.proofs.lemmas.List.{length_push}
 use Rattle.xa_words.specs.Entry.{Entry}
 use Rattle.decision_log.specs.declared.known.Known.{Known}
 use Rattle.decision_log.specs.Calls.{Looked, IsAdded, MeetsFirst}
-use Rattle.decision_log.specs.Scenes.{HasAdded}
+use Rattle.log_conformance.specs.Scenes.{HasAdded}
 
 -- two adds, two meetings as the first, and a look
 pub added_twice : (entry other : Entry) (old one two met again new : Known) → IsAdded entry old one → IsAdded other one two
