@@ -4,6 +4,7 @@ ghost use Rattle.xa_coordinator.specs.Work.{IsRow};
 ghost use Rattle.xa_coordinator_tests.specs.Sites.{sites};
 ghost use Rattle.xa_coordinator.specs.declared.prepared.Ballot.TheVariants.{Ready as BallotReady};
 
+use std::alloc::Global;
 use std::process::Abort;
 use std::sync::Wait;
 use xa_coordinator::{Coordinator, Decisions, Prepared, Speak, Transaction, Vote, WorkFault};
@@ -86,6 +87,52 @@ pub(crate) fn has_none_prepared<S: Speak>(rt: &impl Wait, session: &mut S) -> bo
     }
 }
 
+/// Whether the row `k` has this value in each of three stores, or none.
+pub(crate) fn all_read<S: Speak, R: Abort + Wait>(
+    rt: &R,
+    readers: &mut (S, S, S),
+    value: Option<u8>,
+) -> bool {
+    if !reads(rt, &mut readers.0, value) {
+        return false;
+    }
+    if !reads(rt, &mut readers.1, value) {
+        return false;
+    }
+    reads(rt, &mut readers.2, value)
+}
+
+/// Whether none of three stores has a prepared branch.
+pub(crate) fn none_has_prepared<S: Speak>(rt: &impl Wait, readers: &mut (S, S, S)) -> bool {
+    if !has_none_prepared(rt, &mut readers.0) {
+        return false;
+    }
+    if !has_none_prepared(rt, &mut readers.1) {
+        return false;
+    }
+    has_none_prepared(rt, &mut readers.2)
+}
+
+/// Whether a recovery counts so: what it commits, what it rolls back, what is missing.
+pub(crate) fn recovers<S: Speak>(
+    rt: &impl Wait,
+    alloc: Global,
+    coordinator: &mut Coordinator<S>,
+    decisions: &mut Decisions,
+    counts: (u128, u128, u128),
+) -> bool
+    ensures { vec_len coordinator.new.stores ≡ vec_len coordinator.old.stores }
+{
+    match coordinator.recover(rt, alloc, decisions) {
+        Ok(report) => {
+            report.committed == counts.0
+                && report.rolled_back == counts.1
+                && report.missing == counts.2
+        }
+        Err(_) => false,
+    }
+}
+
 /// Begins a transaction.
 pub(crate) fn begun<S: Speak>(
     rt: &impl Abort,
@@ -145,8 +192,30 @@ pub(crate) fn puts<S: Speak, R: Abort + Wait>(
     )
 }
 
+/// Whether `GET 'k'` finds a value in a store.
+pub(crate) fn finds<S: Speak, R: Abort + Wait>(
+    rt: &R,
+    coordinator: &mut Coordinator<S>,
+    transaction: &mut Transaction,
+    store: u8,
+) -> bool
+    requires name { transaction.old.name.items ≡ coordinator.old.name.items }
+    requires stores { transaction.old.stores ≡ vec_len coordinator.old.stores }
+    requires store { store < vec_len coordinator.old.stores }
+    ensures kept { transaction.new.name.items ≡ transaction.old.name.items }
+    ensures name { transaction.new.name.items ≡ coordinator.new.name.items }
+    ensures stores { transaction.new.stores ≡ vec_len coordinator.new.stores }
+    ensures count { vec_len coordinator.new.stores ≡ vec_len coordinator.old.stores }
+{
+    let get_k = get(rt, b'k');
+    matches!(
+        works(rt, coordinator, transaction, store, &get_k),
+        Ok(Reply::Value(Some(_)))
+    )
+}
+
 /// Whether `PUT 'k','v'` is carried out in the first two of three stores, and in the third too where `all` is set.
-fn puts_in_each<S: Speak, R: Abort + Wait>(
+pub(crate) fn puts_in_each<S: Speak, R: Abort + Wait>(
     rt: &R,
     coordinator: &mut Coordinator<S>,
     transaction: &mut Transaction,

@@ -2,8 +2,12 @@
 ghost use Rattle.std.specs.Prelude.{◌≡◌, vec_len};
 ghost use Rattle.xa_coordinator.specs.declared.prepared.Ballot.TheVariants.{Ready as BallotReady};
 
-use crate::acts::{begun, get, has_none_prepared, is_value, put, puts, reads, ready, text, works};
-use crate::opened::{connected, opened, opened_for_three, over_three};
+use crate::acts::{
+    begun, finds, get, has_none_prepared, is_value, put, puts, reads, ready, recovers, text, works,
+};
+use crate::course::Course;
+use crate::opened::{connected, opened_for_three, over_three};
+use crate::scene::{ROOMS, goes_through};
 use std::alloc::Global;
 use std::process::Abort;
 use std::sync::Wait;
@@ -72,17 +76,14 @@ fn names_stand_apart<S: Speak, R: Abort + Wait>(
     let prepared = ready_beside(rt, second, &mut of_second);
     assert!(rt; of_second.decide(&prepared).is_ok());
     assert!(rt; prepared_count(rt, reader) == 2);
-    let Ok(report) = first.recover(rt, alloc, &mut of_first) else {
-        panic!(rt; "the first not recovered")
-    };
-    assert!(rt; report.committed == 0 && report.rolled_back == 2 && report.missing == 0);
+    let recovered = recovers(rt, alloc, first, &mut of_first, (0, 2, 0));
+    assert!(rt; recovered, "the first not recovered");
     assert!(rt; prepared_count(rt, reader) == 1);
-    let Ok(report) = second.recover(rt, alloc, &mut of_second) else {
-        panic!(rt; "the second not recovered")
-    };
-    assert!(rt; report.committed == 2 && report.rolled_back == 0 && report.missing == 0);
+    let recovered = recovers(rt, alloc, second, &mut of_second, (2, 0, 0));
+    assert!(rt; recovered, "the second not recovered");
     assert!(rt; has_none_prepared(rt, reader));
-    assert!(rt; reads(rt, reader, None) && reads_other(rt, reader, Some(b'w')));
+    assert!(rt; reads(rt, reader, None));
+    assert!(rt; reads_other(rt, reader, Some(b'w')));
 }
 
 #[test]
@@ -110,7 +111,7 @@ fn coordinators_of_two_names_leave_each_others_branches(rt: HostRuntime) {
 }
 
 /// Two transactions of one coordinator end each in its way.
-fn numbers_stand_apart<S: Speak, R: Abort + Wait>(
+pub(crate) fn numbers_stand_apart<S: Speak, R: Abort + Wait>(
     rt: &R,
     alloc: Global,
     coordinator: &mut Coordinator<S>,
@@ -121,36 +122,30 @@ fn numbers_stand_apart<S: Speak, R: Abort + Wait>(
     let mut decisions = Decisions::new(alloc);
     let first = ready(rt, coordinator, &mut decisions, false);
     let second = ready_beside(rt, coordinator, &mut decisions);
-    assert!(rt; second.number() == 2 && prepared_count(rt, reader) == 2);
+    assert_eq!(rt; second.number(), 2);
+    assert_eq!(rt; prepared_count(rt, reader), 2);
     assert!(rt; decisions.decide(&second).is_ok());
     let committed = matches!(
         coordinator.finish(rt, &decisions, second),
         Ending::Committed
     );
-    assert!(rt; committed && prepared_count(rt, reader) == 1);
-    let Ok(report) = coordinator.recover(rt, alloc, &mut decisions) else {
-        panic!(rt; "not recovered")
-    };
-    assert!(rt; report.committed == 0 && report.rolled_back == 2 && report.missing == 0);
-    assert!(rt; decisions.decide(&first).is_err() && decisions.is_decided(2));
-    assert!(rt; reads(rt, reader, None) && reads_other(rt, reader, Some(b'w')));
+    assert!(rt; committed);
+    assert_eq!(rt; prepared_count(rt, reader), 1);
+    let recovered = recovers(rt, alloc, coordinator, &mut decisions, (0, 2, 0));
+    assert!(rt; recovered);
+    assert!(rt; decisions.decide(&first).is_err());
+    assert!(rt; decisions.is_decided(2));
+    assert!(rt; reads(rt, reader, None));
+    assert!(rt; reads_other(rt, reader, Some(b'w')));
 }
 
 #[test]
 fn transactions_of_one_coordinator_end_each_in_its_way(rt: HostRuntime) {
-    let (first, pass_0, reader) = opened(&rt, rt.alloc(), 32);
-    let (second, pass_1, _) = opened(&rt, rt.alloc(), 32);
-    let (third, pass_2, _) = opened(&rt, rt.alloc(), 32);
-    let one = connected(&rt, &first, pass_0);
-    let two = connected(&rt, &second, pass_1);
-    let three = connected(&rt, &third, pass_2);
-    let mut coordinator = over_three(&rt, rt.alloc(), one, two, three);
-    let mut reader = connected(&rt, &first, reader);
-    numbers_stand_apart(&rt, rt.alloc(), &mut coordinator, &mut reader);
+    goes_through(&rt, rt.alloc(), Course::NumbersStandApart, [32, 32, 32]);
 }
 
 /// A transaction works twice in one store, another one in a second store between; a rollback ends what takes work.
-fn works_stand_apart<S: Speak, R: Abort + Wait>(
+pub(crate) fn works_stand_apart<S: Speak, R: Abort + Wait>(
     rt: &R,
     alloc: Global,
     coordinator: &mut Coordinator<S>,
@@ -162,17 +157,19 @@ fn works_stand_apart<S: Speak, R: Abort + Wait>(
     let mut decisions = Decisions::new(alloc);
     let mut one = begun(rt, coordinator, &mut decisions);
     let mut other = begun(rt, coordinator, &mut decisions);
-    let worked = puts(rt, coordinator, &mut one, 0) && puts(rt, coordinator, &mut other, 1);
+    let worked = puts(rt, coordinator, &mut one, 0);
     assert!(rt; worked);
-    let get_k = get(rt, b'k');
-    let again = works(rt, coordinator, &mut one, 0, &get_k);
-    assert!(rt; matches!(again, Ok(Reply::Value(Some(_)))));
-    let again = works(rt, coordinator, &mut other, 1, &get_k);
-    assert!(rt; matches!(again, Ok(Reply::Value(Some(_)))));
+    let worked = puts(rt, coordinator, &mut other, 1);
+    assert!(rt; worked);
+    let found = finds(rt, coordinator, &mut one, 0);
+    assert!(rt; found);
+    let found = finds(rt, coordinator, &mut other, 1);
+    assert!(rt; found);
     assert!(rt; matches!(coordinator.abandon(rt, one), Ending::RolledBack));
-    assert!(rt; reads(rt, first, None) && has_none_prepared(rt, first));
-    let again = works(rt, coordinator, &mut other, 1, &get_k);
-    assert!(rt; matches!(again, Ok(Reply::Value(Some(_)))));
+    assert!(rt; reads(rt, first, None));
+    assert!(rt; has_none_prepared(rt, first));
+    let found = finds(rt, coordinator, &mut other, 1);
+    assert!(rt; found);
     let Vote::OnePhase(prepared) = coordinator.prepare(rt, other) else {
         panic!(rt; "not in one phase")
     };
@@ -187,20 +184,5 @@ fn works_stand_apart<S: Speak, R: Abort + Wait>(
 
 #[test]
 fn work_of_two_transactions_stays_open_in_two_stores(rt: HostRuntime) {
-    let (first, pass_0, reader_0) = opened(&rt, rt.alloc(), 16);
-    let (second, pass_1, reader_1) = opened(&rt, rt.alloc(), 16);
-    let (third, pass_2, _) = opened(&rt, rt.alloc(), 16);
-    let one = connected(&rt, &first, pass_0);
-    let two = connected(&rt, &second, pass_1);
-    let three = connected(&rt, &third, pass_2);
-    let mut coordinator = over_three(&rt, rt.alloc(), one, two, three);
-    let mut reader_0 = connected(&rt, &first, reader_0);
-    let mut reader_1 = connected(&rt, &second, reader_1);
-    works_stand_apart(
-        &rt,
-        rt.alloc(),
-        &mut coordinator,
-        &mut reader_0,
-        &mut reader_1,
-    );
+    goes_through(&rt, rt.alloc(), Course::WorksStandApart, ROOMS);
 }

@@ -6,6 +6,8 @@ mod acts;
 #[cfg(test)]
 mod beside;
 #[cfg(test)]
+mod course;
+#[cfg(test)]
 mod machine;
 #[cfg(test)]
 mod meddled;
@@ -15,6 +17,8 @@ mod opened;
 mod recovery;
 #[cfg(test)]
 mod renewed;
+#[cfg(test)]
+mod scene;
 #[cfg(test)]
 mod scenes;
 #[cfg(test)]

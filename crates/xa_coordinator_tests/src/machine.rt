@@ -2,14 +2,16 @@
 //! the test keeps: the transaction is committed in all its stores or in none, and in all where it was decided.
 ghost use Rattle.std.specs.Prelude.{◌≡◌, vec_len};
 
-use crate::acts::{begun, has_none_prepared, puts, reads};
+use crate::acts::{all_read, begun, none_has_prepared, puts_in_each, reads};
 use crate::meddled::{Account, Meddled, Way};
 use crate::opened::{connected, opened_for_three, over_three, stopped};
+use decision_log::DecisionLog;
 use std::alloc::Global;
 use std::process::Abort;
 use std::sync::Wait;
 use xa_coordinator::{Coordinator, Decisions, RecoverFault, Report, Speak, Vote};
-use xa_session::Fault;
+use xa_session::{Fault, Session};
+use xa_store::{Log, Pass, Store};
 
 /// The stores of the calls of a transaction that works in three stores: work, vote, second phase.
 const CALLS: [u8; 15] = [0, 0, 1, 1, 2, 2, 0, 0, 1, 1, 2, 2, 0, 1, 2];
@@ -38,14 +40,6 @@ fn store_of(call: u8) -> Option<u8> {
     CALLS.get(call as usize).copied()
 }
 
-/// A store's session, its stranger and its reader.
-#[derive(Drop)]
-pub(crate) struct Site<S: Speak> {
-    own: S,
-    stranger: S,
-    reader: S,
-}
-
 /// The session of a store under a plan.
 fn meddled<S: Speak>(plan: Plan, store: u8, own: S, stranger: S) -> Meddled<S> {
     let here = plan.way == Way::Stop || store_of(plan.call) == Some(store);
@@ -64,10 +58,7 @@ fn drive<S: Speak, R: Abort + Wait>(
     ensures { vec_len coordinator.new.stores ≡ 3 }
 {
     let mut transaction = begun(rt, coordinator, decisions);
-    let worked = puts(rt, coordinator, &mut transaction, 0)
-        && puts(rt, coordinator, &mut transaction, 1)
-        && puts(rt, coordinator, &mut transaction, 2);
-    if !worked {
+    if !puts_in_each(rt, coordinator, &mut transaction, true) {
         let _ = coordinator.abandon(rt, transaction);
         return false;
     }
@@ -124,105 +115,168 @@ fn sum(one: bool, two: bool, three: bool) -> u128 {
         .saturating_add(u128::from(three))
 }
 
+/// A store's session under a plan, and the reader of the store.
+fn entered<'a>(
+    rt: &impl Abort,
+    plan: Plan,
+    number: u8,
+    store: &'a Store,
+    own: Pass,
+    stranger: Pass,
+    reader: Pass,
+) -> (Meddled<Session<'a, Log>>, Session<'a, Log>)
+    requires own { ⟦<Log as DecisionLog>⟧.home own ≡ ⟦<Log as DecisionLog>⟧.place store.now.log }
+    requires stranger { ⟦<Log as DecisionLog>⟧.home stranger ≡ ⟦<Log as DecisionLog>⟧.place store.now.log }
+    requires reader { ⟦<Log as DecisionLog>⟧.home reader ≡ ⟦<Log as DecisionLog>⟧.place store.now.log }
+{
+    let own = connected(rt, store, own);
+    let stranger = connected(rt, store, stranger);
+    let reader = connected(rt, store, reader);
+    (meddled(plan, number, own, stranger), reader)
+}
+
+/// The sessions that a coordinator leaves, back from their strangers, and the accounts of their stores.
+fn left<S: Speak>(
+    rt: &impl Abort,
+    coordinator: Coordinator<Meddled<S>>,
+) -> ((S, S, S), [Account; 3])
+where
+    S: Drop,
+{
+    let (one, two, three) = stopped(rt, coordinator);
+    let (one, _, at_0) = one.into_parts();
+    let (two, _, at_1) = two.into_parts();
+    let (three, _, at_2) = three.into_parts();
+    ((one, two, three), [at_0, at_1, at_2])
+}
+
+/// Whether each store's branch was prepared.
+fn every_was_prepared(accounts: &[Account; 3]) -> bool {
+    accounts[0].was_prepared && accounts[1].was_prepared && accounts[2].was_prepared
+}
+
+/// Whether the readers find what the accounts say.
+fn all_agree<S: Speak, R: Abort + Wait>(
+    rt: &R,
+    readers: &mut (S, S, S),
+    accounts: [Account; 3],
+    decided: bool,
+) -> bool {
+    if !agrees(rt, &mut readers.0, accounts[0], decided) {
+        return false;
+    }
+    if !agrees(rt, &mut readers.1, accounts[1], decided) {
+        return false;
+    }
+    agrees(rt, &mut readers.2, accounts[2], decided)
+}
+
+/// Whether a report counts what the accounts say.
+fn counts_all(report: &Report, decided: bool, accounts: [Account; 3]) -> bool {
+    let prepared = sum(
+        accounts[0].prepared,
+        accounts[1].prepared,
+        accounts[2].prepared,
+    );
+    let others = sum(
+        accounts[0].another,
+        accounts[1].another,
+        accounts[2].another,
+    );
+    counts(report, decided, prepared, others)
+}
+
+/// Holds a recovery, and what is found behind it, to the accounts.
+fn holds<S: Speak, R: Abort + Wait>(
+    rt: &R,
+    plan: Plan,
+    decided: bool,
+    report: &Report,
+    accounts: [Account; 3],
+    readers: &mut (S, S, S),
+) {
+    let counted = counts_all(report, decided, accounts);
+    assert!(rt; counted, "counts at {plan:?}");
+    let empty = none_has_prepared(rt, readers);
+    assert!(rt; empty, "prepared at {plan:?}");
+    let found = all_agree(rt, readers, accounts, decided);
+    assert!(rt; found, "values at {plan:?}");
+}
+
+/// Holds a recovery that failed to its plan: the log is full, and nothing is committed that wasn't decided.
+fn holds_back<S: Speak, R: Abort + Wait>(
+    rt: &R,
+    plan: Plan,
+    decided: bool,
+    fault: RecoverFault,
+    readers: &mut (S, S, S),
+) {
+    let full = matches!(
+        fault,
+        RecoverFault::Session {
+            store: _,
+            fault: Fault::Full,
+        }
+    );
+    assert!(rt; full && plan.way == Way::Fill, "{fault:?} at {plan:?}");
+    let none = all_read(rt, readers, None);
+    assert!(rt; decided || none, "undecided and committed at {plan:?}");
+}
+
+/// Drives a transaction under a plan: whether it was decided. The sessions that are left, and the accounts of their stores.
+fn driven<S: Speak, R: Abort + Wait>(
+    rt: &R,
+    alloc: Global,
+    plan: Plan,
+    decisions: &mut Decisions,
+    sessions: (Meddled<S>, Meddled<S>, Meddled<S>),
+) -> (bool, (S, S, S), [Account; 3])
+where
+    S: Drop,
+{
+    let (one, two, three) = sessions;
+    let mut coordinator = over_three(rt, alloc, one, two, three);
+    let decided = drive(rt, &mut coordinator, decisions, plan.decides);
+    let (sessions, accounts) = left(rt, coordinator);
+    assert!(rt; decisions.is_decided(1) == decided);
+    (decided, sessions, accounts)
+}
+
 /// Runs one combination, recovers, and holds what is found to the account.
 fn combination<S: Speak, R: Abort + Wait>(
     rt: &R,
     alloc: Global,
     plan: Plan,
-    first: Site<S>,
-    second: Site<S>,
-    third: Site<S>,
+    sessions: (Meddled<S>, Meddled<S>, Meddled<S>),
+    mut readers: (S, S, S),
 )
 where
     S: Drop,
 {
-    let Site {
-        own,
-        stranger,
-        reader: mut reader_0,
-    } = first;
-    let one = meddled(plan, 0, own, stranger);
-    let Site {
-        own,
-        stranger,
-        reader: mut reader_1,
-    } = second;
-    let two = meddled(plan, 1, own, stranger);
-    let Site {
-        own,
-        stranger,
-        reader: mut reader_2,
-    } = third;
-    let three = meddled(plan, 2, own, stranger);
-    let mut coordinator = over_three(rt, alloc, one, two, three);
     let mut decisions = Decisions::new(alloc);
-    let decided = drive(rt, &mut coordinator, &mut decisions, plan.decides);
-    let (one, two, three) = stopped(rt, coordinator);
-    let ((one, _, at_0), (two, _, at_1), (three, _, at_2)) = (
-        one.into_parts(),
-        two.into_parts(),
-        three.into_parts(),
-    );
-    let every = at_0.was_prepared && at_1.was_prepared && at_2.was_prepared;
+    let (decided, sessions, accounts) = driven(rt, alloc, plan, &mut decisions, sessions);
+    let every = every_was_prepared(&accounts);
     assert!(rt; !decided || every, "decided and not prepared at {plan:?}");
-    assert!(rt; decisions.is_decided(1) == decided);
+    let (one, two, three) = sessions;
     let mut anew = over_three(rt, alloc, one, two, three);
     match anew.recover(rt, alloc, &mut decisions) {
-        Ok(report) => {
-            let prepared = sum(at_0.prepared, at_1.prepared, at_2.prepared);
-            let others = sum(at_0.another, at_1.another, at_2.another);
-            assert!(rt;
-                counts(&report, decided, prepared, others),
-                "counts at {plan:?}"
-            );
-            let empty = has_none_prepared(rt, &mut reader_0)
-                && has_none_prepared(rt, &mut reader_1)
-                && has_none_prepared(rt, &mut reader_2);
-            assert!(rt; empty, "prepared at {plan:?}");
-            let found = agrees(rt, &mut reader_0, at_0, decided)
-                && agrees(rt, &mut reader_1, at_1, decided)
-                && agrees(rt, &mut reader_2, at_2, decided);
-            assert!(rt; found, "values at {plan:?}");
-        }
-        Err(fault) => {
-            let full = matches!(
-                fault,
-                RecoverFault::Session {
-                    store: _,
-                    fault: Fault::Full,
-                }
-            );
-            assert!(rt; full && plan.way == Way::Fill, "{fault:?} at {plan:?}");
-            let none = reads(rt, &mut reader_0, None)
-                && reads(rt, &mut reader_1, None)
-                && reads(rt, &mut reader_2, None);
-            assert!(rt; decided || none, "undecided and committed at {plan:?}");
-        }
+        Ok(report) => holds(rt, plan, decided, &report, accounts, &mut readers),
+        Err(fault) => holds_back(rt, plan, decided, fault, &mut readers),
     }
     assert!(rt; decisions.is_decided(1) == decided);
 }
 
 /// Opens three stores for a combination, and runs it.
 fn run<R: Abort + Wait>(rt: &R, alloc: Global, plan: Plan) {
-    let (first, pass, stranger, reader) = opened_for_three(rt, alloc, 40);
-    let one = Site {
-        own: connected(rt, &first, pass),
-        stranger: connected(rt, &first, stranger),
-        reader: connected(rt, &first, reader),
-    };
-    let (second, pass, stranger, reader) = opened_for_three(rt, alloc, 40);
-    let two = Site {
-        own: connected(rt, &second, pass),
-        stranger: connected(rt, &second, stranger),
-        reader: connected(rt, &second, reader),
-    };
-    let (third, pass, stranger, reader) = opened_for_three(rt, alloc, 40);
-    let three = Site {
-        own: connected(rt, &third, pass),
-        stranger: connected(rt, &third, stranger),
-        reader: connected(rt, &third, reader),
-    };
-    combination(rt, alloc, plan, one, two, three);
+    let (first, own, stranger, reader) = opened_for_three(rt, alloc, 40);
+    let (one, reader_0) = entered(rt, plan, 0, &first, own, stranger, reader);
+    let (second, own, stranger, reader) = opened_for_three(rt, alloc, 40);
+    let (two, reader_1) = entered(rt, plan, 1, &second, own, stranger, reader);
+    let (third, own, stranger, reader) = opened_for_three(rt, alloc, 40);
+    let (three, reader_2) = entered(rt, plan, 2, &third, own, stranger, reader);
+    let sessions = (one, two, three);
+    let readers = (reader_0, reader_1, reader_2);
+    combination(rt, alloc, plan, sessions, readers);
 }
 
 /// Runs every combination of a call and a decision: how many there were.

@@ -1,8 +1,10 @@
 //! Recoveries that strangers disturb, and work behind a recovery.
 ghost use Rattle.std.specs.Prelude.{◌≡◌, vec_len};
 
-use crate::acts::{begun, has_none_prepared, put, puts, reads, ready, works};
-use crate::opened::{connected, opened, over_three, stopped};
+use crate::acts::{begun, has_none_prepared, put, puts, reads, ready, recovers, works};
+use crate::course::Course;
+use crate::opened::{over_three, stopped};
+use crate::scene::{ROOMS, Scene, goes_through, show};
 use crate::strangers::{Forestalled, Outrun};
 use std::alloc::Global;
 use std::process::Abort;
@@ -11,7 +13,7 @@ use xa_coordinator::{Coordinator, Decisions, RecoverFault, Speak, WorkFault};
 use xa_server::Reply;
 
 /// A branch that a stranger rolls back behind the list is counted as missing.
-fn forestalled_branch_is_missing<S: Speak, R: Abort + Wait>(
+pub(crate) fn forestalled_branch_is_missing<S: Speak, R: Abort + Wait>(
     rt: &R,
     alloc: Global,
     sessions: (S, S, S),
@@ -29,50 +31,23 @@ where
     let mut anew = over_three(
         rt,
         alloc,
-        Forestalled {
-            inner: first,
-            stranger: one,
-            listed: None,
-        },
-        Forestalled {
-            inner: second,
-            stranger: two,
-            listed: None,
-        },
-        Forestalled {
-            inner: third,
-            stranger: three,
-            listed: None,
-        },
+        Forestalled::new(first, one),
+        Forestalled::new(second, two),
+        Forestalled::new(third, three),
     );
-    let Ok(report) = anew.recover(rt, alloc, &mut decisions) else {
-        panic!(rt; "not recovered")
-    };
-    assert!(rt; report.committed == 0 && report.rolled_back == 0 && report.missing == 2);
+    let recovered = recovers(rt, alloc, &mut anew, &mut decisions, (0, 0, 2));
+    assert!(rt; recovered);
     let (mut first, _, _) = stopped(rt, anew);
     assert!(rt; reads(rt, &mut first.inner, None));
 }
 
 #[test]
 fn branch_that_a_stranger_finishes_behind_the_list_is_missing(rt: HostRuntime) {
-    let (first, pass_0, stranger_0) = opened(&rt, rt.alloc(), 16);
-    let (second, pass_1, stranger_1) = opened(&rt, rt.alloc(), 16);
-    let (third, pass_2, stranger_2) = opened(&rt, rt.alloc(), 16);
-    let sessions = (
-        connected(&rt, &first, pass_0),
-        connected(&rt, &second, pass_1),
-        connected(&rt, &third, pass_2),
-    );
-    let strangers = (
-        connected(&rt, &first, stranger_0),
-        connected(&rt, &second, stranger_1),
-        connected(&rt, &third, stranger_2),
-    );
-    forestalled_branch_is_missing(&rt, rt.alloc(), sessions, strangers);
+    show(&rt, rt.alloc(), Scene::Forestalled, ROOMS);
 }
 
 /// A branch of this naming that a stranger prepares before the last list is told.
-fn outrun_recovery_is_told<S: Speak, R: Abort + Wait>(
+pub(crate) fn outrun_recovery_is_told<S: Speak, R: Abort + Wait>(
     rt: &R,
     alloc: Global,
     sessions: (S, S, S),
@@ -86,24 +61,9 @@ where
     let mut coordinator = over_three(
         rt,
         alloc,
-        Outrun {
-            inner: first,
-            stranger: one,
-            store: 0,
-            is_last: false,
-        },
-        Outrun {
-            inner: second,
-            stranger: two,
-            store: 1,
-            is_last: false,
-        },
-        Outrun {
-            inner: third,
-            stranger: three,
-            store: 2,
-            is_last: false,
-        },
+        Outrun::new(first, one, 0),
+        Outrun::new(second, two, 1),
+        Outrun::new(third, three, 2),
     );
     let mut decisions = Decisions::new(alloc);
     let still = matches!(
@@ -115,24 +75,11 @@ where
 
 #[test]
 fn branch_that_a_stranger_prepares_before_the_last_list_is_told(rt: HostRuntime) {
-    let (first, pass_0, stranger_0) = opened(&rt, rt.alloc(), 16);
-    let (second, pass_1, stranger_1) = opened(&rt, rt.alloc(), 16);
-    let (third, pass_2, stranger_2) = opened(&rt, rt.alloc(), 16);
-    let sessions = (
-        connected(&rt, &first, pass_0),
-        connected(&rt, &second, pass_1),
-        connected(&rt, &third, pass_2),
-    );
-    let strangers = (
-        connected(&rt, &first, stranger_0),
-        connected(&rt, &second, stranger_1),
-        connected(&rt, &third, stranger_2),
-    );
-    outrun_recovery_is_told(&rt, rt.alloc(), sessions, strangers);
+    show(&rt, rt.alloc(), Scene::Outrun, ROOMS);
 }
 
 /// Work behind a recovery of the same coordinator is lost, and what was there is gone.
-fn work_behind_a_recovery_is_lost<S: Speak, R: Abort + Wait>(
+pub(crate) fn work_behind_a_recovery_is_lost<S: Speak, R: Abort + Wait>(
     rt: &R,
     alloc: Global,
     coordinator: &mut Coordinator<S>,
@@ -160,13 +107,5 @@ fn work_behind_a_recovery_is_lost<S: Speak, R: Abort + Wait>(
 
 #[test]
 fn work_is_lost_behind_a_recovery(rt: HostRuntime) {
-    let (first, pass_0, reader) = opened(&rt, rt.alloc(), 16);
-    let (second, pass_1, _) = opened(&rt, rt.alloc(), 16);
-    let (third, pass_2, _) = opened(&rt, rt.alloc(), 16);
-    let one = connected(&rt, &first, pass_0);
-    let two = connected(&rt, &second, pass_1);
-    let three = connected(&rt, &third, pass_2);
-    let mut coordinator = over_three(&rt, rt.alloc(), one, two, three);
-    let mut reader = connected(&rt, &first, reader);
-    work_behind_a_recovery_is_lost(&rt, rt.alloc(), &mut coordinator, &mut reader);
+    goes_through(&rt, rt.alloc(), Course::WorkBehindARecovery, ROOMS);
 }

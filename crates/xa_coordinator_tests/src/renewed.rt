@@ -7,7 +7,7 @@ ghost use Rattle.xa_store.specs.Renewal.{AreGathered};
 ghost use Rattle.xa_coordinator.specs.declared.prepared.Ballot.TheVariants.{Ready as BallotReady};
 ghost use Rattle.xa_coordinator_tests.specs.Sites.{sites};
 
-use crate::acts::{has_none_prepared, reads, ready};
+use crate::acts::{self, all_read, none_has_prepared, ready};
 use crate::opened::{connected, opened, over_three, stopped};
 use std::alloc::Global;
 use std::process::Abort;
@@ -105,18 +105,19 @@ where
     stopped(rt, coordinator)
 }
 
-/// The passes of the sessions of a store, which leave it.
+/// The passes of the coordinator's session of a store and of a reader, which leave it.
 fn left(
     rt: &impl Abort,
     alloc: Global,
     store: &Store,
     own: Session<'_, Log>,
-    reader: Session<'_, Log>,
+    reader: Pass,
 ) -> Vec<Pass>
     requires own { home_of own.pass ≡ place_of store.now.log }
-    requires reader { home_of reader.pass ≡ place_of store.now.log }
+    requires reader { home_of reader ≡ place_of store.now.log }
     ensures { AreGathered (place_of store.now.log) result.items }
 {
+    let reader = connected(rt, store, reader);
     let Ok(sessions) = vec![in alloc; own, reader] else {
         panic!(rt; "out of memory")
     };
@@ -158,31 +159,20 @@ fn recovers<S: Speak, R: Abort + Wait>(
     plan: Plan,
     decisions: &mut Decisions,
     sessions: (S, S, S),
-    readers: (S, S, S),
+    mut readers: (S, S, S),
 )
 where
     S: Drop,
 {
     let (first, second, third) = sessions;
     let mut anew = over_three(rt, alloc, first, second, third);
-    let Ok(report) = anew.recover(rt, alloc, decisions) else {
-        panic!(rt; "not recovered")
-    };
-    let (committed, rolled_back) = if plan.decides { (3, 0) } else { (0, 3) };
-    assert!(rt;
-        report.committed == committed && report.rolled_back == rolled_back,
-        "{plan:?}"
-    );
-    assert!(rt; report.missing == 0, "{plan:?}");
+    let counts = if plan.decides { (3, 0, 0) } else { (0, 3, 0) };
+    let recovered = acts::recovers(rt, alloc, &mut anew, decisions, counts);
+    assert!(rt; recovered, "{plan:?}");
     let value = if plan.decides { Some(b'v') } else { None };
-    let (mut one, mut two, mut three) = readers;
-    let read = reads(rt, &mut one, value)
-        && reads(rt, &mut two, value)
-        && reads(rt, &mut three, value);
+    let read = all_read(rt, &mut readers, value);
     assert!(rt; read, "{plan:?}");
-    let none = has_none_prepared(rt, &mut one)
-        && has_none_prepared(rt, &mut two)
-        && has_none_prepared(rt, &mut three);
+    let none = none_has_prepared(rt, &mut readers);
     assert!(rt; none, "{plan:?}");
 }
 
@@ -220,17 +210,27 @@ fn votes_and_renews<R: Abort + Wait>(
         connected(rt, &three, own_2),
     );
     let (first, second, third) = voted(rt, alloc, plan, decisions, sessions);
-    let reader = connected(rt, &one, reader_0);
-    let passes_0 = left(rt, alloc, &one, first, reader);
-    let reader = connected(rt, &two, reader_1);
-    let passes_1 = left(rt, alloc, &two, second, reader);
-    let reader = connected(rt, &three, reader_2);
-    let passes_2 = left(rt, alloc, &three, third, reader);
+    let passes_0 = left(rt, alloc, &one, first, reader_0);
+    let passes_1 = left(rt, alloc, &two, second, reader_1);
+    let passes_2 = left(rt, alloc, &three, third, reader_2);
     (
         renewed(rt, alloc, one, passes_0),
         renewed(rt, alloc, two, passes_1),
         renewed(rt, alloc, three, passes_2),
     )
+}
+
+/// The coordinator's session of a store, and a reader.
+fn both<'a>(
+    rt: &impl Abort,
+    store: &'a Store,
+    own: Pass,
+    reader: Pass,
+) -> (Session<'a, Log>, Session<'a, Log>)
+    requires own { home_of own ≡ place_of store.now.log }
+    requires reader { home_of reader ≡ place_of store.now.log }
+{
+    (connected(rt, store, own), connected(rt, store, reader))
 }
 
 /// One plan, over new stores.
@@ -252,16 +252,11 @@ fn row<R: Abort + Wait>(rt: &R, alloc: Global, plan: Plan) {
         own: own_2,
         reader: reader_2,
     } = third;
-    let sessions = (
-        connected(rt, &one, own_0),
-        connected(rt, &two, own_1),
-        connected(rt, &three, own_2),
-    );
-    let readers = (
-        connected(rt, &one, reader_0),
-        connected(rt, &two, reader_1),
-        connected(rt, &three, reader_2),
-    );
+    let (first, reader_0) = both(rt, &one, own_0, reader_0);
+    let (second, reader_1) = both(rt, &two, own_1, reader_1);
+    let (third, reader_2) = both(rt, &three, own_2, reader_2);
+    let sessions = (first, second, third);
+    let readers = (reader_0, reader_1, reader_2);
     recovers(rt, alloc, plan, &mut decisions, sessions, readers);
 }
 

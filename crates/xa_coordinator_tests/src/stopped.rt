@@ -2,9 +2,13 @@
 ghost use Rattle.std.specs.Prelude.{◌≡◌, ◌≤◌, vec_len, IfSome};
 ghost use Rattle.xa_coordinator.specs.declared.prepared.Ballot.TheVariants.{Ready as BallotReady};
 
-use crate::acts::{begun, does, has_none_prepared, puts, reads, text};
+use crate::acts::{
+    all_read, begun, does, has_none_prepared, none_has_prepared, puts_in_each, reads, recovers,
+    text,
+};
 use crate::meddled::prepares;
-use crate::opened::{connected, opened, over_three, stopped};
+use crate::opened::{over_three, stopped};
+use crate::scene::{ROOMS, Scene, show};
 use std::alloc::Global;
 use std::process::Abort;
 use std::sync::Wait;
@@ -16,14 +20,14 @@ use xa_xid::Statement;
 
 /// How many calls a store's session passes on, and whether a vote of Ready is decided.
 #[derive(Clone, Copy, Debug, PartialEq, Eq)]
-struct Stop {
+pub(crate) struct Stop {
     shares: [u64; 3],
     decides: bool,
 }
 
 /// What a recovery counts, and what is read in each store afterwards.
 #[derive(Clone, Copy, Debug, PartialEq, Eq)]
-struct Expected {
+pub(crate) struct Expected {
     committed: u128,
     rolled_back: u128,
     value: Option<u8>,
@@ -41,10 +45,7 @@ fn voted<S: Speak, R: Abort + Wait>(
     ensures ballot { IfSome result (λ prepared. prepared.ballot ≡ BallotReady) }
 {
     let mut transaction = begun(rt, coordinator, decisions);
-    let worked = puts(rt, coordinator, &mut transaction, 0)
-        && puts(rt, coordinator, &mut transaction, 1)
-        && puts(rt, coordinator, &mut transaction, 2);
-    if !worked {
+    if !puts_in_each(rt, coordinator, &mut transaction, true) {
         return None;
     }
     let Vote::Ready(prepared) = coordinator.prepare(rt, transaction) else {
@@ -58,74 +59,93 @@ fn voted<S: Speak, R: Abort + Wait>(
     None
 }
 
-/// Whether a recovery counts so.
-fn recovers<S: Speak, R: Abort + Wait>(
-    rt: &R,
+/// A coordinator over sessions of three stores, each of which passes so many calls on.
+fn over_fused<S: Speak>(
+    rt: &impl Abort,
     alloc: Global,
-    coordinator: &mut Coordinator<S>,
-    decisions: &mut Decisions,
-    counts: (u128, u128, u128),
-) -> bool
-    ensures { vec_len coordinator.new.stores ≡ vec_len coordinator.old.stores }
-{
-    match coordinator.recover(rt, alloc, decisions) {
-        Ok(report) => {
-            report.committed == counts.0
-                && report.rolled_back == counts.1
-                && report.missing == counts.2
-        }
-        Err(_) => false,
-    }
-}
-
-/// Stops a coordinator, recovers, and looks at what is there.
-fn stop_and_recover<S: Speak, R: Abort + Wait>(
-    rt: &R,
-    alloc: Global,
-    stop: Stop,
-    expected: Expected,
     sessions: (S, S, S),
-    readers: (S, S, S),
-)
+    shares: [u64; 3],
+) -> Coordinator<Fused<S>>
 where
     S: Drop,
+    ensures { vec_len result.stores ≡ 3 }
 {
     let (first, second, third) = sessions;
-    let mut coordinator = over_three(
+    over_three(
         rt,
         alloc,
-        Fused::new(first, stop.shares[0]),
-        Fused::new(second, stop.shares[1]),
-        Fused::new(third, stop.shares[2]),
-    );
-    let mut decisions = Decisions::new(alloc);
-    let left = voted(rt, &mut coordinator, &mut decisions, stop.decides);
+        Fused::new(first, shares[0]),
+        Fused::new(second, shares[1]),
+        Fused::new(third, shares[2]),
+    )
+}
+
+/// Another coordinator of the name, over the sessions of one that stops.
+fn succeeded<S: Speak>(
+    rt: &impl Abort,
+    alloc: Global,
+    coordinator: Coordinator<Fused<S>>,
+) -> Coordinator<S>
+where
+    S: Drop,
+    ensures { vec_len result.stores ≡ 3 }
+{
     let (first, second, third) = stopped(rt, coordinator);
-    let mut anew = over_three(
+    over_three(
         rt,
         alloc,
         first.into_inner(),
         second.into_inner(),
         third.into_inner(),
-    );
+    )
+}
+
+/// Recovers twice, and looks at what is there.
+fn recovers_as<S: Speak, R: Abort + Wait>(
+    rt: &R,
+    alloc: Global,
+    stop: Stop,
+    expected: Expected,
+    anew: &mut Coordinator<S>,
+    decisions: &mut Decisions,
+    readers: &mut (S, S, S),
+) {
     let counts = (expected.committed, expected.rolled_back, 0);
-    assert!(rt;
-        recovers(rt, alloc, &mut anew, &mut decisions, counts),
-        "{stop:?}"
-    );
-    assert!(rt;
-        recovers(rt, alloc, &mut anew, &mut decisions, (0, 0, 0)),
-        "{stop:?} again"
-    );
-    let (mut one, mut two, mut three) = readers;
-    let read = reads(rt, &mut one, expected.value)
-        && reads(rt, &mut two, expected.value)
-        && reads(rt, &mut three, expected.value);
+    let once = recovers(rt, alloc, anew, decisions, counts);
+    assert!(rt; once, "{stop:?}");
+    let again = recovers(rt, alloc, anew, decisions, (0, 0, 0));
+    assert!(rt; again, "{stop:?} again");
+    let read = all_read(rt, readers, expected.value);
     assert!(rt; read, "{stop:?}");
-    let none = has_none_prepared(rt, &mut one)
-        && has_none_prepared(rt, &mut two)
-        && has_none_prepared(rt, &mut three);
+    let none = none_has_prepared(rt, readers);
     assert!(rt; none, "{stop:?}");
+}
+
+/// Stops a coordinator, recovers, and looks at what is there.
+pub(crate) fn stop_and_recover<S: Speak, R: Abort + Wait>(
+    rt: &R,
+    alloc: Global,
+    stop: Stop,
+    expected: Expected,
+    sessions: (S, S, S),
+    mut readers: (S, S, S),
+)
+where
+    S: Drop,
+{
+    let mut coordinator = over_fused(rt, alloc, sessions, stop.shares);
+    let mut decisions = Decisions::new(alloc);
+    let left = voted(rt, &mut coordinator, &mut decisions, stop.decides);
+    let mut anew = succeeded(rt, alloc, coordinator);
+    recovers_as(
+        rt,
+        alloc,
+        stop,
+        expected,
+        &mut anew,
+        &mut decisions,
+        &mut readers,
+    );
     if let Some(prepared) = left {
         assert!(rt; decisions.decide(&prepared).is_err());
         assert!(rt; !decisions.is_decided(1));
@@ -134,20 +154,7 @@ where
 
 /// One row of the table of stops, over new stores.
 fn row<R: Abort + Wait>(rt: &R, alloc: Global, stop: Stop, expected: Expected) {
-    let (first, pass_0, reader_0) = opened(rt, alloc, 16);
-    let (second, pass_1, reader_1) = opened(rt, alloc, 16);
-    let (third, pass_2, reader_2) = opened(rt, alloc, 16);
-    let sessions = (
-        connected(rt, &first, pass_0),
-        connected(rt, &second, pass_1),
-        connected(rt, &third, pass_2),
-    );
-    let readers = (
-        connected(rt, &first, reader_0),
-        connected(rt, &second, reader_1),
-        connected(rt, &third, reader_2),
-    );
-    stop_and_recover(rt, alloc, stop, expected, sessions, readers);
+    show(rt, alloc, Scene::Stopped(stop, expected), ROOMS);
 }
 
 /// A row in which nothing was decided.
@@ -216,8 +223,26 @@ fn stop_behind_the_decision_commits_every_participant(rt: HostRuntime) {
     decided(&rt, rt.alloc(), [5, 5, 5], 0);
 }
 
+/// The second phase of a transaction ends at its first store, whose session fails.
+fn ends_unfinished<S: Speak, R: Abort + Wait>(
+    rt: &R,
+    coordinator: &mut Coordinator<S>,
+    decisions: &mut Decisions,
+    prepared: Prepared,
+)
+    requires name { prepared.transaction.name.items ≡ coordinator.old.name.items }
+    requires stores { prepared.transaction.stores ≡ vec_len coordinator.old.stores }
+    requires ballot { prepared.ballot ≡ BallotReady }
+{
+    assert!(rt; decisions.decide(&prepared).is_ok());
+    let Ending::Unfinished { store, cause } = coordinator.finish(rt, decisions, prepared) else {
+        panic!(rt; "finished")
+    };
+    assert!(rt; store == 0 && cause == Cause::Session(Fault::NoMemory));
+}
+
 /// The vote is No where a session fails at the eleventh call, and the ending is Unfinished where one fails at the thirteenth.
-fn failing_calls_are_told<S: Speak, R: Abort + Wait>(
+pub(crate) fn failing_calls_are_told<S: Speak, R: Abort + Wait>(
     rt: &R,
     alloc: Global,
     sessions: (S, S, S),
@@ -226,37 +251,22 @@ fn failing_calls_are_told<S: Speak, R: Abort + Wait>(
 where
     S: Drop,
 {
-    let (first, second, third) = sessions;
-    let mut coordinator = over_three(
-        rt,
-        alloc,
-        Fused::new(first, 4),
-        Fused::new(second, 4),
-        Fused::new(third, last),
-    );
+    let mut coordinator = over_fused(rt, alloc, sessions, [4, 4, last]);
     let mut decisions = Decisions::new(alloc);
     let mut transaction = begun(rt, &coordinator, &mut decisions);
-    let worked = puts(rt, &mut coordinator, &mut transaction, 0)
-        && puts(rt, &mut coordinator, &mut transaction, 1)
-        && puts(rt, &mut coordinator, &mut transaction, 2);
+    let worked = puts_in_each(rt, &mut coordinator, &mut transaction, true);
     assert!(rt; worked);
-    let no_memory = Cause::Session(Fault::NoMemory);
     match coordinator.prepare(rt, transaction) {
         Vote::No {
             prepared: _,
             store,
             cause,
         } => {
-            assert!(rt; last == 2 && store == 2 && cause == no_memory);
+            assert!(rt; last == 2 && store == 2 && cause == Cause::Session(Fault::NoMemory));
         }
         Vote::Ready(prepared) => {
             assert!(rt; last == 4);
-            assert!(rt; decisions.decide(&prepared).is_ok());
-            let Ending::Unfinished { store, cause } = coordinator.finish(rt, &decisions, prepared)
-            else {
-                panic!(rt; "finished")
-            };
-            assert!(rt; store == 0 && cause == no_memory);
+            ends_unfinished(rt, &mut coordinator, &mut decisions, prepared);
         }
         Vote::OnePhase(_) | Vote::Nothing => panic!(rt; "three participants"),
     }
@@ -265,20 +275,49 @@ where
 #[test]
 fn session_that_fails_is_named(rt: HostRuntime) {
     for last in [2, 4] {
-        let (first, pass_0, _) = opened(&rt, rt.alloc(), 16);
-        let (second, pass_1, _) = opened(&rt, rt.alloc(), 16);
-        let (third, pass_2, _) = opened(&rt, rt.alloc(), 16);
-        let sessions = (
-            connected(&rt, &first, pass_0),
-            connected(&rt, &second, pass_1),
-            connected(&rt, &third, pass_2),
-        );
-        failing_calls_are_told(&rt, rt.alloc(), sessions, last);
+        show(&rt, rt.alloc(), Scene::Failing(last), ROOMS);
     }
 }
 
+/// A coordinator that stopped behind a decision, and another one of its name over its sessions.
+fn succeeded_behind_a_decision<S: Speak, R: Abort + Wait>(
+    rt: &R,
+    alloc: Global,
+    decisions: &mut Decisions,
+    sessions: (S, S, S),
+) -> Coordinator<S>
+where
+    S: Drop,
+    ensures { vec_len result.stores ≡ 3 }
+{
+    let mut coordinator = over_fused(rt, alloc, sessions, [4, 4, 4]);
+    let left = voted(rt, &mut coordinator, decisions, true);
+    assert!(rt; left.is_none());
+    assert!(rt; decisions.is_decided(1));
+    succeeded(rt, alloc, coordinator)
+}
+
+/// Two branches are prepared, one of a number that was never given and one of another name: a recovery leaves the second.
+fn leaves_what_is_foreign<S: Speak, R: Abort + Wait>(
+    rt: &R,
+    alloc: Global,
+    coordinator: &mut Coordinator<S>,
+    decisions: &mut Decisions,
+    stranger: &mut S,
+) {
+    let never_given = xid_of_branch(&text(b'c'), 9, 0);
+    assert!(rt; prepares(rt, stranger, &never_given));
+    let foreign = xid_of_branch(&text(b'z'), 1, 0);
+    assert!(rt; prepares(rt, stranger, &foreign));
+    let recovered = recovers(rt, alloc, coordinator, decisions, (0, 1, 0));
+    assert!(rt; recovered);
+    assert!(rt; !has_none_prepared(rt, stranger));
+    assert!(rt; does(rt, stranger, &Statement::Rollback(foreign)));
+    assert!(rt; has_none_prepared(rt, stranger));
+}
+
 /// Between the decision and the recovery a stranger finishes a branch, and prepares others.
-fn strangers_before_a_recovery<S: Speak, R: Abort + Wait>(
+pub(crate) fn strangers_before_a_recovery<S: Speak, R: Abort + Wait>(
     rt: &R,
     alloc: Global,
     sessions: (S, S, S),
@@ -287,56 +326,20 @@ fn strangers_before_a_recovery<S: Speak, R: Abort + Wait>(
 where
     S: Drop,
 {
-    let (first, second, third) = sessions;
-    let mut coordinator = over_three(
-        rt,
-        alloc,
-        Fused::new(first, 4),
-        Fused::new(second, 4),
-        Fused::new(third, 4),
-    );
     let mut decisions = Decisions::new(alloc);
-    let left = voted(rt, &mut coordinator, &mut decisions, true);
-    assert!(rt; left.is_none() && decisions.is_decided(1));
-    let (first, second, third) = stopped(rt, coordinator);
+    let mut anew = succeeded_behind_a_decision(rt, alloc, &mut decisions, sessions);
     let (mut one, mut two, mut three) = strangers;
     let rollback = Statement::Rollback(xid_of_branch(&text(b'c'), 1, 1));
     assert!(rt; does(rt, &mut two, &rollback));
-    let mut anew = over_three(
-        rt,
-        alloc,
-        first.into_inner(),
-        second.into_inner(),
-        third.into_inner(),
-    );
-    assert!(rt; recovers(rt, alloc, &mut anew, &mut decisions, (2, 0, 0)));
-    let read = reads(rt, &mut one, Some(b'v'))
-        && reads(rt, &mut two, None)
-        && reads(rt, &mut three, Some(b'v'));
-    assert!(rt; read);
-    let never_given = xid_of_branch(&text(b'c'), 9, 0);
-    let foreign = xid_of_branch(&text(b'z'), 1, 0);
-    assert!(rt; prepares(rt, &mut one, &never_given) && prepares(rt, &mut one, &foreign));
-    assert!(rt; recovers(rt, alloc, &mut anew, &mut decisions, (0, 1, 0)));
-    assert!(rt; !has_none_prepared(rt, &mut one));
-    assert!(rt; does(rt, &mut one, &Statement::Rollback(foreign)));
-    assert!(rt; has_none_prepared(rt, &mut one));
+    let recovered = recovers(rt, alloc, &mut anew, &mut decisions, (2, 0, 0));
+    assert!(rt; recovered);
+    assert!(rt; reads(rt, &mut one, Some(b'v')));
+    assert!(rt; reads(rt, &mut two, None));
+    assert!(rt; reads(rt, &mut three, Some(b'v')));
+    leaves_what_is_foreign(rt, alloc, &mut anew, &mut decisions, &mut one);
 }
 
 #[test]
 fn recovery_leaves_what_strangers_named_and_finished(rt: HostRuntime) {
-    let (first, pass_0, stranger_0) = opened(&rt, rt.alloc(), 16);
-    let (second, pass_1, stranger_1) = opened(&rt, rt.alloc(), 16);
-    let (third, pass_2, stranger_2) = opened(&rt, rt.alloc(), 16);
-    let sessions = (
-        connected(&rt, &first, pass_0),
-        connected(&rt, &second, pass_1),
-        connected(&rt, &third, pass_2),
-    );
-    let strangers = (
-        connected(&rt, &first, stranger_0),
-        connected(&rt, &second, stranger_1),
-        connected(&rt, &third, stranger_2),
-    );
-    strangers_before_a_recovery(&rt, rt.alloc(), sessions, strangers);
+    show(&rt, rt.alloc(), Scene::Strangers, ROOMS);
 }

@@ -18,6 +18,15 @@ pub(crate) struct Forestalled<S: Speak> {
 }
 
 impl<S: Speak> Forestalled<S> {
+    /// A session and a stranger, before any list.
+    pub(crate) fn new(inner: S, stranger: S) -> Forestalled<S> {
+        Forestalled {
+            inner,
+            stranger,
+            listed: None,
+        }
+    }
+
     /// Has the stranger roll back what was listed first.
     fn forestall(&mut self, rt: &impl Wait)
         ensures { self.new.inner ≡ self.old.inner }
@@ -77,6 +86,16 @@ pub(crate) struct Outrun<S: Speak> {
 }
 
 impl<S: Speak> Outrun<S> {
+    /// A session of a store and a stranger, before any list.
+    pub(crate) fn new(inner: S, stranger: S, store: u8) -> Outrun<S> {
+        Outrun {
+            inner,
+            stranger,
+            store,
+            is_last: false,
+        }
+    }
+
     /// Has the stranger prepare a branch.
     fn outrun(&mut self, rt: &impl Wait)
         ensures { self.new.inner ≡ self.old.inner }

@@ -2,7 +2,9 @@
 ghost use Rattle.std.specs.Prelude.{◌≡◌, vec_len};
 
 use crate::acts::text;
+use crate::course::Course;
 use crate::opened::{connected, opened, over_three};
+use crate::scene::{ROOMS, goes_through};
 use crate::scenes;
 use std::alloc::Global;
 use std::process::Abort;
@@ -14,152 +16,52 @@ use xa_xid::write_xid;
 
 #[test]
 fn decided_transaction_commits(rt: HostRuntime) {
-    let (first, pass_0, reader_0) = opened(&rt, rt.alloc(), 16);
-    let (second, pass_1, reader_1) = opened(&rt, rt.alloc(), 16);
-    let (third, pass_2, _) = opened(&rt, rt.alloc(), 16);
-    let one = connected(&rt, &first, pass_0);
-    let two = connected(&rt, &second, pass_1);
-    let three = connected(&rt, &third, pass_2);
-    let mut coordinator = over_three(&rt, rt.alloc(), one, two, three);
-    let mut reader_0 = connected(&rt, &first, reader_0);
-    let mut reader_1 = connected(&rt, &second, reader_1);
-    scenes::decided_commits(
-        &rt,
-        rt.alloc(),
-        &mut coordinator,
-        &mut reader_0,
-        &mut reader_1,
-    );
+    goes_through(&rt, rt.alloc(), Course::DecidedCommits, ROOMS);
 }
 
 #[test]
 fn undecided_transaction_rolls_back(rt: HostRuntime) {
-    let (first, pass_0, reader_0) = opened(&rt, rt.alloc(), 16);
-    let (second, pass_1, reader_1) = opened(&rt, rt.alloc(), 16);
-    let (third, pass_2, _) = opened(&rt, rt.alloc(), 16);
-    let one = connected(&rt, &first, pass_0);
-    let two = connected(&rt, &second, pass_1);
-    let three = connected(&rt, &third, pass_2);
-    let mut coordinator = over_three(&rt, rt.alloc(), one, two, three);
-    let mut reader_0 = connected(&rt, &first, reader_0);
-    let mut reader_1 = connected(&rt, &second, reader_1);
-    scenes::undecided_rolls_back(
-        &rt,
-        rt.alloc(),
-        &mut coordinator,
-        &mut reader_0,
-        &mut reader_1,
-    );
+    goes_through(&rt, rt.alloc(), Course::UndecidedRollsBack, ROOMS);
 }
 
 #[test]
 fn only_participant_commits_in_one_phase(rt: HostRuntime) {
-    let (first, pass_0, _) = opened(&rt, rt.alloc(), 16);
-    let (second, pass_1, _) = opened(&rt, rt.alloc(), 16);
-    let (third, pass_2, reader_2) = opened(&rt, rt.alloc(), 16);
-    let one = connected(&rt, &first, pass_0);
-    let two = connected(&rt, &second, pass_1);
-    let three = connected(&rt, &third, pass_2);
-    let mut coordinator = over_three(&rt, rt.alloc(), one, two, three);
-    let mut reader_2 = connected(&rt, &third, reader_2);
-    scenes::single_commits(&rt, rt.alloc(), &mut coordinator, &mut reader_2);
+    goes_through(&rt, rt.alloc(), Course::SingleCommits, ROOMS);
 }
 
 #[test]
 fn no_work_is_no_vote(rt: HostRuntime) {
-    let (first, pass_0, _) = opened(&rt, rt.alloc(), 16);
-    let (second, pass_1, _) = opened(&rt, rt.alloc(), 16);
-    let (third, pass_2, _) = opened(&rt, rt.alloc(), 16);
-    let one = connected(&rt, &first, pass_0);
-    let two = connected(&rt, &second, pass_1);
-    let three = connected(&rt, &third, pass_2);
-    let mut coordinator = over_three(&rt, rt.alloc(), one, two, three);
-    scenes::nothing_to_vote(&rt, rt.alloc(), &mut coordinator);
+    goes_through(&rt, rt.alloc(), Course::NothingToVote, ROOMS);
 }
 
 #[test]
 fn abandoned_transaction_leaves_nothing(rt: HostRuntime) {
-    let (first, pass_0, reader_0) = opened(&rt, rt.alloc(), 16);
-    let (second, pass_1, _) = opened(&rt, rt.alloc(), 16);
-    let (third, pass_2, _) = opened(&rt, rt.alloc(), 16);
-    let one = connected(&rt, &first, pass_0);
-    let two = connected(&rt, &second, pass_1);
-    let three = connected(&rt, &third, pass_2);
-    let mut coordinator = over_three(&rt, rt.alloc(), one, two, three);
-    let mut reader_0 = connected(&rt, &first, reader_0);
-    scenes::abandoned_leaves_nothing(&rt, rt.alloc(), &mut coordinator, &mut reader_0);
+    goes_through(&rt, rt.alloc(), Course::AbandonedLeavesNothing, ROOMS);
 }
 
 #[test]
 fn locked_row_is_a_reply(rt: HostRuntime) {
-    let (first, pass_0, reader_0) = opened(&rt, rt.alloc(), 16);
-    let (second, pass_1, _) = opened(&rt, rt.alloc(), 16);
-    let (third, pass_2, _) = opened(&rt, rt.alloc(), 16);
-    let one = connected(&rt, &first, pass_0);
-    let two = connected(&rt, &second, pass_1);
-    let three = connected(&rt, &third, pass_2);
-    let mut coordinator = over_three(&rt, rt.alloc(), one, two, three);
-    let mut reader_0 = connected(&rt, &first, reader_0);
-    scenes::locked_row_is_told(&rt, rt.alloc(), &mut coordinator, &mut reader_0);
+    goes_through(&rt, rt.alloc(), Course::LockedRow, ROOMS);
 }
 
 #[test]
 fn branch_that_a_stranger_finished_is_a_hazard(rt: HostRuntime) {
-    let (first, pass_0, reader_0) = opened(&rt, rt.alloc(), 16);
-    let (second, pass_1, reader_1) = opened(&rt, rt.alloc(), 16);
-    let (third, pass_2, reader_2) = opened(&rt, rt.alloc(), 16);
-    let one = connected(&rt, &first, pass_0);
-    let two = connected(&rt, &second, pass_1);
-    let three = connected(&rt, &third, pass_2);
-    let mut coordinator = over_three(&rt, rt.alloc(), one, two, three);
-    let mut reader_0 = connected(&rt, &first, reader_0);
-    let mut reader_1 = connected(&rt, &second, reader_1);
-    let mut reader_2 = connected(&rt, &third, reader_2);
-    scenes::strangers_rollback_is_a_hazard(
-        &rt,
-        rt.alloc(),
-        &mut coordinator,
-        &mut reader_0,
-        &mut reader_1,
-        &mut reader_2,
-    );
+    goes_through(&rt, rt.alloc(), Course::StrangersRollback, ROOMS);
 }
 
 #[test]
 fn full_store_votes_no(rt: HostRuntime) {
-    let (first, pass_0, _) = opened(&rt, rt.alloc(), 3);
-    let (second, pass_1, reader_1) = opened(&rt, rt.alloc(), 16);
-    let (third, pass_2, _) = opened(&rt, rt.alloc(), 16);
-    let one = connected(&rt, &first, pass_0);
-    let two = connected(&rt, &second, pass_1);
-    let three = connected(&rt, &third, pass_2);
-    let mut coordinator = over_three(&rt, rt.alloc(), one, two, three);
-    let mut reader_1 = connected(&rt, &second, reader_1);
-    scenes::full_store_is_told(&rt, rt.alloc(), &mut coordinator, &mut reader_1);
+    goes_through(&rt, rt.alloc(), Course::FullStore, [3, 16, 16]);
 }
 
 #[test]
 fn full_store_takes_no_work(rt: HostRuntime) {
-    let (first, pass_0, _) = opened(&rt, rt.alloc(), 1);
-    let (second, pass_1, _) = opened(&rt, rt.alloc(), 16);
-    let (third, pass_2, _) = opened(&rt, rt.alloc(), 16);
-    let one = connected(&rt, &first, pass_0);
-    let two = connected(&rt, &second, pass_1);
-    let three = connected(&rt, &third, pass_2);
-    let mut coordinator = over_three(&rt, rt.alloc(), one, two, three);
-    scenes::full_store_takes_part(&rt, rt.alloc(), &mut coordinator);
+    goes_through(&rt, rt.alloc(), Course::FullStoreTakesPart, [1, 16, 16]);
 }
 
 #[test]
 fn busy_session_starts_no_second_branch(rt: HostRuntime) {
-    let (first, pass_0, _) = opened(&rt, rt.alloc(), 16);
-    let (second, pass_1, _) = opened(&rt, rt.alloc(), 16);
-    let (third, pass_2, _) = opened(&rt, rt.alloc(), 16);
-    let one = connected(&rt, &first, pass_0);
-    let two = connected(&rt, &second, pass_1);
-    let three = connected(&rt, &third, pass_2);
-    let mut coordinator = over_three(&rt, rt.alloc(), one, two, three);
-    scenes::second_branch_is_refused(&rt, rt.alloc(), &mut coordinator);
+    goes_through(&rt, rt.alloc(), Course::SecondBranch, ROOMS);
 }
 
 #[test]
