@@ -130,6 +130,20 @@ pub(crate) fn opened(rt: &impl Abort, alloc: Global, capacity: u64) -> (Store, V
     opened
 }
 
+/// A store of two sessions with room for so many entries, and their passes.
+pub(crate) fn opened_for_two(rt: &impl Abort, alloc: Global, capacity: u64) -> (Store, Pass, Pass)
+    ensures first { home_of result.1 ≡ place_of result.0.log }
+    ensures second { home_of result.2 ≡ place_of result.0.log }
+{
+    let Ok((store, mut passes)) = Store::open(alloc, capacity, 2) else {
+        panic!(rt; "not opened")
+    };
+    let (Some(second), Some(first)) = (passes.pop(), passes.pop()) else {
+        panic!(rt; "two passes")
+    };
+    (store, first, second)
+}
+
 /// The store with an empty history.
 pub(crate) fn renewed(
     rt: &impl Abort,

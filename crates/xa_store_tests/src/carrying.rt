@@ -7,8 +7,8 @@ ghost use Rattle.xa_store.specs.Renewal.{AreGathered};
 use crate::acts::{Wanted, both, gathered, gives, key, opened, text, xid};
 use std::alloc::Global;
 use std::process::Abort;
-use xa_session::Fault;
-use xa_store::{Pass, Store};
+use xa_session::{Fault, Session};
+use xa_store::{Log, Pass, Store};
 use xa_xid::Statement;
 
 /// Session 1 fills the history: it has a branch open, with a row. Session 2 has no room.
@@ -41,37 +41,44 @@ fn carried(rt: &impl Abort, alloc: Global, store: Store, passes: Vec<Pass>) -> (
     opened
 }
 
+/// A session finds the row of the open branch held, and nothing prepared.
+fn finds_it_open(rt: &impl Abort, session: &mut Session<'_, Log>)
+    ensures { home_of session.new.pass ≡ home_of session.old.pass }
+{
+    let held = Statement::Put(key(rt, b'k'), text(b'x'));
+    let recover = Statement::Recover { convert: false };
+    gives(rt, session, held, 0, Wanted::Refused(3572));
+    gives(rt, session, recover, 0, Wanted::NoneListed);
+}
+
 /// Session 1 ends and prepares its branch in the new history, which is then full.
 fn goes_on_with_it(rt: &impl Abort, alloc: Global, store: &Store, passes: Vec<Pass>) -> Vec<Pass>
     requires { All (λ pass. home_of pass ≡ place_of store.now.log) passes.items }
     ensures { AreGathered (place_of store.now.log) result.items }
 {
     let (mut first, mut second) = both(rt, store, passes);
-    let held = Statement::Put(key(rt, b'k'), text(b'x'));
-    gives(rt, &mut second, held, 0, Wanted::Refused(3572));
-    gives(
-        rt,
-        &mut second,
-        Statement::Recover { convert: false },
-        0,
-        Wanted::NoneListed,
-    );
-    gives(rt, &mut first, Statement::End(xid(b'a')), 0, Wanted::Done);
-    gives(
-        rt,
-        &mut first,
-        Statement::Prepare(xid(b'a')),
-        1,
-        Wanted::Done,
-    );
-    gives(
-        rt,
-        &mut second,
-        Statement::Recover { convert: false },
-        2,
-        Wanted::Listed(b'a'),
-    );
+    finds_it_open(rt, &mut second);
+    let end = Statement::End(xid(b'a'));
+    gives(rt, &mut first, end, 0, Wanted::Done);
+    let prepare = Statement::Prepare(xid(b'a'));
+    gives(rt, &mut first, prepare, 1, Wanted::Done);
+    let recover = Statement::Recover { convert: false };
+    gives(rt, &mut second, recover, 2, Wanted::Listed(b'a'));
     gathered(rt, alloc, store, first, second)
+}
+
+/// Session 2 commits the branch at the first place of a history, and reads its row.
+fn reads_what_it_commits(rt: &impl Abort, store: &Store, passes: Vec<Pass>)
+    requires { All (λ pass. home_of pass ≡ place_of store.now.log) passes.items }
+{
+    let (_first, mut second) = both(rt, store, passes);
+    let commit = Statement::Commit {
+        xid: xid(b'a'),
+        one_phase: false,
+    };
+    let get = Statement::Get(key(rt, b'k'));
+    gives(rt, &mut second, commit, 0, Wanted::Done);
+    gives(rt, &mut second, get, 1, Wanted::Value(Some(b'v')));
 }
 
 #[test]
@@ -82,17 +89,5 @@ fn an_open_branch_goes_on_in_the_next_history(rt: HostRuntime) {
     let (store, passes) = carried(&rt, alloc, store, passes);
     let passes = goes_on_with_it(&rt, alloc, &store, passes);
     let (store, passes) = carried(&rt, alloc, store, passes);
-    let (_first, mut second) = both(&rt, &store, passes);
-    let commit = Statement::Commit {
-        xid: xid(b'a'),
-        one_phase: false,
-    };
-    gives(&rt, &mut second, commit, 0, Wanted::Done);
-    gives(
-        &rt,
-        &mut second,
-        Statement::Get(key(&rt, b'k')),
-        1,
-        Wanted::Value(Some(b'v')),
-    );
+    reads_what_it_commits(&rt, &store, passes);
 }

@@ -3,12 +3,13 @@ ghost use Rattle.std.specs.Prelude.{◌≡◌};
 ghost use Rattle.std.specs.List.{All};
 ghost use Rattle.xa_store.specs.Passes.{place_of, home_of};
 
-use crate::acts::{key, opened, text};
+use crate::acts::{key, opened_for_two, text};
 use std::alloc::Global;
 use std::process::Abort;
 use std::sync::Wait;
 use std::thread::Threads;
 use xa_server::Reply;
+use xa_session::Answer;
 use xa_store::{Gate, Pass, Run, ShuffledGate, Store, TogetherGate, race};
 use xa_xid::{SessionNo, Statement};
 
@@ -43,12 +44,18 @@ fn writers(rt: &impl Abort, alloc: Global, store: &Store, first: Pass, second: P
     runs
 }
 
+/// Eight statements of one session are carried out, at places below 16.
+fn are_carried_out(rt: &impl Abort, answers: &[Answer]) {
+    assert_eq!(rt; answers.len(), 8);
+    for answer in answers {
+        assert!(rt; answer.place < 16);
+        assert!(rt; matches!(answer.reply, Reply::Ok));
+    }
+}
+
 /// Two sessions write side by side by this gate: each of their statements is carried out, at a place of its own.
 fn write_all<G: Gate + Sync, R: Abort + Threads + Wait + Sync>(rt: &R, alloc: Global, gate: &G) {
-    let (store, mut passes) = opened(rt, alloc, 16);
-    let (Some(second), Some(first)) = (passes.pop(), passes.pop()) else {
-        panic!(rt; "two passes")
-    };
+    let (store, first, second) = opened_for_two(rt, alloc, 16);
     let runs = writers(rt, alloc, &store, first, second);
     let Ok(outcome) = race(rt, alloc, &store, runs, gate) else {
         panic!(rt; "a fault")
@@ -56,13 +63,7 @@ fn write_all<G: Gate + Sync, R: Abort + Threads + Wait + Sync>(rt: &R, alloc: Gl
     assert_eq!(rt; outcome.history.len(), 16);
     assert_eq!(rt; outcome.answers.len(), 2);
     for answers in outcome.answers.iter() {
-        assert_eq!(rt; answers.len(), 8);
-        assert!(rt; answers.iter().all(|answer| answer.place < 16));
-        assert!(rt;
-            answers
-                .iter()
-                .all(|answer| matches!(answer.reply, Reply::Ok))
-        );
+        are_carried_out(rt, answers.as_slice());
     }
 }
 

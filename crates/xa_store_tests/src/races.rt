@@ -1,31 +1,85 @@
 //! Races of runs, and gates that let them pass.
-ghost use Rattle.std.specs.Prelude.{◌≡◌, IfSome};
+ghost use Rattle.std.specs.Prelude.{◌≡◌};
 ghost use Rattle.std.specs.List.{All};
 ghost use Rattle.xa_store.specs.Passes.{place_of, home_of};
 
-use crate::sessions::{is_listed_by, is_ok_at, xid};
-use std::alloc::{AllocError, Global};
+use crate::acts::{opened_for_two, xid};
+use crate::sessions::{is_listed_by, is_ok_at};
+use std::alloc::Global;
+use std::process::Abort;
 use std::sync::atomic::{AtomicU64, Ordering};
 use xa_server::{Reply, XaError};
 use xa_session::Answer;
 use xa_store::{Gate, OpenGate, Outcome, Pass, RaceFault, Run, Store, race};
 use xa_xid::{SessionNo, Statement};
 
-/// One run.
-fn one_run(store: &Store, alloc: Global, pass: Pass, lines: Vec<Statement>) -> Option<Vec<Run>>
-    requires { home_of pass ≡ place_of store.now.log }
-    ensures { IfSome result (λ runs. All (λ run. home_of run.pass ≡ place_of store.now.log) runs.items) }
-{
-    vec![in alloc; Run { pass, lines }].ok()
-}
-
 /// Two runs.
-fn two_runs(store: &Store, alloc: Global, first: Run, second: Run) -> Option<Vec<Run>>
+fn two_runs(rt: &impl Abort, alloc: Global, store: &Store, first: Run, second: Run) -> Vec<Run>
     requires first { home_of first.pass ≡ place_of store.now.log }
     requires second { home_of second.pass ≡ place_of store.now.log }
-    ensures { IfSome result (λ runs. All (λ run. home_of run.pass ≡ place_of store.now.log) runs.items) }
+    ensures { All (λ run. home_of run.pass ≡ place_of store.now.log) result.items }
 {
-    vec![in alloc; first, second].ok()
+    let Ok(runs) = vec![in alloc; first, second] else {
+        panic!(rt; "out of memory")
+    };
+    runs
+}
+
+/// The statement that starts a branch.
+fn start(rt: &impl Abort, alloc: Global, letter: u8) -> Vec<Statement> {
+    let Ok(lines) = vec![in alloc; Statement::Start(xid(letter))] else {
+        panic!(rt; "out of memory")
+    };
+    lines
+}
+
+/// The statements that start a branch and end it.
+fn start_and_end(rt: &impl Abort, alloc: Global, letter: u8) -> Vec<Statement> {
+    let mut lines = start(rt, alloc, letter);
+    assert!(rt; lines.push(Statement::End(xid(letter))).is_ok());
+    lines
+}
+
+/// The statements that start a branch, end it and prepare it.
+fn start_to_prepare(rt: &impl Abort, alloc: Global, letter: u8) -> Vec<Statement> {
+    let mut lines = start_and_end(rt, alloc, letter);
+    assert!(rt; lines.push(Statement::Prepare(xid(letter))).is_ok());
+    lines
+}
+
+/// The statements that start a branch, end it and list what is prepared.
+fn start_to_recover(rt: &impl Abort, alloc: Global, letter: u8) -> Vec<Statement> {
+    let mut lines = start_and_end(rt, alloc, letter);
+    assert!(rt; lines.push(Statement::Recover { convert: false }).is_ok());
+    lines
+}
+
+/// A store of one session with room for so many entries, and its run.
+fn alone(rt: &impl Abort, alloc: Global, capacity: u64, lines: Vec<Statement>) -> (Store, Vec<Run>)
+    ensures { All (λ run. home_of run.pass ≡ place_of result.0.log) result.1.items }
+{
+    let Ok((store, mut passes)) = Store::open(alloc, capacity, 1) else {
+        panic!(rt; "not opened")
+    };
+    let Some(pass) = passes.pop() else {
+        panic!(rt; "a pass")
+    };
+    let Ok(runs) = vec![in alloc; Run { pass, lines }] else {
+        panic!(rt; "out of memory")
+    };
+    (store, runs)
+}
+
+/// Whether a race has ended since the gate was shut for session 1 before this line.
+fn is_shut_at(ended: Result<Outcome, RaceFault>, line: u64) -> bool {
+    let session = SessionNo::of(1).unwrap();
+    ended.err() == Some(RaceFault::GateShut { session, line })
+}
+
+/// Whether a race has ended since session 1 had no room for this line.
+fn is_full_at(ended: Result<Outcome, RaceFault>, line: u64) -> bool {
+    let session = SessionNo::of(1).unwrap();
+    ended.err() == Some(RaceFault::Full { session, line })
 }
 
 /// Whether the identifier was another branch's at this place.
@@ -111,33 +165,26 @@ fn is_started_once(outcome: &Outcome) -> bool {
 }
 
 #[test]
-fn two_runs_start_one_branch_side_by_side(rt: HostRuntime) -> Result<(), AllocError> {
-    let Ok((store, mut passes)) = Store::open(rt.alloc(), 1024, 2) else {
-        panic!(rt; "not opened")
-    };
-    let (Some(second), Some(first)) = (passes.pop(), passes.pop()) else {
-        panic!(rt; "two passes")
-    };
+fn two_runs_start_one_branch_side_by_side(rt: HostRuntime) {
+    let alloc = rt.alloc();
+    let (store, first, second) = opened_for_two(&rt, alloc, 1024);
     let first = Run {
         pass: first,
-        lines: vec![in rt.alloc(); Statement::Start(xid(b'a'))]?,
+        lines: start(&rt, alloc, b'a'),
     };
     let second = Run {
         pass: second,
-        lines: vec![in rt.alloc(); Statement::Start(xid(b'a'))]?,
+        lines: start(&rt, alloc, b'a'),
     };
-    let Some(runs) = two_runs(&store, rt.alloc(), first, second) else {
-        panic!(rt; "two runs")
-    };
+    let runs = two_runs(&rt, alloc, &store, first, second);
     let gate = Rendezvous {
         first: AtomicU64::new(0),
         second: AtomicU64::new(0),
     };
-    match race(&rt, rt.alloc(), &store, runs, &gate) {
+    match race(&rt, alloc, &store, runs, &gate) {
         Ok(outcome) => assert!(rt; is_started_once(&outcome)),
         Err(fault) => panic!(rt; "fault {}", fault.number()),
     }
-    Ok(())
 }
 
 #[test]
@@ -156,32 +203,20 @@ fn a_race_without_runs_gives_nothing(rt: HostRuntime) {
 }
 
 #[test]
-fn a_full_history_stops_a_run(rt: HostRuntime) -> Result<(), AllocError> {
-    let Ok((store, mut passes)) = Store::open(rt.alloc(), 1, 1) else {
-        panic!(rt; "not opened")
-    };
-    let Some(pass) = passes.pop() else {
-        panic!(rt; "a pass")
-    };
-    let lines = vec![in rt.alloc();
-        Statement::Start(xid(b'a')),
-        Statement::End(xid(b'a')),
-        Statement::Recover { convert: false },
-    ]?;
-    let Some(runs) = one_run(&store, rt.alloc(), pass, lines) else {
-        panic!(rt; "a run")
-    };
-    let session = SessionNo::of(1).unwrap();
-    assert!(rt;
-        race(&rt, rt.alloc(), &store, runs, &OpenGate).err()
-            == Some(RaceFault::Full { session, line: 1 })
-    );
-    Ok(())
+fn a_full_history_stops_a_run(rt: HostRuntime) {
+    let lines = start_to_recover(&rt, rt.alloc(), b'a');
+    let (store, runs) = alone(&rt, rt.alloc(), 1, lines);
+    let ended = race(&rt, rt.alloc(), &store, runs, &OpenGate);
+    assert!(rt; is_full_at(ended, 1));
 }
 
-#[test]
-fn a_gate_stops_one_run_and_no_other(rt: HostRuntime) -> Result<(), AllocError> {
-    let Ok((store, mut passes)) = Store::open(rt.alloc(), 8, 3) else {
+/// The last of three passes of a store with room for eight entries, and two runs: session 1 starts a branch and ends it, session 2
+/// prepares one.
+fn beside_a_pass(rt: &impl Abort, alloc: Global) -> (Store, Vec<Run>, Pass)
+    ensures runs { All (λ run. home_of run.pass ≡ place_of result.0.log) result.1.items }
+    ensures third { home_of result.2 ≡ place_of result.0.log }
+{
+    let Ok((store, mut passes)) = Store::open(alloc, 8, 3) else {
         panic!(rt; "not opened")
     };
     let (Some(third), Some(second), Some(first)) = (passes.pop(), passes.pop(), passes.pop()) else {
@@ -189,80 +224,50 @@ fn a_gate_stops_one_run_and_no_other(rt: HostRuntime) -> Result<(), AllocError> 
     };
     let first = Run {
         pass: first,
-        lines: vec![in rt.alloc(); Statement::Start(xid(b'a')), Statement::End(xid(b'a'))]?,
+        lines: start_and_end(rt, alloc, b'a'),
     };
     let second = Run {
         pass: second,
-        lines: vec![in rt.alloc();
-            Statement::Start(xid(b'b')),
-            Statement::End(xid(b'b')),
-            Statement::Prepare(xid(b'b')),
-        ]?,
+        lines: start_to_prepare(rt, alloc, b'b'),
     };
-    let Some(runs) = two_runs(&store, rt.alloc(), first, second) else {
-        panic!(rt; "two runs")
-    };
-    let session = SessionNo::of(1).unwrap();
-    assert!(rt;
-        race(&rt, rt.alloc(), &store, runs, &ShutsFirst).err()
-            == Some(RaceFault::GateShut { session, line: 1 })
-    );
-    assert!(rt; is_listed_by(&store, third, 4, b'b'));
-    Ok(())
+    let runs = two_runs(rt, alloc, &store, first, second);
+    (store, runs, third)
 }
 
 #[test]
-fn a_gate_is_asked_once_before_each_statement(rt: HostRuntime) -> Result<(), AllocError> {
-    let Ok((store, mut passes)) = Store::open(rt.alloc(), 2, 1) else {
-        panic!(rt; "not opened")
-    };
-    let Some(pass) = passes.pop() else {
-        panic!(rt; "a pass")
-    };
-    let lines = vec![in rt.alloc();
-        Statement::Start(xid(b'a')),
-        Statement::End(xid(b'a')),
-        Statement::Recover { convert: false },
-        Statement::Prepare(xid(b'a')),
-    ]?;
-    let Some(runs) = one_run(&store, rt.alloc(), pass, lines) else {
-        panic!(rt; "a run")
-    };
+fn a_gate_stops_one_run_and_no_other(rt: HostRuntime) {
+    let (store, runs, third) = beside_a_pass(&rt, rt.alloc());
+    let ended = race(&rt, rt.alloc(), &store, runs, &ShutsFirst);
+    assert!(rt; is_shut_at(ended, 1));
+    assert!(rt; is_listed_by(&store, third, 4, b'b'));
+}
+
+#[test]
+fn a_gate_is_asked_once_before_each_statement(rt: HostRuntime) {
+    let mut lines = start_to_recover(&rt, rt.alloc(), b'a');
+    assert!(rt; lines.push(Statement::Prepare(xid(b'a'))).is_ok());
+    let (store, runs) = alone(&rt, rt.alloc(), 2, lines);
     let gate = CountsLines {
         asked: AtomicU64::new(0),
     };
-    let session = SessionNo::of(1).unwrap();
-    assert!(rt;
-        race(&rt, rt.alloc(), &store, runs, &gate).err()
-            == Some(RaceFault::Full { session, line: 3 })
-    );
+    let ended = race(&rt, rt.alloc(), &store, runs, &gate);
+    assert!(rt; is_full_at(ended, 3));
     assert!(rt; gate.asked.load(Ordering::SeqCst) == 4);
-    Ok(())
 }
 
 #[test]
-fn the_fault_of_the_lowest_session_is_told(rt: HostRuntime) -> Result<(), AllocError> {
-    let Ok((store, mut passes)) = Store::open(rt.alloc(), 8, 2) else {
-        panic!(rt; "not opened")
-    };
-    let (Some(second), Some(first)) = (passes.pop(), passes.pop()) else {
-        panic!(rt; "two passes")
-    };
+fn the_fault_of_the_lowest_session_is_told(rt: HostRuntime) {
+    let alloc = rt.alloc();
+    let (store, first, second) = opened_for_two(&rt, alloc, 8);
     let first = Run {
         pass: first,
-        lines: vec![in rt.alloc(); Statement::Start(xid(b'a')), Statement::End(xid(b'a'))]?,
+        lines: start_and_end(&rt, alloc, b'a'),
     };
     let second = Run {
         pass: second,
-        lines: vec![in rt.alloc(); Statement::Start(xid(b'b'))]?,
+        lines: start(&rt, alloc, b'b'),
     };
-    let Some(runs) = two_runs(&store, rt.alloc(), second, first) else {
-        panic!(rt; "two runs")
-    };
-    let session = SessionNo::of(1).unwrap();
-    assert!(rt;
-        race(&rt, rt.alloc(), &store, runs, &ShutsEachLast).err()
-            == Some(RaceFault::GateShut { session, line: 1 })
-    );
-    Ok(())
+    let runs = two_runs(&rt, alloc, &store, second, first);
+    let ended = race(&rt, alloc, &store, runs, &ShutsEachLast);
+    assert!(rt; is_shut_at(ended, 1));
 }

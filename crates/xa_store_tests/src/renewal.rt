@@ -7,9 +7,20 @@ ghost use Rattle.xa_store.specs.Renewal.{AreGathered};
 use crate::acts::{Wanted, both, gathered, gives, key, opened, renewed, text, xid};
 use std::alloc::Global;
 use std::process::Abort;
-use xa_session::Fault;
-use xa_store::{Pass, Store};
+use xa_session::{Fault, Session};
+use xa_store::{Log, Pass, Store};
 use xa_xid::Statement;
+
+/// A session prepares a branch with a row, by the first four entries of a history.
+fn prepares(rt: &impl Abort, session: &mut Session<'_, Log>)
+    ensures { home_of session.new.pass ≡ home_of session.old.pass }
+{
+    let put = Statement::Put(key(rt, b'k'), text(b'v'));
+    gives(rt, session, Statement::Start(xid(b'a')), 0, Wanted::Done);
+    gives(rt, session, put, 1, Wanted::Done);
+    gives(rt, session, Statement::End(xid(b'a')), 2, Wanted::Done);
+    gives(rt, session, Statement::Prepare(xid(b'a')), 3, Wanted::Done);
+}
 
 /// Session 1 fills the history with a branch that it prepares; nobody can commit it.
 fn fills(rt: &impl Abort, alloc: Global, store: &Store, passes: Vec<Pass>) -> Vec<Pass>
@@ -17,17 +28,7 @@ fn fills(rt: &impl Abort, alloc: Global, store: &Store, passes: Vec<Pass>) -> Ve
     ensures { AreGathered (place_of store.now.log) result.items }
 {
     let (mut first, mut second) = both(rt, store, passes);
-    let put = Statement::Put(key(rt, b'k'), text(b'v'));
-    gives(rt, &mut first, Statement::Start(xid(b'a')), 0, Wanted::Done);
-    gives(rt, &mut first, put, 1, Wanted::Done);
-    gives(rt, &mut first, Statement::End(xid(b'a')), 2, Wanted::Done);
-    gives(
-        rt,
-        &mut first,
-        Statement::Prepare(xid(b'a')),
-        3,
-        Wanted::Done,
-    );
+    prepares(rt, &mut first);
     let commit = Statement::Commit {
         xid: xid(b'a'),
         one_phase: false,
@@ -89,18 +90,8 @@ fn prepares_and_starts(
     ensures { AreGathered (place_of store.now.log) result.items }
 {
     let (mut first, second) = both(rt, store, passes);
-    let kept = Statement::Put(key(rt, b'k'), text(b'v'));
+    prepares(rt, &mut first);
     let lost = Statement::Put(key(rt, b'm'), text(b'w'));
-    gives(rt, &mut first, Statement::Start(xid(b'a')), 0, Wanted::Done);
-    gives(rt, &mut first, kept, 1, Wanted::Done);
-    gives(rt, &mut first, Statement::End(xid(b'a')), 2, Wanted::Done);
-    gives(
-        rt,
-        &mut first,
-        Statement::Prepare(xid(b'a')),
-        3,
-        Wanted::Done,
-    );
     gives(rt, &mut first, Statement::Start(xid(b'b')), 4, Wanted::Done);
     gives(rt, &mut first, lost, 5, Wanted::Done);
     gathered(rt, alloc, store, first, second)
@@ -128,6 +119,25 @@ fn a_prepared_branch_stays_and_an_open_one_is_rolled_back(rt: HostRuntime) {
     );
 }
 
+/// One session leaves, and what it has seen is gathered.
+fn gathered_alone(
+    rt: &impl Abort,
+    alloc: Global,
+    store: &Store,
+    session: Session<'_, Log>,
+) -> Vec<Pass>
+    requires { home_of session.pass ≡ place_of store.now.log }
+    ensures { AreGathered (place_of store.now.log) result.items }
+{
+    let Ok(sessions) = vec![in alloc; session] else {
+        panic!(rt; "out of memory")
+    };
+    let Ok((_, passes)) = store.wind_up(alloc, sessions) else {
+        panic!(rt; "out of memory")
+    };
+    passes
+}
+
 /// Session 1 prepares a branch and is dropped; session 2 alone leaves.
 fn drops(rt: &impl Abort, alloc: Global, store: &Store, passes: Vec<Pass>) -> Vec<Pass>
     requires { All (λ pass. home_of pass ≡ place_of store.now.log) passes.items }
@@ -144,13 +154,7 @@ fn drops(rt: &impl Abort, alloc: Global, store: &Store, passes: Vec<Pass>) -> Ve
         Wanted::Done,
     );
     drop(first);
-    let Ok(sessions) = vec![in alloc; second] else {
-        panic!(rt; "out of memory")
-    };
-    let Ok((_, passes)) = store.wind_up(alloc, sessions) else {
-        panic!(rt; "out of memory")
-    };
-    passes
+    gathered_alone(rt, alloc, store, second)
 }
 
 #[test]

@@ -7,7 +7,9 @@ ghost use Rattle.xa_store.specs.Rounds.{AreFresh};
 use crate::acts::{Wanted, both, gives, renewed, text, xid};
 use std::alloc::{AllocError, Global};
 use std::process::Abort;
+use std::sync::Wait;
 use std::sync::atomic::{AtomicU64, Ordering};
+use std::thread::Threads;
 use xa_server::Reply;
 use xa_session::Answer;
 use xa_store::{Gate, OpenGate, Pass, RaceFault, Run, Store, race_in_rounds};
@@ -78,25 +80,40 @@ fn are_done_in_order(answers: &[Answer]) -> bool {
     true
 }
 
+/// A race in rounds of so many entries has carried out the four statements of session 1, and prepared its branch.
+fn goes_on<R: Abort + Threads + Wait + Sync>(
+    rt: &R,
+    alloc: Global,
+    capacity: u64,
+    lines: Vec<Vec<Statement>>,
+) {
+    let (store, runs) = entered(rt, alloc, capacity, lines);
+    assert_eq!(rt; runs.len(), 2);
+    let Ok((store, outcome)) = race_in_rounds(rt, alloc, store, runs, &OpenGate) else {
+        panic!(rt; "a fault with room for {capacity}")
+    };
+    assert_eq!(rt; outcome.history.len(), 4);
+    are_told_in_order(rt, outcome.answers.as_slice());
+    let (store, passes) = renewed(rt, alloc, store, outcome.passes);
+    let (_first, mut second) = both(rt, &store, passes);
+    let recover = Statement::Recover { convert: false };
+    gives(rt, &mut second, recover, 0, Wanted::Listed(b'a'));
+}
+
+/// The first session has four answers, one at each place from 0 on, and the second none.
+fn are_told_in_order(rt: &impl Abort, answers: &[Vec<Answer>]) {
+    let [first, second] = answers else {
+        panic!(rt; "two lists")
+    };
+    assert_eq!(rt; first.len(), 4);
+    assert!(rt; are_done_in_order(first.as_slice()));
+    assert!(rt; second.is_empty());
+}
+
 #[test]
 fn an_open_branch_goes_on_from_round_to_round(rt: HostRuntime) -> Result<(), AllocError> {
-    let alloc = rt.alloc();
     for capacity in 1..6 {
-        let (store, runs) = entered(&rt, alloc, capacity, prepares(&rt, alloc)?);
-        assert_eq!(rt; runs.len(), 2);
-        let Ok((store, outcome)) = race_in_rounds(&rt, alloc, store, runs, &OpenGate) else {
-            panic!(rt; "a fault with room for {capacity}")
-        };
-        assert_eq!(rt; outcome.history.len(), 4);
-        let [first, second] = outcome.answers.as_slice() else {
-            panic!(rt; "two lists")
-        };
-        assert!(rt; first.len() == 4 && are_done_in_order(first.as_slice()));
-        assert!(rt; second.is_empty());
-        let (store, passes) = renewed(&rt, alloc, store, outcome.passes);
-        let (_first, mut second) = both(&rt, &store, passes);
-        let recover = Statement::Recover { convert: false };
-        gives(&rt, &mut second, recover, 0, Wanted::Listed(b'a'));
+        goes_on(&rt, rt.alloc(), capacity, prepares(&rt, rt.alloc())?);
     }
     Ok(())
 }

@@ -2,53 +2,34 @@
 ghost use Rattle.std.specs.Prelude.{◌≡◌};
 ghost use Rattle.xa_store.specs.Passes.{place_of, home_of};
 
+use crate::acts::{both, opened, xid};
 use decision_log::OpenFault;
 use std::alloc::Global;
+use std::process::Abort;
 use xa_server::Reply;
 use xa_session::{Answer, Session, battery};
 use xa_store::{Log, Pass, Store};
 use xa_words::Entry;
-use xa_xid::{Bytes, Statement, Xid};
+use xa_xid::Statement;
 
 #[test]
 fn full_store_still_answers(rt: HostRuntime) {
-    let Ok((store, mut passes)) = Store::open(rt.alloc(), 4, 2) else {
-        panic!(rt; "not opened")
-    };
-    let (Some(second), Some(first)) = (passes.pop(), passes.pop()) else {
-        panic!(rt; "two passes")
-    };
-    let (Ok(mut first), Ok(mut second)) = (store.connect(first), store.connect(second)) else {
-        panic!(rt; "not connected")
-    };
+    let (store, passes) = opened(&rt, rt.alloc(), 4);
+    let (mut first, mut second) = both(&rt, &store, passes);
     assert!(rt; battery::full_log_still_answers(&mut first, &mut second));
 }
 
 #[test]
 fn write_is_seen_by_other_sessions(rt: HostRuntime) {
-    let Ok((store, mut passes)) = Store::open(rt.alloc(), 8, 2) else {
-        panic!(rt; "not opened")
-    };
-    let (Some(second), Some(first)) = (passes.pop(), passes.pop()) else {
-        panic!(rt; "two passes")
-    };
-    let (Ok(mut first), Ok(mut second)) = (store.connect(first), store.connect(second)) else {
-        panic!(rt; "not connected")
-    };
+    let (store, passes) = opened(&rt, rt.alloc(), 8);
+    let (mut first, mut second) = both(&rt, &store, passes);
     assert!(rt; battery::write_is_seen_by_others(&mut first, &mut second));
 }
 
 #[test]
 fn two_threads_prepare(rt: HostRuntime) {
-    let Ok((store, mut passes)) = Store::open(rt.alloc(), 8, 2) else {
-        panic!(rt; "not opened")
-    };
-    let (Some(second), Some(first)) = (passes.pop(), passes.pop()) else {
-        panic!(rt; "two passes")
-    };
-    let (Ok(first), Ok(second)) = (store.connect(first), store.connect(second)) else {
-        panic!(rt; "not connected")
-    };
+    let (store, passes) = opened(&rt, rt.alloc(), 8);
+    let (first, second) = both(&rt, &store, passes);
     assert!(rt; battery::two_threads_prepare(&rt, first, second));
 }
 
@@ -66,38 +47,25 @@ fn a_store_is_opened_for_its_sizes_alone(rt: HostRuntime) {
     }
 }
 
-/// The identifier of this gtrid, with an empty bqual and formatID 1.
-pub(crate) fn xid(letter: u8) -> Xid {
-    let mut gtrid = Bytes::new();
-    gtrid.push(letter);
-    Xid {
-        format_id: 1,
-        gtrid,
-        bqual: Bytes::new(),
-    }
-}
-
 /// The history of two sessions that have prepared a branch each, where each of them has all of it afterwards.
-fn history_of_both(store: &Store, alloc: Global, first: Pass, second: Pass) -> Option<Vec<Entry>>
-    requires first { home_of first ≡ place_of store.now.log }
-    requires second { home_of second ≡ place_of store.now.log }
+fn history_of_both(
+    rt: &impl Abort,
+    alloc: Global,
+    store: &Store,
+    first: Session<'_, Log>,
+    second: Session<'_, Log>,
+) -> Vec<Entry>
+    requires first { home_of first.pass ≡ place_of store.now.log }
+    requires second { home_of second.pass ≡ place_of store.now.log }
 {
-    let Ok(mut first) = store.connect(first) else {
-        return None;
+    let Ok(mut sessions) = vec![in alloc; second, first] else {
+        panic!(rt; "out of memory")
     };
-    let Ok(mut second) = store.connect(second) else {
-        return None;
+    let Ok(history) = store.history(alloc, &mut sessions) else {
+        panic!(rt; "no history")
     };
-    if !is_prepared(&mut first, b'a') || !is_prepared(&mut second, b'b') {
-        return None;
-    }
-    let mut sessions = vec![in alloc; second, first].ok()?;
-    let history = store.history(alloc, &mut sessions).ok()?;
-    if sessions.iter().all(|session| session.seen() == 6) {
-        Some(history)
-    } else {
-        None
-    }
+    assert!(rt; sessions.iter().all(|session| session.seen() == 6));
+    history
 }
 
 /// Whether the session starts, ends and prepares a branch.
@@ -149,15 +117,11 @@ fn is_listed_at(answer: &Answer, place: u64, letter: u8) -> bool {
 
 #[test]
 fn history_has_what_all_sessions_have_seen(rt: HostRuntime) {
-    let Ok((store, mut passes)) = Store::open(rt.alloc(), 8, 2) else {
-        panic!(rt; "not opened")
-    };
-    let (Some(second), Some(first)) = (passes.pop(), passes.pop()) else {
-        panic!(rt; "two passes")
-    };
-    let Some(history) = history_of_both(&store, rt.alloc(), first, second) else {
-        panic!(rt; "no history")
-    };
+    let (store, passes) = opened(&rt, rt.alloc(), 8);
+    let (mut first, mut second) = both(&rt, &store, passes);
+    assert!(rt; is_prepared(&mut first, b'a'));
+    assert!(rt; is_prepared(&mut second, b'b'));
+    let history = history_of_both(&rt, rt.alloc(), &store, first, second);
     assert!(rt; history.len() == 6);
     assert!(rt;
         history
