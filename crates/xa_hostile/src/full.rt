@@ -36,6 +36,18 @@ fn is_full<R: Abort + Wait>(rt: &R, session: &mut Session<'_, Log>, text: &[u8])
     session.execute(rt, &said(rt, text)).err() == Some(Fault::Full)
 }
 
+/// Session 1 fills a history with room for two entries. Of what then needs no entry it is still answered.
+fn fill<R: Abort + Wait>(rt: &R, first: &mut Session<'_, Log>, second: &mut Session<'_, Log>)
+    ensures first { home_of first.new.pass ≡ home_of first.old.pass }
+    ensures second { home_of second.new.pass ≡ home_of second.old.pass }
+{
+    gives(rt, first, b"XA START 'a'", 0, Wanted::Done);
+    gives(rt, first, b"PUT 'k','v'", 1, Wanted::Done);
+    assert!(rt; is_full(rt, second, b"XA START 'b'"));
+    gives(rt, first, b"GET 'k'", 2, Wanted::Value(b"v"));
+    assert!(rt; is_full(rt, first, b"GET 'm'"));
+}
+
 /// Two sessions of a store with room for two entries fill it, and are asked what is refused and what is still answered. Their passes.
 fn fills<R: Abort + Wait>(
     rt: &R,
@@ -45,11 +57,7 @@ fn fills<R: Abort + Wait>(
     ensures first { home_of result.0 ≡ home_of first.entry.pass }
     ensures second { home_of result.1 ≡ home_of second.entry.pass }
 {
-    gives(rt, &mut first, b"XA START 'a'", 0, Wanted::Done);
-    gives(rt, &mut first, b"PUT 'k','v'", 1, Wanted::Done);
-    assert!(rt; is_full(rt, &mut second, b"XA START 'b'"));
-    gives(rt, &mut first, b"GET 'k'", 2, Wanted::Value(b"v"));
-    assert!(rt; is_full(rt, &mut first, b"GET 'm'"));
+    fill(rt, &mut first, &mut second);
     let Err((first, Fault::Full)) = first.disconnect(rt) else {
         panic!(rt; "disconnected in a full log")
     };
@@ -60,21 +68,39 @@ fn fills<R: Abort + Wait>(
     (first.leave(), second)
 }
 
-#[test]
-fn full_store_gives_sessions_and_passes_back(rt: HostRuntime) {
-    let Ok((store, mut passes)) = Store::open(rt.alloc(), 2, 2) else {
+/// A store of two sessions with room for so many entries, and their passes.
+fn opened(rt: &impl Abort, alloc: Global, capacity: u64) -> (Store, Pass, Pass)
+    ensures first { home_of result.1 ≡ place_of result.0.log }
+    ensures second { home_of result.2 ≡ place_of result.0.log }
+{
+    let Ok((store, mut passes)) = Store::open(alloc, capacity, 2) else {
         panic!(rt; "not opened")
     };
     let (Some(second), Some(first)) = (passes.pop(), passes.pop()) else {
         panic!(rt; "two passes")
     };
-    let (Ok(first), Ok(second)) = (store.connect(first), store.connect(second)) else {
+    (store, first, second)
+}
+
+/// A session of a store.
+fn connected<'a>(rt: &impl Abort, store: &'a Store, pass: Pass) -> Session<'a, Log>
+    requires { home_of pass ≡ place_of store.now.log }
+    ensures { home_of result.pass ≡ place_of store.now.log }
+{
+    let Ok(session) = store.connect(pass) else {
         panic!(rt; "not connected")
     };
+    session
+}
+
+#[test]
+fn full_store_gives_sessions_and_passes_back(rt: HostRuntime) {
+    let (store, first, second) = opened(&rt, rt.alloc(), 2);
+    let first = connected(&rt, &store, first);
+    let second = connected(&rt, &store, second);
     let (first, second) = fills(&rt, first, second);
-    let (Ok(first), Ok(second)) = (store.connect(first), store.connect(second)) else {
-        panic!(rt; "not connected again")
-    };
+    let first = connected(&rt, &store, first);
+    let second = connected(&rt, &store, second);
     assert_eq!(rt; first.number().get(), 1);
     assert_eq!(rt; first.seen(), 2);
     assert_eq!(rt; second.number().get(), 2);
@@ -90,15 +116,9 @@ fn history_of(store: &Store, alloc: Global, session: Session<'_, Log>) -> Option
 
 #[test]
 fn dropped_session_leaves_its_branch(rt: HostRuntime) {
-    let Ok((store, mut passes)) = Store::open(rt.alloc(), 8, 2) else {
-        panic!(rt; "not opened")
-    };
-    let (Some(second), Some(first)) = (passes.pop(), passes.pop()) else {
-        panic!(rt; "two passes")
-    };
-    let (Ok(mut first), Ok(mut second)) = (store.connect(first), store.connect(second)) else {
-        panic!(rt; "not connected")
-    };
+    let (store, first, second) = opened(&rt, rt.alloc(), 8);
+    let mut first = connected(&rt, &store, first);
+    let mut second = connected(&rt, &store, second);
     gives(&rt, &mut first, b"XA START 'a'", 0, Wanted::Done);
     gives(&rt, &mut first, b"PUT 'k','v'", 1, Wanted::Done);
     drop(first);

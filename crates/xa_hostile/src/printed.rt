@@ -3,7 +3,7 @@
 
 use std::alloc::Global;
 use std::process::Abort;
-use xa_server::Server;
+use xa_server::{Reply, Server};
 use xa_statement::read_statement;
 use xa_transcript::{ScriptLine, converts, push_reply, read_line, split_line, split_word};
 use xa_xid::{SessionNo, Statement};
@@ -105,6 +105,14 @@ fn stands_at(history: &[Said], place: u64, session: SessionNo, statement: &State
     }
 }
 
+/// The line that is printed for a reply to a statement.
+fn printed(rt: &impl Abort, alloc: Global, statement: &Statement, reply: &Reply) -> Vec<u8> {
+    let mut line = Vec::new(alloc);
+    assert!(rt; push_reply(alloc, &mut line, converts(statement), reply).is_ok());
+    assert!(rt; line.push(b'\n').is_ok());
+    line
+}
+
 /// Asks the server for the answer to a statement, which the text begins with, at the place that the text says. What stands behind
 /// it, and whether the statement entered.
 fn explains_one<'a>(
@@ -122,13 +130,13 @@ fn explains_one<'a>(
     let Ok((reply, enters)) = replay.server.reply(said.session, &said.statement) else {
         panic!(rt; "out of memory")
     };
-    let mut wanted = Vec::new(alloc);
-    assert!(rt; push_reply(alloc, &mut wanted, converts(&said.statement), &reply).is_ok());
-    assert!(rt; wanted.push(b'\n').is_ok());
+    let wanted = printed(rt, alloc, &said.statement, &reply);
     let Some(rest) = rest.strip_prefix(wanted.as_slice()) else {
         panic!(rt; "{:?} at {place}: {reply:?}", said.statement)
     };
-    assert!(rt; !enters || stands_at(history, place, said.session, &said.statement));
+    if enters {
+        assert!(rt; stands_at(history, place, said.session, &said.statement));
+    }
     (rest, enters)
 }
 

@@ -42,6 +42,33 @@ struct Explained {
     entered: u64,
 }
 
+/// Asks the server for the reply of an answer at this place. What enters is to be the next entry of the history. Whether it entered.
+fn enters_as_told(
+    rt: &impl Abort,
+    server: &Server,
+    session: SessionNo,
+    told: &Told,
+    place: u64,
+    next: Option<&Entry>,
+) -> bool {
+    let Told { statement, answer } = told;
+    let Ok((reply, enters)) = server.reply(session, statement) else {
+        panic!(rt; "no memory")
+    };
+    assert!(rt;
+        is_same(&answer.reply, &reply),
+        "{statement:?} at {place}: {:?}",
+        answer.reply
+    );
+    if enters {
+        assert!(rt;
+            is_entry(next, session, statement),
+            "{statement:?} at {place}"
+        );
+    }
+    enters
+}
+
 /// Asks the server for the reply of each answer of a session at this place, from answer `at` on. What enters is to be the next entry
 /// of the history.
 fn explains_at(
@@ -57,26 +84,13 @@ fn explains_at(
         next: at,
         entered: 0,
     };
-    for Told { statement, answer } in told.iter().skip(at) {
-        if answer.place != place {
+    for one in told.iter().skip(at) {
+        if one.answer.place != place {
             return explained;
         }
-        let Ok((reply, enters)) = server.reply(session, statement) else {
-            panic!(rt; "no memory")
-        };
-        assert!(rt;
-            is_same(&answer.reply, &reply),
-            "{statement:?} at {place}: {:?}",
-            answer.reply
-        );
-        assert!(rt;
-            !enters || is_entry(next, session, statement),
-            "{statement:?} at {place}"
-        );
+        let enters = enters_as_told(rt, server, session, one, place, next);
         explained.next = explained.next.saturating_add(1);
-        if enters {
-            explained.entered = explained.entered.saturating_add(1);
-        }
+        explained.entered = explained.entered.saturating_add(u64::from(enters));
     }
     explained
 }

@@ -43,11 +43,14 @@ fn statements(session: u8, number: u8) -> Option<[Statement; 8]> {
     let mut value = Bytes::new();
     value.push(session);
     value.push(number);
+    let get = read_statement(b"GET 'k'").ok()?;
+    let put = read_statement(b"PUT 'k','v'").ok()?;
+    let name = Key::of(name)?;
     Some([
-        read_statement(b"GET 'k'").ok()?,
+        get,
         Statement::Start(branch(session, number)),
-        Statement::Put(Key::of(name)?, value),
-        read_statement(b"PUT 'k','v'").ok()?,
+        Statement::Put(name, value),
+        put,
         Statement::End(branch(session, number)),
         Statement::Prepare(branch(session, number)),
         Statement::Recover { convert: false },
