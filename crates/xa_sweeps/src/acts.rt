@@ -79,6 +79,14 @@ pub(crate) fn is_entry(rt: &impl Abort, entry: &Entry, number: u64, text: &[u8])
     entry.session() == session_of(rt, number) && *entry.statement() == said(rt, text)
 }
 
+/// Asks for entries to be these statements of these sessions.
+pub(crate) fn are_entries(rt: &impl Abort, history: &[Entry], entries: &[(u64, &'static [u8])]) {
+    assert_eq!(rt; history.len(), entries.len());
+    for (entry, (number, text)) in history.iter().zip(entries) {
+        assert!(rt; is_entry(rt, entry, *number, text));
+    }
+}
+
 /// Asks for the whole history, and for it to be these statements of these sessions.
 pub(crate) fn has_history<L: DecisionLog>(
     rt: &impl Abort,

@@ -1,11 +1,13 @@
 //! What a coordinator of two stores does with a transaction.
 ghost use Rattle.std.specs.Prelude.{◌≡◌, ◌<◌, ◌∷◌, [], vec_len};
 ghost use Rattle.xa_coordinator.specs.Work.{IsRow};
+ghost use Rattle.xa_coordinator.specs.declared.prepared.Ballot.TheVariants.{Ready as BallotReady};
 
 use std::process::Abort;
 use std::sync::Wait;
 use xa_coordinator::{
-    BeginFault, Cause, Coordinator, Decisions, Ending, Speak, Transaction, Vote, WorkFault,
+    BeginFault, Cause, Coordinator, Decisions, Ending, Prepared, Speak, Transaction, Vote,
+    WorkFault,
 };
 use xa_server::Reply;
 use xa_session::Fault;
@@ -130,6 +132,47 @@ fn is_rolled_back(rt: &impl Abort, ending: &Ending) {
     assert!(rt; is_unfinished(rt, ending) || matches!(ending, Ending::RolledBack));
 }
 
+/// Finishes a transaction for which two stores are ready, once it is decided where it is to be. Whether it was decided.
+fn finished<S: Speak, R: Abort + Wait>(
+    rt: &R,
+    coordinator: &mut Coordinator<S>,
+    decisions: &mut Decisions,
+    prepared: Prepared,
+    decides: bool,
+) -> bool
+    requires name { prepared.transaction.name.items ≡ coordinator.old.name.items }
+    requires stores { prepared.transaction.stores ≡ vec_len coordinator.old.stores }
+    requires ballot { prepared.ballot ≡ BallotReady }
+    ensures { vec_len coordinator.new.stores ≡ vec_len coordinator.old.stores }
+{
+    if !decides {
+        let ending = coordinator.finish(rt, decisions, prepared);
+        is_rolled_back(rt, &ending);
+        return false;
+    }
+    assert!(rt; decisions.decide(&prepared).is_ok());
+    let ending = coordinator.finish(rt, decisions, prepared);
+    has_committed(rt, &ending);
+    true
+}
+
+/// Finishes a transaction for which there was no memory in a store.
+fn refused<S: Speak, R: Abort + Wait>(
+    rt: &R,
+    coordinator: &mut Coordinator<S>,
+    decisions: &mut Decisions,
+    prepared: Prepared,
+    cause: Cause,
+)
+    requires name { prepared.transaction.name.items ≡ coordinator.old.name.items }
+    requires stores { prepared.transaction.stores ≡ vec_len coordinator.old.stores }
+    ensures { vec_len coordinator.new.stores ≡ vec_len coordinator.old.stores }
+{
+    assert!(rt; cause == Cause::Session(Fault::NoMemory));
+    let ending = coordinator.finish(rt, decisions, prepared);
+    is_rolled_back(rt, &ending);
+}
+
 /// Has two stores vote, decides where they are ready and the transaction is to be decided, and finishes it. Whether it was decided.
 fn voted_by_both<S: Speak, R: Abort + Wait>(
     rt: &R,
@@ -142,25 +185,13 @@ fn voted_by_both<S: Speak, R: Abort + Wait>(
 {
     let transaction = worked_in_both(rt, coordinator, decisions);
     match coordinator.prepare(rt, transaction) {
-        Vote::Ready(prepared) => {
-            if !decides {
-                let ending = coordinator.finish(rt, decisions, prepared);
-                is_rolled_back(rt, &ending);
-                return false;
-            }
-            assert!(rt; decisions.decide(&prepared).is_ok());
-            let ending = coordinator.finish(rt, decisions, prepared);
-            has_committed(rt, &ending);
-            true
-        }
+        Vote::Ready(prepared) => finished(rt, coordinator, decisions, prepared, decides),
         Vote::No {
             prepared,
             cause,
             ..
         } => {
-            assert!(rt; cause == Cause::Session(Fault::NoMemory));
-            let ending = coordinator.finish(rt, decisions, prepared);
-            is_rolled_back(rt, &ending);
+            refused(rt, coordinator, decisions, prepared, cause);
             false
         }
         _ => panic!(rt; "another vote"),
@@ -187,9 +218,7 @@ fn voted_by_one<S: Speak, R: Abort + Wait>(
             cause,
             ..
         } => {
-            assert!(rt; cause == Cause::Session(Fault::NoMemory));
-            let ending = coordinator.finish(rt, decisions, prepared);
-            is_rolled_back(rt, &ending);
+            refused(rt, coordinator, decisions, prepared, cause);
             false
         }
         _ => panic!(rt; "another vote"),

@@ -10,7 +10,8 @@ use std::alloc::Global;
 use std::process::Abort;
 use std::sync::Wait;
 use std::thread::Threads;
-use xa_store::{OpenGate, Outcome, Pass, RaceFault, Run, Store, race};
+use xa_session::Session;
+use xa_store::{Log, OpenGate, Outcome, Pass, RaceFault, Run, Store, race};
 
 /// The run of a pass, which starts the branch.
 fn starting(rt: &impl Abort, alloc: Global, pass: Pass) -> Run
@@ -59,6 +60,30 @@ fn is_started_once(rt: &impl Abort, outcome: &Outcome) -> bool {
         && is_wanted(&loser.reply, Wanted::Refused(1440))
 }
 
+/// Whether a race was held: one of the two sessions has started the branch then. Else memory or a thread was refused.
+fn is_held(rt: &impl Abort, ended: Result<Outcome, RaceFault>) -> bool {
+    match ended {
+        Ok(outcome) => {
+            assert!(rt; is_started_once(rt, &outcome));
+            true
+        }
+        Err(RaceFault::NoMemory) | Err(RaceFault::ThreadRefused) => false,
+        Err(fault) => panic!(rt; "fault {}", fault.number()),
+    }
+}
+
+/// A third session finds the branch started exactly where the history has it, as it has where the race was held.
+fn finds_it(rt: &impl Abort, mut third: Session<'_, Log>, is_held: bool) {
+    let count = third.look();
+    assert!(rt; count <= 1);
+    assert!(rt; !is_held || count == 1);
+    if count == 1 {
+        gives(rt, &mut third, b"XA START 'a'", 1, Wanted::Refused(1440));
+    } else {
+        gives(rt, &mut third, b"XA START 'a'", 0, Wanted::Done);
+    }
+}
+
 /// Two sessions start one branch side by side. A third then finds it started exactly where the history has it.
 fn swept<R: Abort + Threads + Wait + Sync>(rt: &R, alloc: Global) {
     let Ok((store, mut passes)) = opened(alloc, 1024, 3) else {
@@ -68,23 +93,10 @@ fn swept<R: Abort + Threads + Wait + Sync>(rt: &R, alloc: Global) {
         panic!(rt; "three passes")
     };
     let runs = both(rt, alloc, &store, first, second);
-    let is_started = match race(rt, alloc, &store, runs, &OpenGate) {
-        Ok(outcome) => {
-            assert!(rt; is_started_once(rt, &outcome));
-            true
-        }
-        Err(RaceFault::NoMemory) | Err(RaceFault::ThreadRefused) => false,
-        Err(fault) => panic!(rt; "fault {}", fault.number()),
-    };
-    let mut third = joined(rt, &store, third);
-    let count = third.look();
-    assert!(rt; count <= 1);
-    assert!(rt; !is_started || count == 1);
-    if count == 1 {
-        gives(rt, &mut third, b"XA START 'a'", 1, Wanted::Refused(1440));
-    } else {
-        gives(rt, &mut third, b"XA START 'a'", 0, Wanted::Done);
-    }
+    let ended = race(rt, alloc, &store, runs, &OpenGate);
+    let held = is_held(rt, ended);
+    let third = joined(rt, &store, third);
+    finds_it(rt, third, held);
 }
 
 #[test]

@@ -4,7 +4,7 @@ ghost use Rattle.std.specs.List.{All};
 ghost use Rattle.xa_store.specs.Passes.{place_of, home_of};
 ghost use Rattle.xa_store.specs.Renewal.{AreGathered};
 
-use crate::acts::{attempted, gives, is_entry};
+use crate::acts::{are_entries, attempted, gives};
 use crate::made::{Wanted, said};
 use crate::store::{joined, opened, room};
 use std::alloc::Global;
@@ -77,10 +77,7 @@ fn left(
     sessions.push_reserved(first);
     sessions.push_reserved(second);
     let (history, passes) = ended(rt, alloc, store, sessions);
-    assert_eq!(rt; history.len(), 4);
-    for (entry, (number, text)) in history.iter().zip(&ADDED) {
-        assert!(rt; is_entry(rt, entry, *number, text));
-    }
+    are_entries(rt, history.as_slice(), &ADDED);
     passes
 }
 
@@ -117,8 +114,10 @@ fn both<'a>(
     };
     let first = joined(rt, store, first);
     let second = joined(rt, store, second);
-    assert!(rt; first.number().get() == 1 && second.number().get() == 2);
-    assert!(rt; first.seen() <= seen && second.seen() == seen);
+    assert!(rt; first.number().get() == 1);
+    assert!(rt; second.number().get() == 2);
+    assert!(rt; first.seen() <= seen);
+    assert!(rt; second.seen() == seen);
     (first, second)
 }
 

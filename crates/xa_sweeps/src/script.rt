@@ -46,22 +46,42 @@ const FIRST_WINS: &[u8] =
 const SECOND_WINS: &[u8] =
     b"HISTORY 1\n0 2 XA START 0x61,X'',1\n1 1 ERROR 1440 (XAE08): XAER_DUPID xid already exists\n2 0 OK\n";
 
+/// Whether a race was refused memory, or a thread's start.
+fn is_refused(ended: Result<(), ScriptFault>) -> bool {
+    match ended {
+        Err(ScriptFault::NoMemory) | Err(ScriptFault::ThreadRefused) => true,
+        _ => false,
+    }
+}
+
+/// Whether a text is that of a race that one of the two sessions won.
+fn is_won(text: &[u8]) -> bool {
+    text == FIRST_WINS || text == SECOND_WINS
+}
+
+/// What a race of the script comes to, which is written on a page.
+fn raced<R: Threads + Wait + Sync>(
+    rt: &R,
+    alloc: Global,
+    page: &mut Page,
+) -> Result<(), ScriptFault> {
+    let mut input = RACE;
+    race_script(rt, alloc, &mut input, page, 1024, &OpenGate)
+}
+
 /// A race of the script. Where there was no memory or a thread's start was refused, nothing was written, and the script is raced
 /// again.
 fn race_swept<R: Abort + Threads + Wait + Sync>(rt: &R, alloc: Global) {
     let mut page = Page::new();
-    let mut input = RACE;
-    let first = race_script(rt, alloc, &mut input, &mut page, 1024, &OpenGate);
+    let first = raced(rt, alloc, &mut page);
     if first.is_ok() {
-        assert!(rt; page.as_slice() == FIRST_WINS || page.as_slice() == SECOND_WINS);
+        assert!(rt; is_won(page.as_slice()));
         return;
     }
-    assert!(rt; first == Err(ScriptFault::NoMemory) || first == Err(ScriptFault::ThreadRefused));
+    assert!(rt; is_refused(first));
     assert!(rt; page.is_empty());
-    let mut page = Page::new();
-    let mut input = RACE;
-    assert!(rt; race_script(rt, alloc, &mut input, &mut page, 1024, &OpenGate).is_ok());
-    assert!(rt; page.as_slice() == FIRST_WINS || page.as_slice() == SECOND_WINS);
+    assert!(rt; raced(rt, alloc, &mut page).is_ok());
+    assert!(rt; is_won(page.as_slice()));
 }
 
 #[test]
@@ -74,21 +94,28 @@ const LONG: &[u8] = b"1 XA START 'a'\n1 XA END 'a'\n1 XA PREPARE 'a'\n";
 const LONG_TEXT: &[u8] =
     b"HISTORY 3\n0 1 XA START 0x61,X'',1\n1 1 XA END 0x61,X'',1\n2 1 XA PREPARE 0x61,X'',1\n1 0 OK\n1 1 OK\n1 2 OK\n";
 
+/// What a race of a script in rounds of one entry comes to, which is written on a page.
+fn raced_in_rounds<R: Threads + Wait + Sync>(
+    rt: &R,
+    alloc: Global,
+    page: &mut Page,
+) -> Result<(), ScriptFault> {
+    let mut input = LONG;
+    race_script_in_rounds(rt, alloc, &mut input, page, 1, &OpenGate)
+}
+
 /// A race of a script in rounds of one entry. Where there was no memory or a thread's start was refused, in whichever round, nothing
 /// was written, and the script is raced again.
 fn rounds_swept<R: Abort + Threads + Wait + Sync>(rt: &R, alloc: Global) {
     let mut page = Page::new();
-    let mut input = LONG;
-    let first = race_script_in_rounds(rt, alloc, &mut input, &mut page, 1, &OpenGate);
+    let first = raced_in_rounds(rt, alloc, &mut page);
     if first.is_ok() {
         assert!(rt; page.as_slice() == LONG_TEXT);
         return;
     }
-    assert!(rt; first == Err(ScriptFault::NoMemory) || first == Err(ScriptFault::ThreadRefused));
+    assert!(rt; is_refused(first));
     assert!(rt; page.is_empty());
-    let mut page = Page::new();
-    let mut input = LONG;
-    assert!(rt; race_script_in_rounds(rt, alloc, &mut input, &mut page, 1, &OpenGate).is_ok());
+    assert!(rt; raced_in_rounds(rt, alloc, &mut page).is_ok());
     assert!(rt; page.as_slice() == LONG_TEXT);
 }
 

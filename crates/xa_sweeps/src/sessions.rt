@@ -30,12 +30,17 @@ fn chain(alloc: Global, capacity: u64) -> Result<(ChainLog, Vec<ChainPass>), Ope
     }
 }
 
+/// A session prepares a branch, which takes four entries.
+fn prepares<L: DecisionLog>(rt: &impl Abort, session: &mut Session<'_, L>) {
+    gives(rt, session, b"XA START 'a'", 0, Wanted::Done);
+    gives(rt, session, b"PUT 'k','v'", 1, Wanted::Done);
+    gives(rt, session, b"XA END 'a'", 2, Wanted::Done);
+    gives(rt, session, b"XA PREPARE 'a'", 3, Wanted::Done);
+}
+
 /// A branch is prepared in a log with room for its four entries. Nothing more enters, and what doesn't enter is answered.
 fn fills<L: DecisionLog>(rt: &impl Abort, first: &mut Session<'_, L>, second: &mut Session<'_, L>) {
-    gives(rt, first, b"XA START 'a'", 0, Wanted::Done);
-    gives(rt, first, b"PUT 'k','v'", 1, Wanted::Done);
-    gives(rt, first, b"XA END 'a'", 2, Wanted::Done);
-    gives(rt, first, b"XA PREPARE 'a'", 3, Wanted::Done);
+    prepares(rt, first);
     let commit = said(rt, b"XA COMMIT 'a'");
     let answered = attempted(rt, second, &commit);
     assert!(rt; answered.err() == Some(Fault::Full));
@@ -77,12 +82,7 @@ fn adds<L: DecisionLog>(rt: &impl Abort, session: &mut Session<'_, L>, text: &[u
 /// A session's replica may lag behind an add of its own. What it is asked next is answered after that add, or it says that
 /// there was no memory.
 fn lags<L: DecisionLog>(rt: &impl Abort, session: &mut Session<'_, L>) {
-    adds(rt, session, b"PUT 'k','v'", 0);
-    gives(rt, session, b"GET 'k'", 1, Wanted::Value(b"v"));
-    adds(rt, session, b"XA START 'a'", 1);
-    gives(rt, session, b"XA START 'b'", 2, Wanted::Refused(1399));
-    adds(rt, session, b"PUT 'm','w'", 2);
-    gives(rt, session, b"GET 'm'", 3, Wanted::Value(b"w"));
+    lags_in_a_branch(rt, session);
     adds(rt, session, b"XA END 'a'", 3);
     gives(rt, session, b"GET 'm'", 4, Wanted::Refused(1399));
     adds(rt, session, b"XA PREPARE 'a'", 4);
@@ -90,6 +90,16 @@ fn lags<L: DecisionLog>(rt: &impl Abort, session: &mut Session<'_, L>) {
     adds(rt, session, b"XA COMMIT 'a'", 5);
     gives(rt, session, b"GET 'm'", 6, Wanted::Value(b"w"));
     assert_eq!(rt; session.folded(), 6);
+}
+
+/// The first three adds of that session: a row, the start of a branch, and the branch's row.
+fn lags_in_a_branch<L: DecisionLog>(rt: &impl Abort, session: &mut Session<'_, L>) {
+    adds(rt, session, b"PUT 'k','v'", 0);
+    gives(rt, session, b"GET 'k'", 1, Wanted::Value(b"v"));
+    adds(rt, session, b"XA START 'a'", 1);
+    gives(rt, session, b"XA START 'b'", 2, Wanted::Refused(1399));
+    adds(rt, session, b"PUT 'm','w'", 2);
+    gives(rt, session, b"GET 'm'", 3, Wanted::Value(b"w"));
 }
 
 /// What two sessions do.

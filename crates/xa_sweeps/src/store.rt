@@ -3,7 +3,7 @@ ghost use Rattle.std.specs.Prelude.{◌≡◌, [], ◌≤◌, IfOk, vec_capacity
 ghost use Rattle.std.specs.List.{All};
 ghost use Rattle.chain_log.specs.ChainPass.{place_of, home_of};
 
-use crate::acts::{gives, has_history, is_entry};
+use crate::acts::{are_entries, gives, has_history};
 use crate::made::Wanted;
 use decision_log::OpenFault;
 use std::alloc::Global;
@@ -96,6 +96,30 @@ fn history_of(
     history
 }
 
+/// Two sessions of a store, which have added to its history.
+fn added<'a>(
+    rt: &impl Abort,
+    alloc: Global,
+    store: &'a Store,
+    first: Pass,
+    second: Pass,
+) -> Vec<Session<'a, Log>>
+    requires first { home_of first ≡ place_of store.now.log }
+    requires second { home_of second ≡ place_of store.now.log }
+    ensures { All (λ session. home_of session.pass ≡ place_of store.now.log) result.items }
+{
+    let mut sessions = room(rt, alloc, 2);
+    let mut first = joined(rt, store, first);
+    let mut second = joined(rt, store, second);
+    gives(rt, &mut first, ADDED[0].1, 0, Wanted::Done);
+    gives(rt, &mut first, ADDED[1].1, 1, Wanted::Done);
+    gives(rt, &mut first, ADDED[2].1, 2, Wanted::Done);
+    gives(rt, &mut second, ADDED[3].1, 3, Wanted::Done);
+    sessions.push_reserved(second);
+    sessions.push_reserved(first);
+    sessions
+}
+
 /// Two sessions add to a store's history, and it is asked for.
 fn swept(rt: &impl Abort, alloc: Global) {
     let Ok((store, mut passes)) = opened(alloc, 8, 2) else {
@@ -104,20 +128,9 @@ fn swept(rt: &impl Abort, alloc: Global) {
     let (Some(second), Some(first)) = (passes.pop(), passes.pop()) else {
         panic!(rt; "two passes")
     };
-    let mut sessions = room(rt, alloc, 2);
-    let mut first = joined(rt, &store, first);
-    let mut second = joined(rt, &store, second);
-    gives(rt, &mut first, ADDED[0].1, 0, Wanted::Done);
-    gives(rt, &mut first, ADDED[1].1, 1, Wanted::Done);
-    gives(rt, &mut first, ADDED[2].1, 2, Wanted::Done);
-    gives(rt, &mut second, ADDED[3].1, 3, Wanted::Done);
-    sessions.push_reserved(second);
-    sessions.push_reserved(first);
+    let mut sessions = added(rt, alloc, &store, first, second);
     let history = history_of(rt, alloc, &store, &mut sessions);
-    assert_eq!(rt; history.len(), 4);
-    for (entry, (number, text)) in history.iter().zip(&ADDED) {
-        assert!(rt; is_entry(rt, entry, *number, text));
-    }
+    are_entries(rt, history.as_slice(), &ADDED);
     for session in sessions.iter_mut() {
         assert_eq!(rt; session.seen(), 4);
         has_history(rt, session, &ADDED);
