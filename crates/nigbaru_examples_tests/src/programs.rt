@@ -1,9 +1,9 @@
 //! What the programs of docs/EMBEDDING.md come to.
 
-use crate::{
+use nigbaru::{Ending, Reply, Server, SessionNo};
+use nigbaru_examples::{
     asked_again, in_both, raced, read_elsewhere, reply_to_text, side_by_side, written_down,
 };
-use nigbaru::{Ending, Reply, Server, SessionNo};
 
 #[test]
 fn statement_comes_as_bytes(rt: HostRuntime) {
