@@ -10,4 +10,3 @@ pub mod TurnSteps
 pub mod TurnStores
 pub mod TurnSeats
 pub mod TurnHistory
-pub mod Scenes

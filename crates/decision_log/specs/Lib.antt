@@ -16,4 +16,3 @@ pub mod TurnCounts
 pub mod TurnSeat
 pub mod TurnPass
 pub mod Opens
-pub mod Scenes

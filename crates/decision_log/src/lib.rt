@@ -1,7 +1,6 @@
 //! The shared history of entries: what a log promises to a session, and a log with a turn.
 #![tactic(auto)]
 
-pub mod battery;
 mod fault;
 mod known;
 pub mod laws;

@@ -1,4 +1,4 @@
-//! Programs that embed a store: what docs/EMBEDDING.md shows, as it is proved and tested.
+//! Programs that embed a store: what docs/EMBEDDING.md shows, as it is proved.
 #![tactic(auto)]
 
 mod agreement;
@@ -6,8 +6,6 @@ mod meeting;
 mod passes;
 mod speech;
 mod statement;
-#[cfg(test)]
-mod tests;
 mod threads;
 
 pub use agreement::{finish, in_both, over_both, work};

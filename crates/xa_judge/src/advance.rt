@@ -6,6 +6,7 @@ use crate::answer::Answer;
 use crate::closing::{answers_in, close, observe_all, settle_all};
 use crate::configuration::Configuration;
 use crate::event::Event;
+use crate::mark_index::MarkIndex;
 use std::alloc::Global;
 use xa_xid::{NoMemory, SessionNo};
 
@@ -24,12 +25,13 @@ pub enum Advance {
 fn seen(
     alloc: Global,
     ready: Vec<Configuration>,
+    index: &mut MarkIndex,
     answers: Vec<Answer>,
     event: &Event,
 ) -> Result<Advance, NoMemory>
     ensures { IfOk result (IsSeenFrom ready.items answers.items event.now) }
 {
-    let next = observe_all(alloc, ready, event)?;
+    let next = observe_all(alloc, ready, index, event)?;
     if next.is_empty() {
         Ok(Advance::Impossible(answers))
     } else {
@@ -41,6 +43,7 @@ fn seen(
 fn return_seen(
     alloc: Global,
     mut known: Vec<Configuration>,
+    index: &mut MarkIndex,
     returning: SessionNo,
     event: &Event,
     limit: usize,
@@ -48,13 +51,13 @@ fn return_seen(
     requires { IsReturnOf returning event.now }
     ensures { IfOk result (IsAdvance known.items event.now limit) }
 {
-    let is_closed = close(&mut known, returning, limit)?;
+    let is_closed = close(&mut known, index, returning, limit)?;
     if !is_closed {
         return Ok(Advance::TooMany);
     }
     let settled = settle_all(alloc, known, returning)?;
     let answers = answers_in(alloc, settled.as_slice(), returning)?;
-    let next = seen(alloc, settled, answers, event)?;
+    let next = seen(alloc, settled, index, answers, event)?;
     Ok(next)
 }
 
@@ -62,14 +65,15 @@ fn return_seen(
 pub fn see_event(
     alloc: Global,
     known: Vec<Configuration>,
+    index: &mut MarkIndex,
     event: &Event,
     limit: usize,
 ) -> Result<Advance, NoMemory>
     ensures { IfOk result (IsAdvance known.items event.now limit) }
 {
     match event {
-        Event::Call(_, _) => seen(alloc, known, Vec::new(alloc), event),
-        Event::Return(session, _) => return_seen(alloc, known, *session, event, limit),
-        Event::Lost(_) => seen(alloc, known, Vec::new(alloc), event),
+        Event::Call(_, _) => seen(alloc, known, index, Vec::new(alloc), event),
+        Event::Return(session, _) => return_seen(alloc, known, index, *session, event, limit),
+        Event::Lost(_) => seen(alloc, known, index, Vec::new(alloc), event),
     }
 }

@@ -8,6 +8,7 @@ use crate::answer::Answer;
 use crate::configuration::Configuration;
 use crate::event::Event;
 use crate::known::{add, expand};
+use crate::mark_index::MarkIndex;
 use crate::standing::Standing;
 use std::alloc::Global;
 use xa_xid::{NoMemory, SessionNo};
@@ -16,6 +17,7 @@ use xa_xid::{NoMemory, SessionNo};
 /// false, once there are more than `limit` configurations.
 pub fn close(
     known: &mut Vec<Configuration>,
+    index: &mut MarkIndex,
     returning: SessionNo,
     limit: usize,
 ) -> Result<bool, NoMemory>
@@ -23,12 +25,13 @@ pub fn close(
     ensures closed { IfOk result (λ done. done ≡ true → IsClosedBelow (length known.new.items) returning known.new.items) }
     ensures wide { IfOk result (λ done. done ≡ false → limit < vec_len known.new) }
 {
+    index.clear();
     let mut place = 0;
     while place < known.len() {
         if limit < known.len() {
             return Ok(false);
         }
-        expand(known, place, returning)?;
+        expand(known, index, place, returning)?;
         place += 1;
     }
     Ok(true)
@@ -53,6 +56,7 @@ pub fn settle_all(
 /// Adds the configuration once the event is seen, where it can be.
 fn add_seen(
     list: &mut Vec<Configuration>,
+    index: &mut MarkIndex,
     one: Configuration,
     event: &Event,
 ) -> Result<(), NoMemory>
@@ -61,7 +65,7 @@ fn add_seen(
     match one.observed(event)? {
         None => Ok(()),
         Some(next) => {
-            add(list, next)?;
+            add(list, index, next)?;
             Ok(())
         }
     }
@@ -71,14 +75,16 @@ fn add_seen(
 pub fn observe_all(
     alloc: Global,
     mut known: Vec<Configuration>,
+    index: &mut MarkIndex,
     event: &Event,
 ) -> Result<Vec<Configuration>, NoMemory>
     ensures has { IfOk result (λ list. (one new : Config) → Has known.items one → observed one event.now ≡ Some new → Has list.items new) }
     ensures reach { IfOk result (λ list. ReachesPast event.now known.items list.items) }
 {
+    index.go_on(event)?;
     let mut list = Vec::new(alloc);
     while let Some(one) = known.pop() {
-        add_seen(&mut list, one, event)?;
+        add_seen(&mut list, index, one, event)?;
     }
     Ok(list)
 }

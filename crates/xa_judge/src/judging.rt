@@ -6,6 +6,7 @@ ghost use Rattle.xa_judge.specs.Verdicts.{IsVerdict};
 use crate::advance::{Advance, see_event};
 use crate::configuration::Configuration;
 use crate::event::Event;
+use crate::mark_index::MarkIndex;
 use crate::moves::Move;
 use crate::verdict::Verdict;
 use std::alloc::Global;
@@ -62,8 +63,9 @@ pub fn judge(
 {
     let mut trunk = Vec::new(alloc);
     let mut known = opening(alloc, base)?;
+    let mut index = MarkIndex::new(alloc);
     for place in 0..events.len() {
-        known = match see_event(alloc, known, &events[place], limit)? {
+        known = match see_event(alloc, known, &mut index, &events[place], limit)? {
             Advance::Known(next) => next,
             Advance::Impossible(answers) => return Ok(Verdict::Illegal(place, answers)),
             Advance::TooMany => return Ok(Verdict::Undecided(place)),

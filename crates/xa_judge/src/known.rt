@@ -1,15 +1,19 @@
 //! Lists in which each configuration is kept once.
-ghost use Rattle.std.specs.Prelude.{◌≡◌, ◌∷◌, ◌++◌, ◌≢◌, ◌<◌, ℕ, true, Some, slice_get, vec_len, OnOk};
+ghost use Rattle.std.specs.Prelude.{◌≡◌, ◌∷◌, ◌++◌, ◌≢◌, ◌<◌, ℕ, true, Some, slice_get, vec_len, IfOk, OnOk};
 ghost use Rattle.xa_judge.specs.declared.configuration.Configuration.{Configuration as Found};
 ghost use Rattle.xa_judge.specs.Explained.{Config, IsSession, effect_of};
 ghost use Rattle.xa_judge.specs.Found.{config_of, is_answered, Has, Grows, IsAdded, IsExpandedBelow};
 
 use crate::configuration::Configuration;
+use crate::mark_index::MarkIndex;
 use crate::moves::Act;
 use xa_xid::{NoMemory, SessionNo};
 
+/// Lists that are shorter are looked through place by place: a mark costs more than a few comparisons.
+const LONG: usize = 16;
+
 /// Whether things are known to stand so in a configuration of the list.
-fn is_known(known: &[Configuration], one: &Configuration) -> bool
+fn is_among(known: &[Configuration], one: &Configuration) -> bool
     ensures { result ≡ true → Has known.now (config_of one.now) }
 {
     for other in known {
@@ -20,11 +24,63 @@ fn is_known(known: &[Configuration], one: &Configuration) -> bool
     false
 }
 
+/// Whether the list has this place, and things are known to stand so there.
+fn is_at(known: &[Configuration], place: usize, one: &Configuration) -> bool
+    ensures { result ≡ true → Has known.now (config_of one.now) }
+{
+    match known.get(place) {
+        None => false,
+        Some(other) => one.is_same(other),
+    }
+}
+
+/// Whether things are known to stand so at one of the places that have the configuration's mark.
+fn is_marked(
+    known: &[Configuration],
+    index: &MarkIndex,
+    one: &Configuration,
+) -> Result<bool, NoMemory>
+    ensures { IfOk result (λ found. found ≡ true → Has known.now (config_of one.now)) }
+{
+    let mut next = index.last_of(one)?;
+    for _ in 0..known.len() {
+        match next {
+            None => return Ok(false),
+            Some(place) => {
+                if is_at(known, place, one) {
+                    return Ok(true);
+                }
+                next = index.before(place);
+            }
+        }
+    }
+    Ok(false)
+}
+
+/// Whether things are known to stand so in a configuration of the list.
+fn is_known(
+    known: &[Configuration],
+    index: &mut MarkIndex,
+    one: &Configuration,
+) -> Result<bool, NoMemory>
+    ensures { IfOk result (λ found. found ≡ true → Has known.now (config_of one.now)) }
+{
+    if known.len() < LONG {
+        return Ok(is_among(known, one));
+    }
+    index.catch_up(known)?;
+    is_marked(known, index, one)
+}
+
 /// Adds a configuration, unless things are known to stand so in one that is there.
-pub fn add(known: &mut Vec<Configuration>, one: Configuration) -> Result<(), NoMemory>
+pub fn add(
+    known: &mut Vec<Configuration>,
+    index: &mut MarkIndex,
+    one: Configuration,
+) -> Result<(), NoMemory>
     ensures { OnOk result (IsAdded known.old.items one known.new.items) }
 {
-    if is_known(known.as_slice(), &one) {
+    if is_known(known.as_slice(), index, &one)? {
         return Ok(());
     }
     known.push(one)?;
@@ -34,6 +90,7 @@ pub fn add(known: &mut Vec<Configuration>, one: Configuration) -> Result<(), NoM
 /// Adds what the session's act leads to from the configuration at this place.
 fn add_effect(
     known: &mut Vec<Configuration>,
+    index: &mut MarkIndex,
     place: usize,
     session: SessionNo,
     act: Act,
@@ -45,7 +102,7 @@ fn add_effect(
     match known[place].effected(session, act)? {
         None => Ok(()),
         Some(next) => {
-            add(known, next)?;
+            add(known, index, next)?;
             Ok(())
         }
     }
@@ -54,6 +111,7 @@ fn add_effect(
 /// Adds what the acts of the session lead to from the configuration at this place.
 fn add_effects(
     known: &mut Vec<Configuration>,
+    index: &mut MarkIndex,
     place: usize,
     session: SessionNo,
 ) -> Result<(), NoMemory>
@@ -61,14 +119,15 @@ fn add_effects(
     ensures grows { OnOk result (Grows known.old.items known.new.items) }
     ensures has { OnOk result ((one : Found) (act : _) (new : Config) → slice_get known.old.items place ≡ Some one → effect_of (config_of one) session act ≡ Some new → Has known.new.items new) }
 {
-    add_effect(known, place, session, Act::Statement)?;
-    add_effect(known, place, session, Act::Disconnect)?;
+    add_effect(known, index, place, session, Act::Statement)?;
+    add_effect(known, index, place, session, Act::Disconnect)?;
     Ok(())
 }
 
 /// Adds what the acts of the session of this number lead to from the configuration at this place, unless it is `returning`.
 fn add_others(
     known: &mut Vec<Configuration>,
+    index: &mut MarkIndex,
     place: usize,
     number: u64,
     returning: SessionNo,
@@ -83,7 +142,7 @@ fn add_others(
     match SessionNo::of(number) {
         None => Ok(()),
         Some(session) => {
-            add_effects(known, place, session)?;
+            add_effects(known, index, place, session)?;
             Ok(())
         }
     }
@@ -92,6 +151,7 @@ fn add_others(
 /// Adds what acts of other sessions than `returning` lead to from the configuration at this place.
 fn add_all(
     known: &mut Vec<Configuration>,
+    index: &mut MarkIndex,
     place: usize,
     returning: SessionNo,
 ) -> Result<(), NoMemory>
@@ -100,7 +160,7 @@ fn add_all(
     ensures all { OnOk result ((one : Found) → slice_get known.old.items place ≡ Some one → IsExpandedBelow 17 one returning known.new.items) }
 {
     for number in 1..17 {
-        add_others(known, place, number, returning)?;
+        add_others(known, index, place, number, returning)?;
     }
     Ok(())
 }
@@ -109,6 +169,7 @@ fn add_all(
 /// answered there.
 pub fn expand(
     known: &mut Vec<Configuration>,
+    index: &mut MarkIndex,
     place: usize,
     returning: SessionNo,
 ) -> Result<(), NoMemory>
@@ -119,5 +180,5 @@ pub fn expand(
     if known[place].is_answered(returning) {
         return Ok(());
     }
-    add_all(known, place, returning)
+    add_all(known, index, place, returning)
 }

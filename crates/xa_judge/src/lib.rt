@@ -9,6 +9,8 @@ mod event;
 mod judging;
 mod known;
 pub mod laws;
+mod mark_index;
+mod marks;
 mod moves;
 mod request;
 mod same;

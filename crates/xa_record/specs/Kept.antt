@@ -45,7 +45,7 @@ noted_kept noted = record { number = noted.number; told = told_kept noted.happen
 
 -- rows that are still to come
 abbrev pub awaited_kept : Pending → Awaited
-awaited_kept pending = record { session = pending.session; number = pending.number; missing = pending.missing; rows = pending.rows.items }
+awaited_kept pending = record { session = pending.session; number = pending.number; missing = pending.missing; rows = pending.rows.items; faults = pending.faults.items }
 
 -- what was read so far
 abbrev pub notes_kept : NotesRead → Notes

@@ -1,7 +1,8 @@
 -- How a record is read, line by line. All of it is our own: docs/JUDGE.md, 'Records'.
+-- Faulty lines are written in ascending order, each once: what is written for those among the rows of a return is held until that return is judged, and comes behind it.
 --     cause_of            why what happens to a session is faulty, by what the lines before say of it
 --     fault_text          what is written for a faulty line
---     Awaited             rows that are still to come
+--     Awaited             rows that are still to come, and the faulty lines among those that came
 --     Notes               what was read so far
 --     noted               the notes once this has happened
 --     noted_line          the notes after a line
@@ -54,12 +55,13 @@ cause_text (WasLost session) = codes "session " ++ decimal session ++ codes " is
 abbrev pub fault_text : ℕ → LineFault → List ℕ
 fault_text number fault = codes "LINE " ++ decimal number ++ codes ": " ++ cause_text fault ++ codes "\n"
 
--- rows that are still to come, to a session, behind the line of this number; and those that have come
+-- rows that are still to come, to a session, behind the line of this number; those that have come; and what is written for the lines that aren't rows
 pub record Awaited : Type 0 where
   pub session : ℕ
   pub number : ℕ
   pub missing : ℕ
   pub rows : List Xid
+  pub faults : List ℕ
 
 -- what happens on the line of this number
 pub record Noted : Type 0 where
@@ -81,6 +83,10 @@ no_notes = record { told = []; faults = []; presence = replicate 17 Idle; awaite
 unfoldable pub blamed : Notes → ℕ → LineFault → Notes
 blamed notes number fault = record notes { faults = notes.faults ++ fault_text number fault }
 
+-- these lines are faulty too, and come behind all before
+abbrev pub blamed_too : Notes → List ℕ → Notes
+blamed_too notes faults = record notes { faults = notes.faults ++ faults }
+
 unfoldable pub noted_if : Option LineFault → Notes → ℕ → Told → Notes
 noted_if None notes number told =
     record notes { told = notes.told ++ record { number = number; told = told } ∷ []; presence = slice_set notes.presence (session_of told) (presence_after told) }
@@ -90,15 +96,17 @@ noted_if (Some fault) notes number told = blamed notes number fault
 abbrev pub noted : Notes → ℕ → Told → Notes
 noted notes number told = noted_if (cause_of (slice_get notes.presence (session_of told)) told) notes number told
 
+-- all rows have come: the call returns them, and behind its line come the faulty lines among its rows
+abbrev pub returned : Notes → Awaited → Notes
+returned notes awaited = blamed_too (noted notes awaited.number (Returns awaited.session (ShowsRows awaited.rows))) awaited.faults
+
 -- where all rows have come, the call returns them; else the others are still to come
 abbrev pub awaiting : Notes → Awaited → Notes
-awaiting notes awaited =
-    if awaited.missing == 0 then noted notes awaited.number (Returns awaited.session (ShowsRows awaited.rows))
-    else record notes { awaited = Some awaited }
+awaiting notes awaited = if awaited.missing == 0 then returned notes awaited else record notes { awaited = Some awaited }
 
 -- one row has come, or a line that isn't written as one is
 unfoldable pub with_row : Notes → Awaited → ℕ → Option Xid → Notes
-with_row notes awaited number None = awaiting (blamed notes number NotARow) (record awaited { missing = awaited.missing - 1 })
+with_row notes awaited number None = awaiting notes (record awaited { missing = awaited.missing - 1; faults = awaited.faults ++ fault_text number NotARow })
 with_row notes awaited number (Some xid) = awaiting notes (record awaited { missing = awaited.missing - 1; rows = awaited.rows ++ xid ∷ [] })
 
 -- a line where a row is to stand
@@ -110,7 +118,7 @@ unfoldable pub noted_said : Notes → ℕ → LineSaid → Notes
 noted_said notes number Nothing = notes
 noted_said notes number Bad = blamed notes number NotALine
 noted_said notes number (Says told) = noted notes number told
-noted_said notes number (Awaits session count) = awaiting notes (record { session = session; number = number; missing = count; rows = [] })
+noted_said notes number (Awaits session count) = awaiting notes (record { session = session; number = number; missing = count; rows = []; faults = [] })
 
 abbrev pub noted_by : Option Awaited → Notes → ℕ → List ℕ → Notes
 noted_by None notes number line = noted_said notes number (line_said line)
@@ -125,10 +133,10 @@ unfoldable pub noted_lines : Notes → ℕ → List (List ℕ) → Notes
 noted_lines notes number [] = notes
 noted_lines notes number (line ∷ lines) = noted_lines (noted_line notes number line) (number + 1) lines
 
--- rows that are still to come where the record ends are missing
+-- rows that are still to come where the record ends are missing; the faulty lines among those that came stand behind the return's line
 abbrev pub ended_by : Option Awaited → Notes → Notes
 ended_by None notes = notes
-ended_by (Some awaited) notes = blamed notes awaited.number RowsMissing
+ended_by (Some awaited) notes = blamed_too (blamed notes awaited.number RowsMissing) awaited.faults
 
 -- what was read of a record
 unfoldable pub notes_of : List ℕ → Notes

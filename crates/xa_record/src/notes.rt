@@ -1,7 +1,7 @@
 //! What was read of a record.
 ghost use Rattle.std.specs.Prelude.{◌≡◌, OnOk, slice_get, option_copied};
 ghost use Rattle.std.specs.Option.{option_map};
-ghost use Rattle.xa_record.specs.Reading.{no_notes, blamed, noted, awaiting, with_row, noted_row, noted_said, noted_line, ended_by};
+ghost use Rattle.xa_record.specs.Reading.{no_notes, blamed, blamed_too, noted, returned, awaiting, with_row, noted_row, noted_said, noted_line, ended_by};
 ghost use Rattle.xa_record.specs.Kept.{told_kept, awaited_kept, line_kept, notes_kept};
 
 use crate::happening::{Happening, Noted};
@@ -49,6 +49,13 @@ impl<'a> Notes<'a> {
         fault.push(&mut self.faults, number)
     }
 
+    /// The lines for which this is written are faulty too.
+    fn blame_too(&mut self, faults: &[u8]) -> Result<(), NoMemory>
+        ensures { OnOk result (notes_kept self.new ≡ blamed_too (notes_kept self.old) faults.now) }
+    {
+        self.faults.extend_from_slice(faults)
+    }
+
     /// What the lines before say of the session.
     fn presence_of(&self, session: SessionNo) -> Option<&Presence>
         ensures { option_copied result ≡ slice_get self.now.presence session }
@@ -72,15 +79,27 @@ impl<'a> Notes<'a> {
         }
     }
 
+    /// All rows have come: the call returns them. Its own line comes before the faulty ones among them.
+    fn finish(&mut self, pending: Pending) -> Result<(), NoMemory>
+        ensures { OnOk result (notes_kept self.new ≡ returned (notes_kept self.old) (awaited_kept pending)) }
+    {
+        let Pending {
+            session,
+            number,
+            missing: _,
+            rows,
+            faults,
+        } = pending;
+        self.note(number, Happening::Return(session, Seen::Rows(rows)))?;
+        self.blame_too(faults.as_slice())
+    }
+
     /// Where all rows have come, the call returns them; else the others are still to come.
     fn wait_for(&mut self, pending: Pending) -> Result<(), NoMemory>
         ensures { OnOk result (notes_kept self.new ≡ awaiting (notes_kept self.old) (awaited_kept pending)) }
     {
         if pending.missing == 0 {
-            self.note(
-                pending.number,
-                Happening::Return(pending.session, Seen::Rows(pending.rows)),
-            )
+            self.finish(pending)
         } else {
             self.pending = Some(pending);
             Ok(())
@@ -99,7 +118,7 @@ impl<'a> Notes<'a> {
     {
         pending.missing = pending.missing.saturating_sub(1);
         match row {
-            None => self.blame(number, LineFault::NotARow)?,
+            None => LineFault::NotARow.push(&mut pending.faults, number)?,
             Some(xid) => pending.rows.push(xid)?,
         }
         self.wait_for(pending)
@@ -124,6 +143,7 @@ impl<'a> Notes<'a> {
                 number,
                 missing,
                 rows: Vec::new(alloc),
+                faults: Vec::new(alloc),
             }),
         }
     }
@@ -147,14 +167,15 @@ impl<'a> Notes<'a> {
     }
 
     /// The record ends.
+    #[tactic(auto, unfolding(crate::specs::Reading::blamed))]
     pub fn end(&mut self) -> Result<(), NoMemory>
         ensures { OnOk result (notes_kept self.new ≡ ended_by (option_map awaited_kept self.old.pending) (notes_kept self.old)) }
     {
         match &self.pending {
             None => Ok(()),
             Some(pending) => {
-                let number = pending.number;
-                self.blame(number, LineFault::RowsMissing)
+                LineFault::RowsMissing.push(&mut self.faults, pending.number)?;
+                self.faults.extend_from_slice(pending.faults.as_slice())
             }
         }
     }

@@ -13,4 +13,6 @@ pub struct Pending {
     pub missing: u64,
     /// Those that have come.
     pub rows: Vec<Xid>,
+    /// What is written for the lines among them that aren't rows: behind what is written for the return's own line.
+    pub faults: Vec<u8>,
 }

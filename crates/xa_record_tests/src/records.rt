@@ -206,6 +206,50 @@ fn faulty_lines_are_told(rt: HostRuntime) -> Result<(), Fail> {
     Ok(())
 }
 
+#[test]
+fn faulty_row_stands_behind_the_faulty_line_of_its_return(rt: HostRuntime) -> Result<(), Fail> {
+    let records: [(&[u8], &[u8]); 3] = [
+        (
+            b"1 > XA RECOVER\n1 < ROWS 3\n1 1 0 61\n1 1 0 0x61\n",
+            b"LINE 2: rows are missing\nLINE 3: not a row\n",
+        ),
+        (
+            b"1 < ROWS 2\n# a remark\n1 1 0 61\n\n1 1 0 0x61\n1 > GET 'k'\n",
+            b"LINE 1: session 1 has no open call\nLINE 3: not a row\n",
+        ),
+        (
+            b"2 ! LOST\n2 < ROWS 2\none\ntwo\n",
+            b"LINE 2: session 2 is lost\nLINE 3: not a row\nLINE 4: not a row\n",
+        ),
+    ];
+    for (record, wanted) in records {
+        let (outcome, output) = judged(rt.alloc(), record, 100)?;
+        assert_eq!(rt; output.as_slice(), wanted);
+        assert!(rt; outcome == Outcome::Faulty);
+    }
+    Ok(())
+}
+
+/// Two returns with rows: two faulty rows of a return that is none's, and one of a return whose rows are missing.
+const TWO_RETURNS: &[u8] = b"what\n1 < ROWS 3\n1 1 0 0x61\n1 1 0 61\n1 1 0\n3 < OK\n\
+2 > XA RECOVER\n2 < ROWS 2\n# a remark\n2 < ROWS 0\n";
+
+#[test]
+fn faulty_lines_of_two_returns_ascend(rt: HostRuntime) -> Result<(), Fail> {
+    let (outcome, output) = judged(rt.alloc(), TWO_RETURNS, 100)?;
+    let wanted = b"LINE 1: not a line of a record
+LINE 2: session 1 has no open call
+LINE 4: not a row
+LINE 5: not a row
+LINE 6: session 3 has no open call
+LINE 8: rows are missing
+LINE 10: not a row
+";
+    assert_eq!(rt; output.as_slice(), wanted.as_slice());
+    assert!(rt; outcome == Outcome::Faulty);
+    Ok(())
+}
+
 /// A record of 25 bytes, for which 17 are written.
 const ONE_CALL: &[u8] = b"1 > GET 'k'\n1 < NONE\n# x\n";
 

@@ -3,7 +3,6 @@
 
 mod answer;
 mod attempt;
-pub mod battery;
 mod execute;
 mod fault;
 mod replica;

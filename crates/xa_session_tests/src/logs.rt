@@ -1,10 +1,11 @@
-//! The battery over a log with a turn and over a chain.
+//! What sessions over every log have to show, over a log with a turn and over a chain.
 ghost use Rattle.std.specs.Prelude.{◌≡◌, All, IfSome};
 
 use chain_log::ChainLog;
 use decision_log::{DecisionLog, TurnLog};
+use log_conformance::sessions;
 use xa_server::Server;
-use xa_session::{Fault, Session, battery};
+use xa_session::{Fault, Session};
 
 /// The sessions of a log's first two passes, where it was opened for two.
 fn connected<'a, L: DecisionLog>(
@@ -38,7 +39,7 @@ fn full_log_still_answers_over_a_turn(rt: HostRuntime) {
     let Some((mut first, mut second)) = connected(&log, &base, passes) else {
         panic!(rt; "not connected")
     };
-    assert!(rt; battery::full_log_still_answers(&mut first, &mut second));
+    assert!(rt; sessions::full_log_still_answers(&mut first, &mut second));
 }
 
 #[test]
@@ -50,7 +51,7 @@ fn kept_replica_answers_again_over_a_turn(rt: HostRuntime) {
     let Some((mut first, mut second)) = connected(&log, &base, passes) else {
         panic!(rt; "not connected")
     };
-    assert!(rt; battery::kept_replica_answers_again(&rt, &mut first, &mut second));
+    assert!(rt; sessions::kept_replica_answers_again(&rt, &mut first, &mut second));
 }
 
 #[test]
@@ -62,7 +63,7 @@ fn write_is_seen_by_others_over_a_turn(rt: HostRuntime) {
     let Some((mut first, mut second)) = connected(&log, &base, passes) else {
         panic!(rt; "not connected")
     };
-    assert!(rt; battery::write_is_seen_by_others(&mut first, &mut second));
+    assert!(rt; sessions::write_is_seen_by_others(&mut first, &mut second));
 }
 
 #[test]
@@ -74,7 +75,7 @@ fn full_log_keeps_an_open_branch_over_a_turn(rt: HostRuntime) {
     let Some((first, second)) = connected(&log, &base, passes) else {
         panic!(rt; "not connected")
     };
-    assert!(rt; battery::full_log_keeps_an_open_branch(&rt, first, second).is_some());
+    assert!(rt; sessions::full_log_keeps_an_open_branch(&rt, first, second).is_some());
 }
 
 #[test]
@@ -86,7 +87,7 @@ fn disconnect_rolls_back_over_a_turn(rt: HostRuntime) {
     let Some((first, second)) = connected(&log, &base, passes) else {
         panic!(rt; "not connected")
     };
-    assert!(rt; battery::disconnect_rolls_back(&rt, first, second).is_some());
+    assert!(rt; sessions::disconnect_rolls_back(&rt, first, second).is_some());
 }
 
 #[test]
@@ -98,7 +99,7 @@ fn two_threads_prepare_over_a_turn(rt: HostRuntime) {
     let Some((first, second)) = connected(&log, &base, passes) else {
         panic!(rt; "not connected")
     };
-    assert!(rt; battery::two_threads_prepare(&rt, first, second));
+    assert!(rt; sessions::two_threads_prepare(&rt, first, second));
 }
 
 #[test]
@@ -110,7 +111,7 @@ fn full_log_still_answers_over_a_chain(rt: HostRuntime) {
     let Some((mut first, mut second)) = connected(&log, &base, passes) else {
         panic!(rt; "not connected")
     };
-    assert!(rt; battery::full_log_still_answers(&mut first, &mut second));
+    assert!(rt; sessions::full_log_still_answers(&mut first, &mut second));
 }
 
 #[test]
@@ -122,7 +123,7 @@ fn kept_replica_answers_again_over_a_chain(rt: HostRuntime) {
     let Some((mut first, mut second)) = connected(&log, &base, passes) else {
         panic!(rt; "not connected")
     };
-    assert!(rt; battery::kept_replica_answers_again(&rt, &mut first, &mut second));
+    assert!(rt; sessions::kept_replica_answers_again(&rt, &mut first, &mut second));
 }
 
 #[test]
@@ -134,7 +135,7 @@ fn write_is_seen_by_others_over_a_chain(rt: HostRuntime) {
     let Some((mut first, mut second)) = connected(&log, &base, passes) else {
         panic!(rt; "not connected")
     };
-    assert!(rt; battery::write_is_seen_by_others(&mut first, &mut second));
+    assert!(rt; sessions::write_is_seen_by_others(&mut first, &mut second));
 }
 
 #[test]
@@ -146,7 +147,7 @@ fn full_log_keeps_an_open_branch_over_a_chain(rt: HostRuntime) {
     let Some((first, second)) = connected(&log, &base, passes) else {
         panic!(rt; "not connected")
     };
-    assert!(rt; battery::full_log_keeps_an_open_branch(&rt, first, second).is_some());
+    assert!(rt; sessions::full_log_keeps_an_open_branch(&rt, first, second).is_some());
 }
 
 #[test]
@@ -158,7 +159,7 @@ fn disconnect_rolls_back_over_a_chain(rt: HostRuntime) {
     let Some((first, second)) = connected(&log, &base, passes) else {
         panic!(rt; "not connected")
     };
-    assert!(rt; battery::disconnect_rolls_back(&rt, first, second).is_some());
+    assert!(rt; sessions::disconnect_rolls_back(&rt, first, second).is_some());
 }
 
 #[test]
@@ -170,7 +171,7 @@ fn two_threads_prepare_over_a_chain(rt: HostRuntime) {
     let Some((first, second)) = connected(&log, &base, passes) else {
         panic!(rt; "not connected")
     };
-    assert!(rt; battery::two_threads_prepare(&rt, first, second));
+    assert!(rt; sessions::two_threads_prepare(&rt, first, second));
 }
 
 #[test]
@@ -190,7 +191,7 @@ fn share_is_raised_over_a_turn(rt: HostRuntime) {
     let Some((mut first, _)) = connected(&log, &base, passes) else {
         panic!(rt; "not connected")
     };
-    assert!(rt; battery::share_is_raised(&mut first));
+    assert!(rt; sessions::share_is_raised(&mut first));
 }
 
 #[test]
@@ -202,7 +203,7 @@ fn prepared_share_stays_over_a_turn(rt: HostRuntime) {
     let Some((mut first, mut second)) = connected(&log, &base, passes) else {
         panic!(rt; "not connected")
     };
-    assert!(rt; battery::prepared_share_stays(&mut first, &mut second));
+    assert!(rt; sessions::prepared_share_stays(&mut first, &mut second));
 }
 
 #[test]
@@ -214,7 +215,7 @@ fn share_is_raised_over_a_chain(rt: HostRuntime) {
     let Some((mut first, _)) = connected(&log, &base, passes) else {
         panic!(rt; "not connected")
     };
-    assert!(rt; battery::share_is_raised(&mut first));
+    assert!(rt; sessions::share_is_raised(&mut first));
 }
 
 #[test]
@@ -226,5 +227,5 @@ fn prepared_share_stays_over_a_chain(rt: HostRuntime) {
     let Some((mut first, mut second)) = connected(&log, &base, passes) else {
         panic!(rt; "not connected")
     };
-    assert!(rt; battery::prepared_share_stays(&mut first, &mut second));
+    assert!(rt; sessions::prepared_share_stays(&mut first, &mut second));
 }

@@ -3,9 +3,10 @@ ghost use Rattle.std.specs.Prelude.{◌≡◌};
 ghost use Rattle.xa_store.specs.Passes.{place_of, home_of};
 
 use decision_log::OpenFault;
+use log_conformance::sessions as scenes;
 use std::alloc::Global;
 use xa_server::Reply;
-use xa_session::{Answer, Session, battery};
+use xa_session::{Answer, Session};
 use xa_store::{Log, Pass, Store};
 use xa_words::Entry;
 use xa_xid::{Bytes, Statement, Xid};
@@ -21,7 +22,7 @@ fn full_store_still_answers(rt: HostRuntime) {
     let (Ok(mut first), Ok(mut second)) = (store.connect(first), store.connect(second)) else {
         panic!(rt; "not connected")
     };
-    assert!(rt; battery::full_log_still_answers(&mut first, &mut second));
+    assert!(rt; scenes::full_log_still_answers(&mut first, &mut second));
 }
 
 #[test]
@@ -35,7 +36,7 @@ fn write_is_seen_by_other_sessions(rt: HostRuntime) {
     let (Ok(mut first), Ok(mut second)) = (store.connect(first), store.connect(second)) else {
         panic!(rt; "not connected")
     };
-    assert!(rt; battery::write_is_seen_by_others(&mut first, &mut second));
+    assert!(rt; scenes::write_is_seen_by_others(&mut first, &mut second));
 }
 
 #[test]
@@ -49,7 +50,7 @@ fn two_threads_prepare(rt: HostRuntime) {
     let (Ok(first), Ok(second)) = (store.connect(first), store.connect(second)) else {
         panic!(rt; "not connected")
     };
-    assert!(rt; battery::two_threads_prepare(&rt, first, second));
+    assert!(rt; scenes::two_threads_prepare(&rt, first, second));
 }
 
 #[test]

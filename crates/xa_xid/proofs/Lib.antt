@@ -1,4 +1,5 @@
 pub mod Cuts
+pub mod Heads
 pub mod Identifiers
 pub mod Numbers
 pub mod Numerals

@@ -1,5 +1,6 @@
 pub mod Bytes
 pub mod Faults
+pub mod Head
 pub mod Literal
 pub mod Number
 pub mod Quoted

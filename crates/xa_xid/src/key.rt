@@ -1,7 +1,13 @@
 //! The key of a row.
-ghost use Rattle.std.specs.Prelude.{◌≡◌, ◌<◌, ◌≤◌, ◌↔◌, length, IsSome, IfSome};
+ghost use Rattle.std.specs.Prelude.{◌≡◌, ◌<◌, ◌≤◌, ◌↔◌, length, slice_index, Some, IsSome, IfSome, nat_eq, refl, ⊤};
+ghost use Rattle.std.specs.Cmp.{partial_equiv_from_equiv};
+ghost use Rattle.std.specs.Cmp.Lexicographic.{pointwise, nat_list_eq_equiv, nat_list_cmp_total, texts_po, texts_ties};
+ghost use Rattle.xa_xid.specs.Head.{head_of};
+ghost use Rattle.xa_xid.specs.Xid.{bytes_cmp};
 
-use crate::{Bytes, copy_of};
+use crate::laws::are_bytes;
+use crate::{Bytes, NoMemory, copy_of};
+use std::cmp::Ordering;
 use std::marker::Model;
 
 /// The key of a row: 1 to 64 bytes. A contract sees it as the list of its bytes.
@@ -9,21 +15,77 @@ use std::marker::Model;
 /// Keys are ordered as texts are, by their bytes and a prefix before what it begins.
 ///
 /// Own rule: docs/BEHAVIOR.md, 'Rows'.
-#[derive(Clone, Debug, Drop, PartialEq, Eq, PartialOrd, Ord)]
+#[derive(Debug, Drop)]
 pub struct Key {
+    /// The head of the bytes: a look at it tells most keys apart, and a search among rows is mostly such looks.
+    head: u64,
     bytes: Bytes,
 }
 
 impl Model for Key {
-    ghost use Rattle.std.specs.Prelude.{ℕ, List, ◌<◌, length};
+    ghost use Rattle.std.specs.Prelude.{ℕ, List, ◌≡◌, ◌<◌, length};
+    ghost use Rattle.xa_xid.specs.Head.{head_of};
 
     ghost Value = { List ℕ };
 
     ghost view = { λ k. k.bytes.items };
 
-    ghost invariant = { λ k. 0 < length k.bytes.items };
+    ghost invariant = { λ k. (0 < length k.bytes.items) × (k.head ≡ head_of k.bytes.items) };
+}
 
-    ghost inverse = { λ xs. record { bytes = record { items = xs } } };
+/// The byte at a place of a text, or 0 past its end.
+fn byte_or_zero(text: &[u8], place: usize) -> u8
+    ensures { result ≡ slice_index text.now place }
+{
+    if place < text.len() { text[place] } else { 0 }
+}
+
+/// The first eight bytes of a text as one number, the first byte highest, zeros past its end.
+#[tactic(auto, unfolding(crate::specs::Head::head_of))]
+fn head_of(text: &[u8]) -> u64
+    ensures { result ≡ head_of text.now }
+{
+    u64::from_be_bytes([
+        byte_or_zero(text, 0),
+        byte_or_zero(text, 1),
+        byte_or_zero(text, 2),
+        byte_or_zero(text, 3),
+        byte_or_zero(text, 4),
+        byte_or_zero(text, 5),
+        byte_or_zero(text, 6),
+        byte_or_zero(text, 7),
+    ])
+}
+
+/// How two texts of one head stand. Where one ends within the head, the shorter begins the longer.
+fn order_behind(left: &[u8], right: &[u8]) -> Ordering
+    requires { head_of left.now ≡ head_of right.now }
+    ensures { result ≡ bytes_cmp left.now right.now }
+{
+    are_bytes(left);
+    are_bytes(right);
+    if left.len() <= 8 {
+        return left.len().cmp(&right.len());
+    }
+    if right.len() <= 8 {
+        return left.len().cmp(&right.len());
+    }
+    left.cmp(right)
+}
+
+/// How two texts of these heads stand.
+fn order_of(left_head: u64, left: &[u8], right_head: u64, right: &[u8]) -> Ordering
+    requires left { left_head ≡ head_of left.now }
+    requires right { right_head ≡ head_of right.now }
+    ensures { result ≡ bytes_cmp left.now right.now }
+{
+    if left_head < right_head {
+        return Ordering::Less;
+    }
+    if right_head < left_head {
+        return Ordering::Greater;
+    }
+    order_behind(left, right)
 }
 
 impl Key {
@@ -37,7 +99,8 @@ impl Key {
         if bytes.is_empty() {
             None
         } else {
-            Some(Key { bytes })
+            let head = head_of(bytes.as_slice());
+            Some(Key { head, bytes })
         }
     }
 
@@ -59,7 +122,56 @@ impl Key {
         ensures { result ≡ self.now }
     {
         Key {
+            head: self.head,
             bytes: copy_of(&self.bytes),
         }
+    }
+}
+
+impl Clone for Key {
+    ghost is_clone = { λ key copy. copy ≡ key };
+
+    ghost is_infallible = { λ _. ⊤ };
+
+    fn clone(&self) -> Result<Key, NoMemory> {
+        Ok(self.copy())
+    }
+}
+
+impl PartialEq for Key {
+    ghost eq = { pointwise nat_eq };
+
+    ghost laws = { partial_equiv_from_equiv nat_list_eq_equiv };
+
+    fn eq(&self, other: &Key) -> bool {
+        self.bytes == other.bytes
+    }
+}
+
+impl Eq for Key {
+    ghost laws = { nat_list_eq_equiv };
+}
+
+impl PartialOrd for Key {
+    ghost partial_cmp = { λ left right. Some (bytes_cmp left right) };
+
+    ghost laws = { texts_po };
+
+    fn partial_cmp(&self, other: &Key) -> Option<Ordering> {
+        Some(self.cmp(other))
+    }
+}
+
+impl Ord for Key {
+    ghost cmp = { bytes_cmp };
+
+    ghost total = { nat_list_cmp_total };
+
+    ghost matches_partial_cmp = { λ left right. refl };
+
+    ghost matches_eq = { texts_ties };
+
+    fn cmp(&self, other: &Key) -> Ordering {
+        order_of(self.head, &self.bytes, other.head, &other.bytes)
     }
 }

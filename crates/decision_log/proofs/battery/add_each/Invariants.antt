@@ -1,8 +1,0 @@
-use Rattle.std.proofs.Common.{◌≡◌}
-use Rattle.decision_log.proofs.battery.add_each.Given as goal
-
-abbrev pub invariant-loop-step : goal.invariant-loop-step
-invariant-loop-step g l = record {
-  home : g.L.DecisionLog.home l.pass ≡ g.L.DecisionLog.place l.log;
-  number : l.session ≡ (g.L.DecisionLog.known l.pass).number;
-}

@@ -1,0 +1,84 @@
+//! What every log has to show, over a log with a turn, and how one is opened.
+use decision_log::{AddFault, OpenFault, TurnLog, laws};
+use log_conformance::logs;
+
+#[test]
+fn an_add_is_overtaken_then_stands_until_the_log_is_full(rt: HostRuntime) {
+    let Ok((log, mut passes)) = TurnLog::open(rt.alloc(), 2, 2) else {
+        panic!(rt; "not opened")
+    };
+    let (Some(mut second), Some(mut first)) = (passes.pop(), passes.pop()) else {
+        panic!(rt; "two passes")
+    };
+    assert!(rt; logs::adds_in_turn(&log, &mut first, &mut second));
+}
+
+#[test]
+fn passes_see_what_others_added(rt: HostRuntime) {
+    let Ok((log, mut passes)) = TurnLog::open(rt.alloc(), 3, 2) else {
+        panic!(rt; "not opened")
+    };
+    let (Some(mut second), Some(mut first)) = (passes.pop(), passes.pop()) else {
+        panic!(rt; "two passes")
+    };
+    assert!(rt; logs::looks_and_meets(&log, &mut first, &mut second));
+}
+
+#[test]
+fn an_outdated_look_is_overtaken_once(rt: HostRuntime) {
+    let Ok((log, mut passes)) = TurnLog::open(rt.alloc(), 8, 2) else {
+        panic!(rt; "not opened")
+    };
+    let (Some(mut second), Some(mut first)) = (passes.pop(), passes.pop()) else {
+        panic!(rt; "two passes")
+    };
+    assert!(rt; logs::outdated_look_is_overtaken_once(&log, &mut first, &mut second));
+}
+
+#[test]
+fn two_threads_add_each_one_in_its_order(rt: HostRuntime) {
+    let Ok((log, mut passes)) = TurnLog::open(rt.alloc(), 16, 2) else {
+        panic!(rt; "not opened")
+    };
+    let (Some(second), Some(first)) = (passes.pop(), passes.pop()) else {
+        panic!(rt; "two passes")
+    };
+    assert!(rt; logs::two_threads_add(&rt, &log, first, second));
+}
+
+#[test]
+fn a_log_is_opened_for_its_sizes_alone(rt: HostRuntime) {
+    laws::mine_is_the_own_part_of_seen();
+    laws::what_happens_leads_to_states();
+    laws::passes_are_sessions_of_the_machine();
+    laws::turn_keeps_the_history();
+    laws::store_keeps_the_history();
+    laws::stored_count_adds_its_entry();
+    for (capacity, sessions, fault) in [
+        (0, 17, OpenFault::CapacityOutOfRange),
+        (1025, 1, OpenFault::CapacityOutOfRange),
+        (4, 17, OpenFault::SessionsOutOfRange),
+        (4, 0, OpenFault::SessionsOutOfRange),
+    ] {
+        match TurnLog::open(rt.alloc(), capacity, sessions) {
+            Ok(_) => panic!(rt; "opened for {capacity} and {sessions}"),
+            Err(found) => assert_eq!(rt; found, fault),
+        }
+    }
+    for (capacity, sessions) in [(1, 1), (1024, 16)] {
+        match TurnLog::open(rt.alloc(), capacity, sessions) {
+            Ok((_, passes)) => assert!(rt; passes.len() as u64 == sessions),
+            Err(found) => panic!(rt; "fault {}", found.number()),
+        }
+    }
+}
+
+#[test]
+fn faults_have_their_numbers(rt: HostRuntime) {
+    assert_eq!(rt; OpenFault::CapacityOutOfRange.number(), 1);
+    assert_eq!(rt; OpenFault::SessionsOutOfRange.number(), 2);
+    assert_eq!(rt; OpenFault::NoMemory.number(), 3);
+    assert_eq!(rt; AddFault::Overtaken { front: 9 }.number(), 1);
+    assert_eq!(rt; AddFault::Full.number(), 2);
+    assert_eq!(rt; AddFault::Busy.number(), 3);
+}

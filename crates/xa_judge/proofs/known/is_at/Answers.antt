@@ -1,0 +1,13 @@
+use Rattle.std.proofs.Common.{◌≡◌, ◌<◌, Some, slice_get, length, sym, subst, ap, ◌∙◌, arith}
+use Rattle.std.proofs.lemmas.Option.{slice_get-get_or}
+use Rattle.xa_judge.specs.Found.{config_of, Has}
+use Rattle.xa_judge.proofs.Places.{place_mapped}
+use Rattle.xa_judge.proofs.known.is_at.Goals as goal
+
+-- what stands at a place of the list stands in the list
+pub returns-in-Some : goal.returns-in-Some
+returns-in-Some c =
+    let look = c.in-Some.ensures in
+    let within : c.args.place < length c.args.known.now = omega (arith, look.lookup.0) in
+    let found : slice_get c.args.known.now c.args.place ≡ Some c.in-Some.other.now = slice_get-get_or c.args.known.now c.args.place _ within ∙ ap Some (sym look.lookup.1) in
+    λ same. subst (λ one. Has c.args.known.now one) (sym (c.is_same.ensures same)) (place_mapped config_of c.args.known.now c.args.place c.in-Some.other.now found)
