@@ -63,19 +63,22 @@ at_end text state said none fin =
 pub takes_comma : (text found rest : List ℕ) → found ≡ unblank text → found ≡ 44 ∷ rest → Takes Comma text rest
 takes_comma text found rest is first = takes Comma text (44 ∷ rest) rest (sym first ∙ is) (omega arith) (comma_first rest)
 
+false_is_true : false ≡ true → ⊥
+false_is_true e = cc
+
 no_bytes : (text : List ℕ) (empty : Bool) → empty ≡ (length text == 0) → IsTrue empty → text ≡ []
 no_bytes [] empty is e = refl
 no_bytes (byte ∷ text) true is e = let none : length (byte ∷ text) ≡ 0 = eqb-true _ _ (sym is) in absurd (omega (arith, none))
-no_bytes (byte ∷ text) false is e = absurd e
+no_bytes (byte ∷ text) false is e = absurd (false_is_true e)
 
 pub ends_bare : (text found : List ℕ) (empty : Bool) → found ≡ unblank text → empty ≡ (length found == 0) → IsTrue empty → Ends text
 ends_bare text found empty is tested e = λ state said un fin. at_end text state said (sym is ∙ no_bytes found empty tested e) fin
 
 pub ends_marked : (text found rest last : List ℕ) (empty : Bool) → found ≡ unblank text → found ≡ 59 ∷ rest → last ≡ unblank rest
     → empty ≡ (length last == 0) → IsTrue empty → Ends text
-ends_marked text found rest last empty is first then tested e = λ state said un fin.
+ends_marked text found rest last empty is first behind_it tested e = λ state said un fin.
     takes Semicolon text (59 ∷ rest) rest (sym first ∙ is) (omega arith) (semicolon_first rest) state (Ended said) (takes_semicolon state said un)
-    ∙ at_end rest (Ended said) said (sym then ∙ no_bytes last empty tested e) (ended_said said)
+    ∙ at_end rest (Ended said) said (sym behind_it ∙ no_bytes last empty tested e) (ended_said said)
 
 -- a text that reading ends with
 pub said_so : (text rest end : List ℕ) (state : State) (said : Statement) → Goes AtFirst text state rest → Leads state rest said end → Ends end
@@ -91,9 +94,6 @@ onto_nil (Some (bytes, rest)) = refl
 onto_onto : (byte : ℕ) (xs : List ℕ) (found : Option (List ℕ × List ℕ)) → onto (byte ∷ []) (onto xs found) ≡ onto (byte ∷ xs) found
 onto_onto byte xs None = refl
 onto_onto byte xs (Some (bytes, rest)) = refl
-
-false_is_true : false ≡ true → ⊥
-false_is_true e = cc
 
 not_92 : (byte : ℕ) → not (byte == 92) ≡ true → byte ≡ 92 → ⊥
 not_92 byte e is = false_is_true (rw (eq-eqb byte 92 is) at e)

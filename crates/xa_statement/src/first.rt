@@ -148,8 +148,9 @@ fn take_any<'a>(bytes: &mut Bytes, text: &'a [u8]) -> Option<&'a [u8]>
     if text.is_empty() {
         return None;
     }
-    match token_of(text) {
-        (Token::Value(Some(found), _), rest) => {
+    let (token, rest) = token_of(text);
+    match token {
+        Token::Value(Some(found), _) => {
             *bytes = found;
             Some(rest)
         }
