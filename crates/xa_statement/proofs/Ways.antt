@@ -1,5 +1,5 @@
 -- What stands first in a text, and where reading goes from there.
-use Rattle.std.proofs.Common.{◌≡◌, ℕ, ◌≤◌, ◌<◌, Bool, true, false, ◌==◌, not, if◌then◌else◌, List, [], ◌∷◌, ◌++◌, length, drop, Option, Some, None, Result, Ok, refl, sym, ◌∙◌, ap, arith, ◌⊎◌, inl, inr, IsTrue}
+use Rattle.std.proofs.Common.{◌≡◌, ℕ, ◌+◌, ◌≤◌, ◌<◌, Bool, true, false, ◌==◌, not, if◌then◌else◌, List, [], ◌∷◌, ◌++◌, length, drop, Option, Some, None, Result, Ok, refl, sym, ◌∙◌, ap, arith, ◌⊎◌, inl, inr, IsTrue}
 use Rattle.std.proofs.lemmas.Bool.{eq-eqb, eqb-true, eqb-false, ne_eqb}
 use Rattle.std.proofs.lemmas.List.{append-nil}
 use Rattle.xa_xid.specs.Bytes.{belongs, front, behind, unblank}
@@ -86,6 +86,11 @@ pub said_so : (text rest end : List ℕ) (state : State) (said : Statement) → 
 said_so text rest end state said goes leads ends =
     sym (seen text (Ok said) (goes ∙ leads.1.0 ∙ ends leads.0 said leads.1.1.0 leads.1.1.1))
 
+-- the same of a statement that is known under another name
+pub told_so : (text rest end : List ℕ) (state : State) (said told : Statement) → told ≡ said → Goes AtFirst text state rest → Leads state rest said end → Ends end
+    → Ok told ≡ seen_of (read_of text)
+told_so text rest end state said told is goes leads ends = rw is (said_so text rest end state said goes leads ends)
+
 -- bytes between quotes that stand for themselves
 onto_nil : (found : Option (List ℕ × List ℕ)) → onto [] found ≡ found
 onto_nil None = refl
@@ -135,19 +140,23 @@ plain_read quote body rest text closes items fits =
     ap text_literal_of (quoted_whole quote body rest closes ∙ ap (λ bytes. Some (bytes, rest)) (sym items))
     ∙ ap (λ found. sized found rest) (kept-fits text.items fits)
 
-single_first : (body rest : List ℕ) (text : Text) → text_literal_of (quoted 39 Plain body) ≡ Ok (text, rest) → token_at (39 ∷ body) ≡ (Value (Some text) None, rest)
+-- the same, as it is put into an empty text
+pub plain_taken : (quote : ℕ) (body plain closing rest : List ℕ) (old text : Text) → plain ≡ front (plain_in quote) body → closing ≡ behind (plain_in quote) body
+    → Closes quote closing rest → old.items ≡ [] → text.items ≡ old.items ++ plain → length old.items + length plain ≤ 64
+    → text_literal_of (quoted quote Plain body) ≡ Ok (text, rest)
+plain_taken quote body plain closing rest old text is_front is_behind closes none items fits =
+    let held : text.items ≡ plain = items ∙ ap (λ xs. xs ++ plain) none in
+    let few : length text.items ≤ 64 = rw held (omega (arith, fits)) in
+    plain_read quote body rest text (sym is_behind ∙ closes.0, closes.1) (held ∙ is_front) few
+
+-- a literal in quotes, at a place in a text
+pub single_first : (body rest : List ℕ) (text : Text) → text_literal_of (quoted 39 Plain body) ≡ Ok (text, rest) → token_at (39 ∷ body) ≡ (Value (Some text) None, rest)
 unfolding token_at literal_at
 single_first body rest text read = ap quoted_at read
 
-double_first : (body rest : List ℕ) (text : Text) → text_literal_of (quoted 34 Plain body) ≡ Ok (text, rest) → token_at (34 ∷ body) ≡ (Value (Some text) None, rest)
+pub double_first : (body rest : List ℕ) (text : Text) → text_literal_of (quoted 34 Plain body) ≡ Ok (text, rest) → token_at (34 ∷ body) ≡ (Value (Some text) None, rest)
 unfolding token_at literal_at
 double_first body rest text read = ap quoted_at read
-
--- a literal in quotes, at a place in a text
-pub plain_first : (quote : ℕ) (body rest : List ℕ) (text : Text) → (quote ≡ 39) ⊎ (quote ≡ 34) → Closes quote (behind (plain_in quote) body) rest
-    → text.items ≡ front (plain_in quote) body → length text.items ≤ 64 → token_at (quote ∷ body) ≡ (Value (Some text) None, rest)
-plain_first quote body rest text (inl e) closes items fits = rw e (single_first body rest text (ap (λ q. text_literal_of (quoted q Plain body)) (sym e) ∙ plain_read quote body rest text closes items fits))
-plain_first quote body rest text (inr e) closes items fits = rw e (double_first body rest text (ap (λ q. text_literal_of (quoted q Plain body)) (sym e) ∙ plain_read quote body rest text closes items fits))
 
 -- a word leads on
 pub goes_word : (text rest : List ℕ) (state next : State) (word : Keyword) → after_word state word ≡ Some next → Takes (Word word) text rest → Goes state text next rest
@@ -177,6 +186,15 @@ pub bqual_goes : (verb : Verb) (gtrid : Text) (text middle rest : List ℕ) (fou
 unfolding step
 bqual_goes verb gtrid text middle rest found first comma =
     first.1 (WantsBqual verb gtrid) (AfterBqual verb gtrid found) refl ∙ comma (AfterBqual verb gtrid found) (WantsFormatId verb gtrid found) refl
+
+-- the same of an xid whose other parts are those that are left out
+pub gtrid_said : (verb : Verb) (text rest : List ℕ) (found bqual : Text) (number : ℕ) → bqual ≡ no_text → number ≡ 1 → TakesLiteral text found rest
+    → Leads (WantsGtrid verb) text (statement_of verb (xid_of found bqual number)) rest
+gtrid_said verb text rest found bqual number none one first = rw (none, one) (gtrid_leads verb text rest found first)
+
+pub bqual_said : (verb : Verb) (gtrid : Text) (text rest : List ℕ) (found : Text) (number : ℕ) → number ≡ 1 → TakesLiteral text found rest
+    → Leads (WantsBqual verb gtrid) text (statement_of verb (xid_of gtrid found number)) rest
+bqual_said verb gtrid text rest found number one first = rw one (bqual_leads verb gtrid text rest found first)
 
 format_steps : (verb : Verb) (gtrid bqual : Text) (literal : Option Text) (number : ℕ)
     → step (WantsFormatId verb gtrid bqual) (Value literal (Some number)) ≡ Some (AfterXid verb (xid_of gtrid bqual number))

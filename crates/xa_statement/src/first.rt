@@ -136,7 +136,10 @@ pub(crate) fn take_literal<'a>(bytes: &mut Bytes, text: &'a [u8]) -> Option<&'a 
     let front = skip_blanks(text);
     match take_plain(bytes, front) {
         Some(rest) => Some(rest),
-        None => take_any(bytes, front),
+        None => {
+            let rest = take_any(bytes, front)?;
+            Some(rest)
+        }
     }
 }
 

@@ -81,7 +81,10 @@ fn take_xid<'a>(xid: &mut Xid, text: &'a [u8]) -> Option<&'a [u8]>
 {
     let rest = take_literal(&mut xid.gtrid, text)?;
     match behind_comma(rest) {
-        Some(next) => take_bqual(xid, next),
+        Some(next) => {
+            let end = take_bqual(xid, next)?;
+            Some(end)
+        }
         None => Some(rest),
     }
 }
@@ -93,7 +96,10 @@ fn take_bqual<'a>(xid: &mut Xid, text: &'a [u8]) -> Option<&'a [u8]>
 {
     let rest = take_literal(&mut xid.bqual, text)?;
     match behind_comma(rest) {
-        Some(next) => take_format_id(xid, next),
+        Some(next) => {
+            let end = take_format_id(xid, next)?;
+            Some(end)
+        }
         None => Some(rest),
     }
 }
@@ -159,6 +165,8 @@ fn take_row<'a>(key: &mut Bytes, value: &mut Bytes, text: &'a [u8]) -> Option<&'
     requires value { value.now.items ≡ [] }
     ensures { IfSome result (λ rest. 0 < length key.new.items → Leads (WantsKey Puts) text.now (Put key.new.items value.new) rest.now) }
 {
-    let rest = behind_comma(take_literal(key, text)?)?;
-    take_literal(value, rest)
+    let found = take_literal(key, text)?;
+    let next = behind_comma(found)?;
+    let rest = take_literal(value, next)?;
+    Some(rest)
 }
