@@ -163,6 +163,10 @@ pub goes_word : (text rest : List ℕ) (state next : State) (word : Keyword) →
 unfolding step
 goes_word text rest state next word steps first = first state next steps
 
+pub goes_known : (text rest : List ℕ) (state next : State) (found word : Keyword) → found ≡ word → after_word state word ≡ Some next → Takes (Word found) text rest
+    → Goes state text next rest
+goes_known text rest state next found word is steps first = goes_word text rest state next found (ap (after_word state) is ∙ steps) first
+
 pub goes_then : (text rest end : List ℕ) (state next : State) (said : Statement) → Goes state text next rest → Leads next rest said end → Leads state text said end
 goes_then text rest end state next said goes leads = (leads.0, (goes ∙ leads.1.0, leads.1.1))
 
