@@ -1,13 +1,12 @@
 -- What stands first in a text, and where reading goes from there.
-use Rattle.std.proofs.Common.{◌≡◌, ℕ, ◌+◌, ◌≤◌, ◌<◌, Bool, true, false, ◌==◌, not, if◌then◌else◌, List, [], ◌∷◌, ◌++◌, length, drop, Option, Some, None, Result, Ok, refl, sym, ◌∙◌, ap, arith, ◌⊎◌, inl, inr, IsTrue}
-use Rattle.std.proofs.lemmas.Bool.{eq-eqb, eqb-true, eqb-false, ne_eqb}
+use Rattle.std.proofs.Common.{◌≡◌, ℕ, ◌+◌, ◌≤◌, ◌<◌, Bool, true, false, ◌==◌, not, if◌then◌else◌, List, [], ◌∷◌, ◌++◌, length, Option, Some, None, Ok, refl, sym, ◌∙◌, ap, arith, IsTrue}
+use Rattle.std.proofs.lemmas.Bool.{eq-eqb, eqb-true, eqb-false}
 use Rattle.std.proofs.lemmas.List.{append-nil}
-use Rattle.xa_xid.specs.Bytes.{belongs, front, behind, unblank}
-use Rattle.xa_xid.specs.Literal.{literal_at, kept, sized, text_literal_of}
+use Rattle.xa_xid.specs.Bytes.{front, behind, unblank}
+use Rattle.xa_xid.specs.Literal.{literal_at, sized, text_literal_of}
 use Rattle.xa_xid.specs.Quoted.{quoted, onto}
 use Rattle.xa_xid.specs.Xid.{Text}
 use Rattle.xa_xid.specs.declared.quoted.Mode.TheVariants.{Plain, Quote}
-use Rattle.xa_xid.specs.declared.byte_class.ByteClass.TheVariants.{Blank as blank_byte}
 use Rattle.xa_xid.specs.declared.statement.Statement.{Statement}
 use Rattle.xa_xid.specs.declared.statement.Statement.TheVariants.{Get, Put, Del}
 use Rattle.xa_xid.specs.XidText.{xid_of, no_text}
@@ -15,7 +14,7 @@ use Rattle.xa_xid.proofs.Cuts.{front-passes, front-stops, front-nil, behind-pass
 use Rattle.xa_xid.proofs.Reading.{plain_quote, plain_byte, quote_closes, quoted-nil-plain, quoted-nil-quote}
 use Rattle.xa_xid.proofs.Texts.{kept-fits}
 use Rattle.xa_statement.specs.declared.state.State.{State}
-use Rattle.xa_statement.specs.declared.state.State.TheVariants.{AtFirst, AfterXa, WantsGtrid, AfterGtrid, WantsBqual, AfterBqual, WantsFormatId, AfterXid, WantsKey, AfterKey, WantsValue, Whole, Ended}
+use Rattle.xa_statement.specs.declared.state.State.TheVariants.{AtFirst, WantsGtrid, AfterGtrid, WantsBqual, AfterBqual, WantsFormatId, AfterXid, WantsKey, AfterKey, WantsValue, Whole, Ended}
 use Rattle.xa_statement.specs.declared.state.Verb.{Verb}
 use Rattle.xa_statement.specs.declared.state.RowVerb.{RowVerb}
 use Rattle.xa_statement.specs.declared.state.RowVerb.TheVariants.{Gets, Puts, Deletes}

@@ -4,7 +4,7 @@
 --     TakesLiteral text found rest   the same of a literal
 --     Leads state text said rest     reading comes to `rest` and a state of a whole statement
 --     Ends text                      nothing stands in the text but blanks and at most one ;
-use Rattle.std.specs.Prelude.{◌≡◌, ℕ, Bool, true, false, ◌==◌, not, if◌then◌else◌, List, [], ◌∷◌, Option, Some, Ok}
+use Rattle.std.specs.Prelude.{◌≡◌, ℕ, Bool, false, ◌==◌, not, if◌then◌else◌, List, [], ◌∷◌, Option, Some, Ok}
 use Rattle.xa_xid.specs.Xid.{Text}
 use Rattle.xa_xid.specs.declared.statement.Statement.{Statement}
 use Rattle.xa_statement.specs.declared.state.State.{State}
