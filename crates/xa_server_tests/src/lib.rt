@@ -6,6 +6,4 @@ mod overview;
 #[cfg(test)]
 mod sharing;
 #[cfg(test)]
-mod texts;
-#[cfg(test)]
 mod worked;
