@@ -86,8 +86,8 @@ said_so text rest end state said goes leads ends =
     sym (seen text (Ok said) (goes ∙ leads.1.0 ∙ ends leads.0 said leads.1.1.0 leads.1.1.1))
 
 -- the same of a statement that is known under another name
-pub told_so : (text rest end : List ℕ) (state : State) (said told : Statement) → told ≡ said → Goes AtFirst text state rest → Leads state rest said end → Ends end
-    → Ok told ≡ seen_of (read_of text)
+pub told_so : (text rest end : List ℕ) (state : State) (said told : Statement) → told ≡ said → Goes AtFirst text state rest → Leads state rest said end
+    → Ends end → Ok told ≡ seen_of (read_of text)
 told_so text rest end state said told is goes leads ends = rw is (said_so text rest end state said goes leads ends)
 
 -- bytes between quotes that stand for themselves
@@ -140,41 +140,47 @@ plain_read quote body rest text closes items fits =
     ∙ ap (λ found. sized found rest) (kept-fits text.items fits)
 
 -- the same, as it is put into an empty text
-pub plain_taken : (quote : ℕ) (body plain closing rest : List ℕ) (old text : Text) → plain ≡ front (plain_in quote) body → closing ≡ behind (plain_in quote) body
-    → Closes quote closing rest → old.items ≡ [] → text.items ≡ old.items ++ plain → length old.items + length plain ≤ 64
-    → text_literal_of (quoted quote Plain body) ≡ Ok (text, rest)
+pub plain_taken : (quote : ℕ) (body plain closing rest : List ℕ) (old text : Text) → plain ≡ front (plain_in quote) body
+    → closing ≡ behind (plain_in quote) body → Closes quote closing rest → old.items ≡ [] → text.items ≡ old.items ++ plain
+    → length old.items + length plain ≤ 64 → text_literal_of (quoted quote Plain body) ≡ Ok (text, rest)
 plain_taken quote body plain closing rest old text is_front is_behind closes none items fits =
     let held : text.items ≡ plain = items ∙ ap (λ xs. xs ++ plain) none in
     let few : length text.items ≤ 64 = rw held (omega (arith, fits)) in
     plain_read quote body rest text (sym is_behind ∙ closes.0, closes.1) (held ∙ is_front) few
 
 -- a literal in quotes, at a place in a text
-pub single_first : (body rest : List ℕ) (text : Text) → text_literal_of (quoted 39 Plain body) ≡ Ok (text, rest) → token_at (39 ∷ body) ≡ (Value (Some text) None, rest)
+pub single_first : (body rest : List ℕ) (text : Text) → text_literal_of (quoted 39 Plain body) ≡ Ok (text, rest)
+    → token_at (39 ∷ body) ≡ (Value (Some text) None, rest)
 unfolding token_at literal_at
 single_first body rest text read = ap quoted_at read
 
-pub double_first : (body rest : List ℕ) (text : Text) → text_literal_of (quoted 34 Plain body) ≡ Ok (text, rest) → token_at (34 ∷ body) ≡ (Value (Some text) None, rest)
+pub double_first : (body rest : List ℕ) (text : Text) → text_literal_of (quoted 34 Plain body) ≡ Ok (text, rest)
+    → token_at (34 ∷ body) ≡ (Value (Some text) None, rest)
 unfolding token_at literal_at
 double_first body rest text read = ap quoted_at read
 
 -- a word leads on
-pub goes_word : (text rest : List ℕ) (state next : State) (word : Keyword) → after_word state word ≡ Some next → Takes (Word word) text rest → Goes state text next rest
+pub goes_word : (text rest : List ℕ) (state next : State) (word : Keyword) → after_word state word ≡ Some next → Takes (Word word) text rest
+    → Goes state text next rest
 unfolding step
 goes_word text rest state next word steps first = first state next steps
 
-pub goes_known : (text rest : List ℕ) (state next : State) (found word : Keyword) → found ≡ word → after_word state word ≡ Some next → Takes (Word found) text rest
-    → Goes state text next rest
+pub goes_known : (text rest : List ℕ) (state next : State) (found word : Keyword) → found ≡ word → after_word state word ≡ Some next
+    → Takes (Word found) text rest → Goes state text next rest
 goes_known text rest state next found word is steps first = goes_word text rest state next found (ap (after_word state) is ∙ steps) first
 
-pub goes_then : (text rest end : List ℕ) (state next : State) (said : Statement) → Goes state text next rest → Leads next rest said end → Leads state text said end
+pub goes_then : (text rest end : List ℕ) (state next : State) (said : Statement) → Goes state text next rest → Leads next rest said end
+    → Leads state text said end
 goes_then text rest end state next said goes leads = (leads.0, (goes ∙ leads.1.0, leads.1.1))
 
 -- the parts of an xid
-pub gtrid_leads : (verb : Verb) (text rest : List ℕ) (found : Text) → TakesLiteral text found rest → Leads (WantsGtrid verb) text (statement_of verb (xid_of found no_text 1)) rest
+pub gtrid_leads : (verb : Verb) (text rest : List ℕ) (found : Text) → TakesLiteral text found rest
+    → Leads (WantsGtrid verb) text (statement_of verb (xid_of found no_text 1)) rest
 unfolding step finish
 gtrid_leads verb text rest found first = (AfterGtrid verb found, (first.1 (WantsGtrid verb) (AfterGtrid verb found) refl, (refl, refl)))
 
-pub gtrid_goes : (verb : Verb) (text middle rest : List ℕ) (found : Text) → TakesLiteral text found middle → Takes Comma middle rest → Goes (WantsGtrid verb) text (WantsBqual verb found) rest
+pub gtrid_goes : (verb : Verb) (text middle rest : List ℕ) (found : Text) → TakesLiteral text found middle → Takes Comma middle rest
+    → Goes (WantsGtrid verb) text (WantsBqual verb found) rest
 unfolding step
 gtrid_goes verb text middle rest found first comma =
     first.1 (WantsGtrid verb) (AfterGtrid verb found) refl ∙ comma (AfterGtrid verb found) (WantsBqual verb found) refl
@@ -217,7 +223,8 @@ key_some : (verb : RowVerb) (bytes : List ℕ) → 0 < length bytes → key_stat
 key_some verb [] some = absurd (omega arith)
 key_some verb (byte ∷ bytes) some = refl
 
-key_goes : (verb : RowVerb) (text rest : List ℕ) (key : Text) → TakesLiteral text key rest → 0 < length key.items → Goes (WantsKey verb) text (after_key verb key.items) rest
+key_goes : (verb : RowVerb) (text rest : List ℕ) (key : Text) → TakesLiteral text key rest → 0 < length key.items
+    → Goes (WantsKey verb) text (after_key verb key.items) rest
 unfolding step
 key_goes verb text rest key first some = first.1 (WantsKey verb) (after_key verb key.items) (key_some verb key.items some)
 
@@ -234,4 +241,6 @@ pub row_leads : (text behind_key behind_comma rest : List ℕ) (key value : Text
 unfolding step finish
 row_leads text behind_key behind_comma rest key value first comma last some =
     let said : State = Whole (Put key.items value) in
-    (said, (key_goes Puts text behind_key key first some ∙ comma (AfterKey key.items) (WantsValue key.items) refl ∙ last.1 (WantsValue key.items) said refl, (refl, refl)))
+    let at_value = key_goes Puts text behind_key key first some ∙ comma (AfterKey key.items) (WantsValue key.items) refl in
+    let goes = at_value ∙ last.1 (WantsValue key.items) said refl in
+    (said, (goes, (refl, refl)))

@@ -200,7 +200,6 @@ fn later_word(run: &[u8]) -> Option<Keyword>
 }
 
 /// Whether the run is the word, without regard to case.
-
 fn same_word(word: &[u8], run: &[u8]) -> bool
     ensures { result ≡ is_word word.now run.now }
 {
