@@ -130,7 +130,8 @@ ends_in branches transaction closing store = ends_first closing (is_working bran
 -- the branch of a store was finished, or wasn't known there, where the store takes part
 abbrev pub SettlesIn : List (Option OpenBranch) → Transaction → Closing → ℕ → (listed : Bool) → SessionView → SessionView → Type 0
 SettlesIn branches transaction closing store listed =
-    Settles (ends_in branches transaction closing store) (closing_of closing (branch_of transaction store)) (branch_of transaction store) (takes_part transaction.participants store) listed
+    Settles (ends_in branches transaction closing store) (closing_of closing (branch_of transaction store)) (branch_of transaction store)
+    (takes_part transaction.participants store) listed
 
 -- what the finishing of a transaction's branches came to, by what the coordinator had open
 abbrev pub EndsAs : {S : Type 0} → (S → SessionView) → List (Option OpenBranch) → Transaction → Closing → Ending → List S → List S → Type 0
@@ -144,7 +145,8 @@ EndsAs view branches transaction closing (Hazard stores) old new =
 EndsAs view branches transaction closing (Unfinished store cause) old new =
     (takes_part transaction.participants store ≡ true)
     × EndsAt view (λ other before after. (listed : Bool) × SettlesIn branches transaction closing other listed before after)
-    store (IsUnfinished (ends_in branches transaction closing store) (closing_of closing (branch_of transaction store)) (branch_of transaction store) cause) old new
+    store (IsUnfinished (ends_in branches transaction closing store) (closing_of closing (branch_of transaction store)) (branch_of transaction store) cause) old
+    new
 
 -- the stores below this number were spoken to, if they take part
 abbrev pub asked_by_ending : Ending → ℕ

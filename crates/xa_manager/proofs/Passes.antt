@@ -20,7 +20,8 @@ at_place (s ∷ ss) (p ∷ ps) zero store pass all below is is' =
     subst Q (sym is) (subst P (sym is') all.0)
 at_place (s ∷ ss) (p ∷ ps) (suc place) store pass all below is is' = at_place ss ps place store pass all.1 (omega arith) is is'
 
-pub own_at : (stores : List Store) (passes : List ChainPass) (place other : ℕ) (store : Store) (pass : ChainPass) → place ≡ other → AllZip IsOwn stores passes → place < length passes
+pub own_at : (stores : List Store) (passes : List ChainPass) (place other : ℕ) (store : Store) (pass : ChainPass) → place ≡ other → AllZip IsOwn stores passes
+    → place < length passes
     → store ≡ get_or stores other store → pass ≡ get_or passes place pass → IsOwn store pass
 own_at stores passes place other store pass same all below is is' =
     let P : ℕ → Type 0 = λ k. store ≡ get_or stores k store in

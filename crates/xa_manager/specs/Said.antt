@@ -38,7 +38,8 @@ use Rattle.xa_manager.specs.declared.call.Call.TheVariants.{Work, Prepare, Finis
 use Rattle.xa_manager.specs.declared.poll.Poll.{Poll}
 use Rattle.xa_manager.specs.declared.stage.Stage.TheVariants.{Working, Ready, Voted as VotedStage}
 use Rattle.xa_manager.specs.declared.response.Response.{Response}
-use Rattle.xa_manager.specs.declared.response.Response.TheVariants.{Silent, Unread, UnknownStore, UnknownTransaction, WrongStage, Begun, NumbersSpent, Worked, Voted, Decided, Closed, Ended, Limited, Stopped, Recovered, Replied, Shown}
+use Rattle.xa_manager.specs.declared.response.Response.TheVariants.{Silent, Unread, UnknownStore, UnknownTransaction, WrongStage, Begun, NumbersSpent, Worked}
+use Rattle.xa_manager.specs.declared.response.Response.TheVariants.{Voted, Decided, Closed, Ended, Limited, Stopped, Recovered, Replied, Shown}
 use Rattle.xa_manager.specs.Ledger.{stage_of, with_stage}
 use Rattle.xa_manager.specs.Answers.{Desk, poll_of, stage_after}
 
@@ -139,7 +140,8 @@ Says view view' call (Worked answer) old new = SaysWork view call answer old new
 Says view view' call (Voted poll) old new = SaysVote view call poll old new × IsQuiet view' old.strangers new.strangers
 Says view view' call Decided old new = SaysNothing view view' old new
 Says view view' call Closed old new = SaysNothing view view' old new
-Says view view' call (Ended ending) old new = (SaysFinish view call ending old new ⊎ SaysAbandon view call ending old new) × IsQuiet view' old.strangers new.strangers
+Says view view' call (Ended ending) old new =
+    (SaysFinish view call ending old new ⊎ SaysAbandon view call ending old new) × IsQuiet view' old.strangers new.strangers
 Says view view' call Limited old new = SaysNothing view view' old new
 Says view view' call Stopped old new = SaysNothing view view' old new
 Says view view' call (Recovered outcome) old new = SaysRecovery view call outcome old new × IsQuiet view' old.strangers new.strangers

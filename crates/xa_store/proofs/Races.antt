@@ -25,7 +25,8 @@ taken_before history old new keeps taken = record {
 }
 
 -- a run's answers are legal in a history that has all that its pass knows in the end
-pub legal_in : (gate : ℕ → ℕ → Bool → Type 0) (base : State) (history : List Entry) (old new last : Known) (statements : List Statement) (answers : List Answer) → entries_of new.number new.seen ≡ new.mine → HasAnswered gate base old new statements answers
+pub legal_in : (gate : ℕ → ℕ → Bool → Type 0) (base : State) (history : List Entry) (old new last : Known) (statements : List Statement) (answers : List Answer)
+    → entries_of new.number new.seen ≡ new.mine → HasAnswered gate base old new statements answers
     → Keeps new last → IsTakenIn history last → IsLegal base history old statements answers
 legal_in gate base history old new last statements answers part answered keeps taken =
     legal_longer base history old new statements answers answered.number part (taken_before history new last keeps taken) answered.legal

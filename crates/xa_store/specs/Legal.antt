@@ -49,7 +49,8 @@ module _ (base : State) (history : List Entry) (session : ℕ) where
   entered [] answers = []
   entered (statement ∷ statements) [] = []
   entered (statement ∷ statements) (answer ∷ answers) =
-      cond (enters (state_at base history answer.place) session statement) (entry_of session statement ∷ entered statements answers) (entered statements answers)
+      cond (enters (state_at base history answer.place) session statement) (entry_of session statement ∷ entered statements answers)
+      (entered statements answers)
 
 -- the history begins with what the session had seen, explains its answers, and has of its number what it had and what has entered, in order
 pub record IsLegal (base : State) (history : List Entry) (before : Known) (statements : List Statement) (answers : List Answer) : Type 0 where

@@ -21,7 +21,8 @@ pub record HasAnswered (gate : ℕ → ℕ → Bool → Type 0) (base : State) (
   pub opened : LetsIn gate old.number (length statements)
 
 -- a session's base and pass, before its run and after it
-pub record HasRun {Pass : Type 0} (home : Pass → Place) (known : Pass → Known) (gate : ℕ → ℕ → Bool → Type 0) (base : State) (pass : Pass) (statements : List Statement) (base' : State) (pass' : Pass) (answers : List Answer) : Type 0 where
+pub record HasRun {Pass : Type 0} (home : Pass → Place) (known : Pass → Known) (gate : ℕ → ℕ → Bool → Type 0) (base : State) (pass : Pass)
+    (statements : List Statement) (base' : State) (pass' : Pass) (answers : List Answer) : Type 0 where
   pub same_base : base' ≡ base
   pub same_log : home pass' ≡ home pass
   pub answered : HasAnswered gate base (known pass) (known pass') statements answers

@@ -5,7 +5,9 @@ use Rattle.xa_coordinator_tests.proofs.renewed.last_of.Goals as goal
 
 pub returns : goal.returns
 returns g c =
-    let both = All-pop (λ pass. home_of pass ≡ place_of c.args.store.now.log) c.args.passes.now.items c.pop.new.self.items (Some c.in-Some.pass) c.in-Some.ensures.items c.requires in
+    let both =
+    All-pop (λ pass. home_of pass ≡ place_of c.args.store.now.log) c.args.passes.now.items c.pop.new.self.items
+    (Some c.in-Some.pass) c.in-Some.ensures.items c.requires in
     record {
       left = both.0;
       home = both.1;

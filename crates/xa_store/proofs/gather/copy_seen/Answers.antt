@@ -13,5 +13,6 @@ loop-at-preserved g c =
       told.base ∙ inv.0,
       told.home ∙ inv.1,
       told.same ∙ known,
-      c.in_ok-push.ensures.items ∙ ap (λ list. list ++ c.entry.result ∷ []) inv.3 ∙ sym (take-next seen c.loop-at.at c.entry.result here) ∙ ap (λ n. take n seen) next,
+      c.in_ok-push.ensures.items ∙ ap (λ list. list ++ c.entry.result ∷ []) inv.3 ∙ sym (take-next seen c.loop-at.at c.entry.result here)
+          ∙ ap (λ n. take n seen) next,
     )

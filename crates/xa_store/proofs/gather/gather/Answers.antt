@@ -5,7 +5,8 @@ use Rattle.xa_store.proofs.gather.gather.Goals as goal
 
 pub meet_each-requires-2 : goal.meet_each-requires-2
 meet_each-requires-2 g c =
-    all_kept (λ old new. (new.base.now ≡ old.base.now) × (g.L.DecisionLog.home new.pass ≡ g.L.DecisionLog.home old.pass) × MeetsFirst (g.L.DecisionLog.known old.pass) (g.L.DecisionLog.known new.pass))
+    all_kept (λ old new. (new.base.now ≡ old.base.now) × (g.L.DecisionLog.home new.pass ≡ g.L.DecisionLog.home old.pass)
+    × MeetsFirst (g.L.DecisionLog.known old.pass) (g.L.DecisionLog.known new.pass))
     (λ session. g.L.DecisionLog.home session.pass ≡ g.L.DecisionLog.home c.args.last.now.pass)
     (λ session. g.L.DecisionLog.home session.pass ≡ g.L.DecisionLog.home c.meet_each.new.last.pass)
     (λ old new step is. cc (step.1, is))
@@ -13,6 +14,11 @@ meet_each-requires-2 g c =
 
 pub returns-clause-others : goal.returns-clause-others
 returns-clause-others g c =
-    zip_through (λ old new. (new.base.now ≡ old.base.now) × (g.L.DecisionLog.home new.pass ≡ g.L.DecisionLog.home old.pass) × MeetsFirst (g.L.DecisionLog.known old.pass) (g.L.DecisionLog.known new.pass))
-    (λ old now new s t. (t.0 ∙ s.0, t.1 ∙ s.1, meets_again (g.L.DecisionLog.known old.pass) (g.L.DecisionLog.known now.pass) (g.L.DecisionLog.known new.pass) s.2 t.2))
+    zip_through (λ old new. (new.base.now ≡ old.base.now) × (g.L.DecisionLog.home new.pass ≡ g.L.DecisionLog.home old.pass)
+    × MeetsFirst (g.L.DecisionLog.known old.pass) (g.L.DecisionLog.known new.pass))
+    (λ old now new s t. (
+      t.0 ∙ s.0,
+      t.1 ∙ s.1,
+      meets_again (g.L.DecisionLog.known old.pass) (g.L.DecisionLog.known now.pass) (g.L.DecisionLog.known new.pass) s.2 t.2,
+    ))
     c.args.others.now.items c.meet_each.new.others.items c.meet_each-2.new.others.items c.meet_each.ensures.others c.meet_each-2.ensures.others

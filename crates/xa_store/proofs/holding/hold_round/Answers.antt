@@ -16,8 +16,10 @@ wind_up_round-requires g c =
     let place = place_of c.args.store.now.log in
     let sessions = c.in-Ok-run_round.returned.sessions.items in
     All-from_recursion (λ session. home_of session.pass ≡ place) sessions
-    (three_become _ _ (λ pass. home_of pass ≡ place) (λ resumed. home_of resumed.session.pass ≡ place) (λ session. home_of session.pass ≡ place) (λ pass one resumed is home. ap home_of is.0 ∙ home) (λ resumed session progress is home. is.same_log ∙ home)
-    c.args.passes.items c.args.progress.items c.in-Ok.resumed.items sessions c.in-Ok-run_round.returned.progress.items c.in-Ok.ensures c.in-Ok-run_round.ensures.ok
+    (three_become _ _ (λ pass. home_of pass ≡ place) (λ resumed. home_of resumed.session.pass ≡ place) (λ session. home_of session.pass ≡ place)
+    (λ pass one resumed is home. ap home_of is.0 ∙ home) (λ resumed session progress is home. is.same_log ∙ home)
+    c.args.passes.items c.args.progress.items c.in-Ok.resumed.items sessions c.in-Ok-run_round.returned.progress.items c.in-Ok.ensures
+    c.in-Ok-run_round.ensures.ok
     (recursion_from_All (λ pass. home_of pass ≡ place) c.args.passes.items c.requires.homes))
 
 pub returns-in-Err-clause-fault : goal.returns-in-Err-clause-fault
@@ -32,7 +34,8 @@ returns-in-Err-clause-fault g c =
     let there = three_get _ c.args.passes.items c.args.progress.items c.in-Ok.resumed.items at.index at.run c.in-Ok.ensures at.found in
     let number : (known_of at.run.session.pass).number ≡ at.index + 1 =
     ap (λ pass. (known_of pass).number) there.beside.0 ∙ ap (λ known. known.number) (c.requires.fresh at.index there.first there.at_first) in
-    blamed may lines at.index there.second.lines.items (known_of at.run.session.pass).number fault (get_mapped (λ one. one.lines.items) c.args.progress.items at.index there.second there.at_second) number
+    blamed may lines at.index there.second.lines.items (known_of at.run.session.pass).number fault
+    (get_mapped (λ one. one.lines.items) c.args.progress.items at.index there.second there.at_second) number
     (subst (λ one. StopsInRound may (known_of at.run.session.pass).number (length one.lines.items) fault) there.beside.2 at.cause))
     rest)
     c.in-Err.ensures.err
@@ -47,8 +50,10 @@ returns-clause-gains g c =
     let ended = c.in-Ok-wind_up_round.ended in
     let history = ended.history.items in
     let wound = c.in-Ok-wind_up_round.ensures in
-    let met : AllZip (λ session pass. ((home_of pass ≡ home_of session.pass) × Keeps (known_of session.pass) (known_of pass)) × IsTakenIn history (known_of pass)) returned.sessions.items ended.passes.items =
-    zip_and_all _ (λ pass. IsTakenIn history (known_of pass)) returned.sessions.items ended.passes.items wound.passes (recursion_from_All (λ pass. IsTakenIn history (known_of pass)) ended.passes.items wound.whole) in
+    let met : AllZip (λ session pass. ((home_of pass ≡ home_of session.pass) × Keeps (known_of session.pass) (known_of pass))
+    × IsTakenIn history (known_of pass)) returned.sessions.items ended.passes.items =
+    zip_and_all _ (λ pass. IsTakenIn history (known_of pass)) returned.sessions.items ended.passes.items wound.passes
+    (recursion_from_All (λ pass. IsTakenIn history (known_of pass)) ended.passes.items wound.whole) in
     let three : AllThree (λ pass old new. Gains base before history (known_of pass) old new) passes progress returned.progress.items =
     three_ended _ _ _ (λ pass old new. Gains base before history (known_of pass) old new)
     (λ pass old resumed session left new is went wound.
@@ -69,10 +74,14 @@ returns-clause-own g c =
     let ended = c.in-Ok-wind_up_round.ended in
     let wound = c.in-Ok-wind_up_round.ensures in
     let before =
-    three_become _ _ (λ pass. home_of pass ≡ place) (λ resumed. home_of resumed.session.pass ≡ place) (λ session. home_of session.pass ≡ place) (λ pass one resumed is home. ap home_of is.0 ∙ home) (λ resumed session progress is home. is.same_log ∙ home)
-    c.args.passes.items c.args.progress.items c.in-Ok.resumed.items sessions c.in-Ok-run_round.returned.progress.items c.in-Ok.ensures c.in-Ok-run_round.ensures.ok
+    three_become _ _ (λ pass. home_of pass ≡ place) (λ resumed. home_of resumed.session.pass ≡ place) (λ session. home_of session.pass ≡ place)
+    (λ pass one resumed is home. ap home_of is.0 ∙ home) (λ resumed session progress is home. is.same_log ∙ home)
+    c.args.passes.items c.args.progress.items c.in-Ok.resumed.items sessions c.in-Ok-run_round.returned.progress.items c.in-Ok.ensures
+    c.in-Ok-run_round.ensures.ok
     (recursion_from_All (λ pass. home_of pass ≡ place) c.args.passes.items c.requires.homes) in
-    let homes = zip_all _ (λ session. home_of session.pass ≡ place) (λ pass. home_of pass ≡ place) (λ session pass is home. is.0 ∙ home) sessions ended.passes.items wound.passes before in
+    let homes =
+    zip_all _ (λ session. home_of session.pass ≡ place) (λ pass. home_of pass ≡ place)
+    (λ session pass is home. is.0 ∙ home) sessions ended.passes.items wound.passes before in
     subst (λ list. AllOf place.sessions list) (sym wound.last) (last_among place ended.passes.items homes)
 
 pub returns-clause-passes : goal.returns-clause-passes

@@ -14,7 +14,8 @@ pub conclude-requires : goal.conclude-requires
 conclude-requires g c =
     let three = three_through _ _ (λ run session answers. home_of session.pass ≡ home_of run.pass)
     (λ run started session answers is was. was.same_log ∙ ap home_of is.1)
-    c.args.runs.items c.in-Ok.started.items c.in-Ok-run_all.ended.sessions.items (map (λ answers. answers.items) c.in-Ok-run_all.ended.answers.items) c.in-Ok.ensures c.in-Ok-run_all.ensures.ok in
+    c.args.runs.items c.in-Ok.started.items c.in-Ok-run_all.ended.sessions.items
+    (map (λ answers. answers.items) c.in-Ok-run_all.ended.answers.items) c.in-Ok.ensures c.in-Ok-run_all.ensures.ok in
     All-from_recursion (λ session. home_of session.pass ≡ place_of c.args.store.now.log) c.in-Ok-run_all.ended.sessions.items
     (three_all _ (λ run. home_of run.pass ≡ place_of c.args.store.now.log) _ (λ run session answers is home. is ∙ home)
     c.args.runs.items c.in-Ok-run_all.ended.sessions.items (map (λ answers. answers.items) c.in-Ok-run_all.ended.answers.items) three
@@ -47,7 +48,8 @@ returns-clause-legal g c =
     let outcome = c.in-Ok-conclude.outcome in
     let told = c.in-Ok-conclude.ensures in
     let may = g.G.Gate.may_answer c.args.gate.now in
-    let three : AllThree (λ run session answered. (home_of session.pass ≡ home_of run.pass) × HasAnswered may base (known_of run.pass) (known_of session.pass) run.lines.items answered) runs sessions answers =
+    let three : AllThree (λ run session answered. (home_of session.pass ≡ home_of run.pass)
+    × HasAnswered may base (known_of run.pass) (known_of session.pass) run.lines.items answered) runs sessions answers =
     three_through _ _ _
     (λ run started session answered is was. (
       was.same_log ∙ ap home_of is.1,
@@ -56,14 +58,18 @@ returns-clause-legal g c =
           (subst (λ b. HasAnswered may b (known_of started.session.pass) (known_of session.pass) started.lines.items answered) is.0 was.answered)),
     ))
     runs c.in-Ok.started.items sessions answers c.in-Ok.ensures c.in-Ok-run_all.ensures.ok in
-    let met : AllZip (λ session pass. ((home_of pass ≡ home_of session.pass) × Keeps (known_of session.pass) (known_of pass)) × IsTakenIn outcome.history.items (known_of pass)) sessions outcome.passes.items =
-    zip_and_all _ (λ pass. IsTakenIn outcome.history.items (known_of pass)) sessions outcome.passes.items told.passes (recursion_from_All (λ pass. IsTakenIn outcome.history.items (known_of pass)) outcome.passes.items told.whole) in
+    let met : AllZip (λ session pass. ((home_of pass ≡ home_of session.pass) × Keeps (known_of session.pass) (known_of pass))
+    × IsTakenIn outcome.history.items (known_of pass)) sessions outcome.passes.items =
+    zip_and_all _ (λ pass. IsTakenIn outcome.history.items (known_of pass)) sessions outcome.passes.items told.passes
+    (recursion_from_All (λ pass. IsTakenIn outcome.history.items (known_of pass)) outcome.passes.items told.whole) in
     record {
       legal =
-          subst (λ all. AllZip (λ run. IsLegal base outcome.history.items (known_of run.pass) run.lines.items) runs (map (λ answered. answered.items) all.items)) (sym told.answers)
+          subst (λ all. AllZip (λ run. IsLegal base outcome.history.items (known_of run.pass) run.lines.items) runs
+          (map (λ answered. answered.items) all.items)) (sym told.answers)
           (three_changed _ _ (λ run. IsLegal base outcome.history.items (known_of run.pass) run.lines.items)
           (λ run session pass answered is after.
-          legal_in may base outcome.history.items (known_of run.pass) (known_of session.pass) (known_of pass) run.lines.items answered session.pass.state.part is.1 after.0.1 after.1)
+          legal_in may base outcome.history.items (known_of run.pass) (known_of session.pass)
+          (known_of pass) run.lines.items answered session.pass.state.part is.1 after.0.1 after.1)
           runs sessions outcome.passes.items answers three met);
       passes =
           three_second _ _ (IsReturned outcome.history.items)
@@ -81,6 +87,8 @@ returns-clause-opened g c =
     (λ run started session answers is was.
     subst (λ lines. LetsIn may (known_of run.pass).number (length lines)) is.2
     (subst (λ pass. LetsIn may (known_of pass).number (length started.lines.items)) is.1 was.answered.opened))
-    c.args.runs.items c.in-Ok.started.items c.in-Ok-run_all.ended.sessions.items (map (λ answers. answers.items) c.in-Ok-run_all.ended.answers.items) c.in-Ok.ensures c.in-Ok-run_all.ensures.ok in
+    c.args.runs.items c.in-Ok.started.items c.in-Ok-run_all.ended.sessions.items
+    (map (λ answers. answers.items) c.in-Ok-run_all.ended.answers.items) c.in-Ok.ensures c.in-Ok-run_all.ensures.ok in
     All-from_recursion lets_in c.args.runs.items
-    (three_first _ lets_in (λ run session answers is. is) c.args.runs.items c.in-Ok-run_all.ended.sessions.items (map (λ answers. answers.items) c.in-Ok-run_all.ended.answers.items) three)
+    (three_first _ lets_in (λ run session answers is. is) c.args.runs.items c.in-Ok-run_all.ended.sessions.items
+    (map (λ answers. answers.items) c.in-Ok-run_all.ended.answers.items) three)

@@ -7,7 +7,9 @@ use Rattle.xa_sweeps.proofs.renewal.leaving.Goals as goal
 
 pub returns-in-Err-clause-some : goal.returns-in-Err-clause-some
 returns-in-Err-clause-some c =
-    let long = length_all_zip (λ old new. (new.base.now ≡ old.base.now) × (home_of new.pass ≡ home_of old.pass) × Keeps (known_of old.pass) (known_of new.pass)) c.args.sessions.items c.in-Err.refused.0.items c.in-Err.ensures.err in
+    let long =
+    length_all_zip (λ old new. (new.base.now ≡ old.base.now) × (home_of new.pass ≡ home_of old.pass) × Keeps (known_of old.pass) (known_of new.pass))
+    c.args.sessions.items c.in-Err.refused.0.items c.in-Err.ensures.err in
     omega (arith, long, c.requires.some)
 
 pub returns-in-Err-clause-homes : goal.returns-in-Err-clause-homes

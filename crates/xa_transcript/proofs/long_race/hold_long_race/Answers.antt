@@ -9,12 +9,14 @@ use Rattle.xa_transcript.proofs.long_race.hold_long_race.Goals as goal
 
 pub race_in_rounds-requires-clause-homes : goal.race_in_rounds-requires-clause-homes
 race_in_rounds-requires-clause-homes g c κs bounds =
-    runs_home (place_of c.in-Ok.store.log) c.greatest_session-greatest.result c.in-Ok.passes.items c.truncate.new.self.items c.in-Ok-runs_of.runs.items c.in-Ok.ensures.ok.homes c.truncate.ensures.items c.in-Ok-runs_of.ensures.passes
+    runs_home (place_of c.in-Ok.store.log) c.greatest_session-greatest.result c.in-Ok.passes.items c.truncate.new.self.items c.in-Ok-runs_of.runs.items
+    c.in-Ok.ensures.ok.homes c.truncate.ensures.items c.in-Ok-runs_of.ensures.passes
 
 pub race_in_rounds-requires-clause-fresh : goal.race_in_rounds-requires-clause-fresh
 race_in_rounds-requires-clause-fresh g c κs bounds index pass is =
     c.in-Ok.ensures.ok.numbers index pass
-    (get_taken c.greatest_session-greatest.result c.in-Ok.passes.items index pass (ap (λ list. slice_get list index) (sym (c.in-Ok-runs_of.ensures.passes ∙ c.truncate.ensures.items)) ∙ is))
+    (get_taken c.greatest_session-greatest.result c.in-Ok.passes.items index pass
+    (ap (λ list. slice_get list index) (sym (c.in-Ok-runs_of.ensures.passes ∙ c.truncate.ensures.items)) ∙ is))
 
 pub returns-in-Ok-print_outcome-clause-raced : goal.returns-in-Ok-print_outcome-clause-raced
 returns-in-Ok-print_outcome-clause-raced g c =

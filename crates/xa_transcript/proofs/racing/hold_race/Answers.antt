@@ -8,7 +8,8 @@ use Rattle.xa_transcript.proofs.racing.hold_race.Goals as goal
 
 pub race-requires-after_bounds : goal.race-requires-after_bounds
 race-requires-after_bounds g c κs bounds =
-    runs_home (place_of c.in-Ok.store.log) c.greatest_session-greatest.result c.in-Ok.passes.items c.truncate.new.self.items c.in-Ok-runs_of.runs.items c.in-Ok.ensures.ok.homes c.truncate.ensures.items c.in-Ok-runs_of.ensures.passes
+    runs_home (place_of c.in-Ok.store.log) c.greatest_session-greatest.result c.in-Ok.passes.items c.truncate.new.self.items c.in-Ok-runs_of.runs.items
+    c.in-Ok.ensures.ok.homes c.truncate.ensures.items c.in-Ok-runs_of.ensures.passes
 
 pub returns-in-Ok-print_outcome-clause-raced : goal.returns-in-Ok-print_outcome-clause-raced
 returns-in-Ok-print_outcome-clause-raced g c =

@@ -8,7 +8,8 @@ use Rattle.chain_log.proofs.KeptColumns.{name_by_column, session_ranged}
 use Rattle.chain_log.proofs.chain.ChainLog.find.Goals as goal
 
 -- what is read in the table is whose entry stands in the row
-column : (pass : ChainPass) (row read : ℕ) → row < length (hand pass.seat).known.seen → read ≡ get_or pass.columns.items row read → read ≡ session_at (hand pass.seat).known.seen row
+column : (pass : ChainPass) (row read : ℕ) → row < length (hand pass.seat).known.seen → read ≡ get_or pass.columns.items row read
+    → read ≡ session_at (hand pass.seat).known.seen row
 column pass row read below is =
     get_or_read pass.columns.items row read (omega (arith, pass.kept.sized, pass.state.within)) is 0 ∙ pass.kept.filled row below
 
@@ -24,4 +25,5 @@ pub returns : goal.returns
 returns c =
     let pass : ChainPass = c.args.pass.now in
     c.cell_name.ensures
-    ∙ name_by_column c.args.self.now.sessions (hand pass.seat).known.seen c.args.row c.from.result (c.from.ensures ∙ column pass c.args.row c.index.result.now c.requires.seen c.index.ensures)
+    ∙ name_by_column c.args.self.now.sessions (hand pass.seat).known.seen c.args.row c.from.result
+    (c.from.ensures ∙ column pass c.args.row c.index.result.now c.requires.seen c.index.ensures)

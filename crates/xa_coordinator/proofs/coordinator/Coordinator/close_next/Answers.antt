@@ -9,7 +9,10 @@ pub returns-in-Ok-Closed-clause-closed : goal.returns-in-Ok-Closed-clause-closed
 returns-in-Ok-Closed-clause-closed g c =
     inl (
       refl,
-      subst (λ found. AtStore g.S.Speak.view c.args.store (ClosesAs (ends_first c.args.closing (is_working c.args.self.now.branches c.args.store c.args.number)) (closing_of c.args.closing (branch_xid c.args.self.now.name.items c.args.number c.args.store)) (branch_xid c.args.self.now.name.items c.args.number c.args.store) (Ok found)) c.args.self.now.stores.items c.close_branch.new.self.stores.items)
+      subst (λ found. AtStore g.S.Speak.view c.args.store
+          (ClosesAs (ends_first c.args.closing (is_working c.args.self.now.branches c.args.store c.args.number))
+          (closing_of c.args.closing (branch_xid c.args.self.now.name.items c.args.number c.args.store))
+          (branch_xid c.args.self.now.name.items c.args.number c.args.store) (Ok found)) c.args.self.now.stores.items c.close_branch.new.self.stores.items)
           c.in-Ok-Closed.field-0-is c.in-Ok-Closed.ensures.closes,
     )
 
@@ -17,6 +20,9 @@ pub returns-in-Ok-Missing-clause-closed : goal.returns-in-Ok-Missing-clause-clos
 returns-in-Ok-Missing-clause-closed g c =
     inr (
       c.push.ensures.items,
-      subst (λ found. AtStore g.S.Speak.view c.args.store (ClosesAs (ends_first c.args.closing (is_working c.args.self.now.branches c.args.store c.args.number)) (closing_of c.args.closing (branch_xid c.args.self.now.name.items c.args.number c.args.store)) (branch_xid c.args.self.now.name.items c.args.number c.args.store) (Ok found)) c.args.self.now.stores.items c.close_branch.new.self.stores.items)
+      subst (λ found. AtStore g.S.Speak.view c.args.store
+          (ClosesAs (ends_first c.args.closing (is_working c.args.self.now.branches c.args.store c.args.number))
+          (closing_of c.args.closing (branch_xid c.args.self.now.name.items c.args.number c.args.store))
+          (branch_xid c.args.self.now.name.items c.args.number c.args.store) (Ok found)) c.args.self.now.stores.items c.close_branch.new.self.stores.items)
           c.in-Ok-Missing.field-0-is c.in-Ok-Missing.ensures.closes,
     )

@@ -12,7 +12,9 @@ returns-clause-agrees g c =
     let transaction = c.args.prepared.transaction in
     let ballot = c.args.prepared.ballot in
     subst (λ (name : List ℕ). EachStore g.S.Speak.view (Agrees decisions name) c.args.self.now.stores.items c.close.new.self.stores.items) c.requires.name
-    (ending_agrees g.S.Speak.view decisions transaction c.args.self.now.branches (closing_for (is_decided decisions transaction.number) ballot) c.close.result c.args.self.now.stores.items c.close.new.self.stores.items
+    (ending_agrees g.S.Speak.view decisions transaction c.args.self.now.branches
+    (closing_for (is_decided decisions transaction.number) ballot) c.close.result c.args.self.now.stores.items c.close.new.self.stores.items
     (allows_for decisions transaction.number ballot)
-    (subst (λ closing. EndsAs g.S.Speak.view c.args.self.now.branches transaction closing c.close.result c.args.self.now.stores.items c.close.new.self.stores.items)
+    (subst (λ closing. EndsAs g.S.Speak.view c.args.self.now.branches transaction closing c.close.result c.args.self.now.stores.items
+    c.close.new.self.stores.items)
     (c.closing_for-closing.ensures ∙ ap (λ decided. closing_for decided ballot) c.is_decided.ensures) c.close.ensures.ends))

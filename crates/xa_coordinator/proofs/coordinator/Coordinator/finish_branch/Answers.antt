@@ -10,6 +10,7 @@ use Rattle.xa_coordinator.proofs.coordinator.Coordinator.finish_branch.Goals as 
 pub returns-clause-finishes : goal.returns-clause-finishes
 returns-clause-finishes g c =
     let statement : Statement = closing_of c.args.closing (branch_xid c.args.self.now.name.items c.args.number c.args.store) in
-    at_weaker g.S.Speak.view c.args.store (Says statement c.say.result) (SaysAs statement c.found.result) (c.found.ensures statement) c.args.self.now.stores.items c.say.new.self.stores.items
+    at_weaker g.S.Speak.view c.args.store (Says statement c.say.result) (SaysAs statement c.found.result)
+    (c.found.ensures statement) c.args.self.now.stores.items c.say.new.self.stores.items
     (subst (λ s. AtStore g.S.Speak.view c.args.store (Says s c.say.result) c.args.self.now.stores.items c.say.new.self.stores.items)
     (c.statement-statement.ensures ∙ ap (closing_of c.args.closing) c.branch-self.ensures) c.say.ensures.says)

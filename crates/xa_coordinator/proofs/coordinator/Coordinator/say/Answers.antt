@@ -39,11 +39,15 @@ returns-in-Ok-clause-marks g c = changes_at c.args.self.now.branches c.args.stor
 
 pub returns-in-Ok-clause-says : goal.returns-in-Ok-clause-says
 returns-in-Ok-clause-says g c =
-    at_place g.S.Speak.view c.args.self.now.name.items (IsDone c.args.statement.now) c.args.self.now.stores.items c.args.store c.index_mut.result.now c.tell.new.session c.index_mut.ensures.value c.in-Ok.ensures.says
+    at_place g.S.Speak.view c.args.self.now.name.items
+    (IsDone c.args.statement.now) c.args.self.now.stores.items c.args.store c.index_mut.result.now c.tell.new.session c.index_mut.ensures.value
+    c.in-Ok.ensures.says
 
 pub returns-in-Err-clause-frame : goal.returns-in-Err-clause-frame
 returns-in-Err-clause-frame g c = changes_at c.args.self.now.stores.items c.args.store c.tell.new.session
 
 pub returns-in-Err-clause-says : goal.returns-in-Err-clause-says
 returns-in-Err-clause-says g c =
-    at_place g.S.Speak.view c.args.self.now.name.items (IsUndone c.args.statement.now c.in-Err.cause) c.args.self.now.stores.items c.args.store c.index_mut.result.now c.tell.new.session c.index_mut.ensures.value c.in-Err.ensures.says
+    at_place g.S.Speak.view c.args.self.now.name.items
+    (IsUndone c.args.statement.now c.in-Err.cause) c.args.self.now.stores.items c.args.store c.index_mut.result.now c.tell.new.session
+    c.index_mut.ensures.value c.in-Err.ensures.says

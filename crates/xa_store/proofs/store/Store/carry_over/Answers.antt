@@ -12,6 +12,7 @@ returns-in-Ok-clause-base c =
 pub returns-in-Err-clause-passes : goal.returns-in-Err-clause-passes
 returns-in-Err-clause-passes c =
     rw (c.take_last-last.ensures.items, c.push_reserved.ensures.items)
-    (AllZip-push (λ old new. (home_of new ≡ home_of old) × (known_of new ≡ known_of old)) c.take_last-last.new.self.items c.take_last-last.new.self.items c.take_last-last.result c.onward.new.last
+    (AllZip-push (λ old new. (home_of new ≡ home_of old) × (known_of new ≡ known_of old)) c.take_last-last.new.self.items c.take_last-last.new.self.items
+    c.take_last-last.result c.onward.new.last
     (zip_itself _ (λ pass. (refl, refl)) c.take_last-last.new.self.items)
     (c.onward.ensures.home, c.onward.ensures.same))

@@ -14,14 +14,16 @@ returns-clause-keeps c =
     rw (c.in-Some.ensures.items, c.push_reserved.ensures.items)
     (AllZip-push (λ old new. (new.base.now ≡ old.base.now) × (home_of new.pass ≡ home_of old.pass) × Keeps (known_of old.pass) (known_of new.pass))
     c.pop.new.self.items c.gather.new.others.items c.in-Some.last c.copy_seen-history.new.session
-    (zip_weaker _ _ (λ old new is. (is.0, is.1, meets_keeps (known_of old.pass) (known_of new.pass) is.2)) c.pop.new.self.items c.gather.new.others.items told.others)
+    (zip_weaker _ _ (λ old new is. (is.0, is.1, meets_keeps (known_of old.pass) (known_of new.pass) is.2)) c.pop.new.self.items c.gather.new.others.items
+    told.others)
     (copied.base ∙ told.base, copied.home ∙ told.home, subst (λ known. Keeps (known_of c.in-Some.last.pass) known) (sym copied.same) told.last))
 
 pub returns-clause-last : goal.returns-clause-last
 returns-clause-last c =
     let copied = c.copy_seen-history.ensures in
     IfOk-weaker c.copy_seen-history.result _ _
-    (λ list is. is ∙ ap (λ known. known.seen) (sym copied.same ∙ sym (last_known_of (λ session. known_of session.pass) c.gather.new.others.items c.copy_seen-history.new.session)
+    (λ list is. is ∙ ap (λ known. known.seen)
+    (sym copied.same ∙ sym (last_known_of (λ session. known_of session.pass) c.gather.new.others.items c.copy_seen-history.new.session)
     ∙ ap (λ items. last_known (map (λ session. known_of session.pass) items)) (sym c.push_reserved.ensures.items)))
     copied.copied
 
@@ -32,7 +34,8 @@ returns-clause-whole c =
     IfOk-weaker c.copy_seen-history.result _ _
     (λ list is. rw c.push_reserved.ensures.items
     (subst (λ history. All (λ session. IsTakenIn history (known_of session.pass)) (c.gather.new.others.items ++ c.copy_seen-history.new.session ∷ [])) (sym is)
-    (All-push (λ session. IsTakenIn (known_of c.gather.new.last.pass).seen (known_of session.pass)) c.gather.new.others.items c.copy_seen-history.new.session told.taken_in
+    (All-push (λ session. IsTakenIn (known_of c.gather.new.last.pass).seen (known_of session.pass)) c.gather.new.others.items c.copy_seen-history.new.session
+    told.taken_in
     (subst (λ known. IsTakenIn (known_of c.gather.new.last.pass).seen known) (sym copied.same) told.own))))
     copied.copied
 

@@ -10,8 +10,10 @@ use Rattle.xa_store.proofs.store.Store.wind_up.Goals as goal
 
 pub returns-in-Ok-leave_all-clause-passes : goal.returns-in-Ok-leave_all-clause-passes
 returns-in-Ok-leave_all-clause-passes c =
-    subst (λ passes. AllZip (λ session pass. (home_of pass ≡ home_of session.pass) × Keeps (known_of session.pass) (known_of pass)) c.args.sessions.items passes) (sym c.in-Ok-leave_all.ensures.ok)
-    (zip_mapped _ (λ session pass. (home_of pass ≡ home_of session.pass) × Keeps (known_of session.pass) (known_of pass)) (λ session. session.pass) (λ old new is. (is.1, is.2)) c.args.sessions.items c.history.new.sessions.items c.in-Ok.ensures.keeps)
+    subst (λ passes. AllZip (λ session pass. (home_of pass ≡ home_of session.pass) × Keeps (known_of session.pass) (known_of pass)) c.args.sessions.items
+    passes) (sym c.in-Ok-leave_all.ensures.ok)
+    (zip_mapped _ (λ session pass. (home_of pass ≡ home_of session.pass) × Keeps (known_of session.pass) (known_of pass)) (λ session. session.pass)
+    (λ old new is. (is.1, is.2)) c.args.sessions.items c.history.new.sessions.items c.in-Ok.ensures.keeps)
 
 pub returns-in-Ok-leave_all-clause-last : goal.returns-in-Ok-leave_all-clause-last
 returns-in-Ok-leave_all-clause-last c =
@@ -35,7 +37,8 @@ returns-in-Ok-leave_all-clause-gathered c some =
       some = omega (arith, some, long, length-map now (λ session. session.pass));
       homes =
           All-map (λ pass. home_of pass ≡ place) (λ session. session.pass) now
-          (all_kept _ (λ session. home_of session.pass ≡ place) (λ session. home_of session.pass ≡ place) (λ old new is home. is.1 ∙ home) before now kept c.requires);
+          (all_kept _ (λ session. home_of session.pass ≡ place) (λ session. home_of session.pass ≡ place)
+          (λ old new is home. is.1 ∙ home) before now kept c.requires);
       whole =
           subst (λ history. All (λ pass. IsTakenIn history (known_of pass)) (map (λ session. session.pass) now))
           (c.in-Ok.ensures.last ∙ ap (λ list. (last_known list).seen) (sym (map_twice (λ session. session.pass) known_of now)))
