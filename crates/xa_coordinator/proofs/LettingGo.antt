@@ -167,7 +167,7 @@ listed_seat convert answer old new law stays own_old own_new is =
 pub listed_still : (convert : Bool) (result : Result Answer Fault) (old new : SessionView) → LockLaw new.base → StaysOfLog old new
     → entries_of old.known.number old.known.seen ≡ old.known.mine → entries_of new.known.number new.known.seen ≡ new.known.mine →
     IfOk result (λ answer. IsAnswered old.base (Recover convert) answer old.known new.known)
-    → IfErr result (λ fault. Fails old.turns old.place.capacity old.base (Recover convert) fault old.known new.known) → IfErr result IsFinal →
+    → IfErr result (λ fault. Fails old.turns old.identity.capacity old.base (Recover convert) fault old.known new.known) → IfErr result IsFinal →
     seat_seen new ≡ seat_seen old
 listed_still convert (Ok answer) old new law stays own_old own_new answered fails final = listed_seat convert answer old new law stays own_old own_new answered
 listed_still convert (Err fault) old new law stays own_old own_new answered fails final =

@@ -111,7 +111,7 @@ refused_unanswered base statement answer old new is refused =
 
 -- nor does one that a session couldn't answer
 cause_unanswered : (statement : Statement) (cause : Cause) (old new : SessionView) → HasCause statement cause old new → IsUnanswered old.known new.known
-cause_unanswered statement (Session fault) old new is = fails_unanswered old.turns old.place.capacity old.base statement fault old.known new.known is.0
+cause_unanswered statement (Session fault) old new is = fails_unanswered old.turns old.identity.capacity old.base statement fault old.known new.known is.0
 cause_unanswered statement (RefusedBy error) old new is =
     refused_unanswered old.base statement (record { place = is.place; reply = Refused error }) old.known new.known is.answered refl
 
@@ -141,7 +141,7 @@ seat_refused statement cause old new law own_old own_new is =
 
 pub adds_then : (first second : List Statement) (old mid new : SessionView) → Adds first old mid → Adds second mid new → Adds (first ++ second) old new
 adds_then first second old mid new one two = record {
-  log = record { place = two.log.place ∙ one.log.place; turns = two.log.turns ∙ one.log.turns; base = two.log.base ∙ one.log.base };
+  log = record { identity = two.log.identity ∙ one.log.identity; turns = two.log.turns ∙ one.log.turns; base = two.log.base ∙ one.log.base };
   advances = advances_through old.known mid.known new.known one.advances two.advances;
   mine = two.mine
       ∙ ap (λ list. list ++ map (entry_of mid.known.number) second) one.mine
@@ -152,7 +152,7 @@ adds_then first second old mid new one two = record {
 
 pub adds_nothing : (session : SessionView) → Adds [] session session
 adds_nothing session = record {
-  log = record { place = refl; turns = refl; base = refl };
+  log = record { identity = refl; turns = refl; base = refl };
   advances = (unanswered_itself session.known).advances;
   mine = sym (append-nil session.known.mine);
 }

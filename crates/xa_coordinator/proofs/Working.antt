@@ -84,7 +84,7 @@ module _ (statement : Statement) (answer : Answer) (xid : Xid) (old new : Sessio
 pub active_still : (statement : Statement) (result : Result Answer Fault) (xid : Xid) (old new : SessionView) → LockLaw new.base → StaysOfLog old new
     → entries_of old.known.number old.known.seen ≡ old.known.mine → entries_of new.known.number new.known.seen ≡ new.known.mine →
     seat_seen old ≡ Active xid → IsRow statement → IfOk result (λ answer. IsAnswered old.base statement answer old.known new.known) →
-    IfErr result (λ fault. Fails old.turns old.place.capacity old.base statement fault old.known new.known) → IfErr result IsFinal
+    IfErr result (λ fault. Fails old.turns old.identity.capacity old.base statement fault old.known new.known) → IfErr result IsFinal
     → seat_seen new ≡ seat_seen old
 active_still statement (Ok answer) xid old new law stays own_old own_new seat row answered fails final =
     active_after statement answer xid old new law stays own_old own_new seat row answered ∙ sym seat

@@ -9,7 +9,7 @@ use Rattle.xa_coordinator.specs.declared.standing.Standing.{Standing}
 use Rattle.xa_coordinator_tests.specs.Sites.{sites}
 
 module _ {S : Type 0} (view : S → SessionView) where
-  kept_from : (fact : ℕ → SessionView → SessionView → Type 0) → ((store : ℕ) (old new : SessionView) → fact store old new → new.place ≡ old.place)
+  kept_from : (fact : ℕ → SessionView → SessionView → Type 0) → ((store : ℕ) (old new : SessionView) → fact store old new → new.identity ≡ old.identity)
       → (old new : List S) → length new ≡ length old →
       EachStore view fact old new → sites view new ≡ sites view old
   kept_from fact keeps [] [] count each = refl
@@ -22,13 +22,13 @@ module _ {S : Type 0} (view : S → SessionView) where
   -- a call that adds only what agrees with decisions
   pub sites_kept : (decisions : List Standing) (name : List ℕ) (old new : List S) → length new ≡ length old → EachStore view (Agrees decisions name) old new
       → sites view new ≡ sites view old
-  sites_kept decisions name = kept_from (Agrees decisions name) (λ store old new agrees. agrees.adds.log.place)
+  sites_kept decisions name = kept_from (Agrees decisions name) (λ store old new agrees. agrees.adds.log.identity)
 
   -- what became of each of three sessions
   pub three_kept : (before after : List S) (a b c x y z : S) → before ≡ a ∷ b ∷ c ∷ [] → after ≡ x ∷ y ∷ z ∷ [] → sites view after ≡ sites view before
-      → ((view x).place ≡ (view a).place) × ((view y).place ≡ (view b).place) × ((view z).place ≡ (view c).place)
+      → ((view x).identity ≡ (view a).identity) × ((view y).identity ≡ (view b).identity) × ((view z).identity ≡ (view c).identity)
   three_kept before after a b c x y z old new kept =
-      let same : (view x).place ∷ (view y).place ∷ (view z).place ∷ [] ≡ (view a).place ∷ (view b).place ∷ (view c).place ∷ [] =
+      let same : (view x).identity ∷ (view y).identity ∷ (view z).identity ∷ [] ≡ (view a).identity ∷ (view b).identity ∷ (view c).identity ∷ [] =
       ap (sites view) (sym new) ∙ kept ∙ ap (sites view) old in
       (cc, cc, cc)
 

@@ -1,13 +1,13 @@
 -- Passes of stores, one of each, at their places.
 use Rattle.std.proofs.Common.{◌≡◌, ℕ, ◌<◌, List, [], ◌∷◌, zero, suc, length, get_or, subst, sym, arith}
 use Rattle.std.specs.List.{AllZip}
-use Rattle.chain_log.specs.ChainPass.{place_of, home_of}
+use Rattle.chain_log.specs.ChainPass.{identity_of, log_of}
 use Rattle.chain_log.specs.declared.pass.ChainPass.{ChainPass}
 use Rattle.xa_store.specs.declared.store.Store.{Store}
 
 -- the pass is of the store
 abbrev pub IsOwn : Store → ChainPass → Type 0
-IsOwn store pass = home_of pass ≡ place_of store.log
+IsOwn store pass = log_of pass ≡ identity_of store.log
 
 at_place : (stores : List Store) (passes : List ChainPass) (place : ℕ) (store : Store) (pass : ChainPass) → AllZip IsOwn stores passes → place < length passes
     → store ≡ get_or stores place store → pass ≡ get_or passes place pass → IsOwn store pass

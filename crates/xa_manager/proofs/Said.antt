@@ -28,7 +28,7 @@ as_many {S} old new same = sym (length-map new (λ (session : Fused S). session.
 -- what a session answered, without its place
 pub replied_as : (statement : Statement) (answered : Result Answer Fault) (old new : SessionView)
     → IfOk answered (λ answer. IsAnswered old.base statement answer old.known new.known)
-    → IfErr answered (λ fault. Fails old.turns old.place.capacity old.base statement fault old.known new.known)
+    → IfErr answered (λ fault. Fails old.turns old.identity.capacity old.base statement fault old.known new.known)
     → RepliesAs statement (reply_of answered) old new
 replied_as statement (Ok answer) old new answers fails = (answer.place, answers)
 replied_as statement (Err fault) old new answers fails = fails

@@ -113,7 +113,7 @@ reply_of (Err fault) = Err fault
 -- a session answered a statement so, or didn't for this fault
 abbrev pub RepliesAs : Statement → Result Reply Fault → SessionView → SessionView → Type 0
 RepliesAs statement (Ok reply) old new = (place : ℕ) × IsAnswered old.base statement (record { place = place; reply = reply }) old.known new.known
-RepliesAs statement (Err fault) old new = Fails old.turns old.place.capacity old.base statement fault old.known new.known
+RepliesAs statement (Err fault) old new = Fails old.turns old.identity.capacity old.base statement fault old.known new.known
 
 -- the stranger's session in a store was given the statement, and answered so
 pub record SaysReply {C T : Type 0} (view : T → SessionView) (call : Call) (answer : Result Reply Fault) (old new : Floor C T) : Type 0 where

@@ -8,12 +8,12 @@ use Rattle.std.proofs.lemmas.List.{length-map}
 use Rattle.xa_xid.specs.declared.statement.Statement.{Statement}
 use Rattle.xa_words.specs.Entry.{Entry}
 use Rattle.xa_server.specs.State.{State}
-use Rattle.decision_log.specs.Known.{Place, newcomer, AllOf}
+use Rattle.decision_log.specs.Known.{LogIdentity, newcomer, AllOf}
 use Rattle.decision_log.specs.declared.known.Known.{Known}
 use Rattle.decision_log.specs.History.{entries_of}
 use Rattle.xa_session.specs.Replay.{state_after}
 use Rattle.xa_session.specs.declared.answer.Answer.{Answer}
-use Rattle.xa_store.specs.Passes.{Pass, home_of, known_of}
+use Rattle.xa_store.specs.Passes.{Pass, log_of, known_of}
 use Rattle.xa_store.specs.Gathered.{IsTakenIn, Keeps, last_known}
 use Rattle.xa_store.specs.Spread.{AllThree}
 use Rattle.xa_store.specs.Legal.{IsLegal}
@@ -131,31 +131,32 @@ blamed gate lines index statements session NoMemory found number stops = tt
 blamed gate lines index statements session ThreadRefused found number stops = tt
 
 -- the last of some passes has seen entries of its log's sessions alone
-pub last_among : (place : Place) (passes : List Pass) → AllByRecursion (λ pass. home_of pass ≡ place) passes
-    → AllOf place.sessions (last_known (map known_of passes)).seen
-last_among place [] homes = All-nil (λ entry. (1 ≤ entry.session) × (entry.session ≤ place.sessions))
-last_among place (pass ∷ []) homes = let P : Place → Type 0 = λ p. AllOf p.sessions (known_of pass).seen in subst P homes.0 pass.state.among
-last_among place (pass ∷ other ∷ passes) homes = last_among place (other ∷ passes) homes.1
+pub last_among : (identity : LogIdentity) (passes : List Pass) → AllByRecursion (λ pass. log_of pass ≡ identity) passes
+    → AllOf identity.sessions (last_known (map known_of passes)).seen
+last_among identity [] belong = All-nil (λ entry. (1 ≤ entry.session) × (entry.session ≤ identity.sessions))
+last_among identity (pass ∷ []) belong = let P : LogIdentity → Type 0 = λ p. AllOf p.sessions (known_of pass).seen in subst P belong.0 pass.state.among
+last_among identity (pass ∷ other ∷ passes) belong = last_among identity (other ∷ passes) belong.1
 
 -- fresh passes of a log are no more than its sessions
-fresh_from : (place : Place) (from : ℕ) (passes : List Pass) → AllByRecursion (λ pass. home_of pass ≡ place) passes
+fresh_from : (identity : LogIdentity) (from : ℕ) (passes : List Pass) → AllByRecursion (λ pass. log_of pass ≡ identity) passes
     → ((index : ℕ) (pass : Pass) → slice_get passes index ≡ Some pass → known_of pass ≡ newcomer (index + (from + 1)))
-    → from ≤ place.sessions → length passes + from ≤ place.sessions
-fresh_from place from [] homes fresh below = omega (arith, below)
-fresh_from place from (pass ∷ passes) homes fresh below =
-    let Numbered : Place → Type 0 = λ p. (known_of pass).number ≤ p.sessions in
-    let fits : (known_of pass).number ≤ place.sessions = subst Numbered homes.0 pass.state.last in
+    → from ≤ identity.sessions → length passes + from ≤ identity.sessions
+fresh_from identity from [] belong fresh below = omega (arith, below)
+fresh_from identity from (pass ∷ passes) belong fresh below =
+    let Numbered : LogIdentity → Type 0 = λ p. (known_of pass).number ≤ p.sessions in
+    let fits : (known_of pass).number ≤ identity.sessions = subst Numbered belong.0 pass.state.last in
     let number : (known_of pass).number ≡ 0 + (from + 1) = ap (λ known. known.number) (fresh 0 pass refl) in
-    let more : length passes + (from + 1) ≤ place.sessions =
-    fresh_from place (from + 1) passes homes.1
+    let more : length passes + (from + 1) ≤ identity.sessions =
+    fresh_from identity (from + 1) passes belong.1
     (λ index one is. fresh (suc index) one is ∙ ap newcomer (let e : suc index + (from + 1) ≡ index + (from + 1 + 1) = omega arith in e))
     (omega (arith, fits, number)) in
     omega (arith, more)
 
-pub fresh_few : (place : Place) (passes : List Pass) → All (λ pass. home_of pass ≡ place) passes → AreFresh passes → length passes ≤ place.sessions
-fresh_few place passes homes fresh =
-    let few : length passes + 0 ≤ place.sessions =
-    fresh_from place 0 passes (recursion_from_All (λ pass. home_of pass ≡ place) passes homes)
+pub fresh_few : (identity : LogIdentity) (passes : List Pass) → All (λ pass. log_of pass ≡ identity) passes → AreFresh passes
+    → length passes ≤ identity.sessions
+fresh_few identity passes belong fresh =
+    let few : length passes + 0 ≤ identity.sessions =
+    fresh_from identity 0 passes (recursion_from_All (λ pass. log_of pass ≡ identity) passes belong)
     (λ index pass is. fresh index pass is ∙ ap newcomer (let e : index + 1 ≡ index + (0 + 1) = omega arith in e)) (omega arith) in
     omega (arith, few)
 
@@ -190,26 +191,27 @@ gains_in base before history known after last old new part goes keeps taken =
     }
 
 -- all rounds so far: what the sessions were answered in them, and the store and the passes of the next
-pub record IsHeld (base : State) (sessions : ℕ) (lines : List (List Statement)) (history : List Entry) (now : State) (place : Place) (passes : List Pass)
+pub record IsHeld (base : State) (sessions : ℕ) (lines : List (List Statement)) (history : List Entry) (now : State) (identity : LogIdentity)
+    (passes : List Pass)
     (far : List Progress) : Type 0 where
   pub legal : AllLegalSoFar base history 1 lines far
   pub base_is : now ≡ state_after base history
-  pub sessions_are : place.sessions ≡ sessions
-  pub homes : All (λ pass. home_of pass ≡ place) passes
+  pub sessions_are : identity.sessions ≡ sessions
+  pub belongs : All (λ pass. log_of pass ≡ identity) passes
   pub fresh : AreFresh passes
   pub own : AllOf sessions history
   pub none : length far ≡ 0 → history ≡ []
 
 -- a round more: what it gives with all before it
-module _ (base : State) (sessions : ℕ) (lines : List (List Statement)) (history : List Entry) (now : State) (place : Place) (passes : List Pass)
-    (far : List Progress) (held : IsHeld base sessions lines history now place passes far) where
+module _ (base : State) (sessions : ℕ) (lines : List (List Statement)) (history : List Entry) (now : State) (identity : LogIdentity) (passes : List Pass)
+    (far : List Progress) (held : IsHeld base sessions lines history now identity passes far) where
   pub round_legal : (round : List Entry) (news : List Progress) → AllGain now (length history) round 1 far news
       → AllLegalSoFar base (history ++ round) 1 lines news
   round_legal round news gains =
       legal_more base history round 1 lines far news held.legal
       (let P : State → Type 0 = λ s. AllGain s (length history) round 1 far news in subst P held.base_is gains)
 
-  pub round_own : (round : List Entry) → AllOf place.sessions round → AllOf sessions (history ++ round)
+  pub round_own : (round : List Entry) → AllOf identity.sessions round → AllOf sessions (history ++ round)
   round_own round own =
       let P : ℕ → Type 0 =
       λ n. AllOf n round in All-append (λ entry. (1 ≤ entry.session) × (entry.session ≤ sessions)) history round held.own (subst P held.sessions_are own)
@@ -224,16 +226,16 @@ module _ (base : State) (sessions : ℕ) (lines : List (List Statement)) (histor
       omega (arith, legal_count base (history ++ round) 1 lines news (round_legal round news gains), legal_count base history 1 lines far held.legal)
 
   -- the next round begins with all of it
-  pub round_held : (round : List Entry) (left : List Pass) (news : List Progress) (now' : State) (place' : Place) (passes' : List Pass)
-      → AllGain now (length history) round 1 far news → AllOf place.sessions round
+  pub round_held : (round : List Entry) (left : List Pass) (news : List Progress) (now' : State) (identity' : LogIdentity) (passes' : List Pass)
+      → AllGain now (length history) round 1 far news → AllOf identity.sessions round
       → round ≡ (last_known (map known_of left)).seen → 0 < length news → now' ≡ state_after now (last_known (map known_of left)).seen
-      → place'.sessions ≡ place.sessions → All (λ pass. home_of pass ≡ place') passes' → AreFresh passes'
-      → IsHeld base sessions lines (history ++ round) now' place' passes' news
-  round_held round left news now' place' passes' gains own last some carried same homes fresh = record {
+      → identity'.sessions ≡ identity.sessions → All (λ pass. log_of pass ≡ identity') passes' → AreFresh passes'
+      → IsHeld base sessions lines (history ++ round) now' identity' passes' news
+  round_held round left news now' identity' passes' gains own last some carried same belong fresh = record {
     legal = round_legal round news gains;
     base_is = carried ∙ round_state round left last;
     sessions_are = same ∙ held.sessions_are;
-    homes = homes;
+    belongs = belong;
     fresh = fresh;
     own = round_own round own;
     none = λ empty. absurd (omega (arith, some, empty));

@@ -15,7 +15,7 @@ use Rattle.std.specs.Prelude.{◌≡◌, ◌<◌, ◌+◌, ℕ, Bool, false, Lis
 use Rattle.xa_xid.specs.declared.statement.Statement.{Statement}
 use Rattle.xa_words.specs.Entry.{Entry}
 use Rattle.xa_server.specs.State.{State}
-use Rattle.decision_log.specs.Known.{Place, newcomer}
+use Rattle.decision_log.specs.Known.{LogIdentity, newcomer}
 use Rattle.decision_log.specs.declared.known.Known.{Known}
 use Rattle.xa_session.specs.declared.answer.Answer.{Answer}
 use Rattle.xa_store.specs.Passes.{Pass, known_of}
@@ -41,10 +41,11 @@ pub record GoesOn (base : State) (before : ℕ) (known after : Known) (old new :
   pub gains : Gains base before after.seen known old new
 
 -- a session's base, its pass and how far it has come, before a round and after it
-pub record HasGoneOn {Pass : Type 0} (home : Pass → Place) (known : Pass → Known) (base : State) (pass : Pass) (before : ℕ) (old : Progress) (base' : State)
+pub record HasGoneOn {Pass : Type 0} (belongs_to : Pass → LogIdentity) (known : Pass → Known) (base : State) (pass : Pass) (before : ℕ) (old : Progress)
+    (base' : State)
     (pass' : Pass) (new : Progress) : Type 0 where
   pub same_base : base' ≡ base
-  pub same_log : home pass' ≡ home pass
+  pub same_log : belongs_to pass' ≡ belongs_to pass
   pub goes_on : GoesOn base before (known pass) (known pass') old new
 
 -- the sessions from this number on

@@ -45,7 +45,7 @@ type RunReturned<'a, L> = Result<(Session<'a, L>, Progress), RaceFault>;
 struct GoesOnFor<'a, L: DecisionLog, G: Gate>(Snapshot<Resumed<'a, L>>, Snapshot<G>);
 
 impl<'a, L: DecisionLog, G: Gate> Promise<RunReturned<'a, L>> for GoesOnFor<'a, L, G> {
-    ghost kept_by = { λ promise ended. let run = promise.0.value in IfOk ended (λ gone. HasGoneOn L.home L.known run.session.base.now run.session.pass run.before run.progress gone.0.base.now gone.0.pass gone.1) × IfErr ended (λ fault. StopsInRound (G.may_answer promise.1.value) (L.known run.session.pass).number (length run.progress.lines.items) fault) };
+    ghost kept_by = { λ promise ended. let run = promise.0.value in IfOk ended (λ gone. HasGoneOn L.belongs_to L.known run.session.base.now run.session.pass run.before run.progress gone.0.base.now gone.0.pass gone.1) × IfErr ended (λ fault. StopsInRound (G.may_answer promise.1.value) (L.known run.session.pass).number (length run.progress.lines.items) fault) };
 }
 
 /// Puts one more run behind all others.
@@ -82,7 +82,7 @@ fn spread_round<'s, 'a: 's, E, L: DecisionLog + Sync, G: Gate + Sync, R: Threads
 ) -> Result<Returned<'a, L>, Blame>
 where
     L::Pass: Send + Drop,
-    ensures ok { IfOk result (λ all. AllThree (λ run session progress. HasGoneOn L.home L.known run.session.base.now run.session.pass run.before run.progress session.base.now session.pass progress) runs.entry.items all.sessions.items all.progress.items) }
+    ensures ok { IfOk result (λ all. AllThree (λ run session progress. HasGoneOn L.belongs_to L.known run.session.base.now run.session.pass run.before run.progress session.base.now session.pass progress) runs.entry.items all.sessions.items all.progress.items) }
     ensures err { IfErr result (λ blame. StopsSome (λ run. StopsInRound (G.may_answer gate.now) (L.known run.session.pass).number (length run.progress.lines.items)) runs.entry.items blame.fault) }
 {
     let Some(resumed) = runs.pop() else {
@@ -95,7 +95,7 @@ where
     let thread = scope.spawn_with(
         GoesOnFor(Snapshot::of(&resumed), Snapshot::of(gate)),
         move || -> RunReturned<'_, L>
-            ensures ok { IfOk result (λ gone. HasGoneOn L.home L.known resumed.entry.session.base.now resumed.entry.session.pass resumed.entry.before resumed.entry.progress gone.0.base.now gone.0.pass gone.1) }
+            ensures ok { IfOk result (λ gone. HasGoneOn L.belongs_to L.known resumed.entry.session.base.now resumed.entry.session.pass resumed.entry.before resumed.entry.progress gone.0.base.now gone.0.pass gone.1) }
             ensures fault { IfErr result (λ fault. StopsInRound (G.may_answer gate.entry.now) (L.known resumed.entry.session.pass).number (length resumed.entry.progress.lines.items) fault) }
         { answer_while_room(rt, resumed, gate) },
     );
@@ -117,14 +117,14 @@ pub(crate) fn run_round<'a, L: DecisionLog + Sync, G: Gate + Sync, R: Threads + 
 ) -> Result<Returned<'a, L>, Blame>
 where
     L::Pass: Send + Drop,
-    ensures ok { IfOk result (λ all. AllThree (λ run session progress. HasGoneOn L.home L.known run.session.base.now run.session.pass run.before run.progress session.base.now session.pass progress) runs.entry.items all.sessions.items all.progress.items) }
+    ensures ok { IfOk result (λ all. AllThree (λ run session progress. HasGoneOn L.belongs_to L.known run.session.base.now run.session.pass run.before run.progress session.base.now session.pass progress) runs.entry.items all.sessions.items all.progress.items) }
     ensures err { IfErr result (λ blame. StopsSome (λ run. StopsInRound (G.may_answer gate.now) (L.known run.session.pass).number (length run.progress.lines.items)) runs.entry.items blame.fault) }
 {
     thread::scope(
         thread::scope_env(),
         rt,
         |scope| -> Result<Returned<'_, L>, Blame>
-            ensures ok { IfOk result (λ all. AllThree (λ run session progress. HasGoneOn L.home L.known run.session.base.now run.session.pass run.before run.progress session.base.now session.pass progress) runs.entry.items all.sessions.items all.progress.items) }
+            ensures ok { IfOk result (λ all. AllThree (λ run session progress. HasGoneOn L.belongs_to L.known run.session.base.now run.session.pass run.before run.progress session.base.now session.pass progress) runs.entry.items all.sessions.items all.progress.items) }
             ensures err { IfErr result (λ blame. StopsSome (λ run. StopsInRound (G.may_answer gate.entry.now) (L.known run.session.pass).number (length run.progress.lines.items)) runs.entry.items blame.fault) }
         { spread_round(scope, rt, alloc, runs, gate) },
     )

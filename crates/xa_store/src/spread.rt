@@ -51,7 +51,7 @@ impl<'a, L: DecisionLog> AllEnded<'a, L> {
 struct AnswersAll<'a, L: DecisionLog, G: Gate>(Snapshot<Started<'a, L>>, Snapshot<G>);
 
 impl<'a, L: DecisionLog, G: Gate> Promise<RunEnded<'a, L>> for AnswersAll<'a, L, G> {
-    ghost kept_by = { λ promise ended. let run = promise.0.value in IfOk ended (λ done. HasRun L.home L.known (G.may_answer promise.1.value) run.session.base.now run.session.pass run.lines.items done.0.base.now done.0.pass done.1.items) × IfErr ended (λ fault. Stops (G.may_answer promise.1.value) run.session.base.now (L.home run.session.pass).capacity (L.known run.session.pass) run.lines.items fault) };
+    ghost kept_by = { λ promise ended. let run = promise.0.value in IfOk ended (λ done. HasRun L.belongs_to L.known (G.may_answer promise.1.value) run.session.base.now run.session.pass run.lines.items done.0.base.now done.0.pass done.1.items) × IfErr ended (λ fault. Stops (G.may_answer promise.1.value) run.session.base.now (L.belongs_to run.session.pass).capacity (L.known run.session.pass) run.lines.items fault) };
 }
 
 /// Answers all statements of a run.
@@ -63,8 +63,8 @@ fn answer_run<'a, L: DecisionLog, G: Gate, R: Wait>(
 ) -> RunEnded<'a, L>
 where
     L::Pass: Drop,
-    ensures ok { IfOk result (λ done. HasRun L.home L.known (G.may_answer gate.now) run.entry.session.base.now run.entry.session.pass run.entry.lines.items done.0.base.now done.0.pass done.1.items) }
-    ensures fault { IfErr result (λ fault. Stops (G.may_answer gate.now) run.entry.session.base.now (L.home run.entry.session.pass).capacity (L.known run.entry.session.pass) run.entry.lines.items fault) }
+    ensures ok { IfOk result (λ done. HasRun L.belongs_to L.known (G.may_answer gate.now) run.entry.session.base.now run.entry.session.pass run.entry.lines.items done.0.base.now done.0.pass done.1.items) }
+    ensures fault { IfErr result (λ fault. Stops (G.may_answer gate.now) run.entry.session.base.now (L.belongs_to run.entry.session.pass).capacity (L.known run.entry.session.pass) run.entry.lines.items fault) }
 {
     let Started { session, lines } = run;
     answer_all(rt, alloc, session, lines.as_slice(), gate)
@@ -104,8 +104,8 @@ fn spread<'s, 'a: 's, E, L: DecisionLog + Sync, G: Gate + Sync, R: Threads + Wai
 ) -> Result<AllEnded<'a, L>, Blame>
 where
     L::Pass: Send + Drop,
-    ensures ok { IfOk result (λ all. AllThree (λ run session answers. HasRun L.home L.known (G.may_answer gate.now) run.session.base.now run.session.pass run.lines.items session.base.now session.pass answers) runs.entry.items all.sessions.items (map (λ answers. answers.items) all.answers.items)) }
-    ensures err { IfErr result (λ blame. StopsSome (λ run. Stops (G.may_answer gate.now) run.session.base.now (L.home run.session.pass).capacity (L.known run.session.pass) run.lines.items) runs.entry.items blame.fault) }
+    ensures ok { IfOk result (λ all. AllThree (λ run session answers. HasRun L.belongs_to L.known (G.may_answer gate.now) run.session.base.now run.session.pass run.lines.items session.base.now session.pass answers) runs.entry.items all.sessions.items (map (λ answers. answers.items) all.answers.items)) }
+    ensures err { IfErr result (λ blame. StopsSome (λ run. Stops (G.may_answer gate.now) run.session.base.now (L.belongs_to run.session.pass).capacity (L.known run.session.pass) run.lines.items) runs.entry.items blame.fault) }
 {
     let Some(run) = runs.pop() else {
         return Ok(AllEnded {
@@ -136,15 +136,15 @@ pub(crate) fn run_all<'a, L: DecisionLog + Sync, G: Gate + Sync, R: Threads + Wa
 ) -> Result<AllEnded<'a, L>, Blame>
 where
     L::Pass: Send + Drop,
-    ensures ok { IfOk result (λ all. AllThree (λ run session answers. HasRun L.home L.known (G.may_answer gate.now) run.session.base.now run.session.pass run.lines.items session.base.now session.pass answers) runs.entry.items all.sessions.items (map (λ answers. answers.items) all.answers.items)) }
-    ensures err { IfErr result (λ blame. StopsSome (λ run. Stops (G.may_answer gate.now) run.session.base.now (L.home run.session.pass).capacity (L.known run.session.pass) run.lines.items) runs.entry.items blame.fault) }
+    ensures ok { IfOk result (λ all. AllThree (λ run session answers. HasRun L.belongs_to L.known (G.may_answer gate.now) run.session.base.now run.session.pass run.lines.items session.base.now session.pass answers) runs.entry.items all.sessions.items (map (λ answers. answers.items) all.answers.items)) }
+    ensures err { IfErr result (λ blame. StopsSome (λ run. Stops (G.may_answer gate.now) run.session.base.now (L.belongs_to run.session.pass).capacity (L.known run.session.pass) run.lines.items) runs.entry.items blame.fault) }
 {
     thread::scope(
         thread::scope_env(),
         rt,
         |scope| -> Result<AllEnded<'_, L>, Blame>
-            ensures ok { IfOk result (λ all. AllThree (λ run session answers. HasRun L.home L.known (G.may_answer gate.entry.now) run.session.base.now run.session.pass run.lines.items session.base.now session.pass answers) runs.entry.items all.sessions.items (map (λ answers. answers.items) all.answers.items)) }
-            ensures err { IfErr result (λ blame. StopsSome (λ run. Stops (G.may_answer gate.entry.now) run.session.base.now (L.home run.session.pass).capacity (L.known run.session.pass) run.lines.items) runs.entry.items blame.fault) }
+            ensures ok { IfOk result (λ all. AllThree (λ run session answers. HasRun L.belongs_to L.known (G.may_answer gate.entry.now) run.session.base.now run.session.pass run.lines.items session.base.now session.pass answers) runs.entry.items all.sessions.items (map (λ answers. answers.items) all.answers.items)) }
+            ensures err { IfErr result (λ blame. StopsSome (λ run. Stops (G.may_answer gate.entry.now) run.session.base.now (L.belongs_to run.session.pass).capacity (L.known run.session.pass) run.lines.items) runs.entry.items blame.fault) }
         { spread(scope, rt, alloc, runs, gate) },
     )
 }

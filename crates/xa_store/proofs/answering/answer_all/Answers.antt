@@ -36,7 +36,7 @@ loop-index-preserved g c =
     (g.met.L.DecisionLog.own_part c.loop-index.session.pass) (g.met.L.DecisionLog.own_part c.answer_one.new.session.pass) inv.2
     (subst (λ b. IsAnswered b statement c.in_ok-answer.answer (known c.loop-index.session.pass) (known c.answer_one.new.session.pass)) inv.0 told.answered) in (
       told.base ∙ inv.0,
-      told.home ∙ inv.1,
+      told.belongs ∙ inv.1,
       subst (λ items. IsOnTheWay base (known c.args.session.pass) (known c.answer_one.new.session.pass) (take (c.loop-index.index + 1) c.args.lines.now) items)
           (sym c.push_reserved.ensures.items)
           (subst (λ lines. IsOnTheWay base (known c.args.session.pass) (known c.answer_one.new.session.pass) lines
@@ -59,11 +59,11 @@ returns-in_err-answer-clause-fault g c =
     let now = known c.loop-index.session.pass in
     let new = known c.answer_one.new.session.pass in
     let below : place < length lines = omega (arith, c.loop-index-test.true) in
-    let halts : Halts may c.args.session.base.now (g.L.DecisionLog.home c.args.session.pass).capacity statement place fault now new =
-    subst (λ base. Halts may base (g.L.DecisionLog.home c.args.session.pass).capacity statement place fault now new) inv.0
-    (subst (λ home. Halts may c.loop-index.session.base.now home.capacity statement place fault now new) inv.1 c.in_err-answer.ensures.fault) in
-    let stopped : Stops may c.args.session.base.now (g.L.DecisionLog.home c.args.session.pass).capacity (known c.args.session.pass) lines fault =
-    stops may c.args.session.base.now (g.L.DecisionLog.home c.args.session.pass).capacity
+    let halts : Halts may c.args.session.base.now (g.L.DecisionLog.belongs_to c.args.session.pass).capacity statement place fault now new =
+    subst (λ base. Halts may base (g.L.DecisionLog.belongs_to c.args.session.pass).capacity statement place fault now new) inv.0
+    (subst (λ identity. Halts may c.loop-index.session.base.now identity.capacity statement place fault now new) inv.1 c.in_err-answer.ensures.fault) in
+    let stopped : Stops may c.args.session.base.now (g.L.DecisionLog.belongs_to c.args.session.pass).capacity (known c.args.session.pass) lines fault =
+    stops may c.args.session.base.now (g.L.DecisionLog.belongs_to c.args.session.pass).capacity
     (known c.args.session.pass) now new lines c.loop-index.answers.items place statement fault below
     (slice_get_read lines (length lines) place statement refl below c.index-lines-index.is)
     (g.met.L.DecisionLog.own_part c.loop-index.session.pass) (g.met.L.DecisionLog.own_part c.answer_one.new.session.pass) inv.2 halts in

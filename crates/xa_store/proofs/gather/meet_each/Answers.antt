@@ -8,7 +8,7 @@ use Rattle.xa_store.proofs.gather.meet_each.Goals as goal
 pub loop-index-init : goal.loop-index-init
 loop-index-init g c = (
   no_round (λ session. g.L.DecisionLog.known session.pass)
-      (λ old new. (new.base.now ≡ old.base.now) × (g.L.DecisionLog.home new.pass ≡ g.L.DecisionLog.home old.pass)
+      (λ old new. (new.base.now ≡ old.base.now) × (g.L.DecisionLog.belongs_to new.pass ≡ g.L.DecisionLog.belongs_to old.pass)
       × MeetsFirst (g.L.DecisionLog.known old.pass) (g.L.DecisionLog.known new.pass))
       (λ session. (refl, refl, meets_nobody (g.L.DecisionLog.known session.pass)))
       (λ old now new s t. (
@@ -28,14 +28,14 @@ loop-index-init g c = (
 pub loop-index-preserved : goal.loop-index-preserved
 loop-index-preserved g c =
     let inv = c.loop-index.invariant in
-    let homes = c.meet.ensures.homes in
+    let belong = c.meet.ensures.belongs in
     let bases = c.meet.ensures.bases in
     let met = c.index_mut.result.now in
     let here = c.index_mut.ensures.value in
     let below : c.loop-index.index < length c.loop-index.others.items =
     omega (arith, c.loop-index-test.true, c.loop-index.others.ok.0, c.args.others.now.ok.0, c.loop-index.invariant.4) in (
       next_round (λ session. g.L.DecisionLog.known session.pass)
-          (λ old new. (new.base.now ≡ old.base.now) × (g.L.DecisionLog.home new.pass ≡ g.L.DecisionLog.home old.pass)
+          (λ old new. (new.base.now ≡ old.base.now) × (g.L.DecisionLog.belongs_to new.pass ≡ g.L.DecisionLog.belongs_to old.pass)
           × MeetsFirst (g.L.DecisionLog.known old.pass) (g.L.DecisionLog.known new.pass))
           (λ session. (refl, refl, meets_nobody (g.L.DecisionLog.known session.pass)))
           (λ old now new s t. (
@@ -48,17 +48,18 @@ loop-index-preserved g c =
           (g.L.DecisionLog.known c.meet.new.other.pass)
           c.loop-index.index met c.meet.new.self below inv.0 (
             bases.0 ∙ ap (λ s. s.base.now) here,
-            homes.0 ∙ ap (λ s. g.L.DecisionLog.home s.pass) here,
+            belong.0 ∙ ap (λ s. g.L.DecisionLog.belongs_to s.pass) here,
             subst (λ s. MeetsFirst (g.L.DecisionLog.known s.pass) (g.L.DecisionLog.known c.meet.new.self.pass)) here c.meet.ensures.first,
           )
           (subst (λ s. MeetsSecond (g.L.DecisionLog.known s.pass) (g.L.DecisionLog.known c.loop-index.last.pass) (g.L.DecisionLog.known c.meet.new.other.pass))
           here c.meet.ensures.second),
-      All-set (λ session. g.L.DecisionLog.home session.pass ≡ g.L.DecisionLog.home c.meet.new.other.pass) c.loop-index.others.items c.loop-index.index
+      All-set (λ session. g.L.DecisionLog.belongs_to session.pass ≡ g.L.DecisionLog.belongs_to c.meet.new.other.pass) c.loop-index.others.items
+          c.loop-index.index
           c.meet.new.self
-          (homes.0 ∙ ap (λ s. g.L.DecisionLog.home s.pass) here ∙ inv.1 c.loop-index.index met below ∙ sym homes.1)
-          (λ k d below. inv.1 k d below ∙ sym homes.1),
+          (belong.0 ∙ ap (λ s. g.L.DecisionLog.belongs_to s.pass) here ∙ inv.1 c.loop-index.index met below ∙ sym belong.1)
+          (λ k d below. inv.1 k d below ∙ sym belong.1),
       bases.1 ∙ inv.2,
-      homes.1 ∙ inv.3,
+      belong.1 ∙ inv.3,
       length-set c.loop-index.others.items c.loop-index.index c.meet.new.self ∙ inv.4,
       inv.5,
     )
@@ -68,7 +69,7 @@ index_mut-requires g c = omega (arith, c.loop-index-test.true, c.loop-index.othe
 
 pub meet-requires : goal.meet-requires
 meet-requires g c =
-    ap (λ s. g.L.DecisionLog.home s.pass) c.index_mut.ensures.value
+    ap (λ s. g.L.DecisionLog.belongs_to s.pass) c.index_mut.ensures.value
     ∙ c.loop-index.invariant.1 c.loop-index.index c.index_mut.result.now
     (omega (arith, c.loop-index-test.true, c.loop-index.others.ok.0, c.args.others.now.ok.0, c.loop-index.invariant.4))
 

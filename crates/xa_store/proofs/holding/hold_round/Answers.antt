@@ -1,7 +1,7 @@
 use Rattle.std.proofs.Common.{◌≡◌, ◌+◌, length, map, ap, sym, subst, ◌∙◌, ⊎_elim, arith}
 use Rattle.std.specs.List.{AllZip}
 use Rattle.std.proofs.lemmas.List.Elements.{All-from_recursion, recursion_from_All}
-use Rattle.xa_store.specs.Passes.{place_of, home_of, known_of}
+use Rattle.xa_store.specs.Passes.{identity_of, log_of, known_of}
 use Rattle.xa_store.specs.Gathered.{IsTakenIn, Keeps}
 use Rattle.decision_log.specs.Known.{AllOf}
 use Rattle.xa_store.specs.Rounds.{Gains, GoesOn, AllGain, StopsInRound, BlamesRounds}
@@ -13,14 +13,14 @@ use Rattle.xa_store.proofs.holding.hold_round.Goals as goal
 
 pub wind_up_round-requires : goal.wind_up_round-requires
 wind_up_round-requires g c =
-    let place = place_of c.args.store.now.log in
+    let identity = identity_of c.args.store.now.log in
     let sessions = c.in-Ok-run_round.returned.sessions.items in
-    All-from_recursion (λ session. home_of session.pass ≡ place) sessions
-    (three_become _ _ (λ pass. home_of pass ≡ place) (λ resumed. home_of resumed.session.pass ≡ place) (λ session. home_of session.pass ≡ place)
-    (λ pass one resumed is home. ap home_of is.0 ∙ home) (λ resumed session progress is home. is.same_log ∙ home)
+    All-from_recursion (λ session. log_of session.pass ≡ identity) sessions
+    (three_become _ _ (λ pass. log_of pass ≡ identity) (λ resumed. log_of resumed.session.pass ≡ identity) (λ session. log_of session.pass ≡ identity)
+    (λ pass one resumed is belongs. ap log_of is.0 ∙ belongs) (λ resumed session progress is belongs. is.same_log ∙ belongs)
     c.args.passes.items c.args.progress.items c.in-Ok.resumed.items sessions c.in-Ok-run_round.returned.progress.items c.in-Ok.ensures
     c.in-Ok-run_round.ensures.ok
-    (recursion_from_All (λ pass. home_of pass ≡ place) c.args.passes.items c.requires.homes))
+    (recursion_from_All (λ pass. log_of pass ≡ identity) c.args.passes.items c.requires.belongs))
 
 pub returns-in-Err-clause-fault : goal.returns-in-Err-clause-fault
 returns-in-Err-clause-fault g c =
@@ -50,7 +50,7 @@ returns-clause-gains g c =
     let ended = c.in-Ok-wind_up_round.ended in
     let history = ended.history.items in
     let wound = c.in-Ok-wind_up_round.ensures in
-    let met : AllZip (λ session pass. ((home_of pass ≡ home_of session.pass) × Keeps (known_of session.pass) (known_of pass))
+    let met : AllZip (λ session pass. ((log_of pass ≡ log_of session.pass) × Keeps (known_of session.pass) (known_of pass))
     × IsTakenIn history (known_of pass)) returned.sessions.items ended.passes.items =
     zip_and_all _ (λ pass. IsTakenIn history (known_of pass)) returned.sessions.items ended.passes.items wound.passes
     (recursion_from_All (λ pass. IsTakenIn history (known_of pass)) ended.passes.items wound.whole) in
@@ -69,20 +69,20 @@ returns-clause-gains g c =
 
 pub returns-clause-own : goal.returns-clause-own
 returns-clause-own g c =
-    let place = place_of c.args.store.now.log in
+    let identity = identity_of c.args.store.now.log in
     let sessions = c.in-Ok-run_round.returned.sessions.items in
     let ended = c.in-Ok-wind_up_round.ended in
     let wound = c.in-Ok-wind_up_round.ensures in
     let before =
-    three_become _ _ (λ pass. home_of pass ≡ place) (λ resumed. home_of resumed.session.pass ≡ place) (λ session. home_of session.pass ≡ place)
-    (λ pass one resumed is home. ap home_of is.0 ∙ home) (λ resumed session progress is home. is.same_log ∙ home)
+    three_become _ _ (λ pass. log_of pass ≡ identity) (λ resumed. log_of resumed.session.pass ≡ identity) (λ session. log_of session.pass ≡ identity)
+    (λ pass one resumed is belongs. ap log_of is.0 ∙ belongs) (λ resumed session progress is belongs. is.same_log ∙ belongs)
     c.args.passes.items c.args.progress.items c.in-Ok.resumed.items sessions c.in-Ok-run_round.returned.progress.items c.in-Ok.ensures
     c.in-Ok-run_round.ensures.ok
-    (recursion_from_All (λ pass. home_of pass ≡ place) c.args.passes.items c.requires.homes) in
-    let homes =
-    zip_all _ (λ session. home_of session.pass ≡ place) (λ pass. home_of pass ≡ place)
-    (λ session pass is home. is.0 ∙ home) sessions ended.passes.items wound.passes before in
-    subst (λ list. AllOf place.sessions list) (sym wound.last) (last_among place ended.passes.items homes)
+    (recursion_from_All (λ pass. log_of pass ≡ identity) c.args.passes.items c.requires.belongs) in
+    let belong =
+    zip_all _ (λ session. log_of session.pass ≡ identity) (λ pass. log_of pass ≡ identity)
+    (λ session pass is belongs. is.0 ∙ belongs) sessions ended.passes.items wound.passes before in
+    subst (λ list. AllOf identity.sessions list) (sym wound.last) (last_among identity ended.passes.items belong)
 
 pub returns-clause-passes : goal.returns-clause-passes
 returns-clause-passes g c =

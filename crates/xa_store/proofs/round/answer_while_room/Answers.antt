@@ -41,7 +41,7 @@ loop-index-preserved g c =
     let more : length c.push_later.new.answers.items ≡ length answers.items + 1 =
     ap length c.in_ok-push_later-in-Ok.ensures.ok ∙ length-append answers.items (later resumed.before c.in-Ok.answer ∷ []) in (
       said.base ∙ inv.0,
-      said.home ∙ inv.1,
+      said.belongs ∙ inv.1,
       subst (λ items. IsOnTheRound base resumed.before (known resumed.session.pass)
           (known c.answer_one.new.session.pass) lines.items resumed.progress.answers.items items) (sym c.in_ok-push_later-in-Ok.ensures.ok) way,
       omega (arith, inv.3, more, answers.ok.0, c.push_later.new.answers.ok.0),
@@ -57,7 +57,7 @@ returns-in-Err-Full-clause-ok g c =
     let full = rw c.in-Err-Full.field-0-is at c.in-Err-Full.ensures.fault in
     record {
       same_base = c.in-Err-Full.ensures.base ∙ inv.0;
-      same_log = c.in-Err-Full.ensures.home ∙ inv.1;
+      same_log = c.in-Err-Full.ensures.belongs ∙ inv.1;
       goes_on =
           round_stays base resumed.before (known resumed.session.pass) (known c.loop-index.session.pass)
           (known c.answer_one.new.session.pass) resumed.progress now refl

@@ -8,14 +8,14 @@ use Rattle.xa_store.proofs.rounding.+spread_round.Goals as goal
 pub returns-in-Ok-clause-ok : goal.returns-in-Ok-clause-ok
 returns-in-Ok-clause-ok g t c =
     let known = g.L.DecisionLog.known in
-    let home = g.L.DecisionLog.home in
+    let belongs_to = g.L.DecisionLog.belongs_to in
     let run = c.in-Some.resumed in
     let promise = c.in-Ok.thread.promise in
     let same : promise.0.value ≡ run = ap (λ p. p.0.value) c.in-Ok.ensures.ok ∙ c.of.ensures in
     let kept : IfOk c.join.result
-    (λ done. HasGoneOn home known run.session.base.now run.session.pass run.before run.progress done.0.base.now done.0.pass done.1) =
+    (λ done. HasGoneOn belongs_to known run.session.base.now run.session.pass run.before run.progress done.0.base.now done.0.pass done.1) =
     subst (λ one. IfOk c.join.result
-    (λ done. HasGoneOn home known one.session.base.now one.session.pass one.before one.progress done.0.base.now done.0.pass done.1)) same
+    (λ done. HasGoneOn belongs_to known one.session.base.now one.session.pass one.before one.progress done.0.base.now done.0.pass done.1)) same
     c.join.ensures.0 in
     IfOk-weaker c.take_back.result _ _
     (λ all is.
@@ -71,11 +71,11 @@ returns-clause-err g t c =
 pub spawn_with-thread-requires-clause-keeps : goal.spawn_with-thread-requires-clause-keeps
 spawn_with-thread-requires-clause-keeps g t c κs within r ens =
     let known = g.L.DecisionLog.known in
-    let home = g.L.DecisionLog.home in
+    let belongs_to = g.L.DecisionLog.belongs_to in
     let may = g.G.Gate.may_answer in
     let one = c.of.result.value in (
       subst (λ resumed. IfOk r
-          (λ gone. HasGoneOn home known resumed.session.base.now resumed.session.pass resumed.before resumed.progress gone.0.base.now gone.0.pass gone.1))
+          (λ gone. HasGoneOn belongs_to known resumed.session.base.now resumed.session.pass resumed.before resumed.progress gone.0.base.now gone.0.pass gone.1))
           (sym c.of.ensures) ens.0,
       subst (λ gate. IfErr r (λ fault. StopsInRound (may gate) (known one.session.pass).number (length one.progress.lines.items) fault)) (sym c.of-2.ensures)
           (subst (λ resumed. IfErr r

@@ -9,18 +9,18 @@ use Rattle.xa_store.proofs.spread.+spread.Goals as goal
 pub returns-in-Ok-clause-ok : goal.returns-in-Ok-clause-ok
 returns-in-Ok-clause-ok g t c =
     let known = g.L.DecisionLog.known in
-    let home = g.L.DecisionLog.home in
+    let belongs_to = g.L.DecisionLog.belongs_to in
     let may = g.G.Gate.may_answer in
     let run = c.in-Some.run' in
     let promise = c.in-Ok.thread.promise in
     let same : promise.0.value ≡ run = ap (λ p. p.0.value) c.in-Ok.ensures.ok ∙ c.of.ensures in
     let asked : promise.1.value ≡ c.args.gate.now = ap (λ p. p.1.value) c.in-Ok.ensures.ok ∙ c.of-2.ensures in
     let kept : IfOk c.join.result
-    (λ done. HasRun home known (may c.args.gate.now) run.session.base.now run.session.pass run.lines.items done.0.base.now done.0.pass done.1.items) =
+    (λ done. HasRun belongs_to known (may c.args.gate.now) run.session.base.now run.session.pass run.lines.items done.0.base.now done.0.pass done.1.items) =
     subst (λ gate. IfOk c.join.result
-    (λ done. HasRun home known (may gate) run.session.base.now run.session.pass run.lines.items done.0.base.now done.0.pass done.1.items)) asked
+    (λ done. HasRun belongs_to known (may gate) run.session.base.now run.session.pass run.lines.items done.0.base.now done.0.pass done.1.items)) asked
     (subst (λ one. IfOk c.join.result
-    (λ done. HasRun home known (may promise.1.value) one.session.base.now one.session.pass one.lines.items done.0.base.now done.0.pass done.1.items)) same
+    (λ done. HasRun belongs_to known (may promise.1.value) one.session.base.now one.session.pass one.lines.items done.0.base.now done.0.pass done.1.items)) same
     c.join.ensures.0) in
     IfOk-weaker c.take_in.result _ _
     (λ all is.
@@ -33,18 +33,18 @@ returns-in-Ok-clause-ok g t c =
 pub returns-in-Ok-clause-err : goal.returns-in-Ok-clause-err
 returns-in-Ok-clause-err g t c =
     let known = g.L.DecisionLog.known in
-    let home = g.L.DecisionLog.home in
+    let belongs_to = g.L.DecisionLog.belongs_to in
     let may = g.G.Gate.may_answer in
     let run = c.in-Some.run' in
     let promise = c.in-Ok.thread.promise in
     let same : promise.0.value ≡ run = ap (λ p. p.0.value) c.in-Ok.ensures.ok ∙ c.of.ensures in
     let asked : promise.1.value ≡ c.args.gate.now = ap (λ p. p.1.value) c.in-Ok.ensures.ok ∙ c.of-2.ensures in
     let kept : IfErr c.join.result
-    (λ fault. Stops (may c.args.gate.now) run.session.base.now (home run.session.pass).capacity (known run.session.pass) run.lines.items fault) =
+    (λ fault. Stops (may c.args.gate.now) run.session.base.now (belongs_to run.session.pass).capacity (known run.session.pass) run.lines.items fault) =
     subst (λ gate. IfErr c.join.result
-    (λ fault. Stops (may gate) run.session.base.now (home run.session.pass).capacity (known run.session.pass) run.lines.items fault)) asked
+    (λ fault. Stops (may gate) run.session.base.now (belongs_to run.session.pass).capacity (known run.session.pass) run.lines.items fault)) asked
     (subst (λ one. IfErr c.join.result
-    (λ fault. Stops (may promise.1.value) one.session.base.now (home one.session.pass).capacity (known one.session.pass) one.lines.items fault)) same
+    (λ fault. Stops (may promise.1.value) one.session.base.now (belongs_to one.session.pass).capacity (known one.session.pass) one.lines.items fault)) same
     c.join.ensures.1) in
     IfErr-weaker c.take_in.result _ _
     (λ blame is.

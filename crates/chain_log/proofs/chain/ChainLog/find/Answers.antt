@@ -1,6 +1,6 @@
 use Rattle.std.proofs.Common.{◌≡◌, ℕ, ◌<◌, length, get_or, ap, ◌∙◌, arith}
 use Rattle.std.proofs.lemmas.List.{get_or_read}
-use Rattle.decision_log.specs.Known.{Place}
+use Rattle.decision_log.specs.Known.{LogIdentity}
 use Rattle.decision_log.specs.Seats.{hand}
 use Rattle.chain_log.specs.declared.pass.ChainPass.{ChainPass}
 use Rattle.chain_log.specs.Cells.{session_at}
@@ -18,7 +18,7 @@ cell_name-requires-clause-session c =
     let pass : ChainPass = c.args.pass.now in
     let h = hand pass.seat in
     let few = session_ranged h.sessions h.known.seen c.args.row pass.state.among c.requires.seen in
-    let same = ap (λ (place : Place). place.sessions) c.requires.home in
+    let same = ap (λ (identity : LogIdentity). identity.sessions) c.requires.belongs in
     omega (arith, few.1, same, c.from.ensures, column pass c.args.row c.index.result.now c.requires.seen c.index.ensures, c.args.self.now.high.0)
 
 pub returns : goal.returns
