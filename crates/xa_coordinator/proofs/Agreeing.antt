@@ -21,7 +21,8 @@ use Rattle.xa_coordinator.specs.Participants.{takes_part}
 use Rattle.xa_coordinator.specs.Agreement.{Adds, AgreesWith, Agrees}
 use Rattle.xa_coordinator.specs.Stores.{EachStore}
 use Rattle.xa_coordinator.specs.Told.{IsDone, IsUndone, IsUndoneBehind, IsStopped, IsMissing, IsUnfinished}
-use Rattle.xa_coordinator.specs.Outcomes.{branch_of, closing_of, ends_in, IsClosed, Settles, SettlesIn, IsVoted, IsEnded, EndsAs, VotesAs, Allows, closing_for}
+use Rattle.xa_coordinator.specs.Outcomes.{branch_of, finish_statement, ends_in, IsClosed, Settles, SettlesIn, IsVoted, IsEnded, EndsAs, VotesAs, Allows}
+use Rattle.xa_coordinator.specs.Outcomes.{finish_for}
 use Rattle.xa_coordinator.specs.Outcomes.{is_listed}
 use Rattle.xa_coordinator.specs.Decisions.{is_decided}
 use Rattle.xa_coordinator.specs.declared.prepared.Ballot.{Ballot}
@@ -93,7 +94,7 @@ module _ (decisions : List Standing) (name : List ℕ) (store : ℕ) where
 
   -- the statement that finishes a branch agrees with the decisions that allow it
   pub closing_agrees : (number : ℕ) → number < 2 ^ 64 → (closing : Closing) → Allows decisions number closing
-      → AgreesWith decisions name store (closing_of closing (branch_xid name number store))
+      → AgreesWith decisions name store (finish_statement closing (branch_xid name number store))
   closing_agrees number fits InTwoPhases allows = (number, record { fits = fits; is = refl }, allows)
   closing_agrees number fits InOnePhase allows = (number, record { fits = fits; is = refl })
   closing_agrees number fits RollBack allows = (number, record { fits = fits; is = refl }, allows)
@@ -116,7 +117,8 @@ module _ {S : Type 0} (view : S → SessionView) (decisions : List Standing) (tr
       → (store : ℕ) (listed : Bool) (a b : SessionView) → SettlesIn branches transaction closing store listed a b →
       Agrees decisions transaction.name.items store a b
   part_agrees branches closing allows store listed a b is =
-      settled_agrees decisions transaction.name.items store (ends_in branches transaction closing store) (closing_of closing (branch_of transaction store))
+      settled_agrees decisions transaction.name.items store (ends_in branches transaction closing store)
+      (finish_statement closing (branch_of transaction store))
       (branch_of transaction store)
       (closing_agrees decisions transaction.name.items store transaction.number transaction.eight_bytes closing allows)
       (takes_part transaction.participants store) listed a b is
@@ -136,7 +138,7 @@ module _ {S : Type 0} (view : S → SessionView) (decisions : List Standing) (tr
       from_ends view _ (Agrees decisions transaction.name.items) last _ old new is.1
       (λ other a b settled. part_agrees branches closing allows other settled.0 a b settled.1)
       (λ a b unfinished. unfinished_agrees decisions transaction.name.items last (ends_in branches transaction closing last)
-      (closing_of closing (branch_of transaction last)) (branch_of transaction last) cause a b unfinished)
+      (finish_statement closing (branch_of transaction last)) (branch_of transaction last) cause a b unfinished)
       (λ other a. nothing_agrees decisions transaction.name.items other a)
       store
 
@@ -162,10 +164,10 @@ module _ {S : Type 0} (view : S → SessionView) (decisions : List Standing) (tr
       (nothing_agrees decisions transaction.name.items store (view before))
 
 -- a transaction that was voted on is finished as the decisions allow
-pub allows_for : (decisions : List Standing) (number : ℕ) (ballot : Ballot) → Allows decisions number (closing_for (is_decided decisions number) ballot)
+pub allows_for : (decisions : List Standing) (number : ℕ) (ballot : Ballot) → Allows decisions number (finish_for (is_decided decisions number) ballot)
 allows_for decisions number ballot = by (is_decided decisions number) ballot refl
   where
-    by : (b : Bool) (ballot : Ballot) → is_decided decisions number ≡ b → Allows decisions number (closing_for b ballot)
+    by : (b : Bool) (ballot : Ballot) → is_decided decisions number ≡ b → Allows decisions number (finish_for b ballot)
     by true ballot is = is
     by false BallotReady is = is
     by false BallotOnePhase is = tt

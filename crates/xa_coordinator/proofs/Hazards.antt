@@ -11,7 +11,7 @@ use Rattle.xa_coordinator.specs.View.{SessionView}
 use Rattle.xa_coordinator.specs.Participants.{takes_part}
 use Rattle.xa_coordinator.specs.Stores.{AtStore, EachStore, ChangesAt, Reached}
 use Rattle.xa_coordinator.specs.Told.{IsMissing}
-use Rattle.xa_coordinator.specs.Outcomes.{Ascends, is_listed, branch_of, closing_of, ends_in, IsClosed, Settles, SettlesIn, ClosesNext}
+use Rattle.xa_coordinator.specs.Outcomes.{Ascends, is_listed, branch_of, finish_statement, ends_in, IsClosed, Settles, SettlesIn, ClosesNext}
 use Rattle.xa_coordinator.specs.declared.open_branch.OpenBranch.{OpenBranch}
 use Rattle.xa_coordinator.proofs.Walk.{reached_skip, reached_next, reached_weaker, at_weaker}
 
@@ -94,32 +94,33 @@ module _ {S : Type 0} (view : S → SessionView) (branches : List (Option OpenBr
       → Reached view (SettledBy branches transaction closing stores) (place + 1) old now
   settled_skip old now out so_far =
       reached_skip view (SettledBy branches transaction closing stores) place old now so_far
-      (λ a. subst (λ takes. Settles (ends_in branches transaction closing place) (closing_of closing (branch_of transaction place))
+      (λ a. subst (λ takes. Settles (ends_in branches transaction closing place) (finish_statement closing (branch_of transaction place))
       (branch_of transaction place) takes (is_listed stores place) a a) (sym out) refl)
 
   settled_as : (stores' : List ℕ) (listed : Bool) → takes_part transaction.participants place ≡ true → is_listed stores' place ≡ listed → (a b : SessionView) →
-      Settles (ends_in branches transaction closing place) (closing_of closing (branch_of transaction place)) (branch_of transaction place) true listed a b
+      Settles (ends_in branches transaction closing place) (finish_statement closing (branch_of transaction place))
+      (branch_of transaction place) true listed a b
       → SettledBy branches transaction closing stores' place a b
   settled_as stores' listed takes is a b settled =
-      subst (λ t. Settles (ends_in branches transaction closing place) (closing_of closing (branch_of transaction place)) (branch_of transaction place) t
+      subst (λ t. Settles (ends_in branches transaction closing place) (finish_statement closing (branch_of transaction place)) (branch_of transaction place) t
       (is_listed stores' place) a b) (sym takes)
-      (subst (λ l. Settles (ends_in branches transaction closing place) (closing_of closing (branch_of transaction place))
+      (subst (λ l. Settles (ends_in branches transaction closing place) (finish_statement closing (branch_of transaction place))
       (branch_of transaction place) true l a b) (sym is) settled)
 
   settled_closed : (old now next : List S) → takes_part transaction.participants place ≡ true → IsListed transaction.participants place stores
       → Reached view (SettledBy branches transaction closing stores) place old now → ChangesAt place now next →
-      AtStore view place (IsClosed (ends_in branches transaction closing place) (closing_of closing (branch_of transaction place))
+      AtStore view place (IsClosed (ends_in branches transaction closing place) (finish_statement closing (branch_of transaction place))
       (branch_of transaction place)) now next →
       Reached view (SettledBy branches transaction closing stores) (place + 1) old next
   settled_closed old now next takes listed so_far changes is =
       reached_next view (SettledBy branches transaction closing stores) place old now next so_far changes
-      (at_weaker view place (IsClosed (ends_in branches transaction closing place) (closing_of closing (branch_of transaction place))
+      (at_weaker view place (IsClosed (ends_in branches transaction closing place) (finish_statement closing (branch_of transaction place))
       (branch_of transaction place)) (SettledBy branches transaction closing stores place)
       (settled_as stores false takes (not_listed transaction.participants place stores listed)) now next is)
 
   settled_missing : (old now next : List S) → takes_part transaction.participants place ≡ true
       → Reached view (SettledBy branches transaction closing stores) place old now → ChangesAt place now next →
-      AtStore view place (IsMissing (ends_in branches transaction closing place) (closing_of closing (branch_of transaction place))
+      AtStore view place (IsMissing (ends_in branches transaction closing place) (finish_statement closing (branch_of transaction place))
       (branch_of transaction place)) now next →
       Reached view (SettledBy branches transaction closing (stores ++ place ∷ [])) (place + 1) old next
   settled_missing old now next takes so_far changes is =
@@ -127,14 +128,14 @@ module _ {S : Type 0} (view : S → SessionView) (branches : List (Option OpenBr
       (reached_weaker view (SettledBy branches transaction closing stores) (SettledBy branches transaction closing (stores ++ place ∷ [])) place old now
       (λ store less a b settled. subst (λ l. SettlesIn branches transaction closing store l a b) (sym (same_listed stores place store less)) settled) so_far)
       changes
-      (at_weaker view place (IsMissing (ends_in branches transaction closing place) (closing_of closing (branch_of transaction place))
+      (at_weaker view place (IsMissing (ends_in branches transaction closing place) (finish_statement closing (branch_of transaction place))
       (branch_of transaction place)) (SettledBy branches transaction closing (stores ++ place ∷ []) place)
       (settled_as (stores ++ place ∷ []) true takes (last_listed stores place)) now next is)
 
   -- one store more, whatever its branch came to
   pub settled_next : (stores' : List ℕ) (old now next : List S) → takes_part transaction.participants place ≡ true
       → IsListed transaction.participants place stores → Reached view (SettledBy branches transaction closing stores) place old now → ChangesAt place now next →
-      ClosesNext view (ends_in branches transaction closing place) (closing_of closing (branch_of transaction place))
+      ClosesNext view (ends_in branches transaction closing place) (finish_statement closing (branch_of transaction place))
       (branch_of transaction place) place stores stores' now next →
       IsListed transaction.participants (place + 1) stores' × Reached view (SettledBy branches transaction closing stores') (place + 1) old next
   settled_next stores' old now next takes listed so_far changes (inl (same, is)) =

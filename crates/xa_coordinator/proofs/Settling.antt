@@ -24,10 +24,10 @@ use Rattle.xa_coordinator.specs.View.{SessionView, StaysOfLog}
 use Rattle.xa_coordinator.specs.Agreement.{Adds, AgreesWith, Agrees}
 use Rattle.xa_coordinator.specs.Branch.{branch_xid, IsBranchOf}
 use Rattle.xa_coordinator.specs.Decisions.{is_decided}
-use Rattle.xa_coordinator.specs.Outcomes.{closing_of, SaysAs, Allows}
+use Rattle.xa_coordinator.specs.Outcomes.{finish_statement, SaysAs, Allows}
 use Rattle.xa_coordinator.specs.Told.{IsUndone}
 use Rattle.xa_coordinator.specs.Work.{MayBe}
-use Rattle.xa_coordinator.specs.Recovery.{IsDisconnected, IsListed, IsNamed, NamedIn, none_named, one_named, one_foreign, closing_by, SettlesOne, foreign}
+use Rattle.xa_coordinator.specs.Recovery.{IsDisconnected, IsListed, IsNamed, NamedIn, none_named, one_named, one_foreign, finish_decided, SettlesOne, foreign}
 use Rattle.xa_coordinator.specs.Recovery.{committed, rolled_back, missing, total, counted, Settled, nothing, one_more, IsFinished, IsSettled, IsClear}
 use Rattle.xa_coordinator.specs.Recovery.{is_commit, is_rollback, IsCounted, NoneLeft, IsRecovered, IsBroken, IsStillPrepared}
 use Rattle.xa_coordinator.proofs.Agreeing.{nothing_agrees, undone_agrees, closing_agrees}
@@ -52,21 +52,21 @@ two_agreements decisions name store old mid new one two = record {
 
 module _ (decisions : List Standing) (name : List ℕ) (store : ℕ) where
   -- the decisions allow what a recovery does
-  pub allowed : (number : ℕ) (decided : Bool) → is_decided decisions number ≡ decided → Allows decisions number (closing_by decided)
+  pub allowed : (number : ℕ) (decided : Bool) → is_decided decisions number ≡ decided → Allows decisions number (finish_decided decided)
   allowed number true is = is
   allowed number false is = is
 
   -- the statement by which a recovery finishes a branch agrees with the decisions
   pub finishing_agrees : (number : ℕ) (xid : Xid) → IsBranchOf name number store xid → (decided : Bool) → is_decided decisions number ≡ decided
-      → AgreesWith decisions name store (closing_of (closing_by decided) xid)
+      → AgreesWith decisions name store (finish_statement (finish_decided decided) xid)
   finishing_agrees number xid named decided is =
-      subst (λ x. AgreesWith decisions name store (closing_of (closing_by decided) x)) (sym named.is)
-      (closing_agrees decisions name store number named.fits (closing_by decided) (allowed number decided is))
+      subst (λ x. AgreesWith decisions name store (finish_statement (finish_decided decided) x)) (sym named.is)
+      (closing_agrees decisions name store number named.fits (finish_decided decided) (allowed number decided is))
 
   -- one branch that was found or not
   pub settles : (number : ℕ) (xid : Xid) → IsBranchOf name number store xid → (tally : Tally) (decided : Bool) → is_decided decisions number ≡ decided
       → (found : Found) (old new : SessionView) →
-      SaysAs (closing_of (closing_by decided) (branch_xid name number store)) (Ok found) old new
+      SaysAs (finish_statement (finish_decided decided) (branch_xid name number store)) (Ok found) old new
       → SettlesOne decisions name store xid tally old (counted tally decided found) new
   settles number xid named tally true is Closed old new said =
       committed number named is new (subst (λ x. Adds (Commit x false ∷ []) old new) (sym named.is) said)
@@ -74,22 +74,22 @@ module _ (decisions : List Standing) (name : List ℕ) (store : ℕ) where
       rolled_back number named is new (subst (λ x. Adds (Rollback x ∷ []) old new) (sym named.is) said)
   settles number xid named tally true is Missing old new said =
       missing number named new
-      (subst (λ (b : Bool). IsUndone (closing_of (closing_by b) xid) (RefusedBy Nota) old new) (sym is)
+      (subst (λ (b : Bool). IsUndone (finish_statement (finish_decided b) xid) (RefusedBy Nota) old new) (sym is)
       (subst (λ x. IsUndone (Commit x false) (RefusedBy Nota) old new) (sym named.is) said))
   settles number xid named tally false is Missing old new said =
       missing number named new
-      (subst (λ (b : Bool). IsUndone (closing_of (closing_by b) xid) (RefusedBy Nota) old new) (sym is)
+      (subst (λ (b : Bool). IsUndone (finish_statement (finish_decided b) xid) (RefusedBy Nota) old new) (sym is)
       (subst (λ x. IsUndone (Rollback x) (RefusedBy Nota) old new) (sym named.is) said))
 
   -- a branch that wasn't finished
   pub broken_at : (number : ℕ) (xid : Xid) → IsBranchOf name number store xid → (decided : Bool) → is_decided decisions number ≡ decided
       → (cause : Cause) (old new : SessionView) →
-      SaysAs (closing_of (closing_by decided) (branch_xid name number store)) (Err cause) old new → IsBroken decisions name store cause old new
+      SaysAs (finish_statement (finish_decided decided) (branch_xid name number store)) (Err cause) old new → IsBroken decisions name store cause old new
   broken_at number xid named decided is cause old new said = record {
     mid = old;
     before = nothing_agrees decisions name store old;
-    statement = closing_of (closing_by decided) (branch_xid name number store);
-    agrees = closing_agrees decisions name store number named.fits (closing_by decided) (allowed number decided is);
+    statement = finish_statement (finish_decided decided) (branch_xid name number store);
+    agrees = closing_agrees decisions name store number named.fits (finish_decided decided) (allowed number decided is);
     undone = said.1;
     known = said.0;
   }

@@ -38,7 +38,7 @@ use Rattle.xa_coordinator.specs.Agreement.{Adds, AgreesWith, Agrees}
 use Rattle.xa_coordinator.specs.Branch.{branch_xid, IsBranchOf}
 use Rattle.xa_coordinator.specs.Decisions.{is_decided}
 use Rattle.xa_coordinator.specs.OpenBranches.{seat_seen}
-use Rattle.xa_coordinator.specs.Outcomes.{closing_of}
+use Rattle.xa_coordinator.specs.Outcomes.{finish_statement}
 use Rattle.xa_coordinator.specs.Stores.{AtStore, EachStore, EndsAt}
 use Rattle.xa_coordinator.specs.Told.{IsUndone}
 use Rattle.xa_coordinator.specs.Work.{MayBe}
@@ -70,9 +70,9 @@ pub data NamedIn (name : List ℕ) (store : ℕ) : List Xid → ℕ → Type 0 w
       → NamedIn name store (xids ++ xid ∷ []) count
 
 -- a decided branch is committed, another one is rolled back (presumed abort)
-abbrev pub closing_by : Bool → Closing
-closing_by true = InTwoPhases
-closing_by false = RollBack
+abbrev pub finish_decided : Bool → Closing
+finish_decided true = InTwoPhases
+finish_decided false = RollBack
 
 -- what became of a listed branch, and what is counted then: nothing is said of one that isn't of this coordinator's naming; another one is committed or rolled
 -- back as the decisions say, or was answered XAER_NOTA
@@ -84,7 +84,7 @@ pub data SettlesOne (decisions : List Standing) (name : List ℕ) (store : ℕ) 
   rolled_back : (number : ℕ) → IsBranchOf name number store xid → is_decided decisions number ≡ false → (new : SessionView) → Adds (Rollback xid ∷ []) old new →
       SettlesOne decisions name store xid tally old (record tally { rolled_back = tally.rolled_back + 1 }) new
   missing : (number : ℕ) → IsBranchOf name number store xid → (new : SessionView)
-      → IsUndone (closing_of (closing_by (is_decided decisions number)) xid) (CauseRefused Nota) old new →
+      → IsUndone (finish_statement (finish_decided (is_decided decisions number)) xid) (CauseRefused Nota) old new →
       SettlesOne decisions name store xid tally old (record tally { missing = tally.missing + 1 }) new
 
 -- all that was counted

@@ -21,7 +21,7 @@ use Rattle.xa_session.specs.Answer.{IsAnswered, Fails}
 use Rattle.xa_coordinator.specs.View.{SessionView}
 use Rattle.xa_coordinator.specs.Stores.{AtStore, ChangesAt}
 use Rattle.xa_coordinator.specs.Work.{WorksAs}
-use Rattle.xa_coordinator.specs.Outcomes.{EndsAs, VotesAs, closing_for}
+use Rattle.xa_coordinator.specs.Outcomes.{EndsAs, VotesAs, finish_for}
 use Rattle.xa_coordinator.specs.Recovery.{Recovers, BreaksOff}
 use Rattle.xa_coordinator.specs.Decisions.{is_decided}
 use Rattle.xa_coordinator.specs.declared.open_branch.OpenBranch.{OpenBranch}
@@ -89,7 +89,7 @@ pub record SaysFinish {C T : Type 0} (view : C → SessionView) (call : Call) (e
   pub prepared : Prepared
   pub voted : (stage_of old.desk.stages number ≡ Some (Ready prepared)) ⊎ (stage_of old.desk.stages number ≡ Some (VotedStage prepared))
   pub of_number : prepared.transaction.number ≡ number
-  pub ends : EndsAs view old.branches prepared.transaction (closing_for (is_decided old.desk.decisions number) prepared.ballot) ending old.sessions new.sessions
+  pub ends : EndsAs view old.branches prepared.transaction (finish_for (is_decided old.desk.decisions number) prepared.ballot) ending old.sessions new.sessions
 
 -- the coordinator rolled back a transaction that takes work
 pub record SaysAbandon {C T : Type 0} (view : C → SessionView) (call : Call) (ending : Ending) (old new : Floor C T) : Type 0 where

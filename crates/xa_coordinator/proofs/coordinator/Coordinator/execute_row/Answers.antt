@@ -12,7 +12,7 @@ use Rattle.xa_coordinator.specs.Work.{IsReplied}
 use Rattle.xa_coordinator.proofs.Keeping.{unmarked, at_place, changes_at}
 use Rattle.xa_coordinator.proofs.Telling.{is_undone}
 use Rattle.xa_coordinator.proofs.Working.{active_there, active_still}
-use Rattle.xa_coordinator.proofs.coordinator.Coordinator.row.Goals as goal
+use Rattle.xa_coordinator.proofs.coordinator.Coordinator.execute_row.Goals as goal
 
 pub invariant_of-self : goal.invariant_of-self
 invariant_of-self g c =
