@@ -4,7 +4,7 @@ ghost use Rattle.std.specs.List.{All, AllZip};
 ghost use Rattle.xa_store.specs.Passes.{identity_of, log_of, known_of};
 ghost use Rattle.xa_store.specs.Gathered.{IsTakenIn, Keeps, last_known};
 
-use crate::gather::{copy_seen, gather};
+use crate::meeting::{copy_seen, meet_all};
 use crate::{Log, Store};
 use std::alloc::Global;
 use xa_session::Session;
@@ -33,7 +33,7 @@ impl Store {
         let Some(mut last) = sessions.pop() else {
             return Ok(Vec::new(alloc));
         };
-        gather(sessions, &mut last);
+        meet_all(sessions, &mut last);
         let history = copy_seen(alloc, &mut last);
         sessions.push_reserved(last);
         history

@@ -99,7 +99,7 @@ pub(crate) fn hold_round<G: Gate + Sync, R: Threads + Wait + Sync>(
     };
     let returned = match run_round(rt, alloc, resumed, gate) {
         Ok(returned) => returned,
-        Err(blame) => return Err(blame.fault),
+        Err(first_fault) => return Err(first_fault.fault),
     };
     let Ok(ended) = wind_up_round(alloc, store, returned) else {
         return Err(RaceFault::NoMemory);

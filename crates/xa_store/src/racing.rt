@@ -45,7 +45,7 @@ pub(crate) fn count_speakers(runs: &[Run]) -> u64 {
 }
 
 /// All that a race gives, once its runs have ended: the sessions meet, and leave.
-fn conclude(alloc: Global, store: &Store, ended: AllEnded<'_, Log>) -> Result<Outcome, NoMemory>
+fn outcome_of(alloc: Global, store: &Store, ended: AllEnded<'_, Log>) -> Result<Outcome, NoMemory>
     requires { All (λ session. log_of session.pass ≡ identity_of store.now.log) ended.sessions.items }
     ensures answers { IfOk result (λ outcome. outcome.answers ≡ ended.entry.answers) }
     ensures passes { IfOk result (λ outcome. AllZip (λ session pass. (log_of pass ≡ log_of session.pass) × Keeps (known_of session.pass) (known_of pass)) ended.entry.sessions.items outcome.passes.items) }
@@ -92,9 +92,9 @@ pub fn race<G: Gate + Sync, R: Threads + Wait + Sync>(
     };
     let ended = match run_all(rt, alloc, started, gate) {
         Ok(ended) => ended,
-        Err(blame) => return Err(blame.fault),
+        Err(first_fault) => return Err(first_fault.fault),
     };
-    let Ok(outcome) = conclude(alloc, store, ended) else {
+    let Ok(outcome) = outcome_of(alloc, store, ended) else {
         return Err(RaceFault::NoMemory);
     };
     Ok(outcome)

@@ -26,7 +26,7 @@ pub returns-in-Err-clause-fault : goal.returns-in-Err-clause-fault
 returns-in-Err-clause-fault g c =
     let may = g.G.Gate.may_answer c.args.gate.now in
     let lines = map (λ one. one.lines.items) c.args.progress.items in
-    let fault = c.in-Err.blame.fault in
+    let fault = c.in-Err.first_fault.fault in
     ⊎_elim
     (λ memory. subst (λ one. BlamesRounds may lines one) (sym memory) tt)
     (λ rest. ⊎_elim (λ refused. subst (λ one. BlamesRounds may lines one) (sym refused) tt)

@@ -10,8 +10,8 @@ use Rattle.xa_store.proofs.Races.{legal_in, blames}
 use Rattle.xa_store.proofs.Spreading.{three_through, three_changed, three_second, three_all, three_first, zip_and_all, zip_get}
 use Rattle.xa_store.proofs.racing.race.Goals as goal
 
-pub conclude-requires : goal.conclude-requires
-conclude-requires g c =
+pub outcome_of-requires : goal.outcome_of-requires
+outcome_of-requires g c =
     let three = three_through _ _ (λ run session answers. log_of session.pass ≡ log_of run.pass)
     (λ run started session answers is was. was.same_log ∙ ap log_of is.1)
     c.args.runs.items c.in-Ok.started.items c.in-Ok-run_all.ended.sessions.items
@@ -25,7 +25,7 @@ pub returns-in-Err-clause-fault : goal.returns-in-Err-clause-fault
 returns-in-Err-clause-fault g c =
     let may = g.G.Gate.may_answer c.args.gate.now in
     let base = c.args.store.now.base in
-    let fault = c.in-Err.blame.fault in
+    let fault = c.in-Err.first_fault.fault in
     ⊎_elim
     (λ memory. subst (λ one. Blames may base c.args.runs.items one) (sym memory) tt)
     (λ rest. ⊎_elim (λ refused. subst (λ one. Blames may base c.args.runs.items one) (sym refused) tt)
@@ -45,8 +45,8 @@ returns-clause-legal g c =
     let runs = c.args.runs.items in
     let sessions = c.in-Ok-run_all.ended.sessions.items in
     let answers = map (λ answered. answered.items) c.in-Ok-run_all.ended.answers.items in
-    let outcome = c.in-Ok-conclude.outcome in
-    let told = c.in-Ok-conclude.ensures in
+    let outcome = c.in-Ok-outcome_of.outcome in
+    let told = c.in-Ok-outcome_of.ensures in
     let may = g.G.Gate.may_answer c.args.gate.now in
     let three : AllThree (λ run session answered. (log_of session.pass ≡ log_of run.pass)
     × HasAnswered may base (known_of run.pass) (known_of session.pass) run.lines.items answered) runs sessions answers =

@@ -38,16 +38,17 @@ returns-in-Ok-clause-err g t c =
     same
     c.join.ensures.1) in
     IfErr-weaker c.take_back.result _ _
-    (λ blame is.
+    (λ first_fault is.
     ⊎_elim
     (λ others.
     ⊎_elim (λ memory. inl memory)
     (λ rest. ⊎_elim (λ refused. inr (inl refused))
-    (λ at. inr (inr (stopped_before c.pop.new.self.items run _ _ blame.fault (sym c.in-Some.ensures.items) at)))
+    (λ at. inr (inr (stopped_before c.pop.new.self.items run _ _ first_fault.fault (sym c.in-Some.ensures.items) at)))
     rest)
-    (when_err c.spread_round-others.result _ blame c.spread_round-others.ensures.err others))
+    (when_err c.spread_round-others.result _ first_fault c.spread_round-others.ensures.err others))
     (λ rest. ⊎_elim
-    (λ ended. inr (inr (stopped_last c.pop.new.self.items run _ _ blame.fault (sym c.in-Some.ensures.items) (when_err c.join.result _ blame.fault kept ended))))
+    (λ ended. inr (inr (stopped_last c.pop.new.self.items run _ _ first_fault.fault (sym c.in-Some.ensures.items)
+    (when_err c.join.result _ first_fault.fault kept ended))))
     (λ memory. inl memory) rest)
     is)
     c.take_back.ensures.err
@@ -56,14 +57,14 @@ pub returns-clause-err : goal.returns-clause-err
 returns-clause-err g t c =
     let run = c.in-Some.resumed in
     IfErr-weaker c.take_back-in-Err.result _ _
-    (λ blame is.
+    (λ first_fault is.
     ⊎_elim
     (λ others.
     ⊎_elim (λ memory. inl memory)
     (λ rest. ⊎_elim (λ refused. inr (inl refused))
-    (λ at. inr (inr (stopped_before c.pop.new.self.items run _ _ blame.fault (sym c.in-Some.ensures.items) at)))
+    (λ at. inr (inr (stopped_before c.pop.new.self.items run _ _ first_fault.fault (sym c.in-Some.ensures.items) at)))
     rest)
-    (when_err c.spread_round-others.result _ blame c.spread_round-others.ensures.err others))
+    (when_err c.spread_round-others.result _ first_fault c.spread_round-others.ensures.err others))
     (λ rest. ⊎_elim (λ refused. inr (inl (cc refused))) (λ memory. inl memory) rest)
     is)
     c.take_back-in-Err.ensures.err

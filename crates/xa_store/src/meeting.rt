@@ -33,7 +33,7 @@ pub(crate) fn meet_each<L: DecisionLog>(others: &mut Vec<Session<'_, L>>, last: 
 ///
 /// It meets them twice. After the first round it has seen the most, so the second lets it see no more, and all that is told of
 /// the others' entries is told of one history.
-pub(crate) fn gather<L: DecisionLog>(others: &mut Vec<Session<'_, L>>, last: &mut Session<'_, L>)
+pub(crate) fn meet_all<L: DecisionLog>(others: &mut Vec<Session<'_, L>>, last: &mut Session<'_, L>)
     requires { All (λ session. L.belongs_to session.pass ≡ L.belongs_to last.old.pass) others.old.items }
     ensures others { AllZip (λ old new. (new.base.now ≡ old.base.now) × (L.belongs_to new.pass ≡ L.belongs_to old.pass) × MeetsFirst (L.known old.pass) (L.known new.pass)) others.old.items others.new.items }
     ensures room { vec_capacity others.new ≡ vec_capacity others.old }

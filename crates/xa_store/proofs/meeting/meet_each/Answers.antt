@@ -3,7 +3,7 @@ use Rattle.std.proofs.lemmas.List.Elements.{All-set}
 use Rattle.std.proofs.lemmas.List.{length-set}
 use Rattle.decision_log.specs.Calls.{MeetsFirst, MeetsSecond}
 use Rattle.xa_store.proofs.Gathering.{meets_nobody, meets_again, no_round, next_round}
-use Rattle.xa_store.proofs.gather.meet_each.Goals as goal
+use Rattle.xa_store.proofs.meeting.meet_each.Goals as goal
 
 pub loop-index-init : goal.loop-index-init
 loop-index-init g c = (

@@ -1,7 +1,7 @@
 use Rattle.std.proofs.Common.{◌≡◌, ◌∙◌}
 use Rattle.decision_log.specs.Calls.{MeetsFirst}
 use Rattle.xa_store.proofs.Gathering.{meets_again, zip_through, all_kept}
-use Rattle.xa_store.proofs.gather.gather.Goals as goal
+use Rattle.xa_store.proofs.meeting.meet_all.Goals as goal
 
 pub meet_each-requires-2 : goal.meet_each-requires-2
 meet_each-requires-2 g c =

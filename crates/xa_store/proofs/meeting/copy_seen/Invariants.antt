@@ -1,5 +1,5 @@
 use Rattle.std.proofs.Common.{◌≡◌, take}
-use Rattle.xa_store.proofs.gather.copy_seen.Given as goal
+use Rattle.xa_store.proofs.meeting.copy_seen.Given as goal
 
 abbrev pub invariant-loop-at : goal.invariant-loop-at
 invariant-loop-at g l =

@@ -2,7 +2,7 @@ use Rattle.std.proofs.Common.{◌≡◌, length, vec_capacity}
 use Rattle.std.specs.List.{All}
 use Rattle.decision_log.specs.Calls.{MeetsFirst}
 use Rattle.xa_store.proofs.Gathering.{Round}
-use Rattle.xa_store.proofs.gather.meet_each.Given as goal
+use Rattle.xa_store.proofs.meeting.meet_each.Given as goal
 
 abbrev pub invariant-loop-index : goal.invariant-loop-index
 invariant-loop-index g l =

@@ -1,6 +1,6 @@
 use Rattle.std.proofs.Common.{◌≡◌, suc, ◌+◌, [], ◌∷◌, ◌++◌, take, slice_get, ap, sym, ◌∙◌, Some, arith}
 use Rattle.xa_session.proofs.Replaying.{take-next}
-use Rattle.xa_store.proofs.gather.copy_seen.Goals as goal
+use Rattle.xa_store.proofs.meeting.copy_seen.Goals as goal
 
 pub loop-at-preserved : goal.loop-at-preserved
 loop-at-preserved g c =
