@@ -6,3 +6,4 @@ pub mod Run
 pub mod Viable
 pub mod Walk
 pub mod Words
+pub mod Ways

@@ -50,7 +50,7 @@ read_start text rest e = rw e (record {
 })
 
 -- the first token of a rest that isn't empty
-step_of : (state : State) (rest : List ℕ) → 0 < length rest → IsUnblank rest
+pub step_of : (state : State) (rest : List ℕ) → 0 < length rest → IsUnblank rest
     → read_from state (tokens_of rest) ≡ from_next (step state (token_at rest).0) (length rest) (tokens_of (token_at rest).1)
 step_of state [] some is = absurd (omega arith)
 step_of state (byte ∷ rest) some is = ap (read_from state) (first_token byte rest is) ∙ read_from-cons state _ _
@@ -76,7 +76,7 @@ read_step text rest later state next some steps e before =
           ∙ before.same;
     })
 
-seen : (text : List ℕ) (found : Result Statement ℕ) → read_from AtFirst (tokens_of text) ≡ found → seen_of (read_of text) ≡ seen_of (placed_in text found)
+pub seen : (text : List ℕ) (found : Result Statement ℕ) → read_from AtFirst (tokens_of text) ≡ found → seen_of (read_of text) ≡ seen_of (placed_in text found)
 unfolding read_of
 seen text found e = ap (λ r. seen_of (placed_in text r)) e
 
@@ -89,7 +89,7 @@ ended_as : (text : List ℕ) (found : Option Statement) → seen_of (placed_in t
 ended_as text (Some statement) = refl
 ended_as text None = ap (λ n. Err (record { at = n })) (omega arith)
 
-read_all : (state : State) (rest : List ℕ) → length rest ≡ 0 → read_from state (tokens_of rest) ≡ read_end (finish state)
+pub read_all : (state : State) (rest : List ℕ) → length rest ≡ 0 → read_from state (tokens_of rest) ≡ read_end (finish state)
 read_all state [] none = ap (read_from state) (pieces-nil 0) ∙ read_from-nil state
 read_all state (byte ∷ rest) none = absurd (omega arith)
 

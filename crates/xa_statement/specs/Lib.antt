@@ -4,3 +4,4 @@ pub mod Grammar
 pub mod Machine
 pub mod Reading
 pub mod Token
+pub mod Ways

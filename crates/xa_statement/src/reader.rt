@@ -8,6 +8,7 @@ ghost use Rattle.xa_statement.specs.Reading.{read_of, seen_of};
 use crate::SyntaxFault;
 use crate::state::State;
 use crate::token::token_of;
+use crate::usual::read_any;
 use xa_xid::{Statement, skip_blanks};
 
 /// The statement that the whole text spells.
@@ -23,11 +24,11 @@ pub fn read_statement(text: &[u8]) -> Result<Statement, SyntaxFault>
     ensures fault { IfErr result (λ fault. FaultAt text.now fault.at) }
     ensures only_fault { (place : ℕ) → FaultAt text.now place → result ≡ Err (record { at = place }) }
 {
-    read_tokens(text)
+    read_any(text)
 }
 
 /// The same, as the machine of states reads.
-fn read_tokens(text: &[u8]) -> Result<Statement, SyntaxFault>
+pub(crate) fn read_tokens(text: &[u8]) -> Result<Statement, SyntaxFault>
     ensures { result ≡ seen_of (read_of text.now) }
 {
     let mut state = State::AtFirst;

@@ -228,7 +228,7 @@ fn after_key(verb: RowVerb, key: Key) -> State
     }
 }
 
-fn statement_of(verb: Verb, xid: Xid) -> Statement
+pub(crate) fn statement_of(verb: Verb, xid: Xid) -> Statement
     ensures { result ≡ statement_of verb xid }
 {
     match verb {

@@ -74,7 +74,7 @@ pub(crate) fn token_of(text: &[u8]) -> (Token, &[u8])
 }
 
 /// Whether a literal in quotes begins the text.
-fn begins_quoted(text: &[u8]) -> bool
+pub(crate) fn begins_quoted(text: &[u8]) -> bool
     requires { 0 < length text.now }
     ensures { result ≡ opens_quoted text.now }
 {
@@ -117,7 +117,7 @@ fn literal_part(text: &[u8]) -> Option<Bytes>
 }
 
 /// What the text begins with as a number.
-fn number_part(text: &[u8]) -> Option<u64>
+pub(crate) fn number_part(text: &[u8]) -> Option<u64>
     ensures { result ≡ part_of (number_at text.now) }
 {
     match number_of(text) {
@@ -128,7 +128,7 @@ fn number_part(text: &[u8]) -> Option<u64>
 
 /// The word that a run is, without regard to case.
 #[tactic(auto, unfolding(crate::specs::Token::keyword_of))]
-fn word_of_run(run: &[u8]) -> Option<Keyword>
+pub(crate) fn word_of_run(run: &[u8]) -> Option<Keyword>
     ensures { result ≡ keyword_of run.now }
 {
     match first_word(run) {
@@ -200,7 +200,6 @@ fn later_word(run: &[u8]) -> Option<Keyword>
 }
 
 /// Whether the run is the word, without regard to case.
-
 fn same_word(word: &[u8], run: &[u8]) -> bool
     ensures { result ≡ is_word word.now run.now }
 {

@@ -1,0 +1,52 @@
+-- What reading a part of a text comes to, whatever was read before it.
+--     Goes state text next rest      reading `text` from the first state on is reading `rest` from the second one on
+--     Takes token text rest          the token stands first in the text, and `rest` stands behind it
+--     TakesLiteral text found rest   the same of a literal
+--     Leads state text said rest     reading comes to `rest` and a state of a whole statement
+--     Ends text                      nothing stands in the text but blanks and at most one ;
+use Rattle.std.specs.Prelude.{◌≡◌, ℕ, Bool, false, ◌==◌, not, if◌then◌else◌, List, [], ◌∷◌, Option, Some, Ok}
+use Rattle.xa_xid.specs.Xid.{Text}
+use Rattle.xa_xid.specs.declared.statement.Statement.{Statement}
+use Rattle.xa_statement.specs.declared.state.State.{State}
+use Rattle.xa_statement.specs.declared.token.Token.{Token}
+use Rattle.xa_statement.specs.declared.token.Token.TheVariants.{Value}
+use Rattle.xa_statement.specs.Machine.{step, unended, finish}
+use Rattle.xa_statement.specs.Reading.{read_from}
+use Rattle.xa_statement.specs.Token.{tokens_of}
+
+-- a byte between quotes that stands for itself
+abbrev pub plain_in : ℕ → ℕ → Bool
+plain_in quote byte = if byte == quote then false else not (byte == 92)
+
+-- the byte stands first
+abbrev pub heads : ℕ → List ℕ → Bool
+heads byte [] = false
+heads byte (first ∷ _) = first == byte
+
+-- a quote stands first, and isn't the first of two
+abbrev pub Closes : ℕ → List ℕ → List ℕ → Type 0
+Closes quote text rest = (text ≡ quote ∷ rest) × (heads quote rest ≡ false)
+
+-- reading the one is reading the other
+abbrev pub Goes : State → List ℕ → State → List ℕ → Type 0
+Goes state text next rest = read_from state (tokens_of text) ≡ read_from next (tokens_of rest)
+
+-- the token stands first, behind blanks
+abbrev pub Takes : Token → List ℕ → List ℕ → Type 0
+Takes token text rest = (state next : State) → step state token ≡ Some next → Goes state text next rest
+
+-- a literal stands first, whatever number it may be
+abbrev pub TakesLiteral : List ℕ → Text → List ℕ → Type 0
+TakesLiteral text found rest = (number : Option ℕ) × Takes (Value (Some found) number) text rest
+
+-- a number stands first, whatever literal it may be
+abbrev pub TakesNumber : List ℕ → ℕ → List ℕ → Type 0
+TakesNumber text number rest = (literal : Option Text) × Takes (Value literal (Some number)) text rest
+
+-- reading comes to a state of a whole statement
+abbrev pub Leads : State → List ℕ → Statement → List ℕ → Type 0
+Leads state text said rest = (next : State) × (Goes state text next rest × ((unended next ≡ Some said) × (finish next ≡ Some said)))
+
+-- no token is left, or one ;
+abbrev pub Ends : List ℕ → Type 0
+Ends text = (state : State) (said : Statement) → unended state ≡ Some said → finish state ≡ Some said → read_from state (tokens_of text) ≡ Ok said

@@ -1,0 +1,231 @@
+//! The first token of a text, of the kind that is wanted there.
+ghost use Rattle.std.specs.Prelude.{◌≡◌, ◌<◌, ℕ, Option, Some, [], ◌∷◌, None, Ok, length, IfSome, IsTrue};
+ghost use Rattle.xa_xid.specs.Bytes.{front, behind};
+ghost use Rattle.xa_xid.specs.Literal.{literal_at, text_literal_of};
+ghost use Rattle.xa_xid.specs.Quoted.{quoted};
+ghost use Rattle.xa_xid.specs.declared.quoted.Mode.TheVariants.{Plain};
+ghost use Rattle.xa_statement.specs.declared.token.Token.TheVariants.{Word, Comma, Value};
+ghost use Rattle.xa_statement.specs.Token.{token_at, run_at, part_of};
+ghost use Rattle.xa_statement.specs.Ways.{Takes, TakesLiteral, TakesNumber, Ends, plain_in, heads, Closes};
+
+use crate::token::{Keyword, Token, begins_quoted, number_part, token_of, word_of_run};
+use xa_xid::{ByteClass, Bytes, skip_blanks};
+
+/// The word that stands first, and the text behind it.
+pub(crate) fn first_word(text: &[u8]) -> Option<(Keyword, &[u8])>
+    ensures { IfSome result (λ found. Takes (Word found.0) text.now found.1.now) }
+{
+    let (word, rest) = word_in_front(skip_blanks(text))?;
+    Some((word, rest))
+}
+
+/// The same of a text that doesn't begin with a blank.
+#[tactic(auto, unfolding(crate::specs::Token::token_at))]
+fn word_in_front(text: &[u8]) -> Option<(Keyword, &[u8])>
+    ensures some { IfSome result (λ found. 0 < length text.now) }
+    ensures token { IfSome result (λ found. token_at text.now ≡ (Word found.0, found.1.now)) }
+{
+    if text.is_empty() {
+        return None;
+    }
+    match text[0] {
+        b',' => None,
+        b';' => None,
+        _ => {
+            if begins_quoted(text) {
+                None
+            } else if ByteClass::Word.has(text[0]) {
+                word_run(text)
+            } else {
+                None
+            }
+        }
+    }
+}
+
+/// A run of word bytes that is a word of the grammar.
+fn word_run(text: &[u8]) -> Option<(Keyword, &[u8])>
+    ensures { IfSome result (λ found. run_at text.now ≡ (Word found.0, found.1.now)) }
+{
+    let (run, rest) = ByteClass::Word.split(text);
+    match word_of_run(run) {
+        Some(word) => Some((word, rest)),
+        None => None,
+    }
+}
+
+/// The number that stands first, and the text behind it.
+pub(crate) fn first_number(text: &[u8]) -> Option<(u64, &[u8])>
+    ensures { IfSome result (λ found. TakesNumber text.now found.0 found.1.now) }
+{
+    let (number, rest) = number_in_front(skip_blanks(text))?;
+    Some((number, rest))
+}
+
+/// The same of a text that doesn't begin with a blank.
+#[tactic(auto, unfolding(crate::specs::Token::token_at))]
+fn number_in_front(text: &[u8]) -> Option<(u64, &[u8])>
+    ensures some { IfSome result (λ found. 0 < length text.now) }
+    ensures token { IfSome result (λ found. token_at text.now ≡ (Value (part_of (literal_at text.now)) (Some found.0), found.1.now)) }
+{
+    if text.is_empty() {
+        return None;
+    }
+    match text[0] {
+        b',' => None,
+        b';' => None,
+        _ => {
+            if begins_quoted(text) {
+                None
+            } else if ByteClass::Word.has(text[0]) {
+                number_run(text)
+            } else {
+                None
+            }
+        }
+    }
+}
+
+/// A run of word bytes that is a number.
+fn number_run(text: &[u8]) -> Option<(u64, &[u8])>
+    ensures { IfSome result (λ found. run_at text.now ≡ (Value (part_of (literal_at text.now)) (Some found.0), found.1.now)) }
+{
+    let (run, rest) = ByteClass::Word.split(text);
+    match (word_of_run(run), number_part(text)) {
+        (None, Some(number)) => Some((number, rest)),
+        _ => None,
+    }
+}
+
+/// The text behind the byte, where that stands first.
+fn behind_byte(byte: u8, text: &[u8]) -> Option<&[u8]>
+    ensures { IfSome result (λ rest. text.now ≡ byte ∷ rest.now) }
+{
+    match text {
+        [first, rest @ ..] if *first == byte => Some(rest),
+        _ => None,
+    }
+}
+
+/// The text behind a comma that stands first.
+pub(crate) fn behind_comma(text: &[u8]) -> Option<&[u8]>
+    ensures { IfSome result (λ rest. Takes Comma text.now rest.now) }
+{
+    let rest = behind_byte(b',', skip_blanks(text))?;
+    Some(rest)
+}
+
+/// Whether nothing stands there but blanks and at most one `;`.
+pub(crate) fn ends(text: &[u8]) -> bool
+    ensures { IsTrue result → Ends text.now }
+{
+    let front = skip_blanks(text);
+    match behind_byte(b';', front) {
+        Some(rest) => skip_blanks(rest).is_empty(),
+        None => front.is_empty(),
+    }
+}
+
+/// Puts the literal that stands first into an empty text, and gives the text behind it.
+///
+/// Where none stands there the text holds anything.
+pub(crate) fn take_literal<'a>(bytes: &mut Bytes, text: &'a [u8]) -> Option<&'a [u8]>
+    requires { bytes.now.items ≡ [] }
+    ensures { IfSome result (λ rest. TakesLiteral text.now bytes.new rest.now) }
+{
+    let front = skip_blanks(text);
+    match take_plain(bytes, front) {
+        Some(rest) => Some(rest),
+        None => {
+            let rest = take_any(bytes, front)?;
+            Some(rest)
+        }
+    }
+}
+
+/// A literal of any form.
+fn take_any<'a>(bytes: &mut Bytes, text: &'a [u8]) -> Option<&'a [u8]>
+    ensures some { IfSome result (λ rest. 0 < length text.now) }
+    ensures token { IfSome result (λ rest. (number : Option ℕ) × (token_at text.now ≡ (Value (Some bytes.new) number, rest.now))) }
+{
+    if text.is_empty() {
+        return None;
+    }
+    let (token, rest) = token_of(text);
+    match token {
+        Token::Value(Some(found), _) => {
+            *bytes = found;
+            Some(rest)
+        }
+        _ => None,
+    }
+}
+
+/// A literal in quotes in which each byte stands for itself.
+fn take_plain<'a>(bytes: &mut Bytes, text: &'a [u8]) -> Option<&'a [u8]>
+    requires { bytes.now.items ≡ [] }
+    ensures some { IfSome result (λ rest. 0 < length text.now) }
+    ensures token { IfSome result (λ rest. token_at text.now ≡ (Value (Some bytes.new) None, rest.now)) }
+{
+    match behind_byte(b'\'', text) {
+        Some(body) => {
+            let rest = take_quoted(b'\'', bytes, body)?;
+            Some(rest)
+        }
+        None => {
+            let body = behind_byte(b'"', text)?;
+            let rest = take_quoted(b'"', bytes, body)?;
+            Some(rest)
+        }
+    }
+}
+
+/// The same from behind the opening quote on.
+fn take_quoted<'a>(quote: u8, bytes: &mut Bytes, body: &'a [u8]) -> Option<&'a [u8]>
+    requires { bytes.now.items ≡ [] }
+    ensures { IfSome result (λ rest. text_literal_of (quoted quote Plain body.now) ≡ Ok (bytes.new, rest.now)) }
+{
+    let (plain, closing) = split_plain(quote, body);
+    let rest = behind_quote(quote, closing)?;
+    match bytes.try_extend_from_slice(plain) {
+        Ok(()) => Some(rest),
+        Err(_) => None,
+    }
+}
+
+/// Whether the byte stands for itself between such quotes.
+fn is_plain(quote: u8, byte: u8) -> bool
+    ensures { result ≡ plain_in quote byte }
+{
+    byte != quote && byte != b'\\'
+}
+
+/// The bytes from the front on that stand for themselves, and the text behind them.
+fn split_plain(quote: u8, body: &[u8]) -> (&[u8], &[u8])
+    ensures front { result.0.now ≡ front (plain_in quote) body.now }
+    ensures behind { result.1.now ≡ behind (plain_in quote) body.now }
+{
+    for (i, byte) in body.iter().enumerate() {
+        if !is_plain(quote, *byte) {
+            return body.split_at(i);
+        }
+    }
+    body.split_at(body.len())
+}
+
+/// The text behind a quote that isn't the first of two.
+fn behind_quote(quote: u8, text: &[u8]) -> Option<&[u8]>
+    ensures { IfSome result (λ rest. Closes quote text.now rest.now) }
+{
+    match text {
+        [first, rest @ ..] if *first == quote && !begins_with(quote, rest) => Some(rest),
+        _ => None,
+    }
+}
+
+/// Whether the byte stands first.
+fn begins_with(byte: u8, text: &[u8]) -> bool
+    ensures { result ≡ heads byte text.now }
+{
+    !text.is_empty() && text[0] == byte
+}

@@ -1,0 +1,172 @@
+//! The usual statements, each read in one go: those of an xid alone, and those of rows.
+//!
+//! Where a text is none of them, the machine of states reads it.
+ghost use Rattle.std.specs.Prelude.{◌≡◌, ◌<◌, Some, [], length, IfSome};
+ghost use Rattle.xa_xid.specs.XidText.{xid_of, no_text};
+ghost use Rattle.xa_xid.specs.declared.statement.Statement.TheVariants.{Put};
+ghost use Rattle.xa_statement.specs.declared.state.Verb.{Verb};
+ghost use Rattle.xa_statement.specs.declared.state.RowVerb.TheVariants.{Gets, Puts, Deletes};
+ghost use Rattle.xa_statement.specs.declared.state.State.TheVariants.{AtFirst, AfterXa, WantsGtrid, WantsBqual, WantsFormatId, WantsKey};
+ghost use Rattle.xa_statement.specs.Machine.{after_word, statement_of};
+ghost use Rattle.xa_statement.specs.Reading.{read_of, seen_of};
+ghost use Rattle.xa_statement.specs.Ways.{Goes, Leads};
+
+use crate::SyntaxFault;
+use crate::first::{behind_comma, ends, first_number, first_word, take_literal};
+use crate::reader::read_tokens;
+use crate::state::{Verb, statement_of};
+use crate::token::Keyword;
+use xa_xid::{Bytes, Key, Statement, Xid};
+
+/// The statement that the whole text spells.
+pub(crate) fn read_any(text: &[u8]) -> Result<Statement, SyntaxFault>
+    ensures { result ≡ seen_of (read_of text.now) }
+{
+    match first_word(text) {
+        Some((Keyword::Xa, rest)) => read_xa(text, rest),
+        Some((Keyword::Put, rest)) => read_put(text, rest),
+        Some((Keyword::Get, rest)) => read_get(text, rest),
+        Some((Keyword::Del, rest)) => read_del(text, rest),
+        _ => read_tokens(text),
+    }
+}
+
+/// What the word behind `XA` does with an xid.
+fn verb_of(word: Keyword) -> Option<Verb>
+    ensures { IfSome result (λ verb. after_word AfterXa word ≡ Some (WantsGtrid verb)) }
+{
+    match word {
+        Keyword::Start | Keyword::Begin => Some(Verb::Starts),
+        Keyword::End => Some(Verb::Ends),
+        Keyword::Prepare => Some(Verb::Prepares),
+        Keyword::Commit => Some(Verb::Commits),
+        Keyword::Rollback => Some(Verb::RollsBack),
+        _ => None,
+    }
+}
+
+/// A text that begins with `XA`.
+fn read_xa(text: &[u8], rest: &[u8]) -> Result<Statement, SyntaxFault>
+    requires { Goes AtFirst text.now AfterXa rest.now }
+    ensures { result ≡ seen_of (read_of text.now) }
+{
+    if let Some((word, rest)) = first_word(rest) {
+        if let Some(verb) = verb_of(word) {
+            return read_branch(verb, text, rest);
+        }
+    }
+    read_tokens(text)
+}
+
+/// A text in which an xid is wanted.
+fn read_branch(verb: Verb, text: &[u8], rest: &[u8]) -> Result<Statement, SyntaxFault>
+    requires { Goes AtFirst text.now (WantsGtrid verb) rest.now }
+    ensures { result ≡ seen_of (read_of text.now) }
+{
+    let mut xid = Xid {
+        format_id: 1,
+        gtrid: Bytes::new(),
+        bqual: Bytes::new(),
+    };
+    match take_xid(&mut xid, rest) {
+        Some(end) if ends(end) => Ok(statement_of(verb, xid)),
+        _ => read_tokens(text),
+    }
+}
+
+/// Fills an xid, and gives the text behind it.
+fn take_xid<'a>(xid: &mut Xid, text: &'a [u8]) -> Option<&'a [u8]>
+    requires { xid.now ≡ xid_of no_text no_text 1 }
+    ensures { IfSome result (λ rest. (verb : Verb) → Leads (WantsGtrid verb) text.now (statement_of verb xid.new) rest.now) }
+{
+    let rest = take_literal(&mut xid.gtrid, text)?;
+    match behind_comma(rest) {
+        Some(next) => {
+            let end = take_bqual(xid, next)?;
+            Some(end)
+        }
+        None => Some(rest),
+    }
+}
+
+/// Fills an xid from its bqual on.
+fn take_bqual<'a>(xid: &mut Xid, text: &'a [u8]) -> Option<&'a [u8]>
+    requires { xid.now ≡ xid_of xid.now.gtrid no_text 1 }
+    ensures { IfSome result (λ rest. (verb : Verb) → Leads (WantsBqual verb xid.old.gtrid) text.now (statement_of verb xid.new) rest.now) }
+{
+    let rest = take_literal(&mut xid.bqual, text)?;
+    match behind_comma(rest) {
+        Some(next) => {
+            let end = take_format_id(xid, next)?;
+            Some(end)
+        }
+        None => Some(rest),
+    }
+}
+
+/// Fills an xid's formatID.
+fn take_format_id<'a>(xid: &mut Xid, text: &'a [u8]) -> Option<&'a [u8]>
+    ensures { IfSome result (λ rest. (verb : Verb) → Leads (WantsFormatId verb xid.old.gtrid xid.old.bqual) text.now (statement_of verb xid.new) rest.now) }
+{
+    let (number, rest) = first_number(text)?;
+    xid.format_id = number;
+    Some(rest)
+}
+
+/// A text that begins with `GET`.
+fn read_get(text: &[u8], rest: &[u8]) -> Result<Statement, SyntaxFault>
+    requires { Goes AtFirst text.now (WantsKey Gets) rest.now }
+    ensures { result ≡ seen_of (read_of text.now) }
+{
+    let mut bytes = Bytes::new();
+    match take_literal(&mut bytes, rest) {
+        Some(end) if ends(end) => match Key::of(bytes) {
+            Some(key) => Ok(Statement::Get(key)),
+            None => read_tokens(text),
+        },
+        _ => read_tokens(text),
+    }
+}
+
+/// A text that begins with `DEL`.
+fn read_del(text: &[u8], rest: &[u8]) -> Result<Statement, SyntaxFault>
+    requires { Goes AtFirst text.now (WantsKey Deletes) rest.now }
+    ensures { result ≡ seen_of (read_of text.now) }
+{
+    let mut bytes = Bytes::new();
+    match take_literal(&mut bytes, rest) {
+        Some(end) if ends(end) => match Key::of(bytes) {
+            Some(key) => Ok(Statement::Del(key)),
+            None => read_tokens(text),
+        },
+        _ => read_tokens(text),
+    }
+}
+
+/// A text that begins with `PUT`.
+fn read_put(text: &[u8], rest: &[u8]) -> Result<Statement, SyntaxFault>
+    requires { Goes AtFirst text.now (WantsKey Puts) rest.now }
+    ensures { result ≡ seen_of (read_of text.now) }
+{
+    let mut bytes = Bytes::new();
+    let mut value = Bytes::new();
+    match take_row(&mut bytes, &mut value, rest) {
+        Some(end) if ends(end) => match Key::of(bytes) {
+            Some(key) => Ok(Statement::Put(key, value)),
+            None => read_tokens(text),
+        },
+        _ => read_tokens(text),
+    }
+}
+
+/// Fills a key and a value, and gives the text behind them.
+fn take_row<'a>(key: &mut Bytes, value: &mut Bytes, text: &'a [u8]) -> Option<&'a [u8]>
+    requires key { key.now.items ≡ [] }
+    requires value { value.now.items ≡ [] }
+    ensures { IfSome result (λ rest. 0 < length key.new.items → Leads (WantsKey Puts) text.now (Put key.new.items value.new) rest.now) }
+{
+    let found = take_literal(key, text)?;
+    let next = behind_comma(found)?;
+    let rest = take_literal(value, next)?;
+    Some(rest)
+}
