@@ -6,4 +6,6 @@ mod overview;
 #[cfg(test)]
 mod sharing;
 #[cfg(test)]
+mod texts;
+#[cfg(test)]
 mod worked;
