@@ -16,7 +16,8 @@ use Rattle.chain_log.specs.ChainRule.{newest_for, Knows, ChainRule}
 use Rattle.chain_log.proofs.ChainSteps.{Rules, knows_seen, newest_by}
 use Rattle.chain_log.proofs.Names.{name_zero}
 
-has_seats : (sizes : Sizes) (words : List ℕ) (views : List View) → ChainRule sizes words views → HasSeats (ChainRule sizes words) (Knows sizes words) newest_for sizes words views
+has_seats : (sizes : Sizes) (words : List ℕ) (views : List View) → ChainRule sizes words views
+    → HasSeats (ChainRule sizes words) (Knows sizes words) newest_for sizes words views
 has_seats sizes words views r = record {
   log = r.log;
   home = r.home;
@@ -59,7 +60,8 @@ pub keeps_seats : KeepsSeats Rules newest_for
 keeps_seats = seats_kept ChainRule Knows newest_for has_seats
 
 -- an empty log, none of whose passes is given out
-pub at_opening : (sizes : Sizes) (words : List ℕ) → length words ≡ word_count sizes.sessions sizes.capacity → slice_index words 0 ≡ 0 → ChainRule sizes words (Rest (newcomer_hand sizes.sessions sizes.capacity 1) ∷ [])
+pub at_opening : (sizes : Sizes) (words : List ℕ) → length words ≡ word_count sizes.sessions sizes.capacity → slice_index words 0 ≡ 0
+    → ChainRule sizes words (Rest (newcomer_hand sizes.sessions sizes.capacity 1) ∷ [])
 at_opening sizes words wide zeros = record {
   log = [];
   home = λ n. 0;
@@ -79,6 +81,18 @@ at_opening sizes words wide zeros = record {
 
     first : Seats (Knows sizes words []) (λ n. 0) 1 (Rest (newcomer_hand sizes.sessions sizes.capacity 1) ∷ [])
     first zero view is =
-        subst (λ v. Fits (Knows sizes words []) (λ n. 0) 1 0 v) (some-injective (Rest (newcomer_hand sizes.sessions sizes.capacity 1)) view is)
-        (refl, refl, record { sessions = refl; capacity = refl; seen = refl; mine = refl; part = refl; short = omega arith; column = λ some. absurd (omega arith); draft = λ i below. absurd (omega arith) })
+        subst (λ v. Fits (Knows sizes words []) (λ n. 0) 1 0 v) (some-injective (Rest (newcomer_hand sizes.sessions sizes.capacity 1)) view is) (
+          refl,
+          refl,
+          record {
+            sessions = refl;
+            capacity = refl;
+            seen = refl;
+            mine = refl;
+            part = refl;
+            short = omega arith;
+            column = λ some. absurd (omega arith);
+            draft = λ i below. absurd (omega arith);
+          },
+        )
     first (suc id) view is = absurd (some-ne-none view (sym is))

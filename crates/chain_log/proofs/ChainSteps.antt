@@ -56,7 +56,8 @@ module _ (sizes : Sizes) (words : List ℕ) (views : List View) (r : ChainRule s
   newest_by h sessions = r.newest ∙ ap (λ s. newest_of s r.log) (sym sessions)
 
   -- a pass that has seen the whole history, or a prefix of it, and has no draft
-  pub knows_seen : (h k : Hand) → Knows sizes words r.log h → k.sessions ≡ h.sessions → k.capacity ≡ h.capacity → k.known.number ≡ h.known.number → k.known.mine ≡ h.known.mine → k.draft ≡ []
+  pub knows_seen : (h k : Hand) → Knows sizes words r.log h → k.sessions ≡ h.sessions → k.capacity ≡ h.capacity → k.known.number ≡ h.known.number
+      → k.known.mine ≡ h.known.mine → k.draft ≡ []
       → Begins k.known.seen r.log → entries_of h.known.number k.known.seen ≡ h.known.mine → Knows sizes words r.log k
   knows_seen h k is sessions capacity number mine draft begins part = record {
     sessions = sessions ∙ is.sessions;
@@ -86,13 +87,15 @@ module _ (sizes : Sizes) (words : List ℕ) (views : List View) (r : ChainRule s
   }
 
   -- a pass has seen the whole history
-  pub seen_keeps : (id : ℕ) (h k : Hand) → get_elem? views id ≡ some (One h) → k.sessions ≡ h.sessions → k.capacity ≡ h.capacity → k.known.number ≡ h.known.number → k.known.mine ≡ h.known.mine → k.draft ≡ [] → k.known.seen ≡ r.log
+  pub seen_keeps : (id : ℕ) (h k : Hand) → get_elem? views id ≡ some (One h) → k.sessions ≡ h.sessions → k.capacity ≡ h.capacity
+      → k.known.number ≡ h.known.number → k.known.mine ≡ h.known.mine → k.draft ≡ [] → k.known.seen ≡ r.log
       → ChainRule sizes words (set views id (One k))
   seen_keeps id h k here sessions capacity number mine draft all =
       let is = (known id h here).fact_is in
       with_seats (set views id (One k))
       (step_seat (Knows sizes words r.log) (Knows sizes words r.log) r.home r.next views id h k r.seats here number
-      (knows_seen h k is sessions capacity number mine draft (subst (λ list. Begins list r.log) (sym all) (begins_itself r.log)) (ap (entries_of h.known.number) all ∙ is.mine))
+      (knows_seen h k is sessions capacity number mine draft (subst (λ list. Begins list r.log) (sym all) (begins_itself r.log))
+      (ap (entries_of h.known.number) all ∙ is.mine))
       (λ g apart low other. other))
 
   -- a word of the cell of an entry that was seen
@@ -103,7 +106,8 @@ module _ (sizes : Sizes) (words : List ℕ) (views : List View) (r : ChainRule s
       ap (λ s. get_or words (cell_at (name_at s row entry.session) + index) 0) k.sessions
       ∙ r.cells row entry there index (omega (arith, length-words_of entry))
       ∙ ap (λ link. get_or (link ∷ words_of entry) index 0)
-      (sym (name_begins sizes.sessions h.known.seen r.log row k.seen (omega (arith, slice_get_within h.known.seen row entry is))) ∙ ap (λ s. name_before s h.known.seen row) (sym k.sessions))
+      (sym (name_begins sizes.sessions h.known.seen r.log row k.seen (omega (arith, slice_get_within h.known.seen row entry is)))
+      ∙ ap (λ s. name_before s h.known.seen row) (sym k.sessions))
 
 -- a load leaves the words
 pub loaded : (sizes : Sizes) (words : List ℕ) (i : ℕ) (views : List View) → ChainRule sizes words views → ChainRule sizes (set words i (get_or words i 0)) views
@@ -115,17 +119,20 @@ look_step sizes slots id h state r homes here small =
       One (looked h r.log),
       keeps,
       tt,
-      loaded sizes state.words 0 (set state.views id (One (looked h r.log))) (seen_keeps sizes state.words state.views r id h (looked h r.log) here refl refl refl refl refl refl),
+      loaded sizes state.words 0 (set state.views id (One (looked h r.log)))
+          (seen_keeps sizes state.words state.views r id h (looked h r.log) here refl refl refl refl refl refl),
       (looked h r.log, refl, (refl, r.log, refl, newest_by sizes state.words state.views r h k.sessions, history sizes state.words state.views r h k)),
     )
 
 -- a load that leaves what the pass knows
-pub same_seat : (sizes : Sizes) (words : List ℕ) (views : List View) (r : ChainRule sizes words views) (id word : ℕ) (h : Hand) → get_elem? views id ≡ some (One h)
+pub same_seat : (sizes : Sizes) (words : List ℕ) (views : List View) (r : ChainRule sizes words views) (id word : ℕ) (h : Hand)
+    → get_elem? views id ≡ some (One h)
     → ChainRule sizes (set words word (get_or words word 0)) (set views id (One h))
 same_seat sizes words views r id word h here =
     loaded sizes words word (set views id (One h))
     (with_seats sizes words views r (set views id (One h))
-    (step_seat (Knows sizes words r.log) (Knows sizes words r.log) r.home r.next views id h h r.seats here refl (known sizes words views r id h here).fact_is (λ g apart low k. k)))
+    (step_seat (Knows sizes words r.log) (Knows sizes words r.log) r.home r.next views id h h r.seats here refl (known sizes words views r id h here).fact_is
+    (λ g apart low k. k)))
 
 pub read_step : (sizes : Sizes) (slots id word : ℕ) (h : Hand) → word ≢ 0 → Allows (Rules sizes) slots id (seated h) word (λ n. n) (Tells (Reads (Load word) h))
 read_step sizes slots id word h behind state r homes here small =

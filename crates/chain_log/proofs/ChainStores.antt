@@ -1,5 +1,6 @@
 -- The steps of a chain that change a word keep the rule.
-use Rattle.std.proofs.Common.{◌≡◌, ◌≢◌, ℕ, ◌+◌, ◌-◌, ◌<◌, ◌≤◌, List, [], ◌∷◌, ◌++◌, length, take, set, get_or, refl, ap, sym, ◌∙◌, subst, ⊎_elim, Some, arith, eqb, length-append}
+use Rattle.std.proofs.Common.{◌≡◌, ◌≢◌, ℕ, ◌+◌, ◌-◌, ◌<◌, ◌≤◌, List, [], ◌∷◌, ◌++◌, length, take, set, get_or, refl, ap, sym, ◌∙◌, subst, ⊎_elim, Some, arith}
+use Rattle.std.proofs.Common.{eqb, length-append}
 use Rattle.std.specs.Prelude.{slice_get}
 use mathlib.Core.Option.{some}
 use mathlib.Core.Logic.{dite}
@@ -45,7 +46,8 @@ module _ (sizes : Sizes) (words : List ℕ) (views : List View) (r : ChainRule s
   own_by h sessions = ap (λ s. cell_at (name_at s (length h.known.seen) h.known.number)) sessions
 
   -- a word of a pass's own cell isn't one of the history's cells
-  not_of_history : (id : ℕ) (h : Hand) (index row i : ℕ) (entry : Entry) → get_elem? views id ≡ some (One h) → index < 22 → i < 22 → slice_get r.log row ≡ Some entry
+  not_of_history : (id : ℕ) (h : Hand) (index row i : ℕ) (entry : Entry) → get_elem? views id ≡ some (One h) → index < 22 → i < 22
+      → slice_get r.log row ≡ Some entry
       → cell_at (name_at sizes.sessions row entry.session) + i ≢ own_cell h + index
   not_of_history id h index row i entry here below below' is same =
       let k = (known sizes words views r id h here).fact_is in
@@ -59,7 +61,8 @@ module _ (sizes : Sizes) (words : List ℕ) (views : List View) (r : ChainRule s
       below' below (same ∙ ap (λ a. a + index) (own_by h k.sessions))
 
   -- nor is it a word of the draft of a pass of another number
-  not_of_other : (id : ℕ) (h g : Hand) (index i : ℕ) → get_elem? views id ≡ some (One h) → index < 22 → g.known.number ≢ h.known.number → 0 < g.known.number → Knows sizes words r.log g → i < length g.draft
+  not_of_other : (id : ℕ) (h g : Hand) (index i : ℕ) → get_elem? views id ≡ some (One h) → index < 22 → g.known.number ≢ h.known.number → 0 < g.known.number
+      → Knows sizes words r.log g → i < length g.draft
       → own_cell g + i ≢ own_cell h + index
   not_of_other id h g index i here below apart low k less same =
       let p = (known sizes words views r id h here).fact_is in
@@ -71,12 +74,14 @@ module _ (sizes : Sizes) (words : List ℕ) (views : List View) (r : ChainRule s
       (omega (arith, less, k.short)) below (sym (ap (λ a. a + i) (own_by g k.sessions)) ∙ same ∙ ap (λ a. a + index) (own_by h p.sessions))
 
   -- the own cell is within the log
-  own_within : (id : ℕ) (h : Hand) (index : ℕ) → get_elem? views id ≡ some (One h) → index < 22 → length h.known.seen < h.capacity → own_cell h + index < length words
+  own_within : (id : ℕ) (h : Hand) (index : ℕ) → get_elem? views id ≡ some (One h) → index < 22 → length h.known.seen < h.capacity
+      → own_cell h + index < length words
   own_within id h index here below room =
       let k = (known sizes words views r id h here).fact_is in
       let n = numbered id h here in
       let w = within_words sizes.sessions sizes.capacity (length h.known.seen) h.known.number index (omega (arith, room, k.capacity)) n.0 n.1 below in
-      subst (λ a. a + index < length words) (sym (own_by h k.sessions)) (subst (λ n. cell_at (name_at sizes.sessions (length h.known.seen) h.known.number) + index < n) (sym r.wide) w)
+      subst (λ a. a + index < length words) (sym (own_by h k.sessions))
+      (subst (λ n. cell_at (name_at sizes.sessions (length h.known.seen) h.known.number) + index < n) (sym r.wide) w)
 
   -- a word of the own cell is stored
   draft_keeps : (id : ℕ) (h : Hand) (index new : ℕ) → get_elem? views id ≡ some (One h) → index ≤ length h.draft → index < 22 → length h.known.seen < h.capacity
@@ -139,7 +144,8 @@ module _ (sizes : Sizes) (words : List ℕ) (views : List View) (r : ChainRule s
       let longer : length log' ≡ length r.log + 1 = length-append r.log (entry ∷ []) in
       let seen' : h.known.seen ++ entry ∷ [] ≡ log' = ap (λ list. list ++ entry ∷ []) all in
       let own_is : own_cell h ≡ cell_at (name_at sizes.sessions (length r.log) entry.session) =
-      own_by h k.sessions ∙ ap (λ list. cell_at (name_at sizes.sessions (length list) h.known.number)) all ∙ ap (λ n. cell_at (name_at sizes.sessions (length r.log) n)) (sym own) in
+      own_by h k.sessions ∙ ap (λ list. cell_at (name_at sizes.sessions (length list) h.known.number)) all
+      ∙ ap (λ n. cell_at (name_at sizes.sessions (length r.log) n)) (sym own) in
       let cell : Holds words (cell_at (name_at sizes.sessions (length r.log) entry.session)) (newest_of sizes.sessions r.log ∷ words_of entry) =
       subst (λ at. Holds words at (newest_of sizes.sessions r.log ∷ words_of entry)) own_is (subst (λ draft. Holds words (own_cell h) draft) whole k.draft) in
       let link : (row : ℕ) → row ≤ length r.log → name_before sizes.sessions r.log row ≡ name_before sizes.sessions log' row =
@@ -150,19 +156,25 @@ module _ (sizes : Sizes) (words : List ℕ) (views : List View) (r : ChainRule s
         next = r.next;
         wide = length-set words 0 new ∙ r.wide;
         room = omega (arith, longer);
-        newest = get_or-set_same words 0 new 0 (omega (arith, r.wide)) ∙ ap (name_at sizes.sessions (length r.log)) (sym own) ∙ sym (newest_added sizes.sessions r.log entry);
+        newest =
+            get_or-set_same words 0 new 0 (omega (arith, r.wide)) ∙ ap (name_at sizes.sessions (length r.log)) (sym own)
+            ∙ sym (newest_added sizes.sessions r.log entry);
         cells =
             λ row other at.
-            holds_beside words 0 new (cell_at (name_at sizes.sessions row other.session)) (name_before sizes.sessions log' row ∷ words_of other) (λ i less e. omega arith)
+            holds_beside words 0 new (cell_at (name_at sizes.sessions row other.session)) (name_before sizes.sessions log' row ∷ words_of other)
+            (λ i less e. omega arith)
             (⊎_elim
-            (λ t. subst (λ name. Holds words (cell_at (name_at sizes.sessions row other.session)) (name ∷ words_of other)) (link row (omega (arith, slice_get_within r.log row other t))) (r.cells row other t))
+            (λ t. subst (λ name. Holds words (cell_at (name_at sizes.sessions row other.session)) (name ∷ words_of other))
+            (link row (omega (arith, slice_get_within r.log row other t))) (r.cells row other t))
             (λ t. subst (λ x. Holds words (cell_at (name_at sizes.sessions row x.session)) (name_before sizes.sessions log' row ∷ words_of x)) t.1
             (subst (λ n. Holds words (cell_at (name_at sizes.sessions n entry.session)) (name_before sizes.sessions log' n ∷ words_of entry)) (sym t.0)
-            (subst (λ name. Holds words (cell_at (name_at sizes.sessions (length r.log) entry.session)) (name ∷ words_of entry)) (link (length r.log) (omega arith)) cell)))
+            (subst (λ name. Holds words (cell_at (name_at sizes.sessions (length r.log) entry.session)) (name ∷ words_of entry))
+            (link (length r.log) (omega arith)) cell)))
             (get_last r.log entry row other at));
         entries =
             λ row other at.
-            ⊎_elim (λ t. r.entries row other t) (λ t. subst (λ x. IsEntry x × (x.session < r.next)) t.1 (is, omega (arith, own, p.high))) (get_last r.log entry row other at);
+            ⊎_elim (λ t. r.entries row other t) (λ t. subst (λ x. IsEntry x × (x.session < r.next)) t.1 (is, omega (arith, own, p.high)))
+            (get_last r.log entry row other at);
         begun = r.begun;
         within = r.within;
         seats =
@@ -195,27 +207,31 @@ module _ (sizes : Sizes) (words : List ℕ) (views : List View) (r : ChainRule s
       let low = length_begins h.known.seen r.log k.seen in
       let mine : newest_of h.sessions h.known.seen ≡ name_before sizes.sessions r.log (length h.known.seen) =
       ap (λ s. newest_of s h.known.seen) k.sessions ∙ name_begins sizes.sessions h.known.seen r.log (length h.known.seen) k.seen (omega arith) in
-      let lengths = one_length sizes.sessions r.log (length h.known.seen) (length r.log) (ranged sizes words views r) low (omega arith) (sym mine ∙ same ∙ r.newest) in
+      let lengths =
+      one_length sizes.sessions r.log (length h.known.seen) (length r.log) (ranged sizes words views r) low (omega arith) (sym mine ∙ same ∙ r.newest) in
       begins_same h.known.seen r.log k.seen (omega (arith, lengths))
 
   -- words that a step leaves spell what the rule has after it
   one_log : (words' : List ℕ) (one other : List View) (p : ChainRule sizes words' one) (q : ChainRule sizes words' other) → p.log ≡ q.log
   one_log words' one other p q = one_chain words' p.log q.log (chain_of sizes words' one p) (chain_of sizes words' other q)
 
-  pub stored_log : (views' : List View) (id : ℕ) (h : Hand) (index new : ℕ) → get_elem? views id ≡ some (One h) → index ≤ length h.draft → index < 22 → length h.known.seen < h.capacity
+  pub stored_log : (views' : List View) (id : ℕ) (h : Hand) (index new : ℕ) → get_elem? views id ≡ some (One h) → index ≤ length h.draft → index < 22
+      → length h.known.seen < h.capacity
       → (after : ChainRule sizes (set words (own_cell h + index) new) views') → after.log ≡ r.log
   unfolding draft_keeps
   stored_log views' id h index new here along below room after =
       one_log (set words (own_cell h + index) new) views' (set views id (One (drafted h index new))) after (draft_keeps id h index new here along below room)
 
-  pub won_log : (views' : List View) (id : ℕ) (h : Hand) (entry : Entry) → get_elem? views id ≡ some (One h) → get_or words 0 0 ≡ newest_of h.sessions h.known.seen → IsEntry entry → entry.session ≡ h.known.number
+  pub won_log : (views' : List View) (id : ℕ) (h : Hand) (entry : Entry) → get_elem? views id ≡ some (One h)
+      → get_or words 0 0 ≡ newest_of h.sessions h.known.seen → IsEntry entry → entry.session ≡ h.known.number
       → h.draft ≡ newest_of h.sessions h.known.seen ∷ words_of entry → length h.known.seen < h.capacity
       → (after : ChainRule sizes (set words 0 (name_at h.sessions (length h.known.seen) h.known.number)) views') → after.log ≡ r.log ++ entry ∷ []
   unfolding win_keeps
   won_log views' id h entry here newest is own whole room after =
       let k = (known sizes words views r id h here).fact_is in
       let all = all_seen h k (sym newest) in
-      let last : newest_of h.sessions h.known.seen ≡ newest_of sizes.sessions r.log = ap (λ s. newest_of s h.known.seen) k.sessions ∙ ap (newest_of sizes.sessions) all in
+      let last : newest_of h.sessions h.known.seen ≡ newest_of sizes.sessions r.log =
+      ap (λ s. newest_of s h.known.seen) k.sessions ∙ ap (newest_of sizes.sessions) all in
       let name : name_at h.sessions (length h.known.seen) h.known.number ≡ name_at sizes.sessions (length r.log) h.known.number =
       ap (λ s. name_at s (length h.known.seen) h.known.number) k.sessions ∙ ap (λ list. name_at sizes.sessions (length list) h.known.number) all in
       let kept = win_keeps id h entry here all is own (whole ∙ ap (λ n. n ∷ words_of entry) last) (omega (arith, ap length all, room, k.capacity)) in
@@ -230,7 +246,8 @@ module _ (sizes : Sizes) (words : List ℕ) (views : List View) (r : ChainRule s
       (λ short. absurd (other (ap (newest_of h.sessions) (begins_same h.known.seen r.log k.seen short) ∙ sym (newest_by sizes words views r h k.sessions))))
       (λ longer. omega arith)
 
-pub draft_step : (sizes : Sizes) (slots id word index new : ℕ) (h : Hand) → word ≡ own_cell h + index → index ≤ length h.draft → index < 22 → length h.known.seen < h.capacity
+pub draft_step : (sizes : Sizes) (slots id word index new : ℕ) (h : Hand) → word ≡ own_cell h + index → index ≤ length h.draft → index < 22
+    → length h.known.seen < h.capacity
     → Allows (Rules sizes) slots id (seated h) word (λ n. new) (λ n. Tells (Drafts (Store word new) h) new)
 draft_step sizes slots id word index new h at along below room state r homes here small =
     let back : word - own_cell h ≡ index = omega arith in (
@@ -244,7 +261,8 @@ draft_step sizes slots id word index new h at along below room state r homes her
     )
 
 -- a 0 that is found in the own cell is a word of the draft; any other word leaves the draft
-pub find_step : (sizes : Sizes) (slots id word index : ℕ) (h : Hand) → word ≡ own_cell h + index → index ≤ length h.draft → index < 22 → length h.known.seen < h.capacity
+pub find_step : (sizes : Sizes) (slots id word index : ℕ) (h : Hand) → word ≡ own_cell h + index → index ≤ length h.draft → index < 22
+    → length h.known.seen < h.capacity
     → Allows (Rules sizes) slots id (seated h) word (λ n. n) (Tells (Finds (Load word) h))
 find_step sizes slots id word index h at along below room state r homes here small =
     let n = get_or state.words word 0 in
@@ -269,7 +287,8 @@ find_step sizes slots id word index h at along below room state r homes here sma
       (h, refl, (behind, (λ blank. absurd (other blank)), (λ _. refl))),
     ))
 
-pub exchange_step : (sizes : Sizes) (slots id old own : ℕ) (h : Hand) (entry : Entry) → old ≡ newest_of h.sessions h.known.seen → own ≡ name_at h.sessions (length h.known.seen) h.known.number
+pub exchange_step : (sizes : Sizes) (slots id old own : ℕ) (h : Hand) (entry : Entry) → old ≡ newest_of h.sessions h.known.seen
+    → own ≡ name_at h.sessions (length h.known.seen) h.known.number
     → IsEntry entry → entry.session ≡ h.known.number → h.draft ≡ old ∷ words_of entry → length h.known.seen < h.capacity
     → Allows (Rules sizes) slots id (seated h) 0 (λ n. either (eqb n old) own n) (Tells (Exchanges (Exchange 0 old own (some entry)) h))
 exchange_step sizes slots id old own h entry last name is mine whole room state r homes here small =
@@ -297,7 +316,8 @@ exchange_step sizes slots id old own h entry last name is mine whole room state 
       keeps,
       tt,
       exchanged n old own (λ w. ChainRule sizes (set state.words 0 w) (set state.views id (One (lost h r.log)))) (λ f. absurd (ne f))
-          (λ f. loaded sizes state.words 0 (set state.views id (One (lost h r.log))) (seen_keeps sizes state.words state.views r id h (lost h r.log) here refl refl refl refl refl refl)),
+          (λ f. loaded sizes state.words 0 (set state.views id (One (lost h r.log)))
+          (seen_keeps sizes state.words state.views r id h (lost h r.log) here refl refl refl refl refl refl)),
       (
         lost h r.log,
         refl,
@@ -318,8 +338,10 @@ exchange_step sizes slots id old own h entry last name is mine whole room state 
     ))
 
 -- who looks has seen the whole history, which stays
-pub looked_log : (sizes : Sizes) (words words' : List ℕ) (views views' : List View) (r : ChainRule sizes words views) (after : ChainRule sizes words' views') (step : Atomic) (found id : ℕ) (old new : Hand) → Does step words found words'
-    → Counts newest_for try_word step found old new → new.known.looks ≢ old.known.looks → get_elem? views' id ≡ some (One new) → (new.known.seen ≡ after.log) × (after.log ≡ r.log)
+pub looked_log : (sizes : Sizes) (words words' : List ℕ) (views views' : List View) (r : ChainRule sizes words views) (after : ChainRule sizes words' views')
+    (step : Atomic) (found id : ℕ) (old new : Hand) → Does step words found words'
+    → Counts newest_for try_word step found old new → new.known.looks ≢ old.known.looks → get_elem? views' id ≡ some (One new)
+    → (new.known.seen ≡ after.log) × (after.log ≡ r.log)
 looked_log sizes words words' views views' r after step found id old new does counts rose here =
     let look = look_is newest_for try_word step found old new words words' does counts rose in
     subst (λ ws. (after : ChainRule sizes ws views') → (new.known.seen ≡ after.log) × (after.log ≡ r.log)) (sym look.1)

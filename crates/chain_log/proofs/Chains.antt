@@ -35,7 +35,8 @@ module _ (sizes : Sizes) (words : List ℕ) (views : List View) (r : ChainRule s
       let cell = r.cells row e t.1 in
       let is = (r.entries row e t.1).0 in
       let low = name_low sizes.sessions row e.session is.first_session in
-      let turned : reverse (take (suc row) r.log) ≡ e ∷ reverse (take row r.log) = ap reverse (take_next r.log row e t.1) ∙ reverse-append (take row r.log) (e ∷ []) in
+      let turned : reverse (take (suc row) r.log) ≡ e ∷ reverse (take row r.log) =
+      ap reverse (take_next r.log row e t.1) ∙ reverse-append (take row r.log) (e ∷ []) in
       let at = cell_at (name_at sizes.sessions row e.session) in
       let before = walk_below row (omega arith) in
       subst (λ name. Walk words name (reverse (take (suc row) r.log))) (sym (name_next sizes.sessions r.log row e t.1))
@@ -49,7 +50,8 @@ module _ (sizes : Sizes) (words : List ℕ) (views : List View) (r : ChainRule s
   pub chain_of : Chain words r.log
   chain_of =
       subst (λ name. Walk words name (reverse r.log)) (sym r.newest)
-      (subst (λ list. Walk words (newest_of sizes.sessions r.log) (reverse list)) (take_all (length r.log) r.log (omega arith)) (walk_below (length r.log) (omega arith)))
+      (subst (λ list. Walk words (newest_of sizes.sessions r.log) (reverse list)) (take_all (length r.log) r.log (omega arith))
+      (walk_below (length r.log) (omega arith)))
 
 -- a walk meets one list of entries
 one_walk : (words : List ℕ) (name : ℕ) (one other : List Entry) → Walk words name one → Walk words name other → one ≡ other
@@ -65,4 +67,5 @@ one_walk words name (x ∷ xs) (y ∷ ys) w v =
     λ i. first i ∷ rest i
 
 pub one_chain : (words : List ℕ) (one other : List Entry) → Chain words one → Chain words other → one ≡ other
-one_chain words one other c d = sym (reverse-reverse one) ∙ ap reverse (one_walk words (slice_index words 0) (reverse one) (reverse other) c d) ∙ reverse-reverse other
+one_chain words one other c d =
+    sym (reverse-reverse one) ∙ ap reverse (one_walk words (slice_index words 0) (reverse one) (reverse other) c d) ∙ reverse-reverse other

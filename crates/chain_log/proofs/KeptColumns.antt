@@ -1,5 +1,6 @@
 -- The table of columns says which cell stands in a row, and stays so of a longer history.
-use Rattle.std.proofs.Common.{◌≡◌, ℕ, ◌+◌, ◌-◌, ◌*◌, ◌%◌, ◌<◌, ◌≤◌, List, [], ◌∷◌, ◌++◌, length, get_or, set, refl, ap, sym, ◌∙◌, subst, arith, add-one, length-append}
+use Rattle.std.proofs.Common.{◌≡◌, ℕ, ◌+◌, ◌-◌, ◌*◌, ◌%◌, ◌<◌, ◌≤◌, List, [], ◌∷◌, ◌++◌, length, get_or, set, refl, ap, sym, ◌∙◌, subst, arith, add-one}
+use Rattle.std.proofs.Common.{length-append}
 use Rattle.std.specs.Prelude.{slice_index}
 use mathlib.Core.Logic.{dite}
 use native.Mathlib.Decide.{ℕ_discrete, dec_le}
@@ -23,12 +24,14 @@ column_of_name sessions row session low high =
     ap (λ n. n % sessions + 1) front ∙ ap (λ n. n + 1) (add-mul-mod_self_right (session - 1) row sessions ∙ rest) ∙ whole
 
 -- the cell of a row by its column
-pub name_by_column : (sessions : ℕ) (log : List Entry) (row column : ℕ) → column ≡ session_at log row → name_at sessions row column ≡ name_before sessions log (row + 1)
+pub name_by_column : (sessions : ℕ) (log : List Entry) (row column : ℕ) → column ≡ session_at log row
+    → name_at sessions row column ≡ name_before sessions log (row + 1)
 unfolding name_before
 name_by_column sessions log row column is = ap (name_at sessions row) is ∙ sym (ap (name_before sessions log) (add-one row))
 
 -- whose entry stands in a row that was seen
-pub session_ranged : (sessions : ℕ) (log : List Entry) (row : ℕ) → AllOf sessions log → row < length log → (1 ≤ session_at log row) × (session_at log row ≤ sessions)
+pub session_ranged : (sessions : ℕ) (log : List Entry) (row : ℕ) → AllOf sessions log → row < length log
+    → (1 ≤ session_at log row) × (session_at log row ≤ sessions)
 session_ranged sessions log row all below =
     let e = there log row below in
     subst (λ n. (1 ≤ n) × (n ≤ sessions)) (sym (session_there log row e.0 e.1)) (ranged_all sessions log all row e.0 e.1)
@@ -40,14 +43,16 @@ session_begins xs ys row begins below =
     session_there xs row e.0 e.1 ∙ sym (session_there ys row e.0 (get_begins xs ys row e.0 begins e.1))
 
 -- the table is as good for a longer history, so far as it reaches
-pub columns_longer : (capacity : ℕ) (xs ys : List Entry) (columns : List ℕ) → Begins xs ys → HasColumns capacity (length xs) xs columns → HasColumns capacity (length xs) ys columns
+pub columns_longer : (capacity : ℕ) (xs ys : List Entry) (columns : List ℕ) → Begins xs ys → HasColumns capacity (length xs) xs columns
+    → HasColumns capacity (length xs) ys columns
 columns_longer capacity xs ys columns begins is = record {
   sized = is.sized;
   filled = λ row below. is.filled row below ∙ session_begins xs ys row begins below;
 }
 
 -- one entry more
-pub columns_more : (capacity : ℕ) (xs : List Entry) (entry : Entry) (columns : List ℕ) (column : ℕ) → length xs < capacity → column ≡ entry.session → HasColumns capacity (length xs) xs columns
+pub columns_more : (capacity : ℕ) (xs : List Entry) (entry : Entry) (columns : List ℕ) (column : ℕ) → length xs < capacity → column ≡ entry.session
+    → HasColumns capacity (length xs) xs columns
     → HasColumns capacity (length (xs ++ entry ∷ [])) (xs ++ entry ∷ []) (set columns (length xs) column)
 columns_more capacity xs entry columns column room is kept =
     let ys : List Entry = xs ++ entry ∷ [] in
@@ -59,8 +64,10 @@ columns_more capacity xs entry columns column room is kept =
       sized = length-set columns (length xs) column ∙ kept.sized;
       filled = λ row below.
           dite (ℕ_discrete row (length xs))
-          (λ e. ap (λ n. get_or (set columns (length xs) column) n 0) e ∙ get_or-set_same columns (length xs) column 0 within ∙ is ∙ sym last ∙ ap (session_at ys) (sym e))
-          (λ ne. get_or-set_other columns (length xs) row column 0 ne ∙ kept.filled row (omega (arith, longer)) ∙ session_begins xs ys row begins (omega (arith, longer)));
+          (λ e. ap (λ n. get_or (set columns (length xs) column) n 0) e ∙ get_or-set_same columns (length xs) column 0 within ∙ is ∙ sym last
+          ∙ ap (session_at ys) (sym e))
+          (λ ne. get_or-set_other columns (length xs) row column 0 ne ∙ kept.filled row (omega (arith, longer))
+          ∙ session_begins xs ys row begins (omega (arith, longer)));
     }
 
 -- the name of the cell that a row has below it
@@ -78,14 +85,16 @@ pub record IsFilling (capacity first row : ℕ) (history : List Entry) (columns 
   pub before : (k : ℕ) → k < first → slice_index columns k ≡ session_at history k
   pub behind : (k : ℕ) → row ≤ k → k < length history → slice_index columns k ≡ session_at history k
 
-pub filling_first : (capacity first row : ℕ) (log : List Entry) (columns : List ℕ) → length log ≤ row → HasColumns capacity first log columns → IsFilling capacity first row log columns
+pub filling_first : (capacity first row : ℕ) (log : List Entry) (columns : List ℕ) → length log ≤ row → HasColumns capacity first log columns
+    → IsFilling capacity first row log columns
 filling_first capacity first row log columns all kept = record {
   sized = kept.sized;
   before = kept.filled;
   behind = λ k from below. absurd (omega arith);
 }
 
-pub filling_next : (capacity first row column : ℕ) (log : List Entry) (columns : List ℕ) → first < row → row ≤ length log → length log ≤ capacity → column ≡ session_at log (row - 1)
+pub filling_next : (capacity first row column : ℕ) (log : List Entry) (columns : List ℕ) → first < row → row ≤ length log → length log ≤ capacity
+    → column ≡ session_at log (row - 1)
     → IsFilling capacity first row log columns → IsFilling capacity first (row - 1) log (set columns (row - 1) column)
 filling_next capacity first row column log columns some within room is filling =
     let below : ℕ = row - 1 in
@@ -99,7 +108,8 @@ filling_next capacity first row column log columns some within room is filling =
           (λ ne. get_or-set_other columns below k column 0 ne ∙ filling.behind k (omega arith) low);
     }
 
-pub filling_last : (capacity first row : ℕ) (log : List Entry) (columns : List ℕ) → row ≤ first → IsFilling capacity first row log columns → HasColumns capacity (length log) log columns
+pub filling_last : (capacity first row : ℕ) (log : List Entry) (columns : List ℕ) → row ≤ first → IsFilling capacity first row log columns
+    → HasColumns capacity (length log) log columns
 filling_last capacity first row log columns done filling = record {
   sized = filling.sized;
   filled = λ k low. dite (dec_le first k) (λ from. filling.behind k (omega arith) low) (λ below. filling.before k (omega arith));

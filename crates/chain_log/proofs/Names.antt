@@ -1,5 +1,6 @@
 -- Names of cells: which row and column a name has, that two cells share no word, and the names below a row.
-use Rattle.std.proofs.Common.{◌≡◌, ◌≢◌, ℕ, zero, suc, ◌+◌, ◌-◌, ◌*◌, ◌/◌, ◌<◌, ◌≤◌, List, [], ◌∷◌, ◌++◌, length, refl, ap, sym, ◌∙◌, subst, Some, mul-le-mul_right, suc-mul, arith, add-one, length-append}
+use Rattle.std.proofs.Common.{◌≡◌, ◌≢◌, ℕ, zero, suc, ◌+◌, ◌-◌, ◌*◌, ◌/◌, ◌<◌, ◌≤◌, List, [], ◌∷◌, ◌++◌, length, refl, ap, sym, ◌∙◌, subst, Some}
+use Rattle.std.proofs.Common.{mul-le-mul_right, suc-mul, arith, add-one, length-append}
 use Rattle.std.specs.Prelude.{slice_get}
 use mathlib.Core.Logic.{dite}
 use native.Mathlib.Decide.{dec_le, ℕ_discrete}
@@ -19,7 +20,8 @@ further row above sessions low =
     omega (arith, suc-mul row sessions)
 
 -- a cell of a lower row has a lower name
-pub name_above : (sessions row above session other : ℕ) → row < above → session ≤ sessions → 1 ≤ other → name_at sessions row session < name_at sessions above other
+pub name_above : (sessions row above session other : ℕ) → row < above → session ≤ sessions → 1 ≤ other
+    → name_at sessions row session < name_at sessions above other
 name_above sessions row above session other low high first =
     let x : ℕ = row * sessions in
     let y : ℕ = above * sessions in
@@ -28,7 +30,8 @@ name_above sessions row above session other low high first =
     goal
 
 -- a name has one row and one column
-pub one_cell : (sessions row above session other : ℕ) → 1 ≤ session → session ≤ sessions → 1 ≤ other → other ≤ sessions → name_at sessions row session ≡ name_at sessions above other
+pub one_cell : (sessions row above session other : ℕ) → 1 ≤ session → session ≤ sessions → 1 ≤ other → other ≤ sessions
+    → name_at sessions row session ≡ name_at sessions above other
     → (row ≡ above) × (session ≡ other)
 one_cell sessions row above session other low high low' high' same =
     dite (ℕ_discrete row above)
@@ -97,11 +100,13 @@ pub name_zero : (sessions : ℕ) (log : List Entry) → name_before sessions log
 unfolding name_before
 name_zero sessions log = refl
 
-pub name_next : (sessions : ℕ) (log : List Entry) (row : ℕ) (entry : Entry) → slice_get log row ≡ Some entry → name_before sessions log (suc row) ≡ name_at sessions row entry.session
+pub name_next : (sessions : ℕ) (log : List Entry) (row : ℕ) (entry : Entry) → slice_get log row ≡ Some entry
+    → name_before sessions log (suc row) ≡ name_at sessions row entry.session
 unfolding name_before
 name_next sessions log row entry is = ap (name_at sessions row) (session_there log row entry is)
 
-pub name_next_one : (sessions : ℕ) (log : List Entry) (row : ℕ) (entry : Entry) → slice_get log row ≡ Some entry → name_before sessions log (row + 1) ≡ name_at sessions row entry.session
+pub name_next_one : (sessions : ℕ) (log : List Entry) (row : ℕ) (entry : Entry) → slice_get log row ≡ Some entry
+    → name_before sessions log (row + 1) ≡ name_at sessions row entry.session
 name_next_one sessions log row entry is = ap (name_before sessions log) (add-one row) ∙ name_next sessions log row entry is
 
 -- a prefix has the same names
@@ -118,7 +123,8 @@ get_end (x ∷ xs) entry = get_end xs entry
 -- the newest cell after an entry was added
 pub newest_added : (sessions : ℕ) (log : List Entry) (entry : Entry) → newest_of sessions (log ++ entry ∷ []) ≡ name_at sessions (length log) entry.session
 newest_added sessions log entry =
-    ap (name_before sessions (log ++ entry ∷ [])) (length-append log (entry ∷ []) ∙ add-one (length log)) ∙ name_next sessions (log ++ entry ∷ []) (length log) entry (get_end log entry)
+    ap (name_before sessions (log ++ entry ∷ [])) (length-append log (entry ∷ []) ∙ add-one (length log))
+    ∙ name_next sessions (log ++ entry ∷ []) (length log) entry (get_end log entry)
 
 -- each entry is of a session from 1 to a number
 abbrev pub Ranged : ℕ → List Entry → Type 0
@@ -137,7 +143,8 @@ name_some sessions log row ranged below =
     omega (arith, named)
 
 -- equal names are of equally long prefixes
-pub one_length : (sessions : ℕ) (log : List Entry) (m n : ℕ) → Ranged sessions log → m ≤ length log → n ≤ length log → name_before sessions log m ≡ name_before sessions log n → m ≡ n
+pub one_length : (sessions : ℕ) (log : List Entry) (m n : ℕ) → Ranged sessions log → m ≤ length log → n ≤ length log
+    → name_before sessions log m ≡ name_before sessions log n → m ≡ n
 one_length sessions log zero zero ranged low low' same = refl
 one_length sessions log zero (suc n) ranged low low' same =
     let some = name_some sessions log n ranged (omega arith) in
@@ -155,7 +162,8 @@ one_length sessions log (suc m) (suc n) ranged low low' same =
     ap suc (one_cell sessions m n e.0.session f.0.session a.0 a.1 b.0 b.1 (sym (name_next sessions log m e.0 e.1) ∙ same ∙ name_next sessions log n f.0 f.1)).0
 
 -- how long a history is, by the name of its newest cell
-pub length_by_newest : (sessions newest : ℕ) (log : List Entry) → AllOf sessions log → newest ≡ newest_of sessions log → newest ≢ 0 → (newest - 1) / sessions + 1 ≡ length log
+pub length_by_newest : (sessions newest : ℕ) (log : List Entry) → AllOf sessions log → newest ≡ newest_of sessions log → newest ≢ 0
+    → (newest - 1) / sessions + 1 ≡ length log
 length_by_newest sessions newest log all same some = by_length (length log) refl
   where
     by_length : (n : ℕ) → n ≡ length log → (newest - 1) / sessions + 1 ≡ length log
@@ -163,10 +171,12 @@ length_by_newest sessions newest log all same some = by_length (length log) refl
     by_length (suc row) e =
         let f = there log row (omega arith) in
         let a = ranged_all sessions log all row f.0 f.1 in
-        ap (λ n. (n - 1) / sessions + 1) (same ∙ ap (name_before sessions log) (sym e) ∙ name_next sessions log row f.0 f.1) ∙ ap (λ n. n + 1) (row_of_name sessions row f.0.session a.0 a.1) ∙ add-one row ∙ e
+        ap (λ n. (n - 1) / sessions + 1) (same ∙ ap (name_before sessions log) (sym e) ∙ name_next sessions log row f.0 f.1)
+        ∙ ap (λ n. n + 1) (row_of_name sessions row f.0.session a.0 a.1) ∙ add-one row ∙ e
 
 pub length_by_zero : (sessions newest : ℕ) (log : List Entry) → AllOf sessions log → newest ≡ newest_of sessions log → newest ≡ 0 → 0 ≡ length log
-length_by_zero sessions newest log all same none = one_length sessions log 0 (length log) (ranged_all sessions log all) (omega arith) (omega arith) (name_zero sessions log ∙ sym none ∙ same)
+length_by_zero sessions newest log all same none =
+    one_length sessions log 0 (length log) (ranged_all sessions log all) (omega arith) (omega arith) (name_zero sessions log ∙ sym none ∙ same)
 
 -- where the cell of an entry that was seen lies
 pub record IsName (sessions capacity name : ℕ) : Type 0 where
@@ -174,7 +184,8 @@ pub record IsName (sessions capacity name : ℕ) : Type 0 where
   pub high : name ≤ 16384
   pub words : (index : ℕ) → index < 22 → cell_at name + index < word_count sessions capacity
 
-pub cell_fits : (sessions capacity row session name : ℕ) → sessions ≤ 16 → capacity ≤ 1024 → row < capacity → 1 ≤ session → session ≤ sessions → name ≡ name_at sessions row session → IsName sessions capacity name
+pub cell_fits : (sessions capacity row session name : ℕ) → sessions ≤ 16 → capacity ≤ 1024 → row < capacity → 1 ≤ session → session ≤ sessions
+    → name ≡ name_at sessions row session → IsName sessions capacity name
 cell_fits sessions capacity row session name few short below low high is =
     subst (IsName sessions capacity) (sym is)
     (record {
@@ -183,7 +194,8 @@ cell_fits sessions capacity row session name few short below low high is =
       words = λ index less. within_words sessions capacity row session index below low high less;
     })
 
-pub seen_fits : (sessions capacity row name : ℕ) (seen : List Entry) → sessions ≤ 16 → capacity ≤ 1024 → AllOf sessions seen → length seen ≤ capacity → row < length seen → name ≡ name_before sessions seen (row + 1) → IsName sessions capacity name
+pub seen_fits : (sessions capacity row name : ℕ) (seen : List Entry) → sessions ≤ 16 → capacity ≤ 1024 → AllOf sessions seen → length seen ≤ capacity
+    → row < length seen → name ≡ name_before sessions seen (row + 1) → IsName sessions capacity name
 seen_fits sessions capacity row name seen few short all within below is =
     let e = there seen row below in
     let a = ranged_all sessions seen all row e.0 e.1 in

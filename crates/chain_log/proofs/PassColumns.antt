@@ -5,13 +5,13 @@ use native.Mathlib.Decide.{ℕ_discrete}
 use Rattle.xa_words.specs.Entry.{Entry}
 use Rattle.decision_log.specs.declared.view.Hand.{Hand}
 use Rattle.decision_log.specs.History.{Begins}
-use Rattle.decision_log.specs.Known.{Place, AllOf}
+use Rattle.decision_log.specs.Known.{LogIdentity, AllOf}
 use Rattle.decision_log.specs.Seats.{hand}
 use Rattle.chain_log.specs.declared.chain.ChainLog.{ChainLog}
 use Rattle.chain_log.specs.declared.pass.ChainPass.{ChainPass}
 use Rattle.chain_log.specs.Cells.{newest_of}
 use Rattle.chain_log.specs.Columns.{HasColumns}
-use Rattle.chain_log.specs.ChainPass.{place_of, home_of}
+use Rattle.chain_log.specs.ChainPass.{identity_of, log_of}
 use Rattle.chain_log.specs.ChainPlays.{won}
 use Rattle.chain_log.proofs.KeptColumns.{columns_longer, columns_more}
 
@@ -20,37 +20,46 @@ abbrev pub CountsBy : ℕ → ℕ → ℕ → Type 0
 CountsBy sessions newest count = (seen : List Entry) → AllOf sessions seen → newest ≡ newest_of sessions seen → count ≡ length seen
 
 -- the name of the last cell tells how many entries the pass has seen
-pub seen_count : (log : ChainLog) (pass : ChainPass) (count : ℕ) → home_of pass ≡ place_of log → CountsBy log.sessions pass.newest count → count ≡ length (hand pass.seat).known.seen
-seen_count log pass count home counts =
+pub seen_count : (log : ChainLog) (pass : ChainPass) (count : ℕ) → log_of pass ≡ identity_of log → CountsBy log.sessions pass.newest count
+    → count ≡ length (hand pass.seat).known.seen
+seen_count log pass count belongs counts =
     let h = hand pass.seat in
-    let sessions = ap (λ (place : Place). place.sessions) home in
+    let sessions = ap (λ (identity : LogIdentity). identity.sessions) belongs in
     counts h.known.seen (subst (λ n. AllOf n h.known.seen) sessions pass.state.among) (pass.named ∙ ap (λ n. newest_of n h.known.seen) sessions)
 
 -- after a step that saw more, the table has the rows that were seen before
-pub kept_before : (log : ChainLog) (pass : ChainPass) (at after : Hand) (count : ℕ) → at ≡ after → home_of pass ≡ place_of log → CountsBy log.sessions pass.newest count
-    → after.capacity ≡ (hand pass.seat).capacity → Begins (hand pass.seat).known.seen after.known.seen → HasColumns at.capacity count at.known.seen pass.columns.items
-kept_before log pass at after count is home counts capacity begins =
+pub kept_before : (log : ChainLog) (pass : ChainPass) (at after : Hand) (count : ℕ) → at ≡ after → log_of pass ≡ identity_of log
+    → CountsBy log.sessions pass.newest count
+    → after.capacity ≡ (hand pass.seat).capacity → Begins (hand pass.seat).known.seen after.known.seen
+    → HasColumns at.capacity count at.known.seen pass.columns.items
+kept_before log pass at after count is belongs counts capacity begins =
     let h = hand pass.seat in
     let longer = columns_longer h.capacity h.known.seen after.known.seen pass.columns.items begins pass.kept in
     subst (λ k. HasColumns k.capacity count k.known.seen pass.columns.items) (sym is)
     (subst (λ c. HasColumns c count after.known.seen pass.columns.items) (sym capacity)
-    (subst (λ n. HasColumns h.capacity n after.known.seen pass.columns.items) (sym (seen_count log pass count home counts)) longer))
+    (subst (λ n. HasColumns h.capacity n after.known.seen pass.columns.items) (sym (seen_count log pass count belongs counts)) longer))
 
 -- after an exchange that won, the table has the added entry's row too
-pub kept_after : (log : ChainLog) (pass : ChainPass) (at before : Hand) (entry : Entry) (count column : ℕ) → at ≡ won before entry → home_of pass ≡ place_of log → CountsBy log.sessions pass.newest count
+pub kept_after : (log : ChainLog) (pass : ChainPass) (at before : Hand) (entry : Entry) (count column : ℕ) → at ≡ won before entry
+    → log_of pass ≡ identity_of log
+    → CountsBy log.sessions pass.newest count
     → before.known.seen ≡ (hand pass.seat).known.seen → before.capacity ≡ (hand pass.seat).capacity → (count ≡ log.capacity → ⊥) → column ≡ entry.session
     → HasColumns at.capacity (length at.known.seen) at.known.seen (set pass.columns.items count column)
-kept_after log pass at before entry count column is home counts seen capacity room own =
+kept_after log pass at before entry count column is belongs counts seen capacity room own =
     let h = hand pass.seat in
-    let counted = seen_count log pass count home counts in
-    let fits = ap (λ (place : Place). place.capacity) home in
+    let counted = seen_count log pass count belongs counts in
+    let fits = ap (λ (identity : LogIdentity). identity.capacity) belongs in
     let here : HasColumns h.capacity (length h.known.seen) h.known.seen pass.columns.items = pass.kept in
     let there : HasColumns before.capacity (length before.known.seen) before.known.seen pass.columns.items =
-    subst (λ c. HasColumns c (length before.known.seen) before.known.seen pass.columns.items) (sym capacity) (subst (λ xs. HasColumns h.capacity (length xs) xs pass.columns.items) (sym seen) here) in
+    subst (λ c. HasColumns c (length before.known.seen) before.known.seen pass.columns.items) (sym capacity)
+    (subst (λ xs. HasColumns h.capacity (length xs) xs pass.columns.items) (sym seen) here) in
     let row : length before.known.seen ≡ count = ap length seen ∙ sym counted in
-    let low : length before.known.seen < before.capacity = below (length before.known.seen) count before.capacity log.capacity row (capacity ∙ fits) room (omega (arith, counted, capacity, pass.state.within, row)) in
+    let low : length before.known.seen < before.capacity =
+    below (length before.known.seen) count before.capacity log.capacity row (capacity ∙ fits) room
+    (omega (arith, counted, capacity, pass.state.within, row)) in
     subst (λ k. HasColumns k.capacity (length k.known.seen) k.known.seen (set pass.columns.items count column)) (sym is)
-    (subst (λ n. HasColumns (won before entry).capacity (length (won before entry).known.seen) (won before entry).known.seen (set pass.columns.items n column)) row
+    (subst (λ n. HasColumns (won before entry).capacity (length (won before entry).known.seen) (won before entry).known.seen (set pass.columns.items n column))
+    row
     (columns_more before.capacity before.known.seen entry pass.columns.items column low own there))
   where
     below : (n count c capacity : ℕ) → n ≡ count → c ≡ capacity → (count ≡ capacity → ⊥) → n ≤ c → n < c

@@ -11,7 +11,8 @@ use Rattle.chain_log.specs.ChainRule.{try_word, newest_for}
 use Rattle.chain_log.specs.ChainPlays.{Sees, Reads, Finds, Drafts, Exchanges}
 
 -- a step that neither looks nor tries
-leaves_counts : (step : Atomic) (found : ℕ) (old new : Hand) → new.known.looks ≡ old.known.looks → new.known.tries ≡ old.known.tries → (IsLoad 0 step → ⊥) → (IsTry try_word step → ⊥)
+leaves_counts : (step : Atomic) (found : ℕ) (old new : Hand) → new.known.looks ≡ old.known.looks → new.known.tries ≡ old.known.tries → (IsLoad 0 step → ⊥)
+    → (IsTry try_word step → ⊥)
     → Counts newest_for try_word step found old new
 leaves_counts step found old new looks tries no_look no_try = record { looks = inr (looks, no_look); tries = inr (tries, no_try) }
 
@@ -32,8 +33,10 @@ read_counts (Exchange word from to said) old found new is = absurd is
 pub find_counts : (step : Atomic) (old : Hand) (found : ℕ) (new : Hand) → Finds step old found new → Counts newest_for try_word step found old new
 find_counts (Load word) old found new is =
     dite (ℕ_discrete found 0)
-    (λ blank. let grown = is.1 blank in leaves_counts (Load word) found old new (ap (λ h. h.known.looks) grown) (ap (λ h. h.known.tries) grown) is.0 (λ never. never))
-    (λ other. let same = is.2 other in leaves_counts (Load word) found old new (ap (λ h. h.known.looks) same) (ap (λ h. h.known.tries) same) is.0 (λ never. never))
+    (λ blank. let grown = is.1 blank in leaves_counts (Load word) found old new (ap (λ h. h.known.looks) grown) (ap (λ h. h.known.tries) grown) is.0
+    (λ never. never))
+    (λ other. let same = is.2 other in leaves_counts (Load word) found old new (ap (λ h. h.known.looks) same) (ap (λ h. h.known.tries) same) is.0
+    (λ never. never))
 find_counts (Store word value) old found new is = absurd is
 find_counts (Exchange word from to said) old found new is = absurd is
 
@@ -50,4 +53,5 @@ exchange_counts (Exchange word from to none) old found new is = absurd is
 exchange_counts (Exchange word from to (some entry)) old found new is =
     dite (ℕ_discrete found from)
     (λ same. let added = is.3 same in record { looks = inr (ap (λ h. h.known.looks) added, λ never. never); tries = inl (ap (λ h. h.known.tries) added, is.0) })
-    (λ other. let seen = (is.4 other).1 in record { looks = inr (ap (λ h. h.known.looks) seen, λ never. never); tries = inl (ap (λ h. h.known.tries) seen, is.0) })
+    (λ other. let seen = (is.4 other).1 in record
+    { looks = inr (ap (λ h. h.known.looks) seen, λ never. never); tries = inl (ap (λ h. h.known.tries) seen, is.0) })

@@ -25,7 +25,14 @@ looked h seen = record {
 -- after an exchange that won: the entry is added
 abbrev pub won : Hand → Entry → Hand
 won h entry = record {
-  known = record { number = h.known.number; seen = h.known.seen ++ entry ∷ []; mine = h.known.mine ++ entry ∷ []; looks = h.known.looks; tries = h.known.tries + 1 };
+  known =
+      record {
+        number = h.known.number;
+        seen = h.known.seen ++ entry ∷ [];
+        mine = h.known.mine ++ entry ∷ [];
+        looks = h.known.looks;
+        tries = h.known.tries + 1;
+      };
   sessions = h.sessions;
   capacity = h.capacity;
   draft = [];
@@ -53,7 +60,8 @@ Sees (Exchange word from to said) old found new = ⊥
 abbrev pub Reads : Atomic → Hand → ℕ → Hand → Type 0
 Reads (Load word) old found new =
     (word ≢ 0) × (new ≡ old)
-    × ((row index : ℕ) (entry : Entry) → word ≡ cell_at (name_at old.sessions row entry.session) + index → index < 22 → slice_get old.known.seen row ≡ Some entry
+    × ((row index : ℕ) (entry : Entry) → word ≡ cell_at (name_at old.sessions row entry.session) + index → index < 22
+    → slice_get old.known.seen row ≡ Some entry
     → IsEntry entry × (found ≡ slice_index (name_before old.sessions old.known.seen row ∷ words_of entry) index))
 Reads (Store word value) old found new = ⊥
 Reads (Exchange word from to said) old found new = ⊥
@@ -70,11 +78,13 @@ Drafts (Load word) old found new = ⊥
 Drafts (Store word value) old found new = new ≡ drafted old (word - own_cell old) value
 Drafts (Exchange word from to said) old found new = ⊥
 
--- an exchange of word 0 from the last name that was seen to the own cell's, which is a try: the announced entry is added only where that name was found, and else more was seen
+-- an exchange of word 0 from the last name that was seen to the own cell's, which is a try: the announced entry is added only where that name was found, and
+-- else more was seen
 abbrev pub Exchanges : Atomic → Hand → ℕ → Hand → Type 0
 Exchanges (Load word) old found new = ⊥
 Exchanges (Store word value) old found new = ⊥
 Exchanges (Exchange word from to none) old found new = ⊥
 Exchanges (Exchange word from to (some entry)) old found new =
     (word ≡ try_word) × (from ≡ newest_for old) × (to ≡ name_at old.sessions (length old.known.seen) old.known.number) × (found ≡ from → new ≡ won old entry)
-    × (found ≢ from → (seen : List Entry) × (new ≡ lost old seen) × (found ≡ newest_of old.sessions seen) × HistoryIs old seen × (length old.known.seen < length seen))
+    × (found ≢ from → (seen : List Entry) × (new ≡ lost old seen) × (found ≡ newest_of old.sessions seen) × HistoryIs old seen
+    × (length old.known.seen < length seen))

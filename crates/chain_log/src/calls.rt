@@ -2,7 +2,7 @@
 
 ghost use Rattle.std.specs.Prelude.{◌≡◌, false};
 ghost use Rattle.decision_log.specs.Calls.{Adds};
-ghost use Rattle.chain_log.specs.ChainPass.{place_of, home_of, known_of};
+ghost use Rattle.chain_log.specs.ChainPass.{identity_of, log_of, known_of};
 ghost use Rattle.chain_log.specs.Tries.{TriesOnce};
 
 use crate::layout::{cell_name, row_count};
@@ -13,7 +13,7 @@ use xa_xid::SessionNo;
 
 impl DecisionLog for ChainLog {
     ghost use Rattle.std.specs.Prelude.{false};
-    ghost use Rattle.chain_log.specs.ChainPass.{place_of, home_of, known_of};
+    ghost use Rattle.chain_log.specs.ChainPass.{identity_of, log_of, known_of};
 
     type Pass = ChainPass;
 
@@ -21,9 +21,9 @@ impl DecisionLog for ChainLog {
 
     ghost TURNS = { false };
 
-    ghost place = { place_of };
+    ghost identity = { identity_of };
 
-    ghost home = { home_of };
+    ghost belongs_to = { log_of };
 
     ghost known = { known_of };
 
@@ -57,10 +57,10 @@ impl DecisionLog for ChainLog {
     }
 
     fn try_add(&self, pass: &mut ChainPass, entry: &Entry) -> Result<(), AddFault>
-        requires home { home_of pass.old ≡ place_of self.now }
+        requires belongs { log_of pass.old ≡ identity_of self.now }
         requires own { entry.now.session ≡ (known_of pass.old).number }
-        ensures home { home_of pass.new ≡ home_of pass.old }
-        ensures added { Adds false (place_of self.now).capacity entry.now result (known_of pass.old) (known_of pass.new) }
+        ensures belongs { log_of pass.new ≡ log_of pass.old }
+        ensures added { Adds false (identity_of self.now).capacity entry.now result (known_of pass.old) (known_of pass.new) }
         ensures once { TriesOnce result (known_of pass.old) (known_of pass.new) }
     {
         let row = row_count(self.sessions, pass.newest);

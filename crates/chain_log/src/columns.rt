@@ -2,7 +2,7 @@
 ghost use Rattle.std.specs.Prelude.{◌≡◌, ◌<◌, ◌+◌, length};
 ghost use Rattle.decision_log.specs.Seats.{hand};
 ghost use Rattle.chain_log.specs.Cells.{name_before, newest_of};
-ghost use Rattle.chain_log.specs.ChainPass.{place_of, home_of, known_of};
+ghost use Rattle.chain_log.specs.ChainPass.{identity_of, log_of, known_of};
 ghost use Rattle.chain_log.specs.ChainSeat.{IsSeat, IsOurs};
 ghost use Rattle.chain_log.specs.Columns.{HasColumns};
 
@@ -15,7 +15,7 @@ use xa_words::Entry;
 impl ChainLog {
     /// The name of the cell in a row that was seen.
     pub(crate) fn find(&self, pass: &ChainPass, row: u64) -> u64
-        requires home { home_of pass.now ≡ place_of self.now }
+        requires belongs { log_of pass.now ≡ identity_of self.now }
         requires seen { row < length (known_of pass.now).seen }
         ensures { result ≡ name_before self.now.sessions (known_of pass.now).seen (row + 1) }
     {

@@ -1,7 +1,7 @@
 //! Where the words of a chain lie, and a pass that stops before its exchange.
 
 ghost use Rattle.std.specs.Prelude.{◌≡◌, []};
-ghost use Rattle.chain_log.specs.ChainPass.{place_of, home_of, known_of};
+ghost use Rattle.chain_log.specs.ChainPass.{identity_of, log_of, known_of};
 
 use crate::layout::{cell_name, cell_start, count_words};
 use crate::{ChainLog, ChainPass, laws};
@@ -26,8 +26,8 @@ fn cells_lie_row_by_row(rt: HostRuntime) {
 
 /// Adds an entry of the pass's number, where the statement may enter.
 fn adds(log: &ChainLog, pass: &mut ChainPass, statement: &Statement) -> bool
-    requires home { home_of pass.old ≡ place_of log.now }
-    ensures home { home_of pass.new ≡ home_of pass.old }
+    requires belongs { log_of pass.old ≡ identity_of log.now }
+    ensures belongs { log_of pass.new ≡ log_of pass.old }
 {
     match Entry::of(log.number(pass), statement) {
         Some(entry) => log.try_add(pass, &entry) == Ok(()),
@@ -37,9 +37,9 @@ fn adds(log: &ChainLog, pass: &mut ChainPass, statement: &Statement) -> bool
 
 /// Stores all words of the cell in the first row, and stops before the exchange.
 fn stops(log: &ChainLog, pass: &mut ChainPass, entry: &Entry)
-    requires home { home_of pass.old ≡ place_of log.now }
+    requires belongs { log_of pass.old ≡ identity_of log.now }
     requires nothing { (known_of pass.old).seen ≡ [] }
-    ensures home { home_of pass.new ≡ home_of pass.old }
+    ensures belongs { log_of pass.new ≡ log_of pass.old }
     ensures known { known_of pass.new ≡ known_of pass.old }
 {
     let own = cell_name(log.sessions, 0, pass.number.get());

@@ -15,7 +15,8 @@ module _ (newest : Hand → ℕ) (tried : ℕ) where
       ⊎_elim (λ t. (from, to, said, ap (λ at. Exchange at from to said) t.1)) (λ t. absurd (rose t.0)) counts.tries
 
   -- a look loads word 0, and leaves the words
-  pub look_is : (step : Atomic) (found : ℕ) (old new : Hand) (words words' : List ℕ) → Does step words found words' → Counts newest tried step found old new → new.known.looks ≢ old.known.looks
+  pub look_is : (step : Atomic) (found : ℕ) (old new : Hand) (words words' : List ℕ) → Does step words found words' → Counts newest tried step found old new
+      → new.known.looks ≢ old.known.looks
       → (slice_index words 0 ≡ newest new) × (words' ≡ words)
   look_is (Load word) found old new words words' does counts rose =
       ⊎_elim (λ t. (sym (does.0 ∙ ap (slice_index words) t.1) ∙ t.2, does.1)) (λ t. absurd (rose t.0)) counts.looks

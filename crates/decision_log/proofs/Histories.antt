@@ -1,5 +1,6 @@
 -- Lists of entries: the ring of lemmas on prefixes, and that on the entries of a session.
-use Rattle.std.proofs.Common.{◌≡◌, ◌≢◌, ◌⊎◌, ℕ, zero, suc, ◌<◌, ◌≤◌, List, [], ◌∷◌, ◌++◌, length, take, drop, get_or, refl, ap, sym, ◌∙◌, subst, inl, inr, ⊎_elim, Some, None, arith, eq-eqb, ne_eqb, length-append, append-nil}
+use Rattle.std.proofs.Common.{◌≡◌, ◌≢◌, ◌⊎◌, ℕ, zero, suc, ◌<◌, ◌≤◌, List, [], ◌∷◌, ◌++◌, length, take, drop, get_or, refl, ap, sym, ◌∙◌, subst, inl, inr}
+use Rattle.std.proofs.Common.{⊎_elim, Some, None, arith, eq-eqb, ne_eqb, length-append, append-nil}
 use Rattle.std.specs.Prelude.{slice_get, All}
 use Rattle.std.proofs.lemmas.List.{take_all, take-append-le, take-append-drop, length-take}
 use Rattle.std.proofs.lemmas.List.Elements.{filter-append}
@@ -48,7 +49,8 @@ get_append (x ∷ xs) ys zero entry is = is
 get_append (x ∷ xs) ys (suc place) entry is = get_append xs ys place entry is
 
 pub get_begins : (xs ys : List Entry) (place : ℕ) (entry : Entry) → Begins xs ys → slice_get xs place ≡ Some entry → slice_get ys place ≡ Some entry
-get_begins xs ys place entry begins is = subst (λ list. slice_get list place ≡ Some entry) (behind xs ys begins) (get_append xs (drop (length xs) ys) place entry is)
+get_begins xs ys place entry begins is =
+    subst (λ list. slice_get list place ≡ Some entry) (behind xs ys begins) (get_append xs (drop (length xs) ys) place entry is)
 
 pub some_injective : (a b : Entry) → Some a ≡ Some b → a ≡ b
 some_injective a b is = cc
@@ -73,7 +75,8 @@ all_from_places P xs each place other below = each place (get_or xs place other)
 pub own_append : (number : ℕ) (xs ys : List Entry) → entries_of number (xs ++ ys) ≡ entries_of number xs ++ entries_of number ys
 own_append number xs ys = filter-append (is_of number) xs ys
 
-pub own_last : (number : ℕ) (xs : List Entry) (entry : Entry) → entry.session ≡ number → entries_of number (xs ++ entry ∷ []) ≡ entries_of number xs ++ entry ∷ []
+pub own_last : (number : ℕ) (xs : List Entry) (entry : Entry) → entry.session ≡ number
+    → entries_of number (xs ++ entry ∷ []) ≡ entries_of number xs ++ entry ∷ []
 own_last number xs entry own =
     own_append number xs (entry ∷ []) ∙ ap (λ rest. entries_of number xs ++ rest) (rw (eq-eqb entry.session number own) refl)
 
@@ -89,19 +92,31 @@ nothing_left xs [] is = refl
 nothing_left xs (y ∷ ys) is = absurd (omega (arith, length-append xs (y ∷ ys)))
 
 -- a session with no entry between two prefixes has none behind the first of them
-pub own_between : (number : ℕ) (xs ys zs mine : List Entry) → Begins xs ys → Begins ys zs → entries_of number xs ≡ mine → entries_of number zs ≡ mine → entries_of number ys ≡ mine
+pub own_between : (number : ℕ) (xs ys zs mine : List Entry) → Begins xs ys → Begins ys zs → entries_of number xs ≡ mine → entries_of number zs ≡ mine
+    → entries_of number ys ≡ mine
 own_between number xs ys zs mine xy yz own_x own_z =
     let r = drop (length xs) ys in
     let t = drop (length ys) zs in
-    let whole_y : entries_of number ys ≡ entries_of number xs ++ entries_of number r = ap (entries_of number) (sym (behind xs ys xy)) ∙ own_append number xs r in
-    let whole_z : entries_of number zs ≡ entries_of number ys ++ entries_of number t = ap (entries_of number) (sym (behind ys zs yz)) ∙ own_append number ys t in
+    let whole_y : entries_of number ys ≡ entries_of number xs ++ entries_of number r =
+    ap (entries_of number) (sym (behind xs ys xy)) ∙ own_append number xs r in
+    let whole_z : entries_of number zs ≡ entries_of number ys ++ entries_of number t =
+    ap (entries_of number) (sym (behind ys zs yz)) ∙ own_append number ys t in
     let none : entries_of number r ≡ [] =
     nothing_left (entries_of number xs) (entries_of number r)
-    (omega (arith, ap length whole_y, ap length whole_z, ap length own_x, ap length own_z, length-append (entries_of number ys) (entries_of number t), length-append (entries_of number xs) (entries_of number r))) in
+    (omega (
+      arith,
+      ap length whole_y,
+      ap length whole_z,
+      ap length own_x,
+      ap length own_z,
+      length-append (entries_of number ys) (entries_of number t),
+      length-append (entries_of number xs) (entries_of number r),
+    )) in
     whole_y ∙ ap (λ rest. entries_of number xs ++ rest) none ∙ append-nil (entries_of number xs) ∙ own_x
 
 -- a number that no entry has has no entries
-pub own_none : (number : ℕ) (xs : List Entry) → ((place : ℕ) (entry : Entry) → slice_get xs place ≡ Some entry → entry.session ≢ number) → entries_of number xs ≡ []
+pub own_none : (number : ℕ) (xs : List Entry) → ((place : ℕ) (entry : Entry) → slice_get xs place ≡ Some entry → entry.session ≢ number)
+    → entries_of number xs ≡ []
 own_none number [] none = refl
 own_none number (x ∷ xs) none = rw (ne_eqb x.session number (none 0 x refl)) (own_none number xs (λ place entry is. none (suc place) entry is))
 
@@ -139,7 +154,8 @@ no_own number [] row entry none is own = absurd (never entry is)
     never entry is = cc
 no_own number (x ∷ xs) zero entry none is own = first_own number x xs (ap (λ e. e.session) (some_injective x entry is) ∙ own) none
 no_own number (x ∷ xs) (suc row) entry none is own =
-    dite (ℕ_discrete x.session number) (λ mine. first_own number x xs mine none) (λ other. no_own number xs row entry (first_other number x xs other none) is own)
+    dite (ℕ_discrete x.session number) (λ mine. first_own number x xs mine none)
+    (λ other. no_own number xs row entry (first_other number x xs other none) is own)
 
 get_behind : (xs ys : List Entry) (row : ℕ) (entry : Entry) → length xs ≤ row → slice_get (xs ++ ys) row ≡ Some entry → (k : ℕ) × (slice_get ys k ≡ Some entry)
 get_behind [] ys row entry long is = (row, is)
@@ -147,12 +163,14 @@ get_behind (x ∷ xs) ys zero entry long is = absurd (omega arith)
 get_behind (x ∷ xs) ys (suc row) entry long is = get_behind xs ys row entry (omega arith) is
 
 -- of a session whose entries were all seen, none stands behind what was seen
-pub later_other : (number : ℕ) (seen log mine : List Entry) (row : ℕ) (entry : Entry) → Begins seen log → entries_of number log ≡ mine → entries_of number seen ≡ mine
+pub later_other : (number : ℕ) (seen log mine : List Entry) (row : ℕ) (entry : Entry) → Begins seen log → entries_of number log ≡ mine
+    → entries_of number seen ≡ mine
     → length seen ≤ row → slice_get log row ≡ Some entry → entry.session ≢ number
 later_other number seen log mine row entry begins own part long is =
     let rest = drop (length seen) log in
     let whole = behind seen log begins in
     let parts : entries_of number log ≡ entries_of number seen ++ entries_of number rest = ap (entries_of number) (sym whole) ∙ own_append number seen rest in
-    let none : entries_of number rest ≡ [] = nothing_left (entries_of number seen) (entries_of number rest) (omega (arith, ap length parts, ap length own, ap length part)) in
+    let none : entries_of number rest ≡ [] =
+    nothing_left (entries_of number seen) (entries_of number rest) (omega (arith, ap length parts, ap length own, ap length part)) in
     let t = get_behind seen rest row entry long (subst (λ list. slice_get list row ≡ Some entry) (sym whole) is) in
     no_own number rest t.0 entry none t.1

@@ -29,7 +29,11 @@ after_look session old new is sound other =
     dite (ℕ_discrete other session)
     (λ e. subst (λ n. Knows new.history n (new.knows n)) (sym e)
     (rw is.history
-    (record { begins = subst (λ list. Begins list old.history) (sym is.seen) (begins_itself old.history); own = (sound session).own ∙ sym is.mine; part = ap (entries_of session) is.seen ∙ (sound session).own ∙ sym is.mine })))
+    (record {
+      begins = subst (λ list. Begins list old.history) (sym is.seen) (begins_itself old.history);
+      own = (sound session).own ∙ sym is.mine;
+      part = ap (entries_of session) is.seen ∙ (sound session).own ∙ sym is.mine;
+    })))
     (λ n. rw (is.history, is.others other n) (sound other))
 
 after_add : (session : ℕ) (entry : Entry) (old new : Machine) → Appends session entry old new → Sound old → Sound new
@@ -38,9 +42,13 @@ after_add session entry old new is sound other =
     (λ e. subst (λ n. Knows new.history n (new.knows n)) (sym e)
     (rw is.history
     (record {
-      begins = subst (λ list. Begins list (old.history ++ entry ∷ [])) (ap (λ list. list ++ entry ∷ []) (sym is.whole) ∙ sym is.seen) (begins_itself (old.history ++ entry ∷ []));
+      begins =
+          subst (λ list. Begins list (old.history ++ entry ∷ [])) (ap (λ list. list ++ entry ∷ []) (sym is.whole) ∙ sym is.seen)
+          (begins_itself (old.history ++ entry ∷ []));
       own = own_last session old.history entry is.own ∙ ap (λ list. list ++ entry ∷ []) (sound session).own ∙ sym is.mine;
-      part = ap (entries_of session) is.seen ∙ own_last session (old.knows session).seen entry is.own ∙ ap (λ list. list ++ entry ∷ []) (sound session).part ∙ sym is.mine;
+      part =
+          ap (entries_of session) is.seen ∙ own_last session (old.knows session).seen entry is.own ∙ ap (λ list. list ++ entry ∷ []) (sound session).part
+          ∙ sym is.mine;
     })))
     (λ n.
     let own = is.own in
@@ -82,5 +90,6 @@ unfolding Fits
 runs_end_in_states capacity events machine is =
     state_of machine (room_after_all events (opening capacity) machine is (omega arith)) (after_events events (opening capacity) machine is (at_start capacity))
 
-pub mine_is_own : (capacity : ℕ) (events : List Event) (machine : Machine) → Runs events (opening capacity) machine → (session : ℕ) → entries_of session (machine.knows session).seen ≡ (machine.knows session).mine
+pub mine_is_own : (capacity : ℕ) (events : List Event) (machine : Machine) → Runs events (opening capacity) machine → (session : ℕ)
+    → entries_of session (machine.knows session).seen ≡ (machine.knows session).mine
 mine_is_own capacity events machine is = (runs_end_in_states capacity events machine is).part

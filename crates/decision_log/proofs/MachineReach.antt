@@ -1,5 +1,6 @@
 -- Each state of the machine is reached: the entries are added in their order, and after each add those look who have still more to see.
-use Rattle.std.proofs.Common.{◌≡◌, ◌≢◌, ℕ, zero, suc, ◌<◌, ◌≤◌, Bool, true, false, cond, nat_eq, List, [], ◌∷◌, ◌++◌, length, take, drop, refl, ap, sym, ◌∙◌, subst, Some, arith, eq-eqb, ne_eqb}
+use Rattle.std.proofs.Common.{◌≡◌, ◌≢◌, ℕ, zero, suc, ◌<◌, ◌≤◌, Bool, true, false, cond, nat_eq, List, [], ◌∷◌, ◌++◌, length, take, drop, refl, ap, sym, ◌∙◌}
+use Rattle.std.proofs.Common.{subst, Some, arith, eq-eqb, ne_eqb}
 use Rattle.std.specs.Prelude.{slice_get}
 use Rattle.std.proofs.lemmas.List.{take_all, length-take, length-take-le, take-append-le}
 use native.Mathlib.Decide.{ℕ_discrete, dec_le}
@@ -46,7 +47,8 @@ after_add session entry old = record {
   knows = λ n. cond (nat_eq n session) (record { seen = (old.knows session).seen ++ entry ∷ []; mine = (old.knows session).mine ++ entry ∷ [] }) (old.knows n);
 }
 
-add_happens : (session : ℕ) (entry : Entry) (old : Machine) → entry.session ≡ session → (old.knows session).seen ≡ old.history → length old.history < old.capacity
+add_happens : (session : ℕ) (entry : Entry) (old : Machine) → entry.session ≡ session → (old.knows session).seen ≡ old.history
+    → length old.history < old.capacity
     → Appends session entry old (after_add session entry old)
 add_happens session entry old own whole room = record {
   own = own;
@@ -75,7 +77,8 @@ record Round (sessions : ℕ) (due : ℕ → Bool) (last : ℕ) (old : Machine) 
   pub runs : Runs events old new
   pub looked : LookedTo due last old new
 
-one_more : (sessions : ℕ) (due : ℕ → Bool) (last : ℕ) (old : Machine) → suc last ≤ sessions → Round sessions due last old → (now : Bool) → due (suc last) ≡ now → Round sessions due (suc last) old
+one_more : (sessions : ℕ) (due : ℕ → Bool) (last : ℕ) (old : Machine) → suc last ≤ sessions → Round sessions due last old → (now : Bool) → due (suc last) ≡ now
+    → Round sessions due (suc last) old
 one_more sessions due last old within r false is = record {
   events = r.events;
   own = r.own;
@@ -110,7 +113,8 @@ one_more sessions due last old within r true is =
         seen =
             λ session low high.
             dite (ℕ_discrete session (suc last))
-            (λ e. subst (λ n. ((after_look (suc last) r.new).knows n).seen ≡ cond (due n) old.history (old.knows n).seen) (sym e) (look.seen ∙ r.looked.history ∙ rw is refl))
+            (λ e. subst (λ n. ((after_look (suc last) r.new).knows n).seen ≡ cond (due n) old.history (old.knows n).seen) (sym e)
+            (look.seen ∙ r.looked.history ∙ rw is refl))
             (λ n. ap (λ known. known.seen) (look.others session n) ∙ r.looked.seen session low (omega arith));
         above = λ session high. ap (λ known. known.seen) (look.others session (λ e. omega arith)) ∙ r.looked.above session (omega arith);
       };
@@ -150,7 +154,8 @@ module _ (sessions : ℕ) (target : Machine) (is : IsState target) (all : AllOf 
   has_seen count entry here =
       let known = target.knows entry.session in
       dite (dec_le (length known.seen) count)
-      (λ long. absurd (later_other entry.session known.seen target.history known.mine count entry (is.seen entry.session) (is.mine entry.session) (is.part entry.session) long here refl))
+      (λ long. absurd (later_other entry.session known.seen target.history known.mine count entry (is.seen entry.session) (is.mine entry.session)
+      (is.part entry.session) long here refl))
       (λ short. omega arith)
 
   -- a session looks after an add where it has seen the entry
@@ -160,7 +165,8 @@ module _ (sessions : ℕ) (target : Machine) (is : IsState target) (all : AllOf 
   full : (count session : ℕ) → count < length (target.knows session).seen → length (take (suc count) (target.knows session).seen) ≡ suc count
   full count session more = length-take-le (suc count) (target.knows session).seen more
 
-  seen_where_due : (count session : ℕ) (old : Machine) → old.history ≡ take (suc count) target.history → (known : List Entry) → (length (target.knows session).seen ≤ count → known ≡ take count (target.knows session).seen)
+  seen_where_due : (count session : ℕ) (old : Machine) → old.history ≡ take (suc count) target.history → (known : List Entry)
+      → (length (target.knows session).seen ≤ count → known ≡ take count (target.knows session).seen)
       → cond (due_at count session) old.history known ≡ take (suc count) (target.knows session).seen
   seen_where_due count session old history known stays =
       let seen = (target.knows session).seen in
@@ -170,10 +176,12 @@ module _ (sessions : ℕ) (target : Machine) (is : IsState target) (all : AllOf 
       rw (ne_eqb (length (take (suc count) seen)) (suc count) fewer) (stays short ∙ take_all count seen short ∙ sym (take_all (suc count) seen (omega arith))))
       (λ longer.
       let more : count < length seen = omega arith in
-      rw (eq-eqb (length (take (suc count) seen)) (suc count) (full count session more)) (history ∙ sym (take_begins (suc count) seen target.history (is.seen session) more)))
+      rw (eq-eqb (length (take (suc count) seen)) (suc count) (full count session more))
+      (history ∙ sym (take_begins (suc count) seen target.history (is.seen session) more)))
 
   -- the next entry is added, and those look who have seen it
-  next : (count : ℕ) (entry : Entry) → slice_get target.history count ≡ Some entry → 1 ≤ entry.session → entry.session ≤ sessions → suc count ≤ length target.history → Reached count → Reached (suc count)
+  next : (count : ℕ) (entry : Entry) → slice_get target.history count ≡ Some entry → 1 ≤ entry.session → entry.session ≤ sessions
+      → suc count ≤ length target.history → Reached count → Reached (suc count)
   next count entry here low high within r =
       let who = entry.session in
       let more = has_seen count entry here in
@@ -182,7 +190,8 @@ module _ (sessions : ℕ) (target : Machine) (is : IsState target) (all : AllOf 
       let size : length r.machine.history ≡ count = ap length r.at.history ∙ length-take-le count target.history (omega (arith, within)) in
       let add = add_happens who entry r.machine refl whole (omega (arith, size, r.at.capacity, is.room, within)) in
       let added = after_add who entry r.machine in
-      let history : added.history ≡ take (suc count) target.history = ap (λ list. list ++ entry ∷ []) r.at.history ∙ sym (take_next target.history count entry here) in
+      let history : added.history ≡ take (suc count) target.history =
+      ap (λ list. list ++ entry ∷ []) r.at.history ∙ sym (take_next target.history count entry here) in
       let round = look_round sessions (due_at count) added sessions (omega arith) in record {
         events = r.events ++ Add who entry ∷ round.events;
         own = events_append sessions r.events (Add who entry ∷ round.events) r.own (low, high, round.own);
@@ -195,19 +204,23 @@ module _ (sessions : ℕ) (target : Machine) (is : IsState target) (all : AllOf 
               λ session first last.
               round.looked.seen session first last
               ∙ seen_where_due count session added history (added.knows session).seen
-              (λ short. ap (λ known. known.seen) (add.others session (λ e. omega (arith, more, short, ap (λ n. length (target.knows n).seen) e))) ∙ r.at.seen session first last);
+              (λ short. ap (λ known. known.seen) (add.others session (λ e. omega (arith, more, short, ap (λ n. length (target.knows n).seen) e)))
+              ∙ r.at.seen session first last);
           mine =
               λ session first last.
               round.looked.mine session
               ∙ dite (ℕ_discrete session who)
               (λ e. subst (λ n. (added.knows n).mine ≡ entries_of n (take (suc count) target.history)) (sym e)
-              (add.mine ∙ ap (λ list. list ++ entry ∷ []) (r.at.mine who low high) ∙ sym (own_last who (take count target.history) entry refl) ∙ ap (entries_of who) (sym (take_next target.history count entry here))))
+              (add.mine ∙ ap (λ list. list ++ entry ∷ []) (r.at.mine who low high) ∙ sym (own_last who (take count target.history) entry refl)
+              ∙ ap (entries_of who) (sym (take_next target.history count entry here))))
               (λ n. ap (λ known. known.mine) (add.others session n) ∙ r.at.mine session first last
-              ∙ sym (own_other session (take count target.history) entry (λ e. n (sym e))) ∙ ap (entries_of session) (sym (take_next target.history count entry here)));
+              ∙ sym (own_other session (take count target.history) entry (λ e. n (sym e)))
+              ∙ ap (entries_of session) (sym (take_next target.history count entry here)));
         };
       }
 
-  of_log : (count : ℕ) (entry : Entry) → count < length target.history → slice_get target.history count ≡ Some entry → (1 ≤ entry.session) × (entry.session ≤ sessions)
+  of_log : (count : ℕ) (entry : Entry) → count < length target.history → slice_get target.history count ≡ Some entry
+      → (1 ≤ entry.session) × (entry.session ≤ sessions)
   of_log count entry within here =
       subst (λ e. (1 ≤ e.session) × (e.session ≤ sessions)) (entry_is target.history count entry here) (all count entry within)
 
@@ -236,6 +249,7 @@ module _ (sessions : ℕ) (target : Machine) (is : IsState target) (all : AllOf 
         capacity = r.at.capacity;
         seen =
             λ session first last.
-            r.at.seen session first last ∙ take_all (length target.history) (target.knows session).seen (length_begins (target.knows session).seen target.history (is.seen session));
+            r.at.seen session first last
+            ∙ take_all (length target.history) (target.knows session).seen (length_begins (target.knows session).seen target.history (is.seen session));
         mine = λ session first last. r.at.mine session first last ∙ ap (entries_of session) all_of ∙ is.mine session;
       }

@@ -43,7 +43,8 @@ module _ (log : List Entry) where
 
   module _ (F : Hand → Type 0) (home : ℕ → ℕ) (next : ℕ) (facts : (hand : Hand) → F hand → Knows log hand.known.number (seen_by hand)) where
     -- where the number is the session's, the pass; else something that the session knows too
-    chosen : (hand : Hand) (session : ℕ) (other : Seen) → F hand → Knows log session other → Knows log session (cond (nat_eq hand.known.number session) (seen_by hand) other)
+    chosen : (hand : Hand) (session : ℕ) (other : Seen) → F hand → Knows log session other
+        → Knows log session (cond (nat_eq hand.known.number session) (seen_by hand) other)
     chosen hand session other fact else_known =
         dite (ℕ_discrete hand.known.number session)
         (λ is. rw (eq-eqb hand.known.number session is) (subst (λ n. Knows log n (seen_by hand)) is (facts hand fact)))
@@ -72,7 +73,8 @@ module _ (log : List Entry) where
       sound session = sound_at session (get_elem? views (home session)) refl
 
       -- at the seat of its number a pass is found
-      found : (hand : Hand) (id : ℕ) (view : View) → home hand.known.number ≡ id → get_elem? views id ≡ some view → known_at hand.known.number view ≡ seen_by hand → KnownTo machine hand
+      found : (hand : Hand) (id : ℕ) (view : View) → home hand.known.number ≡ id → get_elem? views id ≡ some view
+          → known_at hand.known.number view ≡ seen_by hand → KnownTo machine hand
       unfolding machine known_in
       found hand id view at here same = ap (λ v. known_in hand.known.number v) (ap (get_elem? views) at ∙ here) ∙ same
 
@@ -85,7 +87,8 @@ module _ (log : List Entry) where
       passes id (Two first second) here =
           let p = seats id (Two first second) here in (
             found first id (Two first second) p.0.home_is here (rw (eq-eqb first.known.number first.known.number refl) refl),
-            found second id (Two first second) p.1.home_is here (rw (ne_eqb first.known.number second.known.number p.2, eq-eqb second.known.number second.known.number refl) refl),
+            found second id (Two first second) p.1.home_is here
+                (rw (ne_eqb first.known.number second.known.number p.2, eq-eqb second.known.number second.known.number refl) refl),
           )
       passes id (Rest hand) here = tt
 

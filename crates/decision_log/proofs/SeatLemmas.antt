@@ -1,5 +1,6 @@
 -- What is true of all seats stays true when one steps, is split, or takes in another, whatever the words are.
-use Rattle.std.proofs.Common.{◌≡◌, ◌≢◌, ◌⊎◌, ℕ, zero, suc, ◌+◌, ◌<◌, cond, nat_eq, List, [], ◌∷◌, ◌++◌, length, set, refl, ap, sym, ◌∙◌, subst, inl, inr, ⊎_elim, arith, eq-eqb, ne_eqb}
+use Rattle.std.proofs.Common.{◌≡◌, ◌≢◌, ◌⊎◌, ℕ, zero, suc, ◌+◌, ◌<◌, cond, nat_eq, List, [], ◌∷◌, ◌++◌, length, set, refl, ap, sym, ◌∙◌, subst, inl, inr}
+use Rattle.std.proofs.Common.{⊎_elim, arith, eq-eqb, ne_eqb}
 use mathlib.Core.Option.{some, some-injective, some-ne-none}
 use lib.ListN.{get_elem?}
 use Rattle.std.proofs.lemmas.List.{length-set}
@@ -33,7 +34,8 @@ module _ (F G : Hand → Type 0) (home : ℕ → ℕ) (next : ℕ) where
   placed k p same fact = record { low = omega (arith, p.low); high = omega (arith, p.high); home_is = ap home same ∙ p.home_is; fact_is = fact }
 
   -- what a seat knows of passes of other numbers
-  others : (h : Hand) (id j : ℕ) → home h.known.number ≡ id → h.known.number < next → j ≢ id → ((g : Hand) → g.known.number ≢ h.known.number → 0 < g.known.number → F g → G g) → (v : View) → Fits F home next j v → Fits G home next j v
+  others : (h : Hand) (id j : ℕ) → home h.known.number ≡ id → h.known.number < next → j ≢ id
+      → ((g : Hand) → g.known.number ≢ h.known.number → 0 < g.known.number → F g → G g) → (v : View) → Fits F home next j v → Fits G home next j v
   others h id j at high apart keep Spent p = tt
   others h id j at high apart keep (One g) p =
       placed g p refl (keep g (λ e. apart (sym p.home_is ∙ ap home e ∙ at)) p.low p.fact_is)
@@ -47,7 +49,8 @@ module _ (F G : Hand → Type 0) (home : ℕ → ℕ) (next : ℕ) where
       (p.0, p.1, keep g (λ e. omega arith) (omega arith) p.2)
 
   -- a pass steps: what is known of it changes, and what is known of passes of other numbers is kept
-  pub step_seat : (views : List View) (id : ℕ) (h k : Hand) → Seats F home next views → get_elem? views id ≡ some (One h) → k.known.number ≡ h.known.number → G k
+  pub step_seat : (views : List View) (id : ℕ) (h k : Hand) → Seats F home next views → get_elem? views id ≡ some (One h) → k.known.number ≡ h.known.number
+      → G k
       → ((g : Hand) → g.known.number ≢ h.known.number → 0 < g.known.number → F g → G g) → Seats G home next (set views id (One k))
   step_seat views id h k seats here same fact keep j v e =
       let p = seats id (One h) here in
@@ -58,13 +61,15 @@ module _ (F G : Hand → Type 0) (home : ℕ → ℕ) (next : ℕ) where
 
 module _ (F : Hand → Type 0) (home : ℕ → ℕ) (next : ℕ) where
   -- two passes at one seat step, and no word changes
-  pub step_two : (views : List View) (id : ℕ) (g h g' h' : Hand) → Seats F home next views → get_elem? views id ≡ some (Two g h) → g'.known.number ≡ g.known.number → h'.known.number ≡ h.known.number
+  pub step_two : (views : List View) (id : ℕ) (g h g' h' : Hand) → Seats F home next views → get_elem? views id ≡ some (Two g h)
+      → g'.known.number ≡ g.known.number → h'.known.number ≡ h.known.number
       → F g' → F h' → Seats F home next (set views id (Two g' h'))
   step_two views id g h g' h' seats here same same' fact fact' j v e =
       let p = seats id (Two g h) here in
       ⊎_elim
       (λ t. subst (λ w. Fits F home next j w) t.1
-      (subst (λ n. Fits F home next n (Two g' h')) (sym t.0) (placed F F home next g' p.0 same fact, placed F F home next h' p.1 same' fact', (λ same_number. p.2 (sym same ∙ same_number ∙ same')))))
+      (subst (λ n. Fits F home next n (Two g' h')) (sym t.0)
+      (placed F F home next g' p.0 same fact, placed F F home next h' p.1 same' fact', (λ same_number. p.2 (sym same ∙ same_number ∙ same')))))
       (λ t. seats j v t.1)
       (at_set views id j (Two g' h') v e)
 
@@ -82,7 +87,8 @@ module _ (F : Hand → Type 0) (home : ℕ → ℕ) (next : ℕ) where
     rehomed j low apart (Rest g) p = (moved_else home number target 0 (λ e. omega arith) ∙ p.0, p.1, p.2)
 
   -- a seat takes in the pass of another
-  pub join_seats : (views : List View) (id other : ℕ) (g h : Hand) → Seats F home next views → get_elem? views id ≡ some (One g) → other ≢ id → get_elem? (set views id (Two g h)) other ≡ some (One h)
+  pub join_seats : (views : List View) (id other : ℕ) (g h : Hand) → Seats F home next views → get_elem? views id ≡ some (One g) → other ≢ id
+      → get_elem? (set views id (Two g h)) other ≡ some (One h)
       → Seats F (moved home h.known.number id) next (set (set views id (Two g h)) other Spent)
   join_seats views id other g h seats here apart there j v e =
       let p = seats id (One g) here in
@@ -122,7 +128,8 @@ module _ (F : Hand → Type 0) (home : ℕ → ℕ) (next : ℕ) where
       → Seats F home next (set views id (One g) ++ Spent ∷ [])
   split_one views id g seats here j v e =
       ⊎_elim
-      (λ t. ⊎_elim (λ u. subst (λ w. Fits F home next j w) u.1 (subst (λ n. Placed F home next n g) (sym u.0) (seats id (One g) here))) (λ u. seats j v u.1) (at_set views id j (One g) v t))
+      (λ t. ⊎_elim (λ u. subst (λ w. Fits F home next j w) u.1 (subst (λ n. Placed F home next n g) (sym u.0) (seats id (One g) here))) (λ u. seats j v u.1)
+      (at_set views id j (One g) v t))
       (λ t. subst (λ w. Fits F home next j w) t.1 tt)
       (at_end (set views id (One g)) Spent v j e)
 
@@ -144,12 +151,19 @@ module _ (F : Hand → Type 0) (home : ℕ → ℕ) (next : ℕ) where
       (record { low = omega arith; high = omega arith; home_is = moved_here home h.known.number (length views) ∙ sym (t.0 ∙ end); fact_is = p.2 }))
       (at_end (set views id (Rest (following h))) (One h) v j e)
     where
-      longer : (h : Hand) (target : ℕ) → h.known.number ≡ next → {j : ℕ} {g : Hand} → Placed F home next j g → Placed F (moved home h.known.number target) (next + 1) j g
+      longer : (h : Hand) (target : ℕ) → h.known.number ≡ next → {j : ℕ} {g : Hand} → Placed F home next j g
+          → Placed F (moved home h.known.number target) (next + 1) j g
       longer h target number {j} {g} p =
           let high = p.high in
-          record { low = p.low; high = omega arith; home_is = moved_else home h.known.number target g.known.number (λ e. omega arith) ∙ p.home_is; fact_is = p.fact_is }
+          record {
+            low = p.low;
+            high = omega arith;
+            home_is = moved_else home h.known.number target g.known.number (λ e. omega arith) ∙ p.home_is;
+            fact_is = p.fact_is;
+          }
 
-      kept : (h : Hand) (j target : ℕ) → 0 < next → h.known.number ≡ next → home 0 ≢ j → (v : View) → Fits F home next j v → Fits F (moved home h.known.number target) (next + 1) j v
+      kept : (h : Hand) (j target : ℕ) → 0 < next → h.known.number ≡ next → home 0 ≢ j → (v : View) → Fits F home next j v
+          → Fits F (moved home h.known.number target) (next + 1) j v
       kept h j target begun number apart Spent p = tt
       kept h j target begun number apart (One g) p = longer h target number p
       kept h j target begun number apart (Two g k) p = (longer h target number p.0, longer h target number p.1, p.2)

@@ -26,7 +26,8 @@ Spelled : List ℕ → ℕ → List Entry → Type 0
 Spelled words from list = (place : ℕ) (entry : Entry) → slice_get list place ≡ Some entry → IsEntry entry × Holds words (row_at (from + place)) (words_of entry)
 
 -- from the first place on
-first_rows : (words : List ℕ) (place : ℕ) (entry : Entry) → IsEntry entry × Holds words (row_at place) (words_of entry) → IsEntry entry × Holds words (row_at (0 + place)) (words_of entry)
+first_rows : (words : List ℕ) (place : ℕ) (entry : Entry) → IsEntry entry × Holds words (row_at place) (words_of entry)
+    → IsEntry entry × Holds words (row_at (0 + place)) (words_of entry)
 first_rows words place entry is =
     let here : place ≡ 0 + place = omega arith in
     subst (λ n. IsEntry entry × Holds words (row_at n) (words_of entry)) here is
@@ -72,9 +73,11 @@ module _ (sizes : Sizes) (words : List ℕ) (views views' : List View) (r : Turn
       one_list (set words 1 new) 0 after.log r.log
       (sym after.count ∙ get_or-set_other words 1 0 new 0 (λ e. omega arith) ∙ r.count)
       (spelled sizes (set words 1 new) views' after)
-      (λ place entry is. first_rows (set words 1 new) place entry ((r.entries place entry is).0, holds_beside words 1 new (row_at place) (words_of entry) (λ i below e. omega arith) (r.rows place entry is)))
+      (λ place entry is. first_rows (set words 1 new) place entry
+      ((r.entries place entry is).0, holds_beside words 1 new (row_at place) (words_of entry) (λ i below e. omega arith) (r.rows place entry is)))
 
-  pub stored_log : (id : ℕ) (h : Hand) (index new : ℕ) → get_elem? views id ≡ some (One h) → h.turn ≡ Fresh → index ≤ length h.draft → index < 21 → length h.known.seen < h.capacity
+  pub stored_log : (id : ℕ) (h : Hand) (index new : ℕ) → get_elem? views id ≡ some (One h) → h.turn ≡ Fresh → index ≤ length h.draft → index < 21
+      → length h.known.seen < h.capacity
       → (after : TurnRule sizes (set words (row_at (length h.known.seen) + index) new) views') → after.log ≡ r.log
   stored_log id h index new here fresh along below room after =
       let k = (known sizes words views r id h here).fact_is in
@@ -84,7 +87,8 @@ module _ (sizes : Sizes) (words : List ℕ) (views views' : List View) (r : Turn
       let t = drafted_rule sizes words views r id h index new here f.0 f.1 fresh along below (omega (arith, ap length f.0, room, k.capacity)) in
       one_log sizes (set words (row_at (length r.log) + index) new) views' (set views id (One (drafted h index new))) after t.0 ∙ t.1) after
 
-  pub counted_log : (id : ℕ) (h : Hand) (entry : Entry) → get_elem? views id ≡ some (One h) → h.turn ≡ Fresh → IsEntry entry → entry.session ≡ h.known.number → h.draft ≡ words_of entry → length h.known.seen < h.capacity
+  pub counted_log : (id : ℕ) (h : Hand) (entry : Entry) → get_elem? views id ≡ some (One h) → h.turn ≡ Fresh → IsEntry entry → entry.session ≡ h.known.number
+      → h.draft ≡ words_of entry → length h.known.seen < h.capacity
       → (after : TurnRule sizes (set words 0 (length h.known.seen + 1)) views') → after.log ≡ r.log ++ entry ∷ []
   counted_log id h entry here fresh is own whole room after =
       let k = (known sizes words views r id h here).fact_is in
@@ -94,7 +98,8 @@ module _ (sizes : Sizes) (words : List ℕ) (views views' : List View) (r : Turn
       let t = published_rule sizes words views r id h entry here f.0 f.1 is own whole (omega (arith, ap length f.0, room, k.capacity)) in
       one_log sizes (set words 0 (length r.log + 1)) views' (set views id (One (published h entry))) after t.0 ∙ t.1) after
 
-  pub looked_log : (words' : List ℕ) (after : TurnRule sizes words' views') (step : Atomic) (found id : ℕ) (old new : Hand) → Does step words found words' → Counts count_for turn_word step found old new → new.known.looks ≢ old.known.looks
+  pub looked_log : (words' : List ℕ) (after : TurnRule sizes words' views') (step : Atomic) (found id : ℕ) (old new : Hand) → Does step words found words'
+      → Counts count_for turn_word step found old new → new.known.looks ≢ old.known.looks
       → get_elem? views' id ≡ some (One new) → (new.known.seen ≡ after.log) × (after.log ≡ r.log)
   looked_log words' after step found id old new does counts rose here =
       let look = look_is count_for turn_word step found old new words words' does counts rose in

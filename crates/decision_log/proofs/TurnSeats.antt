@@ -13,7 +13,8 @@ use Rattle.decision_log.proofs.Histories.{begins_nothing}
 use Rattle.decision_log.proofs.SeatRule.{HasSeats, seats_kept}
 use Rattle.decision_log.proofs.TurnSteps.{Rules}
 
-has_seats : (sizes : Sizes) (words : List ℕ) (views : List View) → TurnRule sizes words views → HasSeats (TurnRule sizes words) (Knows sizes words) count_for sizes words views
+has_seats : (sizes : Sizes) (words : List ℕ) (views : List View) → TurnRule sizes words views
+    → HasSeats (TurnRule sizes words) (Knows sizes words) count_for sizes words views
 has_seats sizes words views r = record {
   log = r.log;
   home = r.home;
@@ -24,8 +25,19 @@ has_seats sizes words views r = record {
   within = r.within;
   seats = r.seats;
   known = λ h k. record { sessions = k.sessions; capacity = k.capacity; seen = k.seen; mine = k.mine; part = k.part };
-  meets = λ h seen k begins part. record { sessions = k.sessions; capacity = k.capacity; seen = begins; mine = k.mine; part = part; draft = λ i below. absurd (omega arith); turn = refl };
-  issued = λ h k none. record { sessions = k.sessions; capacity = k.capacity; seen = begins_nothing r.log; mine = none; part = refl; draft = λ i below. absurd (omega arith); turn = refl };
+  meets =
+      λ h seen k begins part. record
+      { sessions = k.sessions; capacity = k.capacity; seen = begins; mine = k.mine; part = part; draft = λ i below. absurd (omega arith); turn = refl };
+  issued =
+      λ h k none. record {
+        sessions = k.sessions;
+        capacity = k.capacity;
+        seen = begins_nothing r.log;
+        mine = none;
+        part = refl;
+        draft = λ i below. absurd (omega arith);
+        turn = refl;
+      };
   newest_is = λ h k. r.count;
   reseated = λ home next views' more within seats. record {
     log = r.log;
@@ -47,7 +59,8 @@ pub keeps_seats : KeepsSeats Rules count_for
 keeps_seats = seats_kept TurnRule Knows count_for has_seats
 
 -- an empty log, none of whose passes is given out
-pub at_opening : (sizes : Sizes) (words : List ℕ) → length words ≡ row_at sizes.capacity → slice_index words 0 ≡ 0 → TurnRule sizes words (Rest (newcomer_hand sizes.sessions sizes.capacity 1) ∷ [])
+pub at_opening : (sizes : Sizes) (words : List ℕ) → length words ≡ row_at sizes.capacity → slice_index words 0 ≡ 0
+    → TurnRule sizes words (Rest (newcomer_hand sizes.sessions sizes.capacity 1) ∷ [])
 at_opening sizes words wide zeros = record {
   log = [];
   home = λ n. 0;

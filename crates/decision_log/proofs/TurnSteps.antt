@@ -39,7 +39,8 @@ module _ (sizes : Sizes) (words : List ℕ) (views : List View) (r : TurnRule si
   pub among : (h : Hand) (seen : List Entry) → h.sessions ≡ sizes.sessions → Begins seen r.log → AllOf h.sessions seen
   among h seen sessions begins =
       all_from_places (λ entry. (1 ≤ entry.session) × (entry.session ≤ h.sessions)) seen
-      (λ place entry is. let e = r.entries place entry (get_begins seen r.log place entry begins is) in (e.0.first_session, omega (arith, e.1, r.within, sessions)))
+      (λ place entry is. let e = r.entries place entry (get_begins seen r.log place entry begins is) in
+      (e.0.first_session, omega (arith, e.1, r.within, sessions)))
 
   pub history : (h : Hand) → Knows sizes words r.log h → HistoryIs h r.log
   history h k = record { begins = k.seen; room = omega (arith, r.room, k.capacity); all = among h r.log k.sessions (begins_itself r.log); part = k.mine }
@@ -79,7 +80,8 @@ module _ (sizes : Sizes) (words : List ℕ) (views : List View) (r : TurnRule si
   look_keeps : (id : ℕ) (h : Hand) → get_elem? views id ≡ some (One h) → TurnRule sizes words (set views id (One (looked h r.log)))
   look_keeps id h here =
       with_seats (set views id (One (looked h r.log)))
-      (step_seat (Knows sizes words r.log) (Knows sizes words r.log) r.home r.next views id h (looked h r.log) r.seats here refl (knows_looked h (known id h here).fact_is) (λ g apart low k. k))
+      (step_seat (Knows sizes words r.log) (Knows sizes words r.log) r.home r.next views id h (looked h r.log) r.seats here refl
+      (knows_looked h (known id h here).fact_is) (λ g apart low k. k))
 
 -- a load leaves the words
 pub loaded : (sizes : Sizes) (words : List ℕ) (i : ℕ) (views : List View) → TurnRule sizes words views → TurnRule sizes (set words i (get_or words i 0)) views
@@ -102,7 +104,8 @@ read_step sizes slots id word h behind state r homes here small =
       tt,
       loaded sizes state.words word (set state.views id (One h))
           (with_seats sizes state.words state.views r (set state.views id (One h))
-          (step_seat (Knows sizes state.words r.log) (Knows sizes state.words r.log) r.home r.next state.views id h h r.seats here refl p.fact_is (λ g apart low k. k))),
+          (step_seat (Knows sizes state.words r.log) (Knows sizes state.words r.log) r.home r.next state.views id h h r.seats here refl p.fact_is
+          (λ g apart low k. k))),
       (
         h,
         refl,

@@ -1,5 +1,6 @@
 -- The steps of a log with a turn that change a word keep the rule.
-use Rattle.std.proofs.Common.{◌≡◌, ◌≢◌, ℕ, zero, suc, ◌+◌, ◌-◌, ◌<◌, ◌≤◌, List, [], ◌∷◌, ◌++◌, length, take, set, get_or, refl, ap, sym, ◌∙◌, subst, ⊎_elim, arith, eqb, length-append}
+use Rattle.std.proofs.Common.{◌≡◌, ◌≢◌, ℕ, zero, suc, ◌+◌, ◌-◌, ◌<◌, ◌≤◌, List, [], ◌∷◌, ◌++◌, length, take, set, get_or, refl, ap, sym, ◌∙◌, subst, ⊎_elim}
+use Rattle.std.proofs.Common.{arith, eqb, length-append}
 use Rattle.std.specs.Prelude.{slice_index}
 use mathlib.Core.Option.{none, some}
 use mathlib.Core.Logic.{dite}
@@ -34,15 +35,18 @@ pub holds_nothing : (words : List ℕ) (at : ℕ) (draft : List ℕ) → draft �
 holds_nothing words at draft blank = subst (λ d. Holds words at d) (sym blank) (λ i below. absurd (omega arith))
 
 -- a word that isn't among them changes
-pub holds_beside : (words : List ℕ) (word new at : ℕ) (draft : List ℕ) → ((i : ℕ) → i < length draft → at + i ≢ word) → Holds words at draft → Holds (set words word new) at draft
+pub holds_beside : (words : List ℕ) (word new at : ℕ) (draft : List ℕ) → ((i : ℕ) → i < length draft → at + i ≢ word) → Holds words at draft
+    → Holds (set words word new) at draft
 holds_beside words word new at draft out holds i below = get_or-set_other words word (at + i) new 0 (out i below) ∙ holds i below
 
 -- the next word is stored, or one again
-pub holds_one_more : (words : List ℕ) (at index new : ℕ) (draft : List ℕ) → index ≤ length draft → at + index < length words → Holds words at draft → Holds (set words (at + index) new) at (take index draft ++ new ∷ [])
+pub holds_one_more : (words : List ℕ) (at index new : ℕ) (draft : List ℕ) → index ≤ length draft → at + index < length words → Holds words at draft
+    → Holds (set words (at + index) new) at (take index draft ++ new ∷ [])
 holds_one_more words at index new draft along within holds i below =
     let len : length (take index draft) ≡ index = length-take-le index draft along in
     dite (ℕ_discrete i index)
-    (λ e. ap (λ k. get_or (set words (at + index) new) (at + k) 0) e ∙ get_or-set_same words (at + index) new 0 within ∙ sym (get_or_push (take index draft) new 0 i (len ∙ sym e)))
+    (λ e. ap (λ k. get_or (set words (at + index) new) (at + k) 0) e ∙ get_or-set_same words (at + index) new 0 within
+    ∙ sym (get_or_push (take index draft) new 0 i (len ∙ sym e)))
     (λ n.
     let less : i < index = omega (arith, below, length-append (take index draft) (new ∷ [])) in
     get_or-set_other words (at + index) (at + i) new 0 (λ e. n (omega arith)) ∙ holds i (omega arith) ∙ front (new ∷ []) draft index i less along)
@@ -54,19 +58,30 @@ holds_one_more words at index new draft along within holds i below =
     front ys (x ∷ xs) (suc n) (suc i) less along = front ys xs n i (omega arith) (omega arith)
 
 -- who isn't named by the turn word is without the turn
-without : (words words' : List ℕ) (log log' : List Entry) (g : Hand) (turn : Turn) → slice_index words 1 ≢ g.known.number → HasTurn words log g turn → HasTurn words' log' g turn × (g.draft ≡ [])
+without : (words words' : List ℕ) (log log' : List Entry) (g : Hand) (turn : Turn) → slice_index words 1 ≢ g.known.number → HasTurn words log g turn
+    → HasTurn words' log' g turn × (g.draft ≡ [])
 without words words' log log' g Without other has = (has, has)
 without words words' log log' g Won other has = absurd (other has.1)
 without words words' log log' g Fresh other has = absurd (other has.1)
 
 -- who is without the turn knows what it knew, whatever becomes of the words
-knows_aside : (sizes : Sizes) (words words' : List ℕ) (log : List Entry) (g : Hand) → slice_index words 1 ≢ g.known.number → Knows sizes words log g → Knows sizes words' log g
+knows_aside : (sizes : Sizes) (words words' : List ℕ) (log : List Entry) (g : Hand) → slice_index words 1 ≢ g.known.number → Knows sizes words log g
+    → Knows sizes words' log g
 knows_aside sizes words words' log g other k =
     let w = without words words' log log g g.turn other k.turn in
-    record { sessions = k.sessions; capacity = k.capacity; seen = k.seen; mine = k.mine; part = k.part; draft = holds_nothing words' (row_at (length log)) g.draft w.1; turn = w.0 }
+    record {
+      sessions = k.sessions;
+      capacity = k.capacity;
+      seen = k.seen;
+      mine = k.mine;
+      part = k.part;
+      draft = holds_nothing words' (row_at (length log)) g.draft w.1;
+      turn = w.0;
+    }
 
 -- the same where an entry of another number is added
-knows_longer : (sizes : Sizes) (words words' : List ℕ) (log : List Entry) (entry : Entry) (g : Hand) → slice_index words 1 ≢ g.known.number → entry.session ≢ g.known.number → Knows sizes words log g → Knows sizes words' (log ++ entry ∷ []) g
+knows_longer : (sizes : Sizes) (words words' : List ℕ) (log : List Entry) (entry : Entry) (g : Hand) → slice_index words 1 ≢ g.known.number
+    → entry.session ≢ g.known.number → Knows sizes words log g → Knows sizes words' (log ++ entry ∷ []) g
 knows_longer sizes words words' log entry g other apart k =
     let w = without words words' log (log ++ entry ∷ []) g g.turn other k.turn in
     record {
@@ -80,7 +95,8 @@ knows_longer sizes words words' log entry g other apart k =
     }
 
 -- a pass that gives up its draft
-knows_blank : (sizes : Sizes) (words words' : List ℕ) (log : List Entry) (h k : Hand) → Knows sizes words log h → k.sessions ≡ h.sessions → k.capacity ≡ h.capacity → k.known.number ≡ h.known.number → k.known.seen ≡ h.known.seen → k.known.mine ≡ h.known.mine
+knows_blank : (sizes : Sizes) (words words' : List ℕ) (log : List Entry) (h k : Hand) → Knows sizes words log h → k.sessions ≡ h.sessions
+    → k.capacity ≡ h.capacity → k.known.number ≡ h.known.number → k.known.seen ≡ h.known.seen → k.known.mine ≡ h.known.mine
     → k.draft ≡ [] → HasTurn words' log k k.turn → Knows sizes words' log k
 knows_blank sizes words words' log h k is sessions capacity number seen mine draft turn =
     record {
@@ -114,12 +130,14 @@ module _ (sizes : Sizes) (words : List ℕ) (views : List View) (r : TurnRule si
   }
 
   -- the turn is free, and the pass takes it
-  take_keeps : (id : ℕ) (h : Hand) → get_elem? views id ≡ some (One h) → get_or words 1 0 ≡ 0 → TurnRule sizes (set words 1 h.known.number) (set views id (One (tried h Won)))
+  take_keeps : (id : ℕ) (h : Hand) → get_elem? views id ≡ some (One h) → get_or words 1 0 ≡ 0
+      → TurnRule sizes (set words 1 h.known.number) (set views id (One (tried h Won)))
   take_keeps id h here free =
       let p = known sizes words views r id h here in
       retaken h.known.number (set views id (One (tried h Won)))
       (step_seat (Knows sizes words r.log) (Knows sizes (set words 1 h.known.number) r.log) r.home r.next views id h (tried h Won) r.seats here refl
-      (knows_blank sizes words (set words 1 h.known.number) r.log h (tried h Won) p.fact_is refl refl refl refl refl refl (refl, get_or-set_same words 1 h.known.number 0 two_words))
+      (knows_blank sizes words (set words 1 h.known.number) r.log h (tried h Won) p.fact_is refl refl refl refl refl refl
+      (refl, get_or-set_same words 1 h.known.number 0 two_words))
       (λ g apart low k. knows_aside sizes words (set words 1 h.known.number) r.log g (λ e. omega arith) k))
 
   -- the turn is another's
@@ -132,7 +150,8 @@ module _ (sizes : Sizes) (words : List ℕ) (views : List View) (r : TurnRule si
       (λ g apart low k. k))
 
   -- the turn is given back
-  release_keeps : (id : ℕ) (h : Hand) → get_elem? views id ≡ some (One h) → slice_index words 1 ≡ h.known.number → TurnRule sizes (set words 1 0) (set views id (One (released h)))
+  release_keeps : (id : ℕ) (h : Hand) → get_elem? views id ≡ some (One h) → slice_index words 1 ≡ h.known.number
+      → TurnRule sizes (set words 1 0) (set views id (One (released h)))
   release_keeps id h here mine =
       let p = known sizes words views r id h here in
       retaken 0 (set views id (One (released h)))
@@ -141,8 +160,10 @@ module _ (sizes : Sizes) (words : List ℕ) (views : List View) (r : TurnRule si
       (λ g apart low k. knows_aside sizes words (set words 1 0) r.log g (λ e. apart (sym e ∙ mine)) k))
 
   -- a word of the row at the count is stored
-  draft_keeps : (id : ℕ) (h : Hand) (index new : ℕ) → get_elem? views id ≡ some (One h) → h.known.seen ≡ r.log → slice_index words 1 ≡ h.known.number → h.turn ≡ Fresh
-      → index ≤ length h.draft → index < 21 → length r.log < sizes.capacity → TurnRule sizes (set words (row_at (length r.log) + index) new) (set views id (One (drafted h index new)))
+  draft_keeps : (id : ℕ) (h : Hand) (index new : ℕ) → get_elem? views id ≡ some (One h) → h.known.seen ≡ r.log → slice_index words 1 ≡ h.known.number
+      → h.turn ≡ Fresh
+      → index ≤ length h.draft → index < 21 → length r.log < sizes.capacity
+      → TurnRule sizes (set words (row_at (length r.log) + index) new) (set views id (One (drafted h index new)))
   draft_keeps id h index new here all mine fresh along below room =
       let p = known sizes words views r id h here in
       let k = p.fact_is in
@@ -201,11 +222,13 @@ module _ (sizes : Sizes) (words : List ℕ) (views : List View) (r : TurnRule si
             λ place other at.
             holds_beside words 0 new (row_at place) (words_of other) (λ i less e. omega arith)
             (⊎_elim (λ t. r.rows place other t)
-            (λ t. subst (λ n. Holds words (row_at n) (words_of other)) (sym t.0) (subst (λ draft. Holds words (row_at (length r.log)) draft) (whole ∙ ap words_of t.1) k.draft))
+            (λ t. subst (λ n. Holds words (row_at n) (words_of other)) (sym t.0)
+            (subst (λ draft. Holds words (row_at (length r.log)) draft) (whole ∙ ap words_of t.1) k.draft))
             (get_last r.log entry place other at));
         entries =
             λ place other at.
-            ⊎_elim (λ t. r.entries place other t) (λ t. subst (λ x. IsEntry x × (x.session < r.next)) t.1 (is, omega (arith, own, p.high))) (get_last r.log entry place other at);
+            ⊎_elim (λ t. r.entries place other t) (λ t. subst (λ x. IsEntry x × (x.session < r.next)) t.1 (is, omega (arith, own, p.high)))
+            (get_last r.log entry place other at);
         begun = r.begun;
         within = r.within;
         seats =
@@ -224,8 +247,10 @@ module _ (sizes : Sizes) (words : List ℕ) (views : List View) (r : TurnRule si
 
   -- what they leave of the history
 
-  pub drafted_rule : (id : ℕ) (h : Hand) (index new : ℕ) → get_elem? views id ≡ some (One h) → h.known.seen ≡ r.log → slice_index words 1 ≡ h.known.number → h.turn ≡ Fresh
-      → index ≤ length h.draft → index < 21 → length r.log < sizes.capacity → (after : TurnRule sizes (set words (row_at (length r.log) + index) new) (set views id (One (drafted h index new)))) × (after.log ≡ r.log)
+  pub drafted_rule : (id : ℕ) (h : Hand) (index new : ℕ) → get_elem? views id ≡ some (One h) → h.known.seen ≡ r.log → slice_index words 1 ≡ h.known.number
+      → h.turn ≡ Fresh
+      → index ≤ length h.draft → index < 21 → length r.log < sizes.capacity
+      → (after : TurnRule sizes (set words (row_at (length r.log) + index) new) (set views id (One (drafted h index new)))) × (after.log ≡ r.log)
   unfolding draft_keeps
   drafted_rule id h index new here all mine fresh along below room = (draft_keeps id h index new here all mine fresh along below room, refl)
 
@@ -235,10 +260,12 @@ module _ (sizes : Sizes) (words : List ℕ) (views : List View) (r : TurnRule si
   unfolding publish_keeps
   published_rule id h entry here all mine is own whole room = (publish_keeps id h entry here all mine is own whole room, refl)
 
-pub fresh_has : (words : List ℕ) (log : List Entry) (h : Hand) → h.turn ≡ Fresh → HasTurn words log h h.turn → (h.known.seen ≡ log) × (slice_index words 1 ≡ h.known.number)
+pub fresh_has : (words : List ℕ) (log : List Entry) (h : Hand) → h.turn ≡ Fresh → HasTurn words log h h.turn
+    → (h.known.seen ≡ log) × (slice_index words 1 ≡ h.known.number)
 fresh_has words log h fresh has = subst (λ t. HasTurn words log h t) fresh has
 
-pub take_step : (sizes : Sizes) (slots id : ℕ) (h : Hand) → Allows (Rules sizes) slots id (seated h) 1 (λ n. either (eqb n 0) h.known.number n) (Tells (Takes (Exchange 1 0 h.known.number none) h))
+pub take_step : (sizes : Sizes) (slots id : ℕ) (h : Hand)
+    → Allows (Rules sizes) slots id (seated h) 1 (λ n. either (eqb n 0) h.known.number n) (Tells (Takes (Exchange 1 0 h.known.number none) h))
 take_step sizes slots id h state r homes here small =
     let n = get_or state.words 1 0 in
     dite (ℕ_discrete n 0)
@@ -246,7 +273,8 @@ take_step sizes slots id h state r homes here small =
       One (tried h Won),
       keeps,
       tt,
-      exchanged n 0 h.known.number (λ w. TurnRule sizes (set state.words 1 w) (set state.views id (One (tried h Won)))) (λ f. take_keeps sizes state.words state.views r id h here e) (λ ne. absurd (ne e)),
+      exchanged n 0 h.known.number (λ w. TurnRule sizes (set state.words 1 w) (set state.views id (One (tried h Won))))
+          (λ f. take_keeps sizes state.words state.views r id h here e) (λ ne. absurd (ne e)),
       (tried h Won, refl, (refl, refl, refl, (λ f. refl), (λ ne. absurd (ne e)))),
     ))
     (λ ne. (
@@ -258,12 +286,14 @@ take_step sizes slots id h state r homes here small =
       (tried h Without, refl, (refl, refl, refl, (λ f. absurd (ne f)), (λ f. refl))),
     ))
 
-pub release_step : (sizes : Sizes) (slots id : ℕ) (h : Hand) → h.turn ≡ Fresh → Allows (Rules sizes) slots id (seated h) 1 (λ n. 0) (λ n. Tells (Releases (Store 1 0) h) 0)
+pub release_step : (sizes : Sizes) (slots id : ℕ) (h : Hand) → h.turn ≡ Fresh
+    → Allows (Rules sizes) slots id (seated h) 1 (λ n. 0) (λ n. Tells (Releases (Store 1 0) h) 0)
 release_step sizes slots id h fresh state r homes here small =
     let f = fresh_has state.words r.log h fresh (known sizes state.words state.views r id h here).fact_is.turn in
     (One (released h), keeps, tt, release_keeps sizes state.words state.views r id h here f.1, (released h, refl, (refl, refl, refl)))
 
-pub draft_step : (sizes : Sizes) (slots id word index new : ℕ) (h : Hand) → word ≡ row_at (length h.known.seen) + index → h.turn ≡ Fresh → index ≤ length h.draft → index < 21 → length h.known.seen < h.capacity
+pub draft_step : (sizes : Sizes) (slots id word index new : ℕ) (h : Hand) → word ≡ row_at (length h.known.seen) + index → h.turn ≡ Fresh
+    → index ≤ length h.draft → index < 21 → length h.known.seen < h.capacity
     → Allows (Rules sizes) slots id (seated h) word (λ n. new) (λ n. Tells (Drafts (Store word new) h) new)
 draft_step sizes slots id word index new h at fresh along below room state r homes here small =
     let k = (known sizes state.words state.views r id h here).fact_is in
@@ -281,7 +311,8 @@ draft_step sizes slots id word index new h at fresh along below room state r hom
       (drafted h (word - row_at (length h.known.seen)) new, refl, refl),
     )
 
-pub publish_step : (sizes : Sizes) (slots id new : ℕ) (h : Hand) (entry : Entry) → new ≡ length h.known.seen + 1 → h.turn ≡ Fresh → IsEntry entry → entry.session ≡ h.known.number → h.draft ≡ words_of entry → length h.known.seen < h.capacity
+pub publish_step : (sizes : Sizes) (slots id new : ℕ) (h : Hand) (entry : Entry) → new ≡ length h.known.seen + 1 → h.turn ≡ Fresh → IsEntry entry
+    → entry.session ≡ h.known.number → h.draft ≡ words_of entry → length h.known.seen < h.capacity
     → Allows (Rules sizes) slots id (seated h) 0 (λ n. new) (λ n. Tells (Publishes (Store 0 new) h) new)
 publish_step sizes slots id new h entry next fresh is own whole room state r homes here small =
     let k = (known sizes state.words state.views r id h here).fact_is in

@@ -41,5 +41,7 @@ pub record KeepsSeats (holds : Sizes → State Entry View → Type 0) (newest : 
   pub spare : (sizes : Sizes) (id : ℕ) (pass : Hand) → Splits (holds sizes) id (One pass) (One pass) Spent
   pub join : (sizes : Sizes) (id other : ℕ) (first second : Hand) → Joins (holds sizes) id (One first) other (One second) (Two first second) Spent
   pub split : (sizes : Sizes) (id : ℕ) (first second : Hand) → Splits (holds sizes) id (Two first second) (One first) (One second)
-  pub issue : (sizes : Sizes) (id : ℕ) (pass : Hand) → pass.known.number ≤ pass.sessions → Splits (holds sizes) id (Rest pass) (Rest (following pass)) (One pass)
-  pub meet : (sizes : Sizes) (slots id : ℕ) (first second : Hand) → Allows (holds sizes) slots id (seated_two first second) 0 (λ n. n) (Meets newest first second)
+  pub issue : (sizes : Sizes) (id : ℕ) (pass : Hand) → pass.known.number ≤ pass.sessions
+      → Splits (holds sizes) id (Rest pass) (Rest (following pass)) (One pass)
+  pub meet : (sizes : Sizes) (slots id : ℕ) (first second : Hand)
+      → Allows (holds sizes) slots id (seated_two first second) 0 (λ n. n) (Meets newest first second)

@@ -52,4 +52,5 @@ Tells then found me = (hand : Hand) × (me ≡ seated hand) × then found hand
 -- the first pass stays; where the second had seen less, it has now seen the whole history
 abbrev pub Meets : (Hand → ℕ) → Hand → Hand → ℕ → Me Entry View → Type 0
 Meets newest first second found me =
-    (seen : List Entry) × (me ≡ seated_two first (met second seen)) × (length second.known.seen < length first.known.seen → found ≡ newest (met second seen)) × MetAt first second seen
+    (seen : List Entry) × (me ≡ seated_two first (met second seen)) × (length second.known.seen < length first.known.seen → found ≡ newest (met second seen))
+    × MetAt first second seen

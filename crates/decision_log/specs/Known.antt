@@ -1,6 +1,6 @@
 -- What a contract sees of a log and of a pass.
 --     Known           number, seen, mine, looks, tries
---     Place           which log it is, how many sessions it has, and how many entries it can have
+--     LogIdentity     which log it is, how many sessions it has, and how many entries it can have
 --     newcomer        what a pass knows before its first call
 --     AllOf           each entry is of a session from 1 to a number
 use Rattle.std.specs.Prelude.{ℕ, ◌≤◌, List, [], All}
@@ -9,7 +9,7 @@ use Rattle.xa_words.specs.Entry.{Entry}
 use Rattle.decision_log.specs.declared.known.Known.{Known}
 
 -- the words of the log, which no other log shares, and its two sizes
-pub record Place : Type 0 where
+pub record LogIdentity : Type 0 where
   pub table : TableId
   pub sessions : ℕ
   pub capacity : ℕ

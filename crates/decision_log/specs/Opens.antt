@@ -6,7 +6,7 @@ use Rattle.std.specs.Prelude.{◌≡◌, ◌≤◌, ◌+◌, ℕ, List, length, 
 use Rattle.decision_log.specs.declared.known.Known.{Known}
 use Rattle.decision_log.specs.declared.fault.OpenFault.{OpenFault}
 use Rattle.decision_log.specs.declared.fault.OpenFault.TheVariants.{CapacityOutOfRange, SessionsOutOfRange, NoMemory}
-use Rattle.decision_log.specs.Known.{Place, newcomer}
+use Rattle.decision_log.specs.Known.{LogIdentity, newcomer}
 
 -- from 1 to 1024 entries (own rule)
 abbrev pub IsCapacity : ℕ → Type 0
@@ -17,13 +17,14 @@ abbrev pub IsCount : ℕ → Type 0
 IsCount sessions = (1 ≤ sessions) × (sessions ≤ 16)
 
 -- the passes of sessions 1 to the last, in order, each of this log and with nothing seen
-pub record Opens {Pass : Type 0} (home : Pass → Place) (known : Pass → Known) (capacity sessions : ℕ) (place : Place) (passes : List Pass) : Type 0 where
-  pub capacity_is : place.capacity ≡ capacity
-  pub sessions_is : place.sessions ≡ sessions
+pub record Opens {Pass : Type 0} (belongs_to : Pass → LogIdentity) (known : Pass → Known) (capacity sessions : ℕ) (identity : LogIdentity)
+    (passes : List Pass) : Type 0 where
+  pub capacity_is : identity.capacity ≡ capacity
+  pub sessions_is : identity.sessions ≡ sessions
   pub capacity_fits : IsCapacity capacity
   pub sessions_fit : IsCount sessions
   pub count : length passes ≡ sessions
-  pub homes : All (λ pass. home pass ≡ place) passes
+  pub belongs : All (λ pass. belongs_to pass ≡ identity) passes
   pub numbers : (index : ℕ) (pass : Pass) → slice_get passes index ≡ Some pass → known pass ≡ newcomer (index + 1)
 
 -- in the order of test

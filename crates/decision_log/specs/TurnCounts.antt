@@ -10,7 +10,8 @@ use Rattle.decision_log.specs.TurnRule.{turn_word, count_for}
 use Rattle.decision_log.specs.TurnPlays.{Sees, Reads, Takes, Drafts, Publishes, Releases}
 
 -- a step that neither looks nor tries
-pub leaves_counts : (step : Atomic) (found : ℕ) (old new : Hand) → new.known.looks ≡ old.known.looks → new.known.tries ≡ old.known.tries → (IsLoad 0 step → ⊥) → (IsTry turn_word step → ⊥)
+pub leaves_counts : (step : Atomic) (found : ℕ) (old new : Hand) → new.known.looks ≡ old.known.looks → new.known.tries ≡ old.known.tries → (IsLoad 0 step → ⊥)
+    → (IsTry turn_word step → ⊥)
     → Counts count_for turn_word step found old new
 leaves_counts step found old new looks tries no_look no_try = record { looks = inr (looks, no_look); tries = inr (tries, no_try) }
 

@@ -41,7 +41,8 @@ tried h turn = record {
 -- after the entry was added
 abbrev pub published : Hand → Entry → Hand
 published h entry = record {
-  known = record { number = h.known.number; seen = h.known.seen ++ entry ∷ []; mine = h.known.mine ++ entry ∷ []; looks = h.known.looks; tries = h.known.tries };
+  known =
+      record { number = h.known.number; seen = h.known.seen ++ entry ∷ []; mine = h.known.mine ++ entry ∷ []; looks = h.known.looks; tries = h.known.tries };
   sessions = h.sessions;
   capacity = h.capacity;
   draft = [];

@@ -66,11 +66,11 @@ fn put(session: SessionNo, letter: u8, value: u8) -> Option<Entry>
 ///
 /// Takes no memory. Doesn't wait.
 pub fn adds_in_turn<L: DecisionLog>(log: &L, first: &mut L::Pass, second: &mut L::Pass) -> bool
-    requires first { L.home first.old ≡ L.place log.now }
-    requires second { L.home second.old ≡ L.place log.now }
-    ensures first { L.home first.new ≡ L.home first.old }
-    ensures second { L.home second.new ≡ L.home second.old }
-    ensures capacity { IsTrue result → (L.place log.now).capacity ≡ 2 }
+    requires first { L.belongs_to first.old ≡ L.identity log.now }
+    requires second { L.belongs_to second.old ≡ L.identity log.now }
+    ensures first { L.belongs_to first.new ≡ L.belongs_to first.old }
+    ensures second { L.belongs_to second.new ≡ L.belongs_to second.old }
+    ensures capacity { IsTrue result → (L.identity log.now).capacity ≡ 2 }
     ensures first_added { IsTrue result → HasAdded 1 1 (L.known first.old) (L.known first.new) }
     ensures second_added { IsTrue result → HasAdded 1 2 (L.known second.old) (L.known second.new) }
 {
@@ -108,10 +108,10 @@ pub fn adds_in_turn<L: DecisionLog>(log: &L, first: &mut L::Pass, second: &mut L
 ///
 /// Takes no memory. Doesn't wait.
 pub fn looks_and_meets<L: DecisionLog>(log: &L, first: &mut L::Pass, second: &mut L::Pass) -> bool
-    requires first { L.home first.old ≡ L.place log.now }
-    requires second { L.home second.old ≡ L.place log.now }
-    ensures first { L.home first.new ≡ L.home first.old }
-    ensures second { L.home second.new ≡ L.home second.old }
+    requires first { L.belongs_to first.old ≡ L.identity log.now }
+    requires second { L.belongs_to second.old ≡ L.identity log.now }
+    ensures first { L.belongs_to first.new ≡ L.belongs_to first.old }
+    ensures second { L.belongs_to second.new ≡ L.belongs_to second.old }
     ensures first_added { IsTrue result → HasAdded 2 2 (L.known first.old) (L.known first.new) }
     ensures second_added { IsTrue result → HasAdded 1 1 (L.known second.old) (L.known second.new) }
     ensures seen { IsTrue result → length (L.known first.new).seen ≡ 3 }
@@ -154,10 +154,10 @@ pub fn outdated_look_is_overtaken_once<L: DecisionLog>(
     first: &mut L::Pass,
     second: &mut L::Pass,
 ) -> bool
-    requires first { L.home first.old ≡ L.place log.now }
-    requires second { L.home second.old ≡ L.place log.now }
-    ensures first { L.home first.new ≡ L.home first.old }
-    ensures second { L.home second.new ≡ L.home second.old }
+    requires first { L.belongs_to first.old ≡ L.identity log.now }
+    requires second { L.belongs_to second.old ≡ L.identity log.now }
+    ensures first { L.belongs_to first.new ≡ L.belongs_to first.old }
+    ensures second { L.belongs_to second.new ≡ L.belongs_to second.old }
     ensures first_added { IsTrue result → HasAdded 2 2 (L.known first.old) (L.known first.new) }
     ensures second_added { IsTrue result → HasAdded 1 2 (L.known second.old) (L.known second.new) }
     ensures seen { IsTrue result → length (L.known second.new).seen ≡ 3 }
@@ -181,9 +181,9 @@ pub fn outdated_look_is_overtaken_once<L: DecisionLog>(
 
 /// Adds an entry, trying again where others were faster or have the turn.
 fn add<L: DecisionLog>(log: &L, pass: &mut L::Pass, entry: &Entry) -> bool
-    requires home { L.home pass.old ≡ L.place log.now }
+    requires belongs { L.belongs_to pass.old ≡ L.identity log.now }
     requires own { entry.now.session ≡ (L.known pass.old).number }
-    ensures home { L.home pass.new ≡ L.home pass.old }
+    ensures belongs { L.belongs_to pass.new ≡ L.belongs_to pass.old }
     ensures number { (L.known pass.new).number ≡ (L.known pass.old).number }
 {
     for _ in 0..TRIES {
@@ -198,8 +198,8 @@ fn add<L: DecisionLog>(log: &L, pass: &mut L::Pass, entry: &Entry) -> bool
 
 /// Adds `EACH` entries, each of its own step.
 fn add_each<L: DecisionLog>(log: &L, mut pass: L::Pass) -> (L::Pass, bool)
-    requires { L.home pass ≡ L.place log.now }
-    ensures { L.home result.0 ≡ L.place log.now }
+    requires { L.belongs_to pass ≡ L.identity log.now }
+    ensures { L.belongs_to result.0 ≡ L.identity log.now }
 {
     let session = log.number(&pass);
     for step in 0..EACH {
@@ -215,8 +215,8 @@ fn add_each<L: DecisionLog>(log: &L, mut pass: L::Pass) -> (L::Pass, bool)
 
 /// Whether the entries of a session that the pass has seen are those that `add_each` adds, in their order.
 fn has_each<L: DecisionLog>(log: &L, pass: &mut L::Pass, session: SessionNo) -> bool
-    requires { L.home pass.old ≡ L.place log.now }
-    ensures { L.home pass.new ≡ L.home pass.old }
+    requires { L.belongs_to pass.old ≡ L.identity log.now }
+    ensures { L.belongs_to pass.new ≡ L.belongs_to pass.old }
 {
     let mut step = 0_u64;
     for at in 0..log.length(pass) {
@@ -239,7 +239,7 @@ fn has_each<L: DecisionLog>(log: &L, pass: &mut L::Pass, session: SessionNo) -> 
 struct StaysHome<L: DecisionLog>(Snapshot<L::Pass>);
 
 impl<L: DecisionLog> Promise<(L::Pass, bool)> for StaysHome<L> {
-    ghost kept_by = { λ promise ended. L.home ended.0 ≡ L.home promise.0.value };
+    ghost kept_by = { λ promise ended. L.belongs_to ended.0 ≡ L.belongs_to promise.0.value };
 }
 
 /// Two threads, each its own, add `EACH` entries each to a log with room for them; then the passes meet, and the second has seen each
@@ -254,15 +254,15 @@ pub fn two_threads_add<L: DecisionLog + Sync, R: Threads + Wait + Sync>(
 ) -> bool
 where
     L::Pass: Send + Drop,
-    requires first { L.home first ≡ L.place log.now }
-    requires second { L.home second ≡ L.place log.now }
+    requires first { L.belongs_to first ≡ L.identity log.now }
+    requires second { L.belongs_to second ≡ L.identity log.now }
 {
     thread::scope(
         thread::scope_env(),
         rt,
         |scope|
-            requires first { L.home first ≡ L.place log.now }
-            requires second { L.home second ≡ L.place log.now }
+            requires first { L.belongs_to first ≡ L.identity log.now }
+            requires second { L.belongs_to second ≡ L.identity log.now }
         {
             let first = scope.spawn_with(
                 StaysHome::<L>(Snapshot::of(&first)),
@@ -284,8 +284,8 @@ where
 
 /// Whether after a meeting the second pass has seen what both added, each one's in its order, and nothing else.
 fn saw_each<L: DecisionLog>(log: &L, first: &mut L::Pass, second: &mut L::Pass) -> bool
-    requires first { L.home first.old ≡ L.place log.now }
-    requires second { L.home second.old ≡ L.place log.now }
+    requires first { L.belongs_to first.old ≡ L.identity log.now }
+    requires second { L.belongs_to second.old ≡ L.identity log.now }
 {
     log.meet(first, second);
     let one = log.number(first);

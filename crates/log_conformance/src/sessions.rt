@@ -265,7 +265,7 @@ fn prepare<'a, L: DecisionLog, R: Wait>(
     mut session: Session<'a, L>,
     letter: u8,
 ) -> (Session<'a, L>, bool)
-    ensures { L.home result.0.pass ≡ L.home session.entry.pass }
+    ensures { L.belongs_to result.0.pass ≡ L.belongs_to session.entry.pass }
 {
     let prepared = is_ok(&session.execute(rt, &Statement::Start(xid(letter))))
         && is_ok(&session.execute(rt, &Statement::End(xid(letter))))
@@ -278,7 +278,7 @@ fn prepare<'a, L: DecisionLog, R: Wait>(
 struct StaysHome<'a, L: DecisionLog>(Snapshot<Session<'a, L>>);
 
 impl<'a, L: DecisionLog> Promise<(Session<'a, L>, bool)> for StaysHome<'a, L> {
-    ghost kept_by = { λ promise ended. L.home ended.0.pass ≡ L.home promise.0.value.pass };
+    ghost kept_by = { λ promise ended. L.belongs_to ended.0.pass ≡ L.belongs_to promise.0.value.pass };
 }
 
 /// Two sessions in threads of their own prepare a branch each, in a log with room for six entries. After they have met, the second
@@ -292,13 +292,13 @@ pub fn two_threads_prepare<'a, L: DecisionLog + Sync, R: Threads + Wait + Sync>(
 ) -> bool
 where
     L::Pass: Send + Drop,
-    requires { L.home first.pass ≡ L.home second.pass }
+    requires { L.belongs_to first.pass ≡ L.belongs_to second.pass }
 {
     thread::scope(
         thread::scope_env(),
         rt,
         |scope|
-            requires { L.home first.pass ≡ L.home second.pass }
+            requires { L.belongs_to first.pass ≡ L.belongs_to second.pass }
         {
             let first = scope.spawn_with(
                 StaysHome(Snapshot::of(&first)),

@@ -1,7 +1,7 @@
 //! A transaction over two stores, committed in two phases.
 ghost use Rattle.std.specs.Prelude.{◌≡◌, ◌<◌, ◌∷◌, [], IfOk, vec_len};
 ghost use Rattle.nigbaru.specs.coordinator.Work.{IsRow};
-ghost use Rattle.nigbaru.specs.store.Passes.{home_of, place_of};
+ghost use Rattle.nigbaru.specs.store.Passes.{log_of, identity_of};
 
 use crate::opened;
 use anyhow::{Result, bail};
@@ -74,8 +74,8 @@ pub fn over_both<'a>(
     south: &'a Store,
     second: Pass,
 ) -> Result<Coordinator<Session<'a, Log>>>
-    requires north { home_of first ≡ place_of north.now.log }
-    requires south { home_of second ≡ place_of south.now.log }
+    requires north { log_of first ≡ identity_of north.now.log }
+    requires south { log_of second ≡ identity_of south.now.log }
     ensures { IfOk result (λ coordinator. vec_len coordinator.stores ≡ 2) }
 {
     let (Ok(first), Ok(second)) = (north.connect(first), south.connect(second)) else {

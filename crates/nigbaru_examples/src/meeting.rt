@@ -1,6 +1,6 @@
 //! A store, its sessions, and what one has seen of the other.
 ghost use Rattle.std.specs.Prelude.{◌≡◌, IfOk};
-ghost use Rattle.nigbaru.specs.store.Passes.{home_of, place_of};
+ghost use Rattle.nigbaru.specs.store.Passes.{log_of, identity_of};
 
 use crate::say;
 use anyhow::{Result, bail};
@@ -11,8 +11,8 @@ use std::sync::Wait;
 
 /// A store with room for 64 entries, and the passes of its two sessions.
 pub fn opened(alloc: Global) -> Result<(Store, Pass, Pass)>
-    ensures first { IfOk result (λ opened. home_of opened.1 ≡ place_of opened.0.log) }
-    ensures second { IfOk result (λ opened. home_of opened.2 ≡ place_of opened.0.log) }
+    ensures first { IfOk result (λ opened. log_of opened.1 ≡ identity_of opened.0.log) }
+    ensures second { IfOk result (λ opened. log_of opened.2 ≡ identity_of opened.0.log) }
 {
     let (store, mut passes) = Store::open(alloc, 64, 2)?;
     let (Some(second), Some(first)) = (passes.pop(), passes.pop()) else {

@@ -1,6 +1,6 @@
 //! A pass that comes back, whatever becomes of a statement.
 ghost use Rattle.std.specs.Prelude.{◌≡◌};
-ghost use Rattle.nigbaru.specs.store.Passes.{home_of, place_of};
+ghost use Rattle.nigbaru.specs.store.Passes.{log_of, identity_of};
 
 use crate::{opened, say};
 use anyhow::{Result, bail};
@@ -10,8 +10,8 @@ use std::sync::Wait;
 
 /// What a session of a pass answers to the statement of a text, and the pass, which comes back after an error too.
 fn ask<R: Wait>(rt: &R, store: &Store, pass: Pass, text: &str) -> (Pass, Result<Reply>)
-    requires { home_of pass ≡ place_of store.now.log }
-    ensures { home_of result.0 ≡ home_of pass }
+    requires { log_of pass ≡ identity_of store.now.log }
+    ensures { log_of result.0 ≡ log_of pass }
 {
     let mut session = match store.connect(pass) {
         Ok(session) => session,

@@ -60,7 +60,7 @@ fn prepare<'a, L: DecisionLog, R: Wait>(
     mut session: Session<'a, L>,
     xid: Xid,
 ) -> (Session<'a, L>, bool)
-    ensures { L.home result.0.pass ≡ L.home session.entry.pass }
+    ensures { L.belongs_to result.0.pass ≡ L.belongs_to session.entry.pass }
 {
     let prepared = is_ok(&session.execute(rt, &Statement::Start(xid.copy())))
         && is_ok(&session.execute(rt, &Statement::End(xid.copy())))
@@ -73,7 +73,7 @@ fn prepare<'a, L: DecisionLog, R: Wait>(
 struct StaysHome<'a, L: DecisionLog>(Snapshot<Session<'a, L>>);
 
 impl<'a, L: DecisionLog> Promise<(Session<'a, L>, bool)> for StaysHome<'a, L> {
-    ghost kept_by = { λ promise ended. L.home ended.0.pass ≡ L.home promise.0.value.pass };
+    ghost kept_by = { λ promise ended. L.belongs_to ended.0.pass ≡ L.belongs_to promise.0.value.pass };
 }
 
 /// Two sessions of one store prepare a branch each, on threads of their own; then they meet, and the second lists what is prepared.
@@ -87,13 +87,13 @@ fn listed_by_second<'a, L: DecisionLog + Sync, R: Threads + Wait + Sync>(
 ) -> Option<Reply>
 where
     L::Pass: Send + Drop,
-    requires { L.home first.pass ≡ L.home second.pass }
+    requires { L.belongs_to first.pass ≡ L.belongs_to second.pass }
 {
     thread::scope(
         thread::scope_env(),
         rt,
         |scope|
-            requires { L.home first.pass ≡ L.home second.pass }
+            requires { L.belongs_to first.pass ≡ L.belongs_to second.pass }
         {
             let first = scope.spawn_with(
                 StaysHome(Snapshot::of(&first)),

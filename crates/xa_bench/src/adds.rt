@@ -19,7 +19,7 @@ struct Adder<'a, L: DecisionLog> {
     pass: L::Pass,
     /// How many entries it adds.
     count: u64,
-    ghost home: { L.home pass ≡ L.place log.now },
+    ghost belongs: { L.belongs_to pass ≡ L.identity log.now },
 }
 
 /// The entry that each adds.
@@ -70,7 +70,7 @@ fn adders<'a, L: DecisionLog>(
 ) -> Result<Vec<Adder<'a, L>>>
 where
     L::Pass: Drop,
-    requires { All (λ pass. L.home pass ≡ L.place log.now) passes.items }
+    requires { All (λ pass. L.belongs_to pass ≡ L.identity log.now) passes.items }
 {
     let mut adders = Vec::new(alloc);
     while let Some(pass) = passes.pop() {
@@ -88,7 +88,7 @@ pub fn nanoseconds<L: DecisionLog + Sync, R: Threads + Wait + Clock + Sync + All
 ) -> Result<u64>
 where
     L::Pass: Send + Drop,
-    requires { All (λ pass. L.home pass ≡ L.place log.now) passes.items }
+    requires { All (λ pass. L.belongs_to pass ≡ L.identity log.now) passes.items }
 {
     together::nanoseconds(rt, adders(rt.alloc(), log, passes, count)?)
 }

@@ -122,7 +122,7 @@ pub struct Adder<'a, L: DecisionLog> {
     log: &'a L,
     pass: L::Pass,
     entry: Entry,
-    ghost home: { L.home pass ≡ L.place log.now },
+    ghost belongs: { L.belongs_to pass ≡ L.identity log.now },
     ghost own: { entry.session ≡ (L.known pass).number },
 }
 
@@ -131,7 +131,7 @@ impl<'a, L: DecisionLog> Adder<'a, L> {
     pub fn new(log: &'a L, pass: L::Pass) -> Result<Adder<'a, L>>
     where
         L::Pass: Drop,
-        requires { L.home pass ≡ L.place log.now }
+        requires { L.belongs_to pass ≡ L.identity log.now }
     {
         let session = log.number(&pass);
         let put = Row::of(session.get(), 1).context("a row")?.put;

@@ -1,7 +1,7 @@
 //! What the renewal of a store costs.
 ghost use Rattle.std.specs.Prelude.{◌≡◌, IfOk};
 ghost use Rattle.std.specs.List.{All};
-ghost use Rattle.xa_store.specs.Passes.{place_of, home_of};
+ghost use Rattle.xa_store.specs.Passes.{identity_of, log_of};
 ghost use Rattle.xa_store.specs.Renewal.{AreGathered};
 
 use crate::commits::{key, put, xid};
@@ -48,7 +48,7 @@ impl Work {
 struct Kept {
     store: Store,
     pass: Pass,
-    ghost home: { home_of pass ≡ place_of store.log },
+    ghost belongs: { log_of pass ≡ identity_of store.log },
 }
 
 /// A store whose session has left.
@@ -56,7 +56,7 @@ struct Kept {
 struct Left {
     store: Store,
     passes: Vec<Pass>,
-    ghost gathered: { AreGathered (place_of store.log) passes.items },
+    ghost gathered: { AreGathered (identity_of store.log) passes.items },
 }
 
 /// A store without rows.
@@ -79,8 +79,8 @@ fn executed<R: Wait + Alloc<A = Global>>(
     from: u32,
     to: u32,
 ) -> Result<Vec<Pass>>
-    requires { home_of pass ≡ place_of store.now.log }
-    ensures { IfOk result (λ passes. AreGathered (place_of store.now.log) passes.items) }
+    requires { log_of pass ≡ identity_of store.now.log }
+    ensures { IfOk result (λ passes. AreGathered (identity_of store.now.log) passes.items) }
 {
     let Ok(mut session) = store.connect(pass) else {
         bail!("not connected");
@@ -113,8 +113,8 @@ fn worked<R: Wait + Alloc<A = Global>>(
 
 /// The last of the passes of a store.
 fn last_of(store: &Store, mut passes: Vec<Pass>) -> Result<Pass>
-    requires { All (λ pass. home_of pass ≡ place_of store.now.log) passes.items }
-    ensures { IfOk result (λ pass. home_of pass ≡ place_of store.now.log) }
+    requires { All (λ pass. log_of pass ≡ identity_of store.now.log) passes.items }
+    ensures { IfOk result (λ pass. log_of pass ≡ identity_of store.now.log) }
 {
     match passes.pop() {
         Some(pass) => Ok(pass),

@@ -50,7 +50,7 @@ fn loaded<'a, L: DecisionLog>(
 ) -> Result<Vec<Loaded<Session<'a, L>>>>
 where
     L::Pass: Drop,
-    requires { All (λ pass. L.home pass ≡ L.place log.now) passes.items }
+    requires { All (λ pass. L.belongs_to pass ≡ L.identity log.now) passes.items }
 {
     let mut shares = Vec::new(alloc);
     while let Some(pass) = passes.pop() {

@@ -101,7 +101,7 @@ fn cyclers<'a, L: DecisionLog>(
 ) -> Result<Vec<Cycler<Session<'a, L>>>>
 where
     L::Pass: Drop,
-    requires { All (λ pass. L.home pass ≡ L.place log.now) passes.items }
+    requires { All (λ pass. L.belongs_to pass ≡ L.identity log.now) passes.items }
 {
     let mut paces = Vec::new(alloc);
     while let Some(pass) = passes.pop() {
@@ -124,7 +124,7 @@ fn mixers<'a, L: DecisionLog>(
 ) -> Result<Vec<Mixer<Session<'a, L>>>>
 where
     L::Pass: Drop,
-    requires { All (λ pass. L.home pass ≡ L.place log.now) passes.items }
+    requires { All (λ pass. L.belongs_to pass ≡ L.identity log.now) passes.items }
 {
     let mut paces = Vec::new(alloc);
     while let Some(pass) = passes.pop() {
@@ -144,7 +144,7 @@ fn adders<'a, L: DecisionLog>(
 ) -> Result<Vec<Adder<'a, L>>>
 where
     L::Pass: Drop,
-    requires { All (λ pass. L.home pass ≡ L.place log.now) passes.items }
+    requires { All (λ pass. L.belongs_to pass ≡ L.identity log.now) passes.items }
 {
     let mut paces = Vec::new(alloc);
     while let Some(pass) = passes.pop() {

@@ -21,7 +21,9 @@ use Rattle.xa_coordinator.specs.Participants.{takes_part}
 use Rattle.xa_coordinator.specs.Agreement.{Adds, AgreesWith, Agrees}
 use Rattle.xa_coordinator.specs.Stores.{EachStore}
 use Rattle.xa_coordinator.specs.Told.{IsDone, IsUndone, IsUndoneBehind, IsStopped, IsMissing, IsUnfinished}
-use Rattle.xa_coordinator.specs.Outcomes.{branch_of, closing_of, ends_in, IsClosed, Settles, SettlesIn, IsVoted, IsEnded, EndsAs, VotesAs, Allows, closing_for, is_listed}
+use Rattle.xa_coordinator.specs.Outcomes.{branch_of, finish_statement, ends_in, IsClosed, Settles, SettlesIn, IsVoted, IsEnded, EndsAs, VotesAs, Allows}
+use Rattle.xa_coordinator.specs.Outcomes.{finish_for}
+use Rattle.xa_coordinator.specs.Outcomes.{is_listed}
 use Rattle.xa_coordinator.specs.Decisions.{is_decided}
 use Rattle.xa_coordinator.specs.declared.prepared.Ballot.{Ballot}
 use Rattle.xa_coordinator.specs.declared.prepared.Ballot.TheVariants.{Ready as BallotReady, OnePhase as BallotOnePhase, No as BallotNo}
@@ -33,7 +35,8 @@ module _ (decisions : List Standing) (name : List ℕ) (store : ℕ) where
   nothing_agrees session = record { statements = []; adds = adds_nothing session; each = All-nil (AgreesWith decisions name store) }
 
   -- one statement
-  pub one_agrees : (statement : Statement) (old new : SessionView) → AgreesWith decisions name store statement → Adds (statement ∷ []) old new → Agrees decisions name store old new
+  pub one_agrees : (statement : Statement) (old new : SessionView) → AgreesWith decisions name store statement → Adds (statement ∷ []) old new
+      → Agrees decisions name store old new
   one_agrees statement old new is adds = record {
     statements = statement ∷ [];
     adds = adds;
@@ -41,11 +44,14 @@ module _ (decisions : List Standing) (name : List ℕ) (store : ℕ) where
   }
 
   -- two
-  pub two_agree : (first second : Statement) (old new : SessionView) → AgreesWith decisions name store first → AgreesWith decisions name store second → Adds (first ∷ second ∷ []) old new → Agrees decisions name store old new
+  pub two_agree : (first second : Statement) (old new : SessionView) → AgreesWith decisions name store first → AgreesWith decisions name store second
+      → Adds (first ∷ second ∷ []) old new → Agrees decisions name store old new
   two_agree first second old new is also adds = record {
     statements = first ∷ second ∷ [];
     adds = adds;
-    each = All-cons (AgreesWith decisions name store) first (second ∷ []) is (All-cons (AgreesWith decisions name store) second [] also (All-nil (AgreesWith decisions name store)));
+    each =
+        All-cons (AgreesWith decisions name store) first (second ∷ []) is
+        (All-cons (AgreesWith decisions name store) second [] also (All-nil (AgreesWith decisions name store)));
   }
 
   none_agrees : (old new : SessionView) → Adds [] old new → Agrees decisions name store old new
@@ -57,20 +63,24 @@ module _ (decisions : List Standing) (name : List ℕ) (store : ℕ) where
   ended_agrees : (xid : Xid) (old mid new : SessionView) → IsDone (End xid) old mid → Adds [] mid new → Agrees decisions name store old new
   ended_agrees xid old mid new ends nothing = one_agrees (End xid) old new tt (adds_then (End xid ∷ []) [] old mid new ends.adds nothing)
 
-  behind_agrees : (statement : Statement) (xid : Xid) (cause : Cause) (old new : SessionView) → IsUndoneBehind statement xid cause old new → Agrees decisions name store old new
+  behind_agrees : (statement : Statement) (xid : Xid) (cause : Cause) (old new : SessionView) → IsUndoneBehind statement xid cause old new
+      → Agrees decisions name store old new
   behind_agrees statement xid cause old new is = ended_agrees xid old is.mid new is.ends is.undone.adds
 
-  pub stopped_agrees : (ends : Bool) (statement : Statement) (xid : Xid) (cause : Cause) (old new : SessionView) → IsStopped ends statement xid cause old new → Agrees decisions name store old new
+  pub stopped_agrees : (ends : Bool) (statement : Statement) (xid : Xid) (cause : Cause) (old new : SessionView) → IsStopped ends statement xid cause old new
+      → Agrees decisions name store old new
   stopped_agrees false statement xid cause old new is = undone_agrees statement cause old new is
   stopped_agrees true statement xid cause old new (inl is) = undone_agrees (End xid) cause old new is
   stopped_agrees true statement xid cause old new (inr is) = behind_agrees statement xid cause old new is
 
-  pub unfinished_agrees : (ends : Bool) (statement : Statement) (xid : Xid) (cause : Cause) (old new : SessionView) → IsUnfinished ends statement xid cause old new → Agrees decisions name store old new
+  pub unfinished_agrees : (ends : Bool) (statement : Statement) (xid : Xid) (cause : Cause) (old new : SessionView)
+      → IsUnfinished ends statement xid cause old new → Agrees decisions name store old new
   unfinished_agrees false statement xid cause old new is = undone_agrees statement cause old new is.1
   unfinished_agrees true statement xid cause old new (inl is) = undone_agrees (End xid) cause old new is
   unfinished_agrees true statement xid cause old new (inr is) = behind_agrees statement xid cause old new is.1
 
-  pub missing_agrees : (ends : Bool) (statement : Statement) (xid : Xid) (old new : SessionView) → IsMissing ends statement xid old new → Agrees decisions name store old new
+  pub missing_agrees : (ends : Bool) (statement : Statement) (xid : Xid) (old new : SessionView) → IsMissing ends statement xid old new
+      → Agrees decisions name store old new
   missing_agrees false statement xid old new is = undone_agrees statement _ old new is
   missing_agrees true statement xid old new is = behind_agrees statement xid _ old new is
 
@@ -83,16 +93,19 @@ module _ (decisions : List Standing) (name : List ℕ) (store : ℕ) where
   ends_agrees xid true old new is = one_agrees (End xid) old new tt is
 
   -- the statement that finishes a branch agrees with the decisions that allow it
-  pub closing_agrees : (number : ℕ) → number < 2 ^ 64 → (closing : Closing) → Allows decisions number closing → AgreesWith decisions name store (closing_of closing (branch_xid name number store))
+  pub closing_agrees : (number : ℕ) → number < 2 ^ 64 → (closing : Closing) → Allows decisions number closing
+      → AgreesWith decisions name store (finish_statement closing (branch_xid name number store))
   closing_agrees number fits InTwoPhases allows = (number, record { fits = fits; is = refl }, allows)
   closing_agrees number fits InOnePhase allows = (number, record { fits = fits; is = refl })
   closing_agrees number fits RollBack allows = (number, record { fits = fits; is = refl }, allows)
 
-  closed_agrees : (ends : Bool) (statement : Statement) (xid : Xid) → AgreesWith decisions name store statement → (old new : SessionView) → IsClosed ends statement xid old new → Agrees decisions name store old new
+  closed_agrees : (ends : Bool) (statement : Statement) (xid : Xid) → AgreesWith decisions name store statement → (old new : SessionView)
+      → IsClosed ends statement xid old new → Agrees decisions name store old new
   closed_agrees false statement xid agrees old new is = one_agrees statement old new agrees is
   closed_agrees true statement xid agrees old new is = two_agree (End xid) statement old new tt agrees is
 
-  pub settled_agrees : (ends : Bool) (statement : Statement) (xid : Xid) → AgreesWith decisions name store statement → (takes listed : Bool) (old new : SessionView) → Settles ends statement xid takes listed old new →
+  pub settled_agrees : (ends : Bool) (statement : Statement) (xid : Xid) → AgreesWith decisions name store statement
+      → (takes listed : Bool) (old new : SessionView) → Settles ends statement xid takes listed old new →
       Agrees decisions name store old new
   settled_agrees ends statement xid agrees false listed old new is = subst (λ s. Agrees decisions name store old s) (sym is) (nothing_agrees old)
   settled_agrees ends statement xid agrees true false old new is = closed_agrees ends statement xid agrees old new is
@@ -100,49 +113,61 @@ module _ (decisions : List Standing) (name : List ℕ) (store : ℕ) where
 
 module _ {S : Type 0} (view : S → SessionView) (decisions : List Standing) (transaction : Transaction) where
   -- a store's part of finishing
-  part_agrees : (branches : List (Option OpenBranch)) (closing : Closing) → Allows decisions transaction.number closing → (store : ℕ) (listed : Bool) (a b : SessionView) → SettlesIn branches transaction closing store listed a b →
+  part_agrees : (branches : List (Option OpenBranch)) (closing : Closing) → Allows decisions transaction.number closing
+      → (store : ℕ) (listed : Bool) (a b : SessionView) → SettlesIn branches transaction closing store listed a b →
       Agrees decisions transaction.name.items store a b
   part_agrees branches closing allows store listed a b is =
-      settled_agrees decisions transaction.name.items store (ends_in branches transaction closing store) (closing_of closing (branch_of transaction store)) (branch_of transaction store)
-      (closing_agrees decisions transaction.name.items store transaction.number transaction.eight_bytes closing allows) (takes_part transaction.participants store) listed a b is
+      settled_agrees decisions transaction.name.items store (ends_in branches transaction closing store)
+      (finish_statement closing (branch_of transaction store))
+      (branch_of transaction store)
+      (closing_agrees decisions transaction.name.items store transaction.number transaction.eight_bytes closing allows)
+      (takes_part transaction.participants store) listed a b is
 
   -- however a transaction was finished
-  pub ending_agrees : (branches : List (Option OpenBranch)) (closing : Closing) (ending : Ending) (old new : List S) → Allows decisions transaction.number closing → EndsAs view branches transaction closing ending old new →
+  pub ending_agrees : (branches : List (Option OpenBranch)) (closing : Closing) (ending : Ending) (old new : List S)
+      → Allows decisions transaction.number closing → EndsAs view branches transaction closing ending old new →
       EachStore view (Agrees decisions transaction.name.items) old new
   ending_agrees branches closing Committed old new allows is store =
       at_weaker view store _ (Agrees decisions transaction.name.items store) (part_agrees branches closing allows store false) old new (is.1 store)
   ending_agrees branches closing RolledBack old new allows is store =
       at_weaker view store _ (Agrees decisions transaction.name.items store) (part_agrees branches closing allows store false) old new (is.1 store)
   ending_agrees branches closing (Hazard stores) old new allows is store =
-      at_weaker view store _ (Agrees decisions transaction.name.items store) (part_agrees branches closing allows store (is_listed stores.items store)) old new (is.1 store)
+      at_weaker view store _ (Agrees decisions transaction.name.items store) (part_agrees branches closing allows store (is_listed stores.items store)) old new
+      (is.1 store)
   ending_agrees branches closing (Unfinished last cause) old new allows is store =
       from_ends view _ (Agrees decisions transaction.name.items) last _ old new is.1
       (λ other a b settled. part_agrees branches closing allows other settled.0 a b settled.1)
-      (λ a b unfinished. unfinished_agrees decisions transaction.name.items last (ends_in branches transaction closing last) (closing_of closing (branch_of transaction last)) (branch_of transaction last) cause a b unfinished)
+      (λ a b unfinished. unfinished_agrees decisions transaction.name.items last (ends_in branches transaction closing last)
+      (finish_statement closing (branch_of transaction last)) (branch_of transaction last) cause a b unfinished)
       (λ other a. nothing_agrees decisions transaction.name.items other a)
       store
 
   -- whatever the stores voted
   pub vote_agrees : (vote : Vote) (old new : List S) → VotesAs view transaction vote old new → EachStore view (Agrees decisions transaction.name.items) old new
   vote_agrees (Ready prepared) old new is store =
-      at_weaker view store _ (Agrees decisions transaction.name.items store) (voted_agrees decisions transaction.name.items store (branch_of transaction store) (takes_part transaction.participants store)) old new (is.2 store)
+      at_weaker view store _ (Agrees decisions transaction.name.items store)
+      (voted_agrees decisions transaction.name.items store (branch_of transaction store) (takes_part transaction.participants store)) old new (is.2 store)
   vote_agrees (OnePhase prepared) old new is store =
-      at_weaker view store _ (Agrees decisions transaction.name.items store) (ends_agrees decisions transaction.name.items store (branch_of transaction store) (takes_part transaction.participants store)) old new (is.2 store)
+      at_weaker view store _ (Agrees decisions transaction.name.items store)
+      (ends_agrees decisions transaction.name.items store (branch_of transaction store) (takes_part transaction.participants store)) old new (is.2 store)
   vote_agrees (No prepared last cause) old new is store =
       from_ends view _ (Agrees decisions transaction.name.items) last _ old new is.2
-      (λ other a b voted. voted_agrees decisions transaction.name.items other (branch_of transaction other) (takes_part transaction.participants other) a b voted)
-      (λ a b stopped. stopped_agrees decisions transaction.name.items last true (Prepare (branch_of transaction last)) (branch_of transaction last) cause a b stopped)
+      (λ other a b voted. voted_agrees decisions transaction.name.items other (branch_of transaction other)
+      (takes_part transaction.participants other) a b voted)
+      (λ a b stopped. stopped_agrees decisions transaction.name.items last true (Prepare (branch_of transaction last))
+      (branch_of transaction last) cause a b stopped)
       (λ other a. nothing_agrees decisions transaction.name.items other a)
       store
   vote_agrees Nothing old new is store = λ before after is_before is_after.
-      subst (λ (s : S). Agrees decisions transaction.name.items store (view before) (view s)) (same_one (slice_get new store) before after (subst (λ (list : List S). slice_get list store ≡ Some before) (sym is.1) is_before) is_after)
+      subst (λ (s : S). Agrees decisions transaction.name.items store (view before) (view s))
+      (same_one (slice_get new store) before after (subst (λ (list : List S). slice_get list store ≡ Some before) (sym is.1) is_before) is_after)
       (nothing_agrees decisions transaction.name.items store (view before))
 
 -- a transaction that was voted on is finished as the decisions allow
-pub allows_for : (decisions : List Standing) (number : ℕ) (ballot : Ballot) → Allows decisions number (closing_for (is_decided decisions number) ballot)
+pub allows_for : (decisions : List Standing) (number : ℕ) (ballot : Ballot) → Allows decisions number (finish_for (is_decided decisions number) ballot)
 allows_for decisions number ballot = by (is_decided decisions number) ballot refl
   where
-    by : (b : Bool) (ballot : Ballot) → is_decided decisions number ≡ b → Allows decisions number (closing_for b ballot)
+    by : (b : Bool) (ballot : Ballot) → is_decided decisions number ≡ b → Allows decisions number (finish_for b ballot)
     by true ballot is = is
     by false BallotReady is = is
     by false BallotOnePhase is = tt

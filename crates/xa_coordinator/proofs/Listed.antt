@@ -1,5 +1,6 @@
 -- Which branches of a list are of a coordinator's naming.
-use Rattle.std.proofs.Common.{◌≡◌, ◌≢◌, ◌<◌, ◌≤◌, ◌+◌, ◌^◌, ℕ, Bool, true, false, List, [], ◌∷◌, ◌++◌, length, take, drop, get_or, zero, suc, refl, ap, sym, ◌∙◌, subst, inl, inr, Some, arith, add-one, length-append}
+use Rattle.std.proofs.Common.{◌≡◌, ◌≢◌, ◌<◌, ◌≤◌, ◌+◌, ◌^◌, ℕ, Bool, true, false, List, [], ◌∷◌, ◌++◌, length, take, drop, get_or, zero, suc, refl, ap, sym}
+use Rattle.std.proofs.Common.{◌∙◌, subst, inl, inr, Some, arith, add-one, length-append}
 use Rattle.std.specs.Prelude.{All, slice_get, ◌||◌, ◌&&◌, ◌⊎◌}
 use Rattle.std.specs.List.{list_any}
 use Rattle.std.specs.Int.{w64, to_be_bytes, from_be_bytes}
@@ -44,26 +45,34 @@ any_there p (y ∷ ys) (suc place) x there is = ap (λ b. p y || b) (any_there p
 pub same_branch : (name : List ℕ) (number store : ℕ) (xid : Xid) → IsBranchOf name number store xid → same_xid (branch_xid name number store) xid ≡ true
 same_branch name number store xid is = ap (same_xid (branch_xid name number store)) is.is ∙ same_itself xids_total exact_xids (branch_xid name number store)
 
-apart_branch : (name : List ℕ) (number store : ℕ) → number < 2 ^ 64 → (xid : Xid) → (IsNamed name store xid → ⊥) → same_xid (branch_xid name number store) xid ≡ false
+apart_branch : (name : List ℕ) (number store : ℕ) → number < 2 ^ 64 → (xid : Xid) → (IsNamed name store xid → ⊥)
+    → same_xid (branch_xid name number store) xid ≡ false
 apart_branch name number store fits xid out = elim (same_or_apart xids_total exact_xids (branch_xid name number store) xid) [
   | inl same ↦ absurd (out (number, record { fits = fits; is = sym same }))
   | inr apart ↦ apart
 ]
 
 -- where none is named so, no branch of the naming is in the list
-pub none_named_in : (name : List ℕ) (store : ℕ) (xids : List Xid) → All (λ xid. IsNamed name store xid → ⊥) xids → (number : ℕ) → number < 2 ^ 64 → list_any (same_xid (branch_xid name number store)) xids ≡ false
+pub none_named_in : (name : List ℕ) (store : ℕ) (xids : List Xid) → All (λ xid. IsNamed name store xid → ⊥) xids → (number : ℕ) → number < 2 ^ 64
+    → list_any (same_xid (branch_xid name number store)) xids ≡ false
 none_named_in name store xids none number fits =
-    list_any_none (same_xid (branch_xid name number store)) xids (All-weaker (λ xid. IsNamed name store xid → ⊥) (λ xid. same_xid (branch_xid name number store) xid ≡ false) (apart_branch name number store fits) xids none)
+    list_any_none (same_xid (branch_xid name number store)) xids
+    (All-weaker (λ xid. IsNamed name store xid → ⊥) (λ xid. same_xid (branch_xid name number store) xid ≡ false)
+    (apart_branch name number store fits) xids none)
 
-pub none_more : (name : List ℕ) (store : ℕ) (xids : List Xid) (place : ℕ) (xid : Xid) → slice_get xids place ≡ Some xid → (IsNamed name store xid → ⊥) → All (λ x. IsNamed name store x → ⊥) (take place xids) →
+pub none_more : (name : List ℕ) (store : ℕ) (xids : List Xid) (place : ℕ) (xid : Xid) → slice_get xids place ≡ Some xid → (IsNamed name store xid → ⊥)
+    → All (λ x. IsNamed name store x → ⊥) (take place xids) →
     All (λ x. IsNamed name store x → ⊥) (take (place + 1) xids)
-none_more name store xids place xid there out none = subst (All (λ x. IsNamed name store x → ⊥)) (sym (take_next xids place xid there)) (All-push (λ x. IsNamed name store x → ⊥) (take place xids) xid none out)
+none_more name store xids place xid there out none =
+    subst (All (λ x. IsNamed name store x → ⊥)) (sym (take_next xids place xid there)) (All-push (λ x. IsNamed name store x → ⊥) (take place xids) xid none out)
 
 -- what the list says of a branch is what is prepared
-pub listed_prepared : (xids : List Xid) (place : ℕ) (old new : SessionView) → IsListed xids place old new → (xid : Xid) → is_prepared (state_after new.base new.known.seen) xid ≡ list_any (same_xid xid) xids
+pub listed_prepared : (xids : List Xid) (place : ℕ) (old new : SessionView) → IsListed xids place old new → (xid : Xid)
+    → is_prepared (state_after new.base new.known.seen) xid ≡ list_any (same_xid xid) xids
 listed_prepared xids place old new is xid = sym (ap (list_any (same_xid xid)) is.list ∙ prepared_exactly (state_after new.base new.known.seen) xid)
 
-pub none_left_there : (name : List ℕ) (store : ℕ) (xids : List Xid) (place : ℕ) (old new : SessionView) → IsListed xids place old new → ((number : ℕ) → number < 2 ^ 64 → list_any (same_xid (branch_xid name number store)) xids ≡ false) →
+pub none_left_there : (name : List ℕ) (store : ℕ) (xids : List Xid) (place : ℕ) (old new : SessionView) → IsListed xids place old new
+    → ((number : ℕ) → number < 2 ^ 64 → list_any (same_xid (branch_xid name number store)) xids ≡ false) →
     NoneLeft name store new
 none_left_there name store xids place old new is none = λ number fits. listed_prepared xids place old new is (branch_xid name number store) ∙ none number fits
 
@@ -77,12 +86,14 @@ one_fails true false z is = inr (inl refl)
 one_fails false y z is = inl refl
 
 -- the number stands behind the name
-pub number_behind_is : (name : List ℕ) (number store : ℕ) (xid : Xid) → IsBranchOf name number store xid → (length xid.gtrid.items ≡ length name + 8) × (from_be_bytes w64 (drop (length name) xid.gtrid.items) ≡ number)
+pub number_behind_is : (name : List ℕ) (number store : ℕ) (xid : Xid) → IsBranchOf name number store xid
+    → (length xid.gtrid.items ≡ length name + 8) × (from_be_bytes w64 (drop (length name) xid.gtrid.items) ≡ number)
 unfolding branch_xid
 number_behind_is name number store xid is =
     let text : xid.gtrid.items ≡ name ++ to_be_bytes w64 number = ap (λ (x : Xid). x.gtrid.items) is.is in (
       ap length text ∙ length-append name (to_be_bytes w64 number) ∙ ap (λ n. length name + n) (eight number),
-      ap (λ list. from_be_bytes w64 (drop (length name) list)) text ∙ ap (from_be_bytes w64) (drop-append_seam name (to_be_bytes w64 number)) ∙ from_be_bytes-to_be_bytes_8 number is.fits,
+      ap (λ list. from_be_bytes w64 (drop (length name) list)) text ∙ ap (from_be_bytes w64) (drop-append_seam name (to_be_bytes w64 number))
+          ∙ from_be_bytes-to_be_bytes_8 number is.fits,
     )
   where
     eight : (n : ℕ) → length (to_be_bytes w64 n) ≡ 8

@@ -28,7 +28,8 @@ working branches store number is = by (slice_get branches store) refl is
     by (Some (Some branch)) there e = there ∙ ap (λ (b : OpenBranch). Some (Some b)) (of_phase branch.phase branch.number e)
 
 -- what is open in another store tells nothing of it
-pub working_kept : (old new : List (Option OpenBranch)) (store number : ℕ) → slice_get new store ≡ slice_get old store → is_working new store number ≡ is_working old store number
+pub working_kept : (old new : List (Option OpenBranch)) (store number : ℕ) → slice_get new store ≡ slice_get old store
+    → is_working new store number ≡ is_working old store number
 unfolding is_working
 working_kept old new store number same = ap (works_for number) same
 
@@ -36,14 +37,18 @@ pub keeps_none : (participants : Participants) (branches : List (Option OpenBran
 keeps_none participants branches place = record { apart = λ store out. refl; behind = λ store from. refl }
 
 -- as far as a later store
-pub keeps_farther : (participants : Participants) (place farther : ℕ) (old new : List (Option OpenBranch)) → place ≤ farther → KeepsOpen participants place old new → KeepsOpen participants farther old new
+pub keeps_farther : (participants : Participants) (place farther : ℕ) (old new : List (Option OpenBranch)) → place ≤ farther
+    → KeepsOpen participants place old new → KeepsOpen participants farther old new
 keeps_farther participants place farther old new less keeps = record { apart = keeps.apart; behind = λ store from. keeps.behind store (omega arith) }
 
 -- a store that takes part was spoken to
-pub keeps_next : (participants : Participants) (place : ℕ) (old now next : List (Option OpenBranch)) → KeepsOpen participants place old now → takes_part participants place ≡ true → ChangesAt place now next →
+pub keeps_next : (participants : Participants) (place : ℕ) (old now next : List (Option OpenBranch)) → KeepsOpen participants place old now
+    → takes_part participants place ≡ true → ChangesAt place now next →
     KeepsOpen participants (place + 1) old next
 keeps_next participants place old now next keeps takes changes = record {
-  apart = λ store out. changes.others store (λ (same : store ≡ place). absurd (true_is_false (sym takes ∙ ap (takes_part participants) (sym same) ∙ out))) ∙ keeps.apart store out;
+  apart =
+      λ store out. changes.others store (λ (same : store ≡ place). absurd (true_is_false (sym takes ∙ ap (takes_part participants) (sym same) ∙ out)))
+      ∙ keeps.apart store out;
   behind = λ store from. changes.others store (omega arith) ∙ keeps.behind store (omega arith);
 }
   where

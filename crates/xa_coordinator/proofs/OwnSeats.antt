@@ -34,38 +34,47 @@ owned_found session state xid is = by (map.get state.branches xid) refl
     has_owner (Some other) e = ap Some (eqb-true other session e)
 
     by : (found : Option Branch) → map.get state.branches xid ≡ found → IsOwned session state xid
-    by None e = absurd (true≢false (sym is ∙ ap (λ (f : Option Branch). option_map_or (λ o. o == session) (option_and_then (λ (b : Branch). b.owner) f) false) e))
+    by None e =
+        absurd (true≢false (sym is ∙ ap (λ (f : Option Branch). option_map_or (λ o. o == session) (option_and_then (λ (b : Branch). b.owner) f) false) e))
     by (Some branch) e = record {
       branch = branch;
       found = e;
-      owner = has_owner branch.owner (sym (ap (λ (f : Option Branch). option_map_or (λ o. o == session) (option_and_then (λ (b : Branch). b.owner) f) false) e) ∙ is);
+      owner =
+          has_owner branch.owner (sym (ap (λ (f : Option Branch). option_map_or (λ o. o == session) (option_and_then (λ (b : Branch). b.owner) f) false) e)
+          ∙ is);
     }
 
 -- the session has the branch that it owns open, in its phase
-seated : (state : State) → LockLaw state → (session : ℕ) (xid : Xid) (branch : Branch) → map.get state.branches xid ≡ Some branch → branch.owner ≡ Some session → seat_of state session ≡ seat_in (Some branch.phase) xid
+seated : (state : State) → LockLaw state → (session : ℕ) (xid : Xid) (branch : Branch) → map.get state.branches xid ≡ Some branch → branch.owner ≡ Some session
+    → seat_of state session ≡ seat_in (Some branch.phase) xid
 unfolding seat_of
 seated state law session xid branch found owner =
     let owned : owns state session xid ≡ true =
     ap (λ (f : Option Branch). option_map_or (λ o. o == session) (option_and_then (λ (b : Branch). b.owner) f) false) found
     ∙ ap (λ o. option_map_or (λ n. n == session) o false) owner ∙ eq-eqb session session refl in
-    ap (λ own. option_map_or (λ x. seat_in (phase_at state x) x) own Free) (own_found state session xid owned (λ other also. law.one_branch session xid other owned also))
+    ap (λ own. option_map_or (λ x. seat_in (phase_at state x) x) own Free)
+    (own_found state session xid owned (λ other also. law.one_branch session xid other owned also))
     ∙ ap (λ (f : Option Branch). seat_in (option_map (λ (b : Branch). b.phase) f) xid) found
 
 -- the branches after an accepted statement
 done : (state : State) (session : ℕ) (statement : Statement) (at : Xid) → is_refused (reply_to state session statement) ≡ false →
     map.get (after state session statement).branches at ≡ branch_after session (seat_of state session) statement at (map.get state.branches at)
 done state session statement at accepted =
-    ap (λ (s : State). map.get s.branches at) (accepted_done state session statement accepted) ∙ effect-branch state session (seat_of state session) statement at
+    ap (λ (s : State). map.get s.branches at) (accepted_done state session statement accepted)
+    ∙ effect-branch state session (seat_of state session) statement at
 
 -- after XA START the branch is ACTIVE
-pub started : (state : State) → LockLaw state → (session : ℕ) (xid : Xid) → is_refused (reply_to state session (Start xid)) ≡ false → seat_of (after state session (Start xid)) session ≡ Active xid
+pub started : (state : State) → LockLaw state → (session : ℕ) (xid : Xid) → is_refused (reply_to state session (Start xid)) ≡ false
+    → seat_of (after state session (Start xid)) session ≡ Active xid
 unfolding branch_after
 started state law session xid accepted =
     seated (after state session (Start xid)) (law_after state session (Start xid) law) session xid (started_by session)
-    (done state session (Start xid) xid accepted ∙ ap (λ b. cond b (Some (started_by session)) (map.get state.branches xid)) (same_itself xids_total exact_xids xid)) refl
+    (done state session (Start xid) xid accepted
+    ∙ ap (λ b. cond b (Some (started_by session)) (map.get state.branches xid)) (same_itself xids_total exact_xids xid)) refl
 
 -- after XA END it is IDLE
-pub ended : (state : State) → LockLaw state → (session : ℕ) (xid : Xid) → is_refused (reply_to state session (End xid)) ≡ false → seat_of (after state session (End xid)) session ≡ Idle xid
+pub ended : (state : State) → LockLaw state → (session : ℕ) (xid : Xid) → is_refused (reply_to state session (End xid)) ≡ false
+    → seat_of (after state session (End xid)) session ≡ Idle xid
 unfolding branch_after idle reply_to
 ended state law session xid accepted =
     let own = owned_found session state xid (accepted_end_own state session (seat_of state session) xid (own_seat state session) accepted) in
@@ -75,10 +84,12 @@ ended state law session xid accepted =
     ∙ ap (option_map idle) own.found) own.owner
 
 -- a row statement leaves the ACTIVE branch of its session ACTIVE
-changed_within : (state : State) → LockLaw state → (session : ℕ) (xid : Xid) (statement : Statement) (change : Branch → Branch) → seat_of state session ≡ Active xid →
+changed_within : (state : State) → LockLaw state → (session : ℕ) (xid : Xid) (statement : Statement) (change : Branch → Branch)
+    → seat_of state session ≡ Active xid →
     is_refused (reply_to state session statement) ≡ false →
     ((found : Option Branch) → branch_after session (Active xid) statement xid found ≡ cond (same_xid xid xid) (option_map change found) found) →
-    ((branch : Branch) → (change branch).owner ≡ branch.owner) → ((branch : Branch) → (change branch).phase ≡ branch.phase) → seat_of (after state session statement) session ≡ Active xid
+    ((branch : Branch) → (change branch).owner ≡ branch.owner) → ((branch : Branch) → (change branch).phase ≡ branch.phase)
+    → seat_of (after state session statement) session ≡ Active xid
 changed_within state law session xid statement change seat accepted is owner phase =
     let own = owned_found session state xid (subst (IsOwn state session) seat (own_seat state session)) in
     let new : map.get (after state session statement).branches xid ≡ Some (change own.branch) =
@@ -92,14 +103,20 @@ changed_within state law session xid statement change seat accepted is owner pha
     ∙ sym (seated state law session xid own.branch own.found own.owner)
     ∙ seat
 
-pub read : (state : State) → LockLaw state → (session : ℕ) (xid : Xid) (key : List ℕ) → seat_of state session ≡ Active xid → is_refused (reply_to state session (Get key)) ≡ false → seat_of (after state session (Get key)) session ≡ Active xid
+pub read : (state : State) → LockLaw state → (session : ℕ) (xid : Xid) (key : List ℕ) → seat_of state session ≡ Active xid
+    → is_refused (reply_to state session (Get key)) ≡ false → seat_of (after state session (Get key)) session ≡ Active xid
 unfolding branch_after
-read state law session xid key seat accepted = changed_within state law session xid (Get key) (with_lock key) seat accepted (λ found. refl) (λ branch. refl) (λ branch. refl)
+read state law session xid key seat accepted =
+    changed_within state law session xid (Get key) (with_lock key) seat accepted (λ found. refl) (λ branch. refl) (λ branch. refl)
 
-pub written : (state : State) → LockLaw state → (session : ℕ) (xid : Xid) (key : List ℕ) (value : Text) → seat_of state session ≡ Active xid → is_refused (reply_to state session (Put key value)) ≡ false → seat_of (after state session (Put key value)) session ≡ Active xid
+pub written : (state : State) → LockLaw state → (session : ℕ) (xid : Xid) (key : List ℕ) (value : Text) → seat_of state session ≡ Active xid
+    → is_refused (reply_to state session (Put key value)) ≡ false → seat_of (after state session (Put key value)) session ≡ Active xid
 unfolding branch_after
-written state law session xid key value seat accepted = changed_within state law session xid (Put key value) (with_own_write key (Some value)) seat accepted (λ found. refl) (λ branch. refl) (λ branch. refl)
+written state law session xid key value seat accepted =
+    changed_within state law session xid (Put key value) (with_own_write key (Some value)) seat accepted (λ found. refl) (λ branch. refl) (λ branch. refl)
 
-pub deleted : (state : State) → LockLaw state → (session : ℕ) (xid : Xid) (key : List ℕ) → seat_of state session ≡ Active xid → is_refused (reply_to state session (Del key)) ≡ false → seat_of (after state session (Del key)) session ≡ Active xid
+pub deleted : (state : State) → LockLaw state → (session : ℕ) (xid : Xid) (key : List ℕ) → seat_of state session ≡ Active xid
+    → is_refused (reply_to state session (Del key)) ≡ false → seat_of (after state session (Del key)) session ≡ Active xid
 unfolding branch_after
-deleted state law session xid key seat accepted = changed_within state law session xid (Del key) (with_own_write key None) seat accepted (λ found. refl) (λ branch. refl) (λ branch. refl)
+deleted state law session xid key seat accepted =
+    changed_within state law session xid (Del key) (with_own_write key None) seat accepted (λ found. refl) (λ branch. refl) (λ branch. refl)

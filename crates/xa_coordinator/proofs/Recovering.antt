@@ -1,5 +1,6 @@
 -- Recovering store after store.
-use Rattle.std.proofs.Common.{◌≡◌, ◌≢◌, ◌<◌, ◌≤◌, ◌+◌, ◌*◌, ◌^◌, ℕ, zero, suc, List, [], ◌∷◌, ◌++◌, length, refl, ap, sym, ◌∙◌, subst, inl, inr, Option, Some, None, arith, length-append}
+use Rattle.std.proofs.Common.{◌≡◌, ◌≢◌, ◌<◌, ◌≤◌, ◌+◌, ◌*◌, ◌^◌, ℕ, zero, suc, List, [], ◌∷◌, ◌++◌, length, refl, ap, sym, ◌∙◌, subst, inl, inr, Option, Some}
+use Rattle.std.proofs.Common.{None, arith, length-append}
 use Rattle.std.specs.Prelude.{slice_get, map, Result, Ok, Err, IfOk, IfErr}
 use Rattle.std.specs.List.{sum_by}
 use Rattle.std.proofs.lemmas.List.{map_push}
@@ -17,7 +18,8 @@ use Rattle.xa_coordinator.specs.declared.tally.Tally.{Tally}
 use Rattle.xa_coordinator.specs.View.{SessionView}
 use Rattle.xa_coordinator.specs.Agreement.{Agrees}
 use Rattle.xa_coordinator.specs.Stores.{AtStore, EachStore, ChangesAt, Reached, EndsAt}
-use Rattle.xa_coordinator.specs.Recovery.{IsRecovered, RecoveredBy, Recovers, BreaksHere, BreaksAt, BreaksOff, fault_by, IsBroken, IsStillPrepared, asked_by_fault}
+use Rattle.xa_coordinator.specs.Recovery.{IsRecovered, RecoveredBy, Recovers, BreaksHere, BreaksAt, BreaksOff, fault_by, IsBroken, IsStillPrepared}
+use Rattle.xa_coordinator.specs.Recovery.{asked_by_fault}
 use Rattle.xa_coordinator.proofs.Walk.{reached_none, reached_next, reached_weaker, reached_all, ended_at, from_ends, at_then, at_weaker, at_same}
 use Rattle.xa_coordinator.proofs.Settling.{recovered_agrees, broken_agrees, broken_later, still_later}
 use Rattle.xa_coordinator.proofs.Agreeing.{nothing_agrees}
@@ -30,7 +32,8 @@ pub record FreesOpen (place : ℕ) (old new : List (Option OpenBranch)) : Type 0
 pub frees_none : (branches : List (Option OpenBranch)) → FreesOpen 0 branches branches
 frees_none branches = record { below = λ store none. absurd (omega arith); behind = λ store from. refl }
 
-pub frees_next : (place : ℕ) (old now next : List (Option OpenBranch)) → FreesOpen place old now → ChangesAt place now next → slice_get next place ≡ Some None → FreesOpen (place + 1) old next
+pub frees_next : (place : ℕ) (old now next : List (Option OpenBranch)) → FreesOpen place old now → ChangesAt place now next → slice_get next place ≡ Some None
+    → FreesOpen (place + 1) old next
 frees_next place old now next frees changes free = record {
   below = λ store less.
       elim (cases_lt store place) [
@@ -40,7 +43,8 @@ frees_next place old now next frees changes free = record {
   behind = λ store from. changes.others store (omega arith) ∙ frees.behind store (omega arith);
 }
 
-pub frees_behind : (place : ℕ) (old now next : List (Option OpenBranch)) → FreesOpen place old now → ChangesAt place now next → (store : ℕ) → place + 1 ≤ store → slice_get next store ≡ slice_get old store
+pub frees_behind : (place : ℕ) (old now next : List (Option OpenBranch)) → FreesOpen place old now → ChangesAt place now next → (store : ℕ) → place + 1 ≤ store
+    → slice_get next store ≡ slice_get old store
 frees_behind place old now next frees changes store from = changes.others store (omega arith) ∙ frees.behind store (omega arith)
 
 found_there : {A : Type 0} (xs : List A) (y : A) (store : ℕ) (one : A) → slice_get xs store ≡ Some one → slice_get (xs ++ y ∷ []) store ≡ Some one
@@ -63,7 +67,8 @@ module _ {S : Type 0} (view : S → SessionView) (decisions : List Standing) (na
     pub rolled_back : report.rolled_back ≡ sum_by (λ one. one.0.rolled_back) found
     pub missing : report.missing ≡ sum_by (λ one. one.0.missing) found
 
-  pub recovers_none : (report : Report) (old : List S) → report.fronts.items ≡ [] → report.committed ≡ 0 → report.rolled_back ≡ 0 → report.missing ≡ 0 → RecoversBelow 0 report old old
+  pub recovers_none : (report : Report) (old : List S) → report.fronts.items ≡ [] → report.committed ≡ 0 → report.rolled_back ≡ 0 → report.missing ≡ 0
+      → RecoversBelow 0 report old old
   recovers_none report old fronts committed rolled_back missing = record {
     found = [];
     count = refl;
@@ -75,8 +80,10 @@ module _ {S : Type 0} (view : S → SessionView) (decisions : List Standing) (na
   }
 
   -- one store more
-  pub recovers_next : (place : ℕ) (report more : Report) (one : Tally × ℕ) (old now next : List S) → RecoversBelow place report old now → ChangesAt place now next → AtStore view place (IsRecovered decisions name place one.0 one.1) now next →
-      more.fronts.items ≡ report.fronts.items ++ one.1 ∷ [] → more.committed ≡ report.committed + one.0.committed → more.rolled_back ≡ report.rolled_back + one.0.rolled_back → more.missing ≡ report.missing + one.0.missing →
+  pub recovers_next : (place : ℕ) (report more : Report) (one : Tally × ℕ) (old now next : List S) → RecoversBelow place report old now
+      → ChangesAt place now next → AtStore view place (IsRecovered decisions name place one.0 one.1) now next →
+      more.fronts.items ≡ report.fronts.items ++ one.1 ∷ [] → more.committed ≡ report.committed + one.0.committed
+      → more.rolled_back ≡ report.rolled_back + one.0.rolled_back → more.missing ≡ report.missing + one.0.missing →
       RecoversBelow (place + 1) more old next
   recovers_next place report more one old now next so_far changes is fronts committed rolled_back missing =
       let longer : List (Tally × ℕ) = so_far.found ++ one ∷ [] in
@@ -85,17 +92,21 @@ module _ {S : Type 0} (view : S → SessionView) (decisions : List Standing) (na
         found = longer;
         count = length-append so_far.found (one ∷ []) ∙ omega (arith, so_far.count);
         reached = reached_next view (RecoveredBy decisions name longer) place old now next
-            (reached_weaker view (RecoveredBy decisions name so_far.found) (RecoveredBy decisions name longer) place old now (λ store less a b by. (by.0, found_there so_far.found one store by.0 by.1, by.2)) so_far.reached)
+            (reached_weaker view (RecoveredBy decisions name so_far.found) (RecoveredBy decisions name longer) place old now
+            (λ store less a b by. (by.0, found_there so_far.found one store by.0 by.1, by.2)) so_far.reached)
             changes
-            (at_weaker view place (IsRecovered decisions name place one.0 one.1) (RecoveredBy decisions name longer place) (λ a b recovered. (one, last, recovered)) now next is);
+            (at_weaker view place (IsRecovered decisions name place one.0 one.1) (RecoveredBy decisions name longer place)
+            (λ a b recovered. (one, last, recovered)) now next is);
         fronts = fronts ∙ ap (λ list. list ++ one.1 ∷ []) so_far.fronts ∙ sym (map_push (λ (o : Tally × ℕ). o.1) so_far.found one);
         committed = committed ∙ ap (λ n. n + one.0.committed) so_far.committed ∙ sym (sum_by_push (λ (o : Tally × ℕ). o.0.committed) so_far.found one);
-        rolled_back = rolled_back ∙ ap (λ n. n + one.0.rolled_back) so_far.rolled_back ∙ sym (sum_by_push (λ (o : Tally × ℕ). o.0.rolled_back) so_far.found one);
+        rolled_back =
+            rolled_back ∙ ap (λ n. n + one.0.rolled_back) so_far.rolled_back ∙ sym (sum_by_push (λ (o : Tally × ℕ). o.0.rolled_back) so_far.found one);
         missing = missing ∙ ap (λ n. n + one.0.missing) so_far.missing ∙ sym (sum_by_push (λ (o : Tally × ℕ). o.0.missing) so_far.found one);
       }
 
   -- all of them
-  pub recovers_all : (place : ℕ) (report : Report) (old now : List S) → RecoversBelow place report old now → place ≡ length old → Recovers view decisions name report old now
+  pub recovers_all : (place : ℕ) (report : Report) (old now : List S) → RecoversBelow place report old now → place ≡ length old
+      → Recovers view decisions name report old now
   recovers_all place report old now so_far whole = record {
     found = so_far.found;
     count = so_far.count ∙ whole;
@@ -106,8 +117,10 @@ module _ {S : Type 0} (view : S → SessionView) (decisions : List Standing) (na
     missing = so_far.missing;
   }
 
-  broke : (place : ℕ) (report : Report) (last : SessionView → SessionView → Type 0) (old now next : List S) → place < length old → RecoversBelow place report old now → ChangesAt place now next → AtStore view place last now next →
-      (place < length old) × EndsAt view (λ other before after. (one : Tally × ℕ) × IsRecovered decisions name other one.0 one.1 before after) place last old next
+  broke : (place : ℕ) (report : Report) (last : SessionView → SessionView → Type 0) (old now next : List S) → place < length old
+      → RecoversBelow place report old now → ChangesAt place now next → AtStore view place last now next →
+      (place < length old) × EndsAt view
+      (λ other before after. (one : Tally × ℕ) × IsRecovered decisions name other one.0 one.1 before after) place last old next
   broke place report last old now next within so_far changes is = (
     within,
     ended_at view (λ other before after. (one : Tally × ℕ) × IsRecovered decisions name other one.0 one.1 before after) place last old now next
@@ -115,31 +128,46 @@ module _ {S : Type 0} (view : S → SessionView) (decisions : List Standing) (na
   )
 
   -- the recovery of a store came to no end behind what agrees with the decisions
-  pub breaks_later : (place : ℕ) (fault : RecoverFault) (old mid next : List S) → length mid ≡ length old → AtStore view place (Agrees decisions name place) old mid → BreaksHere view decisions name place fault mid next →
+  pub breaks_later : (place : ℕ) (fault : RecoverFault) (old mid next : List S) → length mid ≡ length old
+      → AtStore view place (Agrees decisions name place) old mid → BreaksHere view decisions name place fault mid next →
       BreaksHere view decisions name place fault old next
-  breaks_later place (Session at fault) old mid next count before is =
-      (is.0, at_then view place (Agrees decisions name place) (IsBroken decisions name place (CauseSession fault)) (IsBroken decisions name place (CauseSession fault)) (broken_later decisions name place (CauseSession fault)) old mid next count before is.1)
-  breaks_later place (StillPrepared at) old mid next count before is =
-      (is.0, at_then view place (Agrees decisions name place) (IsStillPrepared decisions name place) (IsStillPrepared decisions name place) (still_later decisions name place) old mid next count before is.1)
+  breaks_later place (Session at fault) old mid next count before is = (
+    is.0,
+    at_then view place (Agrees decisions name place) (IsBroken decisions name place (CauseSession fault))
+        (IsBroken decisions name place (CauseSession fault)) (broken_later decisions name place (CauseSession fault)) old mid next count before is.1,
+  )
+  breaks_later place (StillPrepared at) old mid next count before is = (
+    is.0,
+    at_then view place (Agrees decisions name place) (IsStillPrepared decisions name place) (IsStillPrepared decisions name place)
+        (still_later decisions name place) old mid next count before is.1,
+  )
   breaks_later place NoMemory old mid next count before is = absurd is
-  breaks_later place (Refused at error) old mid next count before is =
-      (is.0, at_then view place (Agrees decisions name place) (IsBroken decisions name place (CauseRefused error)) (IsBroken decisions name place (CauseRefused error)) (broken_later decisions name place (CauseRefused error)) old mid next count before is.1)
+  breaks_later place (Refused at error) old mid next count before is = (
+    is.0,
+    at_then view place (Agrees decisions name place) (IsBroken decisions name place (CauseRefused error))
+        (IsBroken decisions name place (CauseRefused error)) (broken_later decisions name place (CauseRefused error)) old mid next count before is.1,
+  )
 
   -- a cause is told as the fault of the store
-  pub breaks_by : (place : ℕ) (cause : Cause) (old next : List S) → AtStore view place (IsBroken decisions name place cause) old next → BreaksHere view decisions name place (fault_by place cause) old next
+  pub breaks_by : (place : ℕ) (cause : Cause) (old next : List S) → AtStore view place (IsBroken decisions name place cause) old next
+      → BreaksHere view decisions name place (fault_by place cause) old next
   breaks_by place (CauseSession fault) old next is = (refl, is)
   breaks_by place (CauseRefused error) old next is = (refl, is)
 
   -- the store at which it came to no end
-  pub breaks_at : (place : ℕ) (report : Report) (fault : RecoverFault) (old now next : List S) → place < length old → RecoversBelow place report old now → ChangesAt place now next → BreaksHere view decisions name place fault now next →
+  pub breaks_at : (place : ℕ) (report : Report) (fault : RecoverFault) (old now next : List S) → place < length old → RecoversBelow place report old now
+      → ChangesAt place now next → BreaksHere view decisions name place fault now next →
       BreaksOff view decisions name fault old next
   breaks_at place report (Session at fault) old now next within so_far changes is =
-      subst (λ n. BreaksAt view decisions name n (IsBroken decisions name n (CauseSession fault)) old next) (sym is.0) (broke place report (IsBroken decisions name place (CauseSession fault)) old now next within so_far changes is.1)
+      subst (λ n. BreaksAt view decisions name n (IsBroken decisions name n (CauseSession fault)) old next) (sym is.0)
+      (broke place report (IsBroken decisions name place (CauseSession fault)) old now next within so_far changes is.1)
   breaks_at place report (StillPrepared at) old now next within so_far changes is =
-      subst (λ n. BreaksAt view decisions name n (IsStillPrepared decisions name n) old next) (sym is.0) (broke place report (IsStillPrepared decisions name place) old now next within so_far changes is.1)
+      subst (λ n. BreaksAt view decisions name n (IsStillPrepared decisions name n) old next) (sym is.0)
+      (broke place report (IsStillPrepared decisions name place) old now next within so_far changes is.1)
   breaks_at place report NoMemory old now next within so_far changes is = absurd is
   breaks_at place report (Refused at error) old now next within so_far changes is =
-      subst (λ n. BreaksAt view decisions name n (IsBroken decisions name n (CauseRefused error)) old next) (sym is.0) (broke place report (IsBroken decisions name place (CauseRefused error)) old now next within so_far changes is.1)
+      subst (λ n. BreaksAt view decisions name n (IsBroken decisions name n (CauseRefused error)) old next) (sym is.0)
+      (broke place report (IsBroken decisions name place (CauseRefused error)) old now next within so_far changes is.1)
 
   -- and how far it came
   pub asked_at : (place : ℕ) (fault : RecoverFault) (now next : List S) → BreaksHere view decisions name place fault now next → asked_by_fault fault ≡ place + 1
@@ -151,21 +179,27 @@ module _ {S : Type 0} (view : S → SessionView) (decisions : List Standing) (na
   -- whatever it came to agrees with the decisions
   pub recovers_agree : (report : Report) (old now : List S) → Recovers view decisions name report old now → EachStore view (Agrees decisions name) old now
   recovers_agree report old now is store =
-      at_weaker view store (RecoveredBy decisions name is.found store) (Agrees decisions name store) (λ a b by. recovered_agrees decisions name store by.0.0 by.0.1 a b by.2) old now (is.each store)
+      at_weaker view store (RecoveredBy decisions name is.found store) (Agrees decisions name store)
+      (λ a b by. recovered_agrees decisions name store by.0.0 by.0.1 a b by.2) old now (is.each store)
 
   ends_agree : (place : ℕ) (last : SessionView → SessionView → Type 0) (old new : List S) → ((a b : SessionView) → last a b → Agrees decisions name place a b) →
-      EndsAt view (λ other before after. (one : Tally × ℕ) × IsRecovered decisions name other one.0 one.1 before after) place last old new → EachStore view (Agrees decisions name) old new
+      EndsAt view (λ other before after. (one : Tally × ℕ) × IsRecovered decisions name other one.0 one.1 before after) place last old new
+      → EachStore view (Agrees decisions name) old new
   ends_agree place last old new at_last is =
-      from_ends view _ (Agrees decisions name) place last old new is (λ other a b by. recovered_agrees decisions name other by.0.0 by.0.1 a b by.1) at_last (λ other a. nothing_agrees decisions name other a)
+      from_ends view _ (Agrees decisions name) place last old new is (λ other a b by. recovered_agrees decisions name other by.0.0 by.0.1 a b by.1) at_last
+      (λ other a. nothing_agrees decisions name other a)
 
   pub breaks_agree : (fault : RecoverFault) (old new : List S) → BreaksOff view decisions name fault old new → EachStore view (Agrees decisions name) old new
   breaks_agree (Session store fault) old new is = ends_agree store _ old new (λ a b broken. broken_agrees decisions name store _ a b broken) is.1
   breaks_agree (StillPrepared store) old new is = ends_agree store _ old new (λ a b still. still.before) is.1
-  breaks_agree NoMemory old new is = λ store. at_same view store (Agrees decisions name store) (λ a. nothing_agrees decisions name store a) old new (ap (λ (list : List S). slice_get list store) is)
+  breaks_agree NoMemory old new is =
+      λ store. at_same view store (Agrees decisions name store) (λ a. nothing_agrees decisions name store a) old new
+      (ap (λ (list : List S). slice_get list store) is)
   breaks_agree (Refused store error) old new is = ends_agree store _ old new (λ a b broken. broken_agrees decisions name store _ a b broken) is.1
 
   -- whatever it answers
-  pub ends_as : (result : Result Report RecoverFault) (old new : List S) → IfOk result (λ report. Recovers view decisions name report old new) → IfErr result (λ fault. BreaksOff view decisions name fault old new) →
+  pub ends_as : (result : Result Report RecoverFault) (old new : List S) → IfOk result (λ report. Recovers view decisions name report old new)
+      → IfErr result (λ fault. BreaksOff view decisions name fault old new) →
       EachStore view (Agrees decisions name) old new
   ends_as (Ok report) old new recovers breaks = recovers_agree report old new recovers
   ends_as (Err fault) old new recovers breaks = breaks_agree fault old new breaks

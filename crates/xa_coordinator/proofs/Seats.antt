@@ -24,7 +24,8 @@ left_out true entry rest none = absurd (cc)
 left_out false entry rest none = (refl, none)
 
 -- what others add leaves what the session has open
-others_only : (number : ℕ) (rest : List Entry) (state : State) → LockLaw state → entries_of number rest ≡ [] → seat_of (state_after state rest) number ≡ seat_of state number
+others_only : (number : ℕ) (rest : List Entry) (state : State) → LockLaw state → entries_of number rest ≡ []
+    → seat_of (state_after state rest) number ≡ seat_of state number
 unfolding state_after
 others_only number [] state law none = refl
 others_only number (entry ∷ rest) state law none =
@@ -44,7 +45,8 @@ law_seen base [] law = law
 law_seen base (x ∷ xs) law = law_seen (after base x.session x.statement) xs (law_after base x.session x.statement law)
 
 -- a longer history in which the session has no more entries
-pub seat_kept : (base : State) → LockLaw base → (number : ℕ) (old new : List Entry) → Begins old new → entries_of number new ≡ entries_of number old → seat_of (state_after base new) number ≡ seat_of (state_after base old) number
+pub seat_kept : (base : State) → LockLaw base → (number : ℕ) (old new : List Entry) → Begins old new → entries_of number new ≡ entries_of number old
+    → seat_of (state_after base new) number ≡ seat_of (state_after base old) number
 seat_kept base law number old new begins own =
     let rest : List Entry = drop (length old) new in
     let whole : old ++ rest ≡ new = behind old new begins in
@@ -56,7 +58,8 @@ seat_kept base law number old new begins own =
     ∙ others_only number rest (state_after base old) (law_seen base old law) none
 
 -- nothing was added
-pub seat_unanswered : (base : State) → LockLaw base → (old new : Known) → IsUnanswered old new → entries_of old.number old.seen ≡ old.mine → entries_of new.number new.seen ≡ new.mine →
+pub seat_unanswered : (base : State) → LockLaw base → (old new : Known) → IsUnanswered old new → entries_of old.number old.seen ≡ old.mine
+    → entries_of new.number new.seen ≡ new.mine →
     seat_of (state_after base new.seen) new.number ≡ seat_of (state_after base old.seen) old.number
 seat_unanswered base law old new is own_old own_new =
     ap (seat_of (state_after base new.seen)) is.advances.number
@@ -82,9 +85,11 @@ before base statement answer old new is own_old own_new = by (enters (state_at b
         let entry : Entry = entry_of old.number statement in
         let begins : Begins front new.seen = subst (λ list. Begins front list) (sym added.seen) (begins_append front (entry ∷ [])) in
         record {
-          begins = begins_between old.seen front new.seen is.advances.seen begins (omega (arith, is.not_before, is.at.within, length-take answer.place new.seen));
+          begins =
+              begins_between old.seen front new.seen is.advances.seen begins (omega (arith, is.not_before, is.at.within, length-take answer.place new.seen));
           own = append_cancel_right (entries_of old.number front) (entries_of old.number old.seen) (entry ∷ [])
-              (sym (own_last old.number front entry refl) ∙ ap (entries_of old.number) (sym added.seen) ∙ all_own ∙ added.mine ∙ ap (λ list. list ++ entry ∷ []) (sym own_old));
+              (sym (own_last old.number front entry refl) ∙ ap (entries_of old.number) (sym added.seen) ∙ all_own ∙ added.mine
+              ∙ ap (λ list. list ++ entry ∷ []) (sym own_old));
         }
     by false outside =
         let stays = is.outside outside in
@@ -103,12 +108,14 @@ seat_at base law statement answer old new is own_old own_new =
     seat_kept base law old.number old.seen (take answer.place new.seen) front.begins front.own
 
 -- what an answered statement leaves
-pub state_entered : (base : State) (statement : Statement) (answer : Answer) (old new : Known) → IsAnswered base statement answer old new → enters (state_at base new.seen answer.place) old.number statement ≡ true →
+pub state_entered : (base : State) (statement : Statement) (answer : Answer) (old new : Known) → IsAnswered base statement answer old new
+    → enters (state_at base new.seen answer.place) old.number statement ≡ true →
     state_after base new.seen ≡ after (state_at base new.seen answer.place) old.number statement
 state_entered base statement answer old new is entering =
     ap (state_after base) (is.entered entering).seen ∙ state_after-last base (take answer.place new.seen) (entry_of old.number statement)
 
-pub state_outside : (base : State) (statement : Statement) (answer : Answer) (old new : Known) → IsAnswered base statement answer old new → enters (state_at base new.seen answer.place) old.number statement ≡ false →
+pub state_outside : (base : State) (statement : Statement) (answer : Answer) (old new : Known) → IsAnswered base statement answer old new
+    → enters (state_at base new.seen answer.place) old.number statement ≡ false →
     state_after base new.seen ≡ state_at base new.seen answer.place
 state_outside base statement answer old new is outside =
     sym (state_at-whole base new.seen) ∙ ap (state_at base new.seen) (is.outside outside).whole

@@ -1,5 +1,6 @@
 -- How numbers stand, before and after a decision.
-use Rattle.std.proofs.Common.{◌≡◌, ◌≢◌, ◌<◌, ◌≤◌, ◌+◌, ◌-◌, ℕ, zero, suc, Bool, true, false, List, [], ◌∷◌, ◌++◌, take, drop, get_or, add-one, append-nil, sym, length, refl, ap, ◌∙◌, Option, Some, None, cond, arith, ne_eqb, subst, inl, inr}
+use Rattle.std.proofs.Common.{◌≡◌, ◌≢◌, ◌<◌, ◌≤◌, ◌+◌, ◌-◌, ℕ, zero, suc, Bool, true, false, List, [], ◌∷◌, ◌++◌, take, drop, get_or, add-one, append-nil, sym}
+use Rattle.std.proofs.Common.{length, refl, ap, ◌∙◌, Option, Some, None, cond, arith, ne_eqb, subst, inl, inr}
 use Rattle.std.proofs.lemmas.Bool.{eqb-false}
 use Rattle.std.proofs.lemmas.Bool.Decides.{eqb_tells}
 use Rattle.std.proofs.lemmas.Option.{slice_get_within}
@@ -16,7 +17,8 @@ pub record HasPlace (decisions : List Standing) (number : ℕ) : Type 0 where
   pub first : 0 < number
   pub within : number - 1 < length decisions
 
-in_list : (decisions : List Standing) (place : ℕ) (found : Option Standing) → slice_get decisions place ≡ found → is_open found ≡ true → place < length decisions
+in_list : (decisions : List Standing) (place : ℕ) (found : Option Standing) → slice_get decisions place ≡ found → is_open found ≡ true
+    → place < length decisions
 in_list decisions place None is given = absurd (cc)
 in_list decisions place (Some standing) is given = slice_get_within decisions place standing is
 
@@ -31,7 +33,8 @@ given decisions number is = by (number == 0) refl is
         record { first = omega (arith, apart); within = in_list decisions (number - 1) (slice_get decisions (number - 1)) refl there }
 
 -- once it is decided, it is
-pub decided_after : (decisions : List Standing) (place number : ℕ) → place + 1 ≡ number → place < length decisions → is_decided (slice_set decisions place Decided) number ≡ true
+pub decided_after : (decisions : List Standing) (place number : ℕ) → place + 1 ≡ number → place < length decisions
+    → is_decided (slice_set decisions place Decided) number ≡ true
 unfolding standing_of
 decided_after decisions place number is below =
     ap (λ b. decides (cond b None (slice_get (slice_set decisions place Decided) (number - 1)))) (ne_eqb number 0 (λ same. absurd (omega arith)))
@@ -43,20 +46,24 @@ unfolding with_decided
 with_decided-at decisions place number is = ap (λ at. slice_set decisions at Decided) (omega arith)
 
 -- what was decided stays so
-decided_in : (decisions : List Standing) (place : ℕ) (found : Option Standing) → slice_get decisions place ≡ found → decides found ≡ true → place < length decisions
+decided_in : (decisions : List Standing) (place : ℕ) (found : Option Standing) → slice_get decisions place ≡ found → decides found ≡ true
+    → place < length decisions
 decided_in decisions place None is decided = absurd (cc)
 decided_in decisions place (Some standing) is decided = slice_get_within decisions place standing is
 
-pub decided_kept : (decisions : List Standing) (place other : ℕ) → is_decided decisions other ≡ true → is_decided (slice_set decisions place Decided) other ≡ true
+pub decided_kept : (decisions : List Standing) (place other : ℕ) → is_decided decisions other ≡ true
+    → is_decided (slice_set decisions place Decided) other ≡ true
 unfolding standing_of
 decided_kept decisions place other is = by (other == 0) is
   where
-    by : (b : Bool) → decides (cond b None (slice_get decisions (other - 1))) ≡ true → decides (cond b None (slice_get (slice_set decisions place Decided) (other - 1))) ≡ true
+    by : (b : Bool) → decides (cond b None (slice_get decisions (other - 1))) ≡ true
+        → decides (cond b None (slice_get (slice_set decisions place Decided) (other - 1))) ≡ true
     by true was = was
     by false was = elim (eqb_tells (other - 1) place) [
       | inl (_, here) ↦
           ap (λ at. decides (slice_get (slice_set decisions place Decided) at)) here
-          ∙ ap decides (get_set_same decisions place Decided (subst (λ at. at < length decisions) here (decided_in decisions (other - 1) (slice_get decisions (other - 1)) refl was)))
+          ∙ ap decides (get_set_same decisions place Decided
+          (subst (λ at. at < length decisions) here (decided_in decisions (other - 1) (slice_get decisions (other - 1)) refl was)))
       | inr (_, apart) ↦ ap decides (get_set_other decisions place (other - 1) Decided apart) ∙ was
     ]
 
@@ -69,7 +76,8 @@ closed_next xs now place d is below =
     ∙ ap (λ n. map closed_of (take n xs) ++ drop n xs) (sym (add-one place))
   where
     by : (ys : List Standing) (n : ℕ) → n < length (map closed_of (take n ys) ++ drop n ys) →
-        slice_set (map closed_of (take n ys) ++ drop n ys) n (closed_of (get_or (map closed_of (take n ys) ++ drop n ys) n d)) ≡ map closed_of (take (suc n) ys) ++ drop (suc n) ys
+        slice_set (map closed_of (take n ys) ++ drop n ys) n (closed_of (get_or (map closed_of (take n ys) ++ drop n ys) n d))
+        ≡ map closed_of (take (suc n) ys) ++ drop (suc n) ys
     by [] zero less = absurd (omega arith)
     by [] (suc n) less = absurd (omega arith)
     by (y ∷ ys) zero less = refl
@@ -77,7 +85,8 @@ closed_next xs now place d is below =
 
 pub closed_all : (xs now : List Standing) (place : ℕ) → now ≡ map closed_of (take place xs) ++ drop place xs → length xs ≤ place → now ≡ map closed_of xs
 closed_all xs now place is whole =
-    is ∙ ap (λ list. map closed_of list ++ drop place xs) (take_all place xs whole) ∙ ap (λ list. map closed_of xs ++ list) (drop_all place xs whole) ∙ append-nil (map closed_of xs)
+    is ∙ ap (λ list. map closed_of list ++ drop place xs) (take_all place xs whole) ∙ ap (λ list. map closed_of xs ++ list) (drop_all place xs whole)
+    ∙ append-nil (map closed_of xs)
   where
     drop_all : (n : ℕ) (ys : List Standing) → length ys ≤ n → drop n ys ≡ []
     drop_all zero [] less = refl

@@ -29,7 +29,8 @@ use Rattle.xa_coordinator.proofs.OwnSeats.{started, ended}
 use Rattle.xa_coordinator.proofs.Seats.{law_seen, seat_unanswered, state_entered}
 
 -- a statement about a branch enters where it isn't refused
-enters_unrefused : (state : State) (session : ℕ) (statement : Statement) → IsOfBranch statement → is_refused (reply_to state session statement) ≡ false → enters state session statement ≡ true
+enters_unrefused : (state : State) (session : ℕ) (statement : Statement) → IsOfBranch statement → is_refused (reply_to state session statement) ≡ false
+    → enters state session statement ≡ true
 unfolding enters may_enter
 enters_unrefused state session (Start xid) is accepted = ap (λ b. not b && true) accepted
 enters_unrefused state session (End xid) is accepted = ap (λ b. not b && true) accepted
@@ -43,28 +44,33 @@ enters_unrefused state session (Put key value) is accepted = absurd is
 enters_unrefused state session (Del key) is accepted = absurd is
 enters_unrefused state session Disconnect is accepted = absurd is
 
-pub accepted_there : (base : State) (statement : Statement) (answer : Answer) (old new : Known) → IsAnswered base statement answer old new → is_refused answer.reply ≡ false →
+pub accepted_there : (base : State) (statement : Statement) (answer : Answer) (old new : Known) → IsAnswered base statement answer old new
+    → is_refused answer.reply ≡ false →
     is_refused (reply_to (state_at base new.seen answer.place) old.number statement) ≡ false
 accepted_there base statement answer old new is accepted = sym (ap is_refused is.at.reply_is) ∙ accepted
 
-pub entering_there : (base : State) (statement : Statement) (answer : Answer) (old new : Known) → IsOfBranch statement → IsAnswered base statement answer old new → is_refused answer.reply ≡ false →
+pub entering_there : (base : State) (statement : Statement) (answer : Answer) (old new : Known) → IsOfBranch statement
+    → IsAnswered base statement answer old new → is_refused answer.reply ≡ false →
     enters (state_at base new.seen answer.place) old.number statement ≡ true
 entering_there base statement answer old new kind is accepted =
     enters_unrefused (state_at base new.seen answer.place) old.number statement kind (accepted_there base statement answer old new is accepted)
 
 -- it was carried out
-pub is_done : (statement : Statement) (answer : Answer) (old new : SessionView) → IsOfBranch statement → StaysOfLog old new → IsAnswered old.base statement answer old.known new.known → is_refused answer.reply ≡ false → IsDone statement old new
+pub is_done : (statement : Statement) (answer : Answer) (old new : SessionView) → IsOfBranch statement → StaysOfLog old new
+    → IsAnswered old.base statement answer old.known new.known → is_refused answer.reply ≡ false → IsDone statement old new
 is_done statement answer old new kind stays is accepted = record {
   answer = answer;
   answered = is;
   accepted = accepted;
-  adds = record { log = stays; advances = is.advances; mine = (is.entered (entering_there old.base statement answer old.known new.known kind is accepted)).mine };
+  adds =
+      record { log = stays; advances = is.advances; mine = (is.entered (entering_there old.base statement answer old.known new.known kind is accepted)).mine };
 }
 
 -- ---- what the session has open
 
 -- after XA START or XA END
-pub seat_done : (old new : SessionView) (phase : Phase) (xid : Xid) → LockLaw new.base → entries_of old.known.number old.known.seen ≡ old.known.mine → entries_of new.known.number new.known.seen ≡ new.known.mine →
+pub seat_done : (old new : SessionView) (phase : Phase) (xid : Xid) → LockLaw new.base → entries_of old.known.number old.known.seen ≡ old.known.mine
+    → entries_of new.known.number new.known.seen ≡ new.known.mine →
     IsDone (opening phase xid) old new → seat_seen new ≡ seat_in phase xid
 seat_done old new phase xid law own_old own_new is =
     let stays : StaysOfLog old new = is.adds.log in
@@ -85,36 +91,47 @@ seat_done old new phase xid law own_old own_new is =
     of_branch Active xid = tt
     of_branch Idle xid = tt
 
-    opened : (phase : Phase) (state : State) → LockLaw state → (session : ℕ) → is_refused (reply_to state session (opening phase xid)) ≡ false → seat_of (after state session (opening phase xid)) session ≡ seat_in phase xid
+    opened : (phase : Phase) (state : State) → LockLaw state → (session : ℕ) → is_refused (reply_to state session (opening phase xid)) ≡ false
+        → seat_of (after state session (opening phase xid)) session ≡ seat_in phase xid
     opened Active state law session accepted = started state law session xid accepted
     opened Idle state law session accepted = ended state law session xid accepted
 
 -- a refused statement adds nothing
-refused_unanswered : (base : State) (statement : Statement) (answer : Answer) (old new : Known) → IsAnswered base statement answer old new → is_refused answer.reply ≡ true → IsUnanswered old new
+refused_unanswered : (base : State) (statement : Statement) (answer : Answer) (old new : Known) → IsAnswered base statement answer old new
+    → is_refused answer.reply ≡ true → IsUnanswered old new
 unfolding enters
 refused_unanswered base statement answer old new is refused =
     let there : is_refused (reply_to (state_at base new.seen answer.place) old.number statement) ≡ true = sym (ap is_refused is.at.reply_is) ∙ refused in
     record {
       advances = is.advances;
-      mine = (is.outside (ap (λ b. not b && may_enter (state_at base new.seen answer.place) (seat_of (state_at base new.seen answer.place) old.number) statement) there)).mine;
+      mine =
+          (is.outside (ap (λ b. not b && may_enter (state_at base new.seen answer.place) (seat_of (state_at base new.seen answer.place) old.number) statement)
+          there)).mine;
     }
 
 -- nor does one that a session couldn't answer
 cause_unanswered : (statement : Statement) (cause : Cause) (old new : SessionView) → HasCause statement cause old new → IsUnanswered old.known new.known
-cause_unanswered statement (Session fault) old new is = fails_unanswered old.turns old.place.capacity old.base statement fault old.known new.known is.0
-cause_unanswered statement (RefusedBy error) old new is = refused_unanswered old.base statement (record { place = is.place; reply = Refused error }) old.known new.known is.answered refl
+cause_unanswered statement (Session fault) old new is = fails_unanswered old.turns old.identity.capacity old.base statement fault old.known new.known is.0
+cause_unanswered statement (RefusedBy error) old new is =
+    refused_unanswered old.base statement (record { place = is.place; reply = Refused error }) old.known new.known is.answered refl
 
-pub is_undone : (statement : Statement) (cause : Cause) (old new : SessionView) → StaysOfLog old new → HasCause statement cause old new → IsUndone statement cause old new
+pub is_undone : (statement : Statement) (cause : Cause) (old new : SessionView) → StaysOfLog old new → HasCause statement cause old new
+    → IsUndone statement cause old new
 is_undone statement cause old new stays why =
     let nothing = cause_unanswered statement cause old new why in
     record { adds = record { log = stays; advances = nothing.advances; mine = nothing.mine ∙ sym (append-nil old.known.mine) }; why = why }
 
-pub refused : (statement : Statement) (answer : Answer) (error : XaError) (old new : SessionView) → StaysOfLog old new → IsAnswered old.base statement answer old.known new.known → answer.reply ≡ Refused error → IsUndone statement (RefusedBy error) old new
+pub refused : (statement : Statement) (answer : Answer) (error : XaError) (old new : SessionView) → StaysOfLog old new
+    → IsAnswered old.base statement answer old.known new.known → answer.reply ≡ Refused error → IsUndone statement (RefusedBy error) old new
 refused statement answer error old new stays is reply =
     is_undone statement (RefusedBy error) old new stays
-    (record { place = answer.place; answered = subst (λ r. IsAnswered old.base statement (record { place = answer.place; reply = r }) old.known new.known) reply is })
+    (record {
+      place = answer.place;
+      answered = subst (λ r. IsAnswered old.base statement (record { place = answer.place; reply = r }) old.known new.known) reply is;
+    })
 
-pub seat_refused : (statement : Statement) (cause : Cause) (old new : SessionView) → LockLaw new.base → entries_of old.known.number old.known.seen ≡ old.known.mine → entries_of new.known.number new.known.seen ≡ new.known.mine →
+pub seat_refused : (statement : Statement) (cause : Cause) (old new : SessionView) → LockLaw new.base
+    → entries_of old.known.number old.known.seen ≡ old.known.mine → entries_of new.known.number new.known.seen ≡ new.known.mine →
     IsUndone statement cause old new → seat_seen new ≡ seat_seen old
 seat_refused statement cause old new law own_old own_new is =
     ap (λ b. seat_of (state_after b new.known.seen) new.known.number) is.adds.log.base
@@ -124,7 +141,7 @@ seat_refused statement cause old new law own_old own_new is =
 
 pub adds_then : (first second : List Statement) (old mid new : SessionView) → Adds first old mid → Adds second mid new → Adds (first ++ second) old new
 adds_then first second old mid new one two = record {
-  log = record { place = two.log.place ∙ one.log.place; turns = two.log.turns ∙ one.log.turns; base = two.log.base ∙ one.log.base };
+  log = record { identity = two.log.identity ∙ one.log.identity; turns = two.log.turns ∙ one.log.turns; base = two.log.base ∙ one.log.base };
   advances = advances_through old.known mid.known new.known one.advances two.advances;
   mine = two.mine
       ∙ ap (λ list. list ++ map (entry_of mid.known.number) second) one.mine
@@ -135,7 +152,7 @@ adds_then first second old mid new one two = record {
 
 pub adds_nothing : (session : SessionView) → Adds [] session session
 adds_nothing session = record {
-  log = record { place = refl; turns = refl; base = refl };
+  log = record { identity = refl; turns = refl; base = refl };
   advances = (unanswered_itself session.known).advances;
   mine = sym (append-nil session.known.mine);
 }

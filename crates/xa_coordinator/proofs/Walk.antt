@@ -19,7 +19,8 @@ same_one found a b is_a is_b = cc
 
 module _ {S : Type 0} (view : S → SessionView) where
   -- one fact of a store after another
-  pub at_then : (store : ℕ) (f g h : SessionView → SessionView → Type 0) → ((a b c : SessionView) → f a b → g b c → h a c) → (old mid new : List S) → length mid ≡ length old →
+  pub at_then : (store : ℕ) (f g h : SessionView → SessionView → Type 0) → ((a b c : SessionView) → f a b → g b c → h a c) → (old mid new : List S)
+      → length mid ≡ length old →
       AtStore view store f old mid → AtStore view store g mid new → AtStore view store h old new
   at_then store f g h join old mid new count one two = λ before after is_before is_after.
       let below : store < length old = slice_get_within old store before is_before in
@@ -28,11 +29,13 @@ module _ {S : Type 0} (view : S → SessionView) where
       join (view before) (view between) (view after) (one before between is_before is_between) (two between after is_between is_after)
 
   -- a weaker fact
-  pub at_weaker : (store : ℕ) (f g : SessionView → SessionView → Type 0) → ((a b : SessionView) → f a b → g a b) → (old new : List S) → AtStore view store f old new → AtStore view store g old new
+  pub at_weaker : (store : ℕ) (f g : SessionView → SessionView → Type 0) → ((a b : SessionView) → f a b → g a b) → (old new : List S)
+      → AtStore view store f old new → AtStore view store g old new
   at_weaker store f g weaken old new is = λ before after is_before is_after. weaken (view before) (view after) (is before after is_before is_after)
 
   -- where nothing changed
-  pub at_same : (store : ℕ) (f : SessionView → SessionView → Type 0) → ((a : SessionView) → f a a) → (old new : List S) → slice_get new store ≡ slice_get old store → AtStore view store f old new
+  pub at_same : (store : ℕ) (f : SessionView → SessionView → Type 0) → ((a : SessionView) → f a a) → (old new : List S)
+      → slice_get new store ≡ slice_get old store → AtStore view store f old new
   at_same store f same old new is = λ before after is_before is_after.
       subst (λ s. f (view before) (view s)) (same_one (slice_get new store) before after (is ∙ is_before) is_after) (same (view before))
 
@@ -41,7 +44,8 @@ module _ {S : Type 0} (view : S → SessionView) where
     reached_none old = record { count = refl; below = λ store none. absurd (omega arith); behind = λ store from. refl }
 
     -- a store that isn't spoken to
-    pub reached_skip : (place : ℕ) (old now : List S) → Reached view fact place old now → ((a : SessionView) → fact place a a) → Reached view fact (place + 1) old now
+    pub reached_skip : (place : ℕ) (old now : List S) → Reached view fact place old now → ((a : SessionView) → fact place a a)
+        → Reached view fact (place + 1) old now
     reached_skip place old now so_far same = record {
       count = so_far.count;
       below = λ store less.
@@ -55,12 +59,14 @@ module _ {S : Type 0} (view : S → SessionView) where
     }
 
     -- a store that was spoken to
-    pub reached_next : (place : ℕ) (old now next : List S) → Reached view fact place old now → ChangesAt place now next → AtStore view place (fact place) now next → Reached view fact (place + 1) old next
+    pub reached_next : (place : ℕ) (old now next : List S) → Reached view fact place old now → ChangesAt place now next
+        → AtStore view place (fact place) now next → Reached view fact (place + 1) old next
     reached_next place old now next so_far changes is = record {
       count = changes.count ∙ so_far.count;
       below = λ store less.
           elim (cases_lt store place) [
-            | inl below ↦ λ before after is_before is_after. so_far.below store below before after is_before (sym (changes.others store (omega arith)) ∙ is_after)
+            | inl below ↦ λ before after is_before is_after. so_far.below store below before after is_before
+                (sym (changes.others store (omega arith)) ∙ is_after)
             | inr there ↦
                 let here : place ≡ store = omega arith in
                 subst (λ s. AtStore view s (fact s) old next) here
@@ -74,16 +80,20 @@ module _ {S : Type 0} (view : S → SessionView) where
         so_far.below store (omega (arith, slice_get_within old store before is_before)) before after is_before is_after
 
     -- the store at which the call ended
-    pub ended_at : (place : ℕ) (last : SessionView → SessionView → Type 0) (old now next : List S) → Reached view fact place old now → ChangesAt place now next → AtStore view place last now next → EndsAt view fact place last old next
+    pub ended_at : (place : ℕ) (last : SessionView → SessionView → Type 0) (old now next : List S) → Reached view fact place old now → ChangesAt place now next
+        → AtStore view place last now next → EndsAt view fact place last old next
     ended_at place last old now next so_far changes is = record {
-      below = λ other less. λ before after is_before is_after. so_far.below other less before after is_before (sym (changes.others other (omega arith)) ∙ is_after);
+      below =
+          λ other less. λ before after is_before is_after. so_far.below other less before after is_before (sym (changes.others other (omega arith)) ∙ is_after);
       at = λ before after is_before is_after. is before after (so_far.behind place (omega arith) ∙ is_before) is_after;
       behind = λ other more. changes.others other (omega arith) ∙ so_far.behind other (omega arith);
     }
 
     -- what holds of each store, from what holds below, at and behind the last one
-    pub from_ends : (goal : ℕ → SessionView → SessionView → Type 0) (store : ℕ) (last : SessionView → SessionView → Type 0) (old new : List S) → EndsAt view fact store last old new →
-        ((other : ℕ) (a b : SessionView) → fact other a b → goal other a b) → ((a b : SessionView) → last a b → goal store a b) → ((other : ℕ) (a : SessionView) → goal other a a) → EachStore view goal old new
+    pub from_ends : (goal : ℕ → SessionView → SessionView → Type 0) (store : ℕ) (last : SessionView → SessionView → Type 0) (old new : List S)
+        → EndsAt view fact store last old new →
+        ((other : ℕ) (a b : SessionView) → fact other a b → goal other a b) → ((a b : SessionView) → last a b → goal store a b)
+        → ((other : ℕ) (a : SessionView) → goal other a a) → EachStore view goal old new
     from_ends goal store last old new is weaken at_last same other =
         elim (cases_order other store) [
           | inl here ↦ subst (λ s. AtStore view s (goal s) old new) (sym here) (at_weaker store last (goal store) at_last old new is.at)
@@ -94,7 +104,8 @@ module _ {S : Type 0} (view : S → SessionView) where
         ]
 
   -- a weaker fact of the stores that were passed
-  pub reached_weaker : (f g : ℕ → SessionView → SessionView → Type 0) (place : ℕ) (old now : List S) → ((store : ℕ) → store < place → (a b : SessionView) → f store a b → g store a b) → Reached view f place old now → Reached view g place old now
+  pub reached_weaker : (f g : ℕ → SessionView → SessionView → Type 0) (place : ℕ) (old now : List S)
+      → ((store : ℕ) → store < place → (a b : SessionView) → f store a b → g store a b) → Reached view f place old now → Reached view g place old now
   reached_weaker f g place old now weaken so_far = record {
     count = so_far.count;
     below = λ store less. at_weaker store (f store) (g store) (weaken store less) old now (so_far.below store less);
@@ -102,7 +113,8 @@ module _ {S : Type 0} (view : S → SessionView) where
   }
 
   -- where only one store was spoken to
-  pub only_at : (fact : ℕ → SessionView → SessionView → Type 0) (store : ℕ) (old new : List S) → ChangesAt store old new → AtStore view store (fact store) old new → ((other : ℕ) → other ≢ store → (a : SessionView) → fact other a a) → EachStore view fact old new
+  pub only_at : (fact : ℕ → SessionView → SessionView → Type 0) (store : ℕ) (old new : List S) → ChangesAt store old new
+      → AtStore view store (fact store) old new → ((other : ℕ) → other ≢ store → (a : SessionView) → fact other a a) → EachStore view fact old new
   only_at fact store old new changes is same other =
       elim (eqb_tells other store) [
         | inl (_, here) ↦ subst (λ s. AtStore view s (fact s) old new) (sym here) is

@@ -28,11 +28,17 @@ unrefused true may is = absurd (cc)
 unrefused false may is = refl
 
 -- a row statement that enters leaves the branch ACTIVE
-row_entered : (state : State) → LockLaw state → (session : ℕ) (xid : Xid) (statement : Statement) → IsRow statement → seat_of state session ≡ Active xid → enters state session statement ≡ true → seat_of (after state session statement) session ≡ Active xid
+row_entered : (state : State) → LockLaw state → (session : ℕ) (xid : Xid) (statement : Statement) → IsRow statement → seat_of state session ≡ Active xid
+    → enters state session statement ≡ true → seat_of (after state session statement) session ≡ Active xid
 unfolding enters
-row_entered state law session xid (Get key) is seat entering = read state law session xid key seat (unrefused (is_refused (reply_to state session (Get key))) (may_enter state (seat_of state session) (Get key)) entering)
-row_entered state law session xid (Put key value) is seat entering = written state law session xid key value seat (unrefused (is_refused (reply_to state session (Put key value))) (may_enter state (seat_of state session) (Put key value)) entering)
-row_entered state law session xid (Del key) is seat entering = deleted state law session xid key seat (unrefused (is_refused (reply_to state session (Del key))) (may_enter state (seat_of state session) (Del key)) entering)
+row_entered state law session xid (Get key) is seat entering =
+    read state law session xid key seat (unrefused (is_refused (reply_to state session (Get key))) (may_enter state (seat_of state session) (Get key)) entering)
+row_entered state law session xid (Put key value) is seat entering =
+    written state law session xid key value seat
+    (unrefused (is_refused (reply_to state session (Put key value))) (may_enter state (seat_of state session) (Put key value)) entering)
+row_entered state law session xid (Del key) is seat entering =
+    deleted state law session xid key seat
+    (unrefused (is_refused (reply_to state session (Del key))) (may_enter state (seat_of state session) (Del key)) entering)
 row_entered state law session xid (Start other) is seat entering = absurd is
 row_entered state law session xid (End other) is seat entering = absurd is
 row_entered state law session xid (Prepare other) is seat entering = absurd is
@@ -44,12 +50,15 @@ row_entered state law session xid Disconnect is seat entering = absurd is
 
 module _ (statement : Statement) (answer : Answer) (xid : Xid) (old new : SessionView) where
   -- at the answer's place the branch is ACTIVE
-  pub active_there : LockLaw new.base → StaysOfLog old new → entries_of old.known.number old.known.seen ≡ old.known.mine → entries_of new.known.number new.known.seen ≡ new.known.mine → seat_seen old ≡ Active xid →
+  pub active_there : LockLaw new.base → StaysOfLog old new → entries_of old.known.number old.known.seen ≡ old.known.mine
+      → entries_of new.known.number new.known.seen ≡ new.known.mine → seat_seen old ≡ Active xid →
       IsAnswered old.base statement answer old.known new.known → seat_of (state_at old.base new.known.seen answer.place) old.known.number ≡ Active xid
-  active_there law stays own_old own_new seat is = seat_at old.base (subst LockLaw stays.base law) statement answer old.known new.known is own_old own_new ∙ seat
+  active_there law stays own_old own_new seat is =
+      seat_at old.base (subst LockLaw stays.base law) statement answer old.known new.known is own_old own_new ∙ seat
 
   -- and it stays so
-  pub active_after : LockLaw new.base → StaysOfLog old new → entries_of old.known.number old.known.seen ≡ old.known.mine → entries_of new.known.number new.known.seen ≡ new.known.mine → seat_seen old ≡ Active xid → IsRow statement →
+  pub active_after : LockLaw new.base → StaysOfLog old new → entries_of old.known.number old.known.seen ≡ old.known.mine
+      → entries_of new.known.number new.known.seen ≡ new.known.mine → seat_seen old ≡ Active xid → IsRow statement →
       IsAnswered old.base statement answer old.known new.known → seat_seen new ≡ Active xid
   active_after law stays own_old own_new seat row is =
       ap (λ b. seat_of (state_after b new.known.seen) new.known.number) stays.base
@@ -62,17 +71,22 @@ module _ (statement : Statement) (answer : Answer) (xid : Xid) (old new : Sessio
       there : seat_of (state_at old.base new.known.seen answer.place) old.known.number ≡ Active xid
       there = active_there law stays own_old own_new seat is
 
-      by : (b : Bool) → enters (state_at old.base new.known.seen answer.place) old.known.number statement ≡ b → seat_of (state_after old.base new.known.seen) old.known.number ≡ Active xid
+      by : (b : Bool) → enters (state_at old.base new.known.seen answer.place) old.known.number statement ≡ b
+          → seat_of (state_after old.base new.known.seen) old.known.number ≡ Active xid
       by true entering =
           ap (λ state. seat_of state old.known.number) (state_entered old.base statement answer old.known new.known is entering)
-          ∙ row_entered (state_at old.base new.known.seen answer.place) (law_seen old.base (take answer.place new.known.seen) law_base) old.known.number xid statement row there entering
+          ∙ row_entered (state_at old.base new.known.seen answer.place)
+          (law_seen old.base (take answer.place new.known.seen) law_base) old.known.number xid statement row there entering
       by false outside =
           ap (λ state. seat_of state old.known.number) (state_outside old.base statement answer old.known new.known is outside) ∙ there
 
 -- and whatever the session answered
-pub active_still : (statement : Statement) (result : Result Answer Fault) (xid : Xid) (old new : SessionView) → LockLaw new.base → StaysOfLog old new → entries_of old.known.number old.known.seen ≡ old.known.mine → entries_of new.known.number new.known.seen ≡ new.known.mine →
+pub active_still : (statement : Statement) (result : Result Answer Fault) (xid : Xid) (old new : SessionView) → LockLaw new.base → StaysOfLog old new
+    → entries_of old.known.number old.known.seen ≡ old.known.mine → entries_of new.known.number new.known.seen ≡ new.known.mine →
     seat_seen old ≡ Active xid → IsRow statement → IfOk result (λ answer. IsAnswered old.base statement answer old.known new.known) →
-    IfErr result (λ fault. Fails old.turns old.place.capacity old.base statement fault old.known new.known) → IfErr result IsFinal → seat_seen new ≡ seat_seen old
-active_still statement (Ok answer) xid old new law stays own_old own_new seat row answered fails final = active_after statement answer xid old new law stays own_old own_new seat row answered ∙ sym seat
+    IfErr result (λ fault. Fails old.turns old.identity.capacity old.base statement fault old.known new.known) → IfErr result IsFinal
+    → seat_seen new ≡ seat_seen old
+active_still statement (Ok answer) xid old new law stays own_old own_new seat row answered fails final =
+    active_after statement answer xid old new law stays own_old own_new seat row answered ∙ sym seat
 active_still statement (Err fault) xid old new law stays own_old own_new seat row answered fails final =
     seat_refused statement (Session fault) old new law own_old own_new (is_undone statement (Session fault) old new stays (fails, final))

@@ -43,11 +43,18 @@ replied_adds : (row : Statement) (reply : Reply) (xid : Xid) (old new : SessionV
 replied_adds row reply xid old new is = by (enters (state_at old.base new.known.seen is.place) old.known.number row) refl
   where
     by : (b : Bool) → enters (state_at old.base new.known.seen is.place) old.known.number row ≡ b → AddsMaybe row old new
-    by true entering = record { added = row ∷ []; is = inr refl; adds = record { log = is.log; advances = is.answered.advances; mine = (is.answered.entered entering).mine } }
-    by false outside = record { added = []; is = inl refl; adds = record { log = is.log; advances = is.answered.advances; mine = (is.answered.outside outside).mine ∙ sym (append-nil old.known.mine) } }
+    by true entering =
+        record { added = row ∷ []; is = inr refl; adds = record { log = is.log; advances = is.answered.advances; mine = (is.answered.entered entering).mine } }
+    by false outside =
+        record {
+          added = [];
+          is = inl refl;
+          adds = record { log = is.log; advances = is.answered.advances; mine = (is.answered.outside outside).mine ∙ sym (append-nil old.known.mine) };
+        }
 
 both : (xid : Xid) (row : Statement) (old mid new : SessionView) → AddsMaybe (Start xid) old mid → AddsMaybe row mid new → AddsWork xid row old new
-both xid row old mid new one two = record { started = one.added; is_start = one.is; worked = two.added; is_row = two.is; adds = adds_then one.added two.added old mid new one.adds two.adds }
+both xid row old mid new one two =
+    record { started = one.added; is_start = one.is; worked = two.added; is_row = two.is; adds = adds_then one.added two.added old mid new one.adds two.adds }
 
 none : (statement : Statement) (old new : SessionView) → Adds [] old new → AddsMaybe statement old new
 none statement old new adds = record { added = []; is = inl refl; adds = adds }
@@ -80,16 +87,20 @@ maybe_all : (P : Statement → Type 0) (statement : Statement) (list : List Stat
 maybe_all P statement list (inl is) holds = subst (All P) (sym is) (All-nil P)
 maybe_all P statement list (inr is) holds = subst (All P) (sym is) (All-cons P statement [] holds (All-nil P))
 
-pub work_agrees : (decisions : List Standing) (name : List ℕ) (store : ℕ) (xid : Xid) (row : Statement) → IsRow row → (old new : SessionView) → AddsWork xid row old new → Agrees decisions name store old new
+pub work_agrees : (decisions : List Standing) (name : List ℕ) (store : ℕ) (xid : Xid) (row : Statement) → IsRow row → (old new : SessionView)
+    → AddsWork xid row old new → Agrees decisions name store old new
 work_agrees decisions name store xid row is old new work = record {
   statements = work.started ++ work.worked;
   adds = work.adds;
-  each = All-append (AgreesWith decisions name store) work.started work.worked (maybe_all (AgreesWith decisions name store) (Start xid) work.started work.is_start tt)
+  each =
+      All-append (AgreesWith decisions name store) work.started work.worked
+      (maybe_all (AgreesWith decisions name store) (Start xid) work.started work.is_start tt)
       (maybe_all (AgreesWith decisions name store) row work.worked work.is_row (row_agrees decisions name store row is));
 }
 
 module _ {S : Type 0} (view : S → SessionView) where
-  pub work_agrees_each : (decisions : List Standing) (name : List ℕ) (store : ℕ) (xid : Xid) (row : Statement) → IsRow row → (old new : List S) → ChangesAt store old new → AtStore view store (AddsWork xid row) old new → EachStore view (Agrees decisions name) old new
+  pub work_agrees_each : (decisions : List Standing) (name : List ℕ) (store : ℕ) (xid : Xid) (row : Statement) → IsRow row → (old new : List S)
+      → ChangesAt store old new → AtStore view store (AddsWork xid row) old new → EachStore view (Agrees decisions name) old new
   work_agrees_each decisions name store xid row is old new changes adds =
       only_at view (Agrees decisions name) store old new changes
       (at_weaker view store (AddsWork xid row) (Agrees decisions name store) (work_agrees decisions name store xid row is) old new adds)
@@ -99,8 +110,10 @@ module _ {S : Type 0} (view : S → SessionView) where
 
   module _ (marks marks' : List (Option OpenBranch)) (old new : Transaction) (store : ℕ) (row : Statement) where
     -- the branch was open
-    pub works_open : (result : Result Reply WorkFault) (before after : List S) → ((s : S) → slice_get before store ≡ Some s → seat_seen (view s) ≡ Active (branch_of old store)) → takes_part new.participants store ≡ true →
-        IsWorking marks' store old.number → WorksWithin view (branch_of old store) store row result before after → WorksAs view marks marks' old new store row result before after
+    pub works_open : (result : Result Reply WorkFault) (before after : List S)
+        → ((s : S) → slice_get before store ≡ Some s → seat_seen (view s) ≡ Active (branch_of old store)) → takes_part new.participants store ≡ true →
+        IsWorking marks' store old.number → WorksWithin view (branch_of old store) store row result before after
+        → WorksAs view marks marks' old new store row result before after
     works_open (Ok reply) before after seat takes mark is =
         (takes, mark, λ a b is_a is_b. record { mid = view a; opened = was_open (seat a is_a); replied = is a b is_a is_b })
     works_open (Err (Session fault)) before after seat takes mark is =
@@ -129,15 +142,21 @@ module _ {S : Type 0} (view : S → SessionView) where
     works_started (Err Lost) before mid after count started takes mark is = absurd is
 
     -- in every case at most two statements were added
-    pub works_add : (result : Result Reply WorkFault) (before after : List S) → WorksAs view marks marks' old new store row result before after → AtStore view store (AddsWork (branch_of old store) row) before after
+    pub works_add : (result : Result Reply WorkFault) (before after : List S) → WorksAs view marks marks' old new store row result before after
+        → AtStore view store (AddsWork (branch_of old store) row) before after
     works_add (Ok reply) before after is =
-        at_weaker view store (IsWorked row reply (branch_of old store)) (AddsWork (branch_of old store) row) (worked_adds row reply (branch_of old store)) before after is.2
+        at_weaker view store (IsWorked row reply (branch_of old store)) (AddsWork (branch_of old store) row)
+        (worked_adds row reply (branch_of old store)) before after is.2
     works_add (Err (Session fault)) before after (inl is) =
-        at_weaker view store (IsCut row (CauseSession fault) (branch_of old store)) (AddsWork (branch_of old store) row) (cut_adds row (CauseSession fault) (branch_of old store)) before after is.2
+        at_weaker view store (IsCut row (CauseSession fault) (branch_of old store)) (AddsWork (branch_of old store) row)
+        (cut_adds row (CauseSession fault) (branch_of old store)) before after is.2
     works_add (Err (Session fault)) before after (inr is) =
-        at_weaker view store (IsUndone (Start (branch_of old store)) (CauseSession fault)) (AddsWork (branch_of old store) row) (unstarted_adds row (CauseSession fault) (branch_of old store)) before after is.3
+        at_weaker view store (IsUndone (Start (branch_of old store)) (CauseSession fault)) (AddsWork (branch_of old store) row)
+        (unstarted_adds row (CauseSession fault) (branch_of old store)) before after is.3
     works_add (Err (Refused error)) before after is =
-        at_weaker view store (IsUndone (Start (branch_of old store)) (CauseRefused error)) (AddsWork (branch_of old store) row) (unstarted_adds row (CauseRefused error) (branch_of old store)) before after is.3
+        at_weaker view store (IsUndone (Start (branch_of old store)) (CauseRefused error)) (AddsWork (branch_of old store) row)
+        (unstarted_adds row (CauseRefused error) (branch_of old store)) before after is.3
     works_add (Err Lost) before after is =
-        at_same view store (AddsWork (branch_of old store) row) (λ a. both (branch_of old store) row a a a (none (Start (branch_of old store)) a a (adds_nothing a)) (none row a a (adds_nothing a)))
+        at_same view store (AddsWork (branch_of old store) row)
+        (λ a. both (branch_of old store) row a a a (none (Start (branch_of old store)) a a (adds_nothing a)) (none row a a (adds_nothing a)))
         before after (ap (λ (list : List S). slice_get list store) is.4)

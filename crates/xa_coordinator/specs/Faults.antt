@@ -10,7 +10,8 @@ use Rattle.xa_coordinator.specs.declared.begin_fault.BeginFault.TheVariants.{Num
 use Rattle.xa_coordinator.specs.declared.work_fault.WorkFault.{WorkFault}
 use Rattle.xa_coordinator.specs.declared.work_fault.WorkFault.TheVariants.{Session, Refused, Lost}
 use Rattle.xa_coordinator.specs.declared.recover_fault.RecoverFault.{RecoverFault}
-use Rattle.xa_coordinator.specs.declared.recover_fault.RecoverFault.TheVariants.{Session as RecoverSession, StillPrepared, NoMemory as RecoverNoMemory, Refused as RecoverRefused}
+use Rattle.xa_coordinator.specs.declared.recover_fault.RecoverFault.TheVariants.{Session as RecoverSession, StillPrepared, NoMemory as RecoverNoMemory}
+use Rattle.xa_coordinator.specs.declared.recover_fault.RecoverFault.TheVariants.{Refused as RecoverRefused}
 use Rattle.xa_coordinator.specs.declared.vote.Vote.{Vote}
 use Rattle.xa_coordinator.specs.declared.vote.Vote.TheVariants.{Ready, OnePhase, No, Nothing}
 use Rattle.xa_coordinator.specs.declared.ending.Ending.{Ending}

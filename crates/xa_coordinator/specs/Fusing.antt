@@ -8,6 +8,7 @@ use Rattle.xa_session.specs.declared.fault.Fault.TheVariants.{NoMemory}
 use Rattle.xa_coordinator.specs.declared.fused.Fused.{Fused}
 
 -- where a call is left, the session within gave the answer, and one call less is left; else the answer is out of memory, and nothing was said to it
-pub record AnswersAsWithin {S : Type 0} (gives : S → Statement → Result Answer Fault → S → Type 0) (old : Fused S) (statement : Statement) (result : Result Answer Fault) (new : Fused S) : Type 0 where
+pub record AnswersAsWithin {S : Type 0} (gives : S → Statement → Result Answer Fault → S → Type 0) (old : Fused S) (statement : Statement)
+    (result : Result Answer Fault) (new : Fused S) : Type 0 where
   pub passed : old.left ≢ 0 → (new.left + 1 ≡ old.left) × gives old.inner statement result new.inner
   pub spent : old.left ≡ 0 → (result ≡ Err NoMemory) × (new.left ≡ 0) × (new.inner ≡ old.inner)

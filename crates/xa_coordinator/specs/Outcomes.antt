@@ -1,5 +1,5 @@
 -- What a call over several stores did in them.
---     closing_of       the statement that finishes a branch
+--     finish_statement  the statement that finishes a branch
 --     ends_first, ends_in      whether XA END comes before it;  by what the coordinator has open
 --     IsClosed         the branch was finished
 --     ClosesAs         what became of one branch that was to be finished
@@ -16,7 +16,7 @@
 --     ClosesNext       what became of one participant that was to be finished
 --     PollsAs          what became of the participants that were to be prepared
 --     Allows           the decisions allow that a transaction is finished so
---     closing_for      how a transaction that was voted on is finished
+--     finish_for       how a transaction that was voted on is finished
 use Rattle.std.specs.Prelude.{◌≡◌, ◌≢◌, ◌<◌, ◌+◌, ◌⊎◌, ℕ, Bool, true, false, nat_eq, List, [], ◌∷◌, ◌++◌, length, All, Option, Result, Ok, Err}
 use Rattle.std.specs.List.{list_any}
 use Rattle.xa_xid.specs.declared.xid.Xid.{Xid}
@@ -49,10 +49,10 @@ use Rattle.xa_coordinator.specs.declared.open_branch.OpenBranch.{OpenBranch}
 use Rattle.xa_coordinator.specs.Told.{IsUndone, IsStopped, IsMissing, IsUnfinished}
 
 -- the statement that finishes a branch
-abbrev pub closing_of : Closing → Xid → Statement
-closing_of InTwoPhases xid = Commit xid false
-closing_of InOnePhase xid = Commit xid true
-closing_of RollBack xid = Rollback xid
+abbrev pub finish_statement : Closing → Xid → Statement
+finish_statement InTwoPhases xid = Commit xid false
+finish_statement InOnePhase xid = Commit xid true
+finish_statement RollBack xid = Rollback xid
 
 -- XA END comes before a rollback of a branch that takes work
 abbrev pub ends_first : Closing → (working : Bool) → Bool
@@ -130,7 +130,8 @@ ends_in branches transaction closing store = ends_first closing (is_working bran
 -- the branch of a store was finished, or wasn't known there, where the store takes part
 abbrev pub SettlesIn : List (Option OpenBranch) → Transaction → Closing → ℕ → (listed : Bool) → SessionView → SessionView → Type 0
 SettlesIn branches transaction closing store listed =
-    Settles (ends_in branches transaction closing store) (closing_of closing (branch_of transaction store)) (branch_of transaction store) (takes_part transaction.participants store) listed
+    Settles (ends_in branches transaction closing store) (finish_statement closing (branch_of transaction store)) (branch_of transaction store)
+    (takes_part transaction.participants store) listed
 
 -- what the finishing of a transaction's branches came to, by what the coordinator had open
 abbrev pub EndsAs : {S : Type 0} → (S → SessionView) → List (Option OpenBranch) → Transaction → Closing → Ending → List S → List S → Type 0
@@ -144,7 +145,9 @@ EndsAs view branches transaction closing (Hazard stores) old new =
 EndsAs view branches transaction closing (Unfinished store cause) old new =
     (takes_part transaction.participants store ≡ true)
     × EndsAt view (λ other before after. (listed : Bool) × SettlesIn branches transaction closing other listed before after)
-    store (IsUnfinished (ends_in branches transaction closing store) (closing_of closing (branch_of transaction store)) (branch_of transaction store) cause) old new
+    store (IsUnfinished (ends_in branches transaction closing store) (finish_statement closing (branch_of transaction store))
+    (branch_of transaction store) cause) old
+    new
 
 -- the stores below this number were spoken to, if they take part
 abbrev pub asked_by_ending : Ending → ℕ
@@ -204,8 +207,8 @@ Allows decisions number InOnePhase = Unit {0}
 Allows decisions number RollBack = is_decided decisions number ≡ false
 
 -- how a transaction that was voted on is finished: as it was decided, and else in one phase or by rolling back (presumed abort)
-abbrev pub closing_for : Bool → Ballot → Closing
-closing_for true ballot = InTwoPhases
-closing_for false BallotReady = RollBack
-closing_for false BallotOnePhase = InOnePhase
-closing_for false BallotNo = RollBack
+abbrev pub finish_for : Bool → Ballot → Closing
+finish_for true ballot = InTwoPhases
+finish_for false BallotReady = RollBack
+finish_for false BallotOnePhase = InOnePhase
+finish_for false BallotNo = RollBack

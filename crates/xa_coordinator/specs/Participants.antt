@@ -3,8 +3,8 @@
 --     Counts           how many take part, as far as a vote has to know
 use Rattle.std.specs.Prelude.{◌≡◌, ◌<◌, ℕ, Bool, true, false, unwrap_or, slice_get}
 use Rattle.xa_coordinator.specs.declared.participants.Participants.{Participants}
-use Rattle.xa_coordinator.specs.declared.participants.Roll.{Roll}
-use Rattle.xa_coordinator.specs.declared.participants.Roll.TheVariants.{Nobody, Single, Several}
+use Rattle.xa_coordinator.specs.declared.participants.Turnout.{Turnout}
+use Rattle.xa_coordinator.specs.declared.participants.Turnout.TheVariants.{Nobody, Single, Several}
 
 -- the store takes part
 unfoldable pub takes_part : Participants → ℕ → Bool
@@ -24,7 +24,7 @@ pub record OnlyTakesPart (participants : Participants) (store : ℕ) : Type 0 wh
   pub others : (other : ℕ) → takes_part participants other ≡ true → other ≡ store
 
 -- how many stores take part: none, one, or more
-abbrev pub Counts : Participants → Roll → Type 0
+abbrev pub Counts : Participants → Turnout → Type 0
 Counts participants Nobody = (store : ℕ) → takes_part participants store ≡ false
 Counts participants (Single store) = OnlyTakesPart participants store
 Counts participants Several = TwoTakePart participants

@@ -38,7 +38,7 @@ use Rattle.xa_coordinator.specs.Agreement.{Adds, AgreesWith, Agrees}
 use Rattle.xa_coordinator.specs.Branch.{branch_xid, IsBranchOf}
 use Rattle.xa_coordinator.specs.Decisions.{is_decided}
 use Rattle.xa_coordinator.specs.OpenBranches.{seat_seen}
-use Rattle.xa_coordinator.specs.Outcomes.{closing_of}
+use Rattle.xa_coordinator.specs.Outcomes.{finish_statement}
 use Rattle.xa_coordinator.specs.Stores.{AtStore, EachStore, EndsAt}
 use Rattle.xa_coordinator.specs.Told.{IsUndone}
 use Rattle.xa_coordinator.specs.Work.{MayBe}
@@ -64,22 +64,27 @@ IsNamed name store xid = (number : ℕ) × IsBranchOf name number store xid
 -- so many branches of the list are of a coordinator of this name, in this store
 pub data NamedIn (name : List ℕ) (store : ℕ) : List Xid → ℕ → Type 0 where
   none_named : NamedIn name store [] 0
-  one_named : (xids : List Xid) (xid : Xid) (count : ℕ) → NamedIn name store xids count → IsNamed name store xid → NamedIn name store (xids ++ xid ∷ []) (count + 1)
-  one_foreign : (xids : List Xid) (xid : Xid) (count : ℕ) → NamedIn name store xids count → (IsNamed name store xid → ⊥) → NamedIn name store (xids ++ xid ∷ []) count
+  one_named : (xids : List Xid) (xid : Xid) (count : ℕ) → NamedIn name store xids count → IsNamed name store xid
+      → NamedIn name store (xids ++ xid ∷ []) (count + 1)
+  one_foreign : (xids : List Xid) (xid : Xid) (count : ℕ) → NamedIn name store xids count → (IsNamed name store xid → ⊥)
+      → NamedIn name store (xids ++ xid ∷ []) count
 
 -- a decided branch is committed, another one is rolled back (presumed abort)
-abbrev pub closing_by : Bool → Closing
-closing_by true = InTwoPhases
-closing_by false = RollBack
+abbrev pub finish_decided : Bool → Closing
+finish_decided true = InTwoPhases
+finish_decided false = RollBack
 
--- what became of a listed branch, and what is counted then: nothing is said of one that isn't of this coordinator's naming; another one is committed or rolled back as the decisions say, or was answered XAER_NOTA
+-- what became of a listed branch, and what is counted then: nothing is said of one that isn't of this coordinator's naming; another one is committed or rolled
+-- back as the decisions say, or was answered XAER_NOTA
 pub data SettlesOne (decisions : List Standing) (name : List ℕ) (store : ℕ) (xid : Xid) (tally : Tally) (old : SessionView) : Tally → SessionView → Type 0 where
   foreign : (IsNamed name store xid → ⊥) → SettlesOne decisions name store xid tally old tally old
-  committed : (number : ℕ) → IsBranchOf name number store xid → is_decided decisions number ≡ true → (new : SessionView) → Adds (Commit xid false ∷ []) old new →
+  committed : (number : ℕ) → IsBranchOf name number store xid → is_decided decisions number ≡ true → (new : SessionView)
+      → Adds (Commit xid false ∷ []) old new →
       SettlesOne decisions name store xid tally old (record tally { committed = tally.committed + 1 }) new
   rolled_back : (number : ℕ) → IsBranchOf name number store xid → is_decided decisions number ≡ false → (new : SessionView) → Adds (Rollback xid ∷ []) old new →
       SettlesOne decisions name store xid tally old (record tally { rolled_back = tally.rolled_back + 1 }) new
-  missing : (number : ℕ) → IsBranchOf name number store xid → (new : SessionView) → IsUndone (closing_of (closing_by (is_decided decisions number)) xid) (CauseRefused Nota) old new →
+  missing : (number : ℕ) → IsBranchOf name number store xid → (new : SessionView)
+      → IsUndone (finish_statement (finish_decided (is_decided decisions number)) xid) (CauseRefused Nota) old new →
       SettlesOne decisions name store xid tally old (record tally { missing = tally.missing + 1 }) new
 
 -- all that was counted
@@ -95,7 +100,8 @@ counted tally decided Missing = record tally { missing = tally.missing + 1 }
 -- what became of the branches of a list, one after another
 pub data Settled (decisions : List Standing) (name : List ℕ) (store : ℕ) (old : SessionView) : List Xid → Tally → SessionView → Type 0 where
   nothing : Settled decisions name store old [] (record { committed = 0; rolled_back = 0; missing = 0 }) old
-  one_more : (xids : List Xid) (before : Tally) (mid : SessionView) → Settled decisions name store old xids before mid → (xid : Xid) (after : Tally) (new : SessionView) →
+  one_more : (xids : List Xid) (before : Tally) (mid : SessionView) → Settled decisions name store old xids before mid
+      → (xid : Xid) (after : Tally) (new : SessionView) →
       SettlesOne decisions name store xid before mid after new → Settled decisions name store old (xids ++ xid ∷ []) after new
 
 -- the prepared branches were listed, and each of them was settled

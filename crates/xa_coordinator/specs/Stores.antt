@@ -9,7 +9,8 @@ use Rattle.xa_coordinator.specs.View.{SessionView}
 
 -- a fact of one store, of what its session was and is
 abbrev pub AtStore : {S : Type 0} → (S → SessionView) → ℕ → (SessionView → SessionView → Type 0) → List S → List S → Type 0
-AtStore {S} view store fact old new = (before after : S) → slice_get old store ≡ Some before → slice_get new store ≡ Some after → fact (view before) (view after)
+AtStore {S} view store fact old new =
+    (before after : S) → slice_get old store ≡ Some before → slice_get new store ≡ Some after → fact (view before) (view after)
 
 -- a fact of each store
 abbrev pub EachStore : {S : Type 0} → (S → SessionView) → (ℕ → SessionView → SessionView → Type 0) → List S → List S → Type 0
@@ -27,7 +28,8 @@ pub record Reached {S : Type 0} (view : S → SessionView) (fact : ℕ → Sessi
   pub behind : (store : ℕ) → place ≤ store → slice_get now store ≡ slice_get old store
 
 -- a call ended at this store: those below are done with, this one fared so, and the sessions of those behind are as they were
-pub record EndsAt {S : Type 0} (view : S → SessionView) (fact : ℕ → SessionView → SessionView → Type 0) (store : ℕ) (last : SessionView → SessionView → Type 0) (old new : List S) : Type 0 where
+pub record EndsAt {S : Type 0} (view : S → SessionView) (fact : ℕ → SessionView → SessionView → Type 0) (store : ℕ) (last : SessionView → SessionView → Type 0)
+    (old new : List S) : Type 0 where
   pub below : (other : ℕ) → other < store → AtStore view other (fact other) old new
   pub at : AtStore view store last old new
   pub behind : (other : ℕ) → store < other → slice_get new other ≡ slice_get old other

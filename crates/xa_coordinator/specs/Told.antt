@@ -50,7 +50,7 @@ pub record IsRefused (statement : Statement) (error : XaError) (old new : Sessio
 
 -- the session's fault, or the refusal that the statement was answered
 abbrev pub HasCause : Statement → Cause → SessionView → SessionView → Type 0
-HasCause statement (Session fault) old new = Fails old.turns old.place.capacity old.base statement fault old.known new.known × IsFinal fault
+HasCause statement (Session fault) old new = Fails old.turns old.identity.capacity old.base statement fault old.known new.known × IsFinal fault
 HasCause statement (RefusedBy error) old new = IsRefused statement error old new
 
 -- the statement wasn't carried out, for this cause, and nothing was added

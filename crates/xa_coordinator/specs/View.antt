@@ -3,18 +3,18 @@
 --     StaysOfLog       it is of the log that it was of
 use Rattle.std.specs.Prelude.{◌≡◌, Bool}
 use Rattle.xa_server.specs.State.{State}
-use Rattle.decision_log.specs.Known.{Place}
+use Rattle.decision_log.specs.Known.{LogIdentity}
 use Rattle.decision_log.specs.declared.known.Known.{Known}
 
 -- a session, as contracts see it
 pub record SessionView : Type 0 where
-  pub place : Place
+  pub identity : LogIdentity
   pub turns : Bool
   pub base : State
   pub known : Known
 
 -- the log is the same, and its history begins in the same state
 pub record StaysOfLog (old new : SessionView) : Type 0 where
-  pub place : new.place ≡ old.place
+  pub identity : new.identity ≡ old.identity
   pub turns : new.turns ≡ old.turns
   pub base : new.base ≡ old.base

@@ -97,13 +97,17 @@ pub record Keeps (store : ℕ) (old new : Transaction) : Type 0 where
   pub others : (other : ℕ) → other ≢ store → takes_part new.participants other ≡ takes_part old.participants other
 
 -- what work came to in its store, whether the store takes part then, and what the coordinator has open in its stores
-abbrev pub WorksAs : {S : Type 0} → (S → SessionView) → (marks marks' : List (Option OpenBranch)) → Transaction → Transaction → ℕ → Statement → Result Reply WorkFault → List S → List S → Type 0
+abbrev pub WorksAs : {S : Type 0} → (S → SessionView) → (marks marks' : List (Option OpenBranch)) → Transaction → Transaction → ℕ → Statement
+    → Result Reply WorkFault → List S → List S → Type 0
 WorksAs view marks marks' old new store row (Ok reply) before after =
     (takes_part new.participants store ≡ true) × IsWorking marks' store old.number × AtStore view store (IsWorked row reply (branch_of old store)) before after
 WorksAs view marks marks' old new store row (Err (Session fault)) before after =
-    ((takes_part new.participants store ≡ true) × IsWorking marks' store old.number × AtStore view store (IsCut row (CauseSession fault) (branch_of old store)) before after)
-    ⊎ ((new ≡ old) × (marks' ≡ marks) × (is_working marks store old.number ≡ false) × AtStore view store (IsUndone (Start (branch_of old store)) (CauseSession fault)) before after)
+    ((takes_part new.participants store ≡ true) × IsWorking marks' store old.number
+    × AtStore view store (IsCut row (CauseSession fault) (branch_of old store)) before after)
+    ⊎ ((new ≡ old) × (marks' ≡ marks) × (is_working marks store old.number ≡ false)
+    × AtStore view store (IsUndone (Start (branch_of old store)) (CauseSession fault)) before after)
 WorksAs view marks marks' old new store row (Err (Refused error)) before after =
-    (new ≡ old) × (marks' ≡ marks) × (is_working marks store old.number ≡ false) × AtStore view store (IsUndone (Start (branch_of old store)) (CauseRefused error)) before after
+    (new ≡ old) × (marks' ≡ marks) × (is_working marks store old.number ≡ false)
+    × AtStore view store (IsUndone (Start (branch_of old store)) (CauseRefused error)) before after
 WorksAs view marks marks' old new store row (Err Lost) before after =
     (new ≡ old) × (marks' ≡ marks) × (takes_part old.participants store ≡ true) × (HasOpen marks store old.number → ⊥) × (after ≡ before)

@@ -2,7 +2,7 @@
 ghost use Rattle.std.specs.Prelude.{◌≡◌, ◌<◌, Some, None, true, false, OnOk, OnErr, slice_get, vec_len};
 ghost use Rattle.xa_coordinator.specs.Branch.{branch_xid};
 ghost use Rattle.xa_coordinator.specs.OpenBranches.{HasOpen, is_working as is_working_in};
-ghost use Rattle.xa_coordinator.specs.Outcomes.{closing_of, ends_first, SaysAs, ClosesAs, PreparesAs};
+ghost use Rattle.xa_coordinator.specs.Outcomes.{finish_statement, ends_first, SaysAs, ClosesAs, PreparesAs};
 ghost use Rattle.xa_coordinator.specs.Stores.{AtStore, ChangesAt};
 ghost use Rattle.xa_coordinator.specs.Told.{Says};
 ghost use Rattle.xa_coordinator.specs.View.{SessionView};
@@ -49,7 +49,7 @@ impl<S: Speak> Coordinator<S> {
             number,
             phase: Phase::Active,
         };
-        self.say(rt, store, &statement, Some(then))
+        self.execute_at(rt, store, &statement, Some(then))
     }
 
     /// Has the work of a transaction's branch ended in a store.
@@ -70,7 +70,7 @@ impl<S: Speak> Coordinator<S> {
             number,
             phase: Phase::Idle,
         };
-        self.say(rt, store, &statement, Some(then))
+        self.execute_at(rt, store, &statement, Some(then))
     }
 
     /// Has a transaction's branch prepared, of which the work has ended.
@@ -82,7 +82,7 @@ impl<S: Speak> Coordinator<S> {
         ensures says { AtStore S.view store (Says (Prepare (branch_xid self.old.name.items number store)) result) self.old.stores.items self.new.stores.items }
     {
         let statement = Statement::Prepare(self.branch(number, store));
-        self.say(rt, store, &statement, None)
+        self.execute_at(rt, store, &statement, None)
     }
 
     /// Has a transaction's branch ended and prepared.
@@ -117,10 +117,10 @@ impl<S: Speak> Coordinator<S> {
         ensures frame { ChangesAt store self.old.stores.items self.new.stores.items }
         ensures marks { ChangesAt store self.old.branches self.new.branches }
         ensures free { slice_get self.old.branches store ≡ Some None → slice_get self.new.branches store ≡ Some None }
-        ensures finishes { AtStore S.view store (SaysAs (closing_of closing (branch_xid self.old.name.items number store)) result) self.old.stores.items self.new.stores.items }
+        ensures finishes { AtStore S.view store (SaysAs (finish_statement closing (branch_xid self.old.name.items number store)) result) self.old.stores.items self.new.stores.items }
     {
         let statement = closing.statement(self.branch(number, store));
-        found(self.say(rt, store, &statement, None))
+        found(self.execute_at(rt, store, &statement, None))
     }
 
     /// Ends a branch that takes work, and rolls it back.
@@ -161,7 +161,7 @@ impl<S: Speak> Coordinator<S> {
     }
 
     /// Finishes a branch; one that takes work and is to be rolled back is ended first.
-    pub(crate) fn close_branch<R: Wait>(
+    pub(crate) fn finish_open<R: Wait>(
         &mut self,
         rt: &R,
         store: u8,
@@ -172,7 +172,7 @@ impl<S: Speak> Coordinator<S> {
         ensures name { self.new.name ≡ self.old.name }
         ensures frame { ChangesAt store self.old.stores.items self.new.stores.items }
         ensures marks { ChangesAt store self.old.branches self.new.branches }
-        ensures closes { AtStore S.view store (ClosesAs (ends_first closing (is_working_in self.old.branches store number)) (closing_of closing (branch_xid self.old.name.items number store)) (branch_xid self.old.name.items number store) result) self.old.stores.items self.new.stores.items }
+        ensures closes { AtStore S.view store (ClosesAs (ends_first closing (is_working_in self.old.branches store number)) (finish_statement closing (branch_xid self.old.name.items number store)) (branch_xid self.old.name.items number store) result) self.old.stores.items self.new.stores.items }
     {
         let ends = closing.ends_first(self.is_working(store, number));
         if ends {

@@ -24,11 +24,11 @@ pub enum Found {
 }
 
 impl Closing {
-    ghost use Rattle.xa_coordinator.specs.Outcomes.{closing_of, ends_first as ends_first_by};
+    ghost use Rattle.xa_coordinator.specs.Outcomes.{finish_statement, ends_first as ends_first_by};
 
     /// The statement that finishes a branch so.
     pub(crate) fn statement(self, xid: Xid) -> Statement
-        ensures { result ≡ closing_of self xid }
+        ensures { result ≡ finish_statement self xid }
     {
         match self {
             Closing::InTwoPhases => Statement::Commit {

@@ -7,7 +7,7 @@ ghost use Rattle.xa_coordinator.specs.Told.{IsUnfinished};
 ghost use Rattle.xa_coordinator.specs.Branch.{branch_xid};
 ghost use Rattle.arrayvec.specs.ArrayVec.{array_vec_len};
 ghost use Rattle.xa_coordinator.specs.OpenBranches.{is_working, KeepsOpen};
-ghost use Rattle.xa_coordinator.specs.Outcomes.{EndsAs, ClosesNext, closing_of, ends_first, asked_by_ending, closing_for as closing_of_vote};
+ghost use Rattle.xa_coordinator.specs.Outcomes.{EndsAs, ClosesNext, finish_statement, ends_first, asked_by_ending, finish_for as finish_of_vote};
 ghost use Rattle.xa_coordinator.specs.declared.standing.Standing.{Standing};
 
 use crate::closing::{Closing, Found};
@@ -17,8 +17,8 @@ use arrayvec::ArrayVec;
 use std::sync::Wait;
 
 /// How a transaction that was voted on is finished.
-fn closing_for(decided: bool, ballot: Ballot) -> Closing
-    ensures { result ≡ closing_of_vote decided ballot }
+fn finish_for(decided: bool, ballot: Ballot) -> Closing
+    ensures { result ≡ finish_of_vote decided ballot }
 {
     if decided {
         return Closing::InTwoPhases;
@@ -32,7 +32,7 @@ fn closing_for(decided: bool, ballot: Ballot) -> Closing
 
 impl<S: Speak> Coordinator<S> {
     /// Finishes the branch of a store, or lists the store where the branch isn't known there.
-    fn close_next<R: Wait>(
+    fn finish_next<R: Wait>(
         &mut self,
         rt: &R,
         store: u8,
@@ -45,10 +45,10 @@ impl<S: Speak> Coordinator<S> {
         ensures name { self.new.name ≡ self.old.name }
         ensures frame { ChangesAt store self.old.stores.items self.new.stores.items }
         ensures marks { ChangesAt store self.old.branches self.new.branches }
-        ensures closed { OnOk result (ClosesNext S.view (ends_first closing (is_working self.old.branches store number)) (closing_of closing (branch_xid self.old.name.items number store)) (branch_xid self.old.name.items number store) store missing.old.items missing.new.items self.old.stores.items self.new.stores.items) }
-        ensures stopped { IfErr result (λ cause. AtStore S.view store (IsUnfinished (ends_first closing (is_working self.old.branches store number)) (closing_of closing (branch_xid self.old.name.items number store)) (branch_xid self.old.name.items number store) cause) self.old.stores.items self.new.stores.items) }
+        ensures closed { OnOk result (ClosesNext S.view (ends_first closing (is_working self.old.branches store number)) (finish_statement closing (branch_xid self.old.name.items number store)) (branch_xid self.old.name.items number store) store missing.old.items missing.new.items self.old.stores.items self.new.stores.items) }
+        ensures stopped { IfErr result (λ cause. AtStore S.view store (IsUnfinished (ends_first closing (is_working self.old.branches store number)) (finish_statement closing (branch_xid self.old.name.items number store)) (branch_xid self.old.name.items number store) cause) self.old.stores.items self.new.stores.items) }
     {
-        match self.close_branch(rt, store, number, closing) {
+        match self.finish_open(rt, store, number, closing) {
             Ok(Found::Closed) => Ok(()),
             Ok(Found::Missing) => {
                 missing.push(store);
@@ -59,7 +59,12 @@ impl<S: Speak> Coordinator<S> {
     }
 
     /// Finishes the branch of each participant, in ascending order, up to the first that isn't finished.
-    fn close<R: Wait>(&mut self, rt: &R, transaction: &Transaction, closing: Closing) -> Ending
+    fn finish_each<R: Wait>(
+        &mut self,
+        rt: &R,
+        transaction: &Transaction,
+        closing: Closing,
+    ) -> Ending
         requires name { transaction.now.name.items ≡ self.old.name.items }
         requires stores { transaction.now.stores ≡ vec_len self.old.stores }
         ensures name { self.new.name ≡ self.old.name }
@@ -73,7 +78,7 @@ impl<S: Speak> Coordinator<S> {
                 continue;
             }
             let number = transaction.number;
-            if let Err(cause) = self.close_next(rt, store, number, closing, &mut missing) {
+            if let Err(cause) = self.finish_next(rt, store, number, closing, &mut missing) {
                 return Ending::Unfinished { store, cause };
             }
         }
@@ -102,15 +107,15 @@ impl<S: Speak> Coordinator<S> {
         ensures name { self.new.name ≡ self.old.name }
         ensures count { vec_len self.new.stores ≡ vec_len self.old.stores }
         ensures elsewhere { KeepsOpen prepared.transaction.participants (asked_by_ending result) self.old.branches self.new.branches }
-        ensures ends { EndsAs S.view self.old.branches prepared.transaction (closing_of_vote (is_decided decisions.now prepared.transaction.number) prepared.ballot) result self.old.stores.items self.new.stores.items }
+        ensures ends { EndsAs S.view self.old.branches prepared.transaction (finish_of_vote (is_decided decisions.now prepared.transaction.number) prepared.ballot) result self.old.stores.items self.new.stores.items }
         ensures agrees { EachStore S.view (Agrees decisions.now self.old.name.items) self.old.stores.items self.new.stores.items }
     {
         let Prepared {
             transaction,
             ballot,
         } = prepared;
-        let closing = closing_for(decisions.is_decided(transaction.number), ballot);
-        self.close(rt, &transaction, closing)
+        let closing = finish_for(decisions.is_decided(transaction.number), ballot);
+        self.finish_each(rt, &transaction, closing)
     }
 
     /// Rolls a transaction back that wasn't voted on: each participant, after `XA END` where this coordinator has its branch open
@@ -131,6 +136,6 @@ impl<S: Speak> Coordinator<S> {
         ensures ends { EndsAs S.view self.old.branches transaction Closing.RollBack result self.old.stores.items self.new.stores.items }
         ensures agrees { (decisions : List Standing) → is_decided decisions transaction.number ≡ false → EachStore S.view (Agrees decisions self.old.name.items) self.old.stores.items self.new.stores.items }
     {
-        self.close(rt, &transaction, Closing::RollBack)
+        self.finish_each(rt, &transaction, Closing::RollBack)
     }
 }

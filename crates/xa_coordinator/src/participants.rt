@@ -3,7 +3,7 @@ ghost use Rattle.std.specs.Prelude.{◌≡◌, ◌<◌, ◌≤◌, ◌+◌, ℕ,
 
 /// How many stores take part, as far as a vote has to know.
 #[derive(Clone, Copy, Debug, PartialEq, Eq)]
-pub enum Roll {
+pub enum Turnout {
     /// None.
     Nobody,
     /// This one alone.
@@ -68,15 +68,15 @@ impl Participants {
     }
 
     /// How many take part.
-    pub(crate) fn roll(&self) -> Roll
+    pub(crate) fn turnout(&self) -> Turnout
         ensures { Counts self.now result }
     {
         let Some(first) = self.next_from(0) else {
-            return Roll::Nobody;
+            return Turnout::Nobody;
         };
         match self.next_from(first + 1) {
-            None => Roll::Single(first),
-            Some(_) => Roll::Several,
+            None => Turnout::Single(first),
+            Some(_) => Turnout::Several,
         }
     }
 }

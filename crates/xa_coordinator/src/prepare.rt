@@ -7,7 +7,7 @@ ghost use Rattle.xa_coordinator.specs.Outcomes.{VotesAs, PollsAs, asked_by_vote,
 ghost use Rattle.xa_coordinator.specs.Participants.{TwoTakePart, OnlyTakesPart};
 ghost use Rattle.xa_coordinator.specs.declared.standing.Standing.{Standing};
 
-use crate::participants::Roll;
+use crate::participants::Turnout;
 use crate::prepared::Ballot;
 use crate::{Cause, Coordinator, Prepared, Speak, Transaction, Vote};
 use std::sync::Wait;
@@ -109,10 +109,10 @@ impl<S: Speak> Coordinator<S> {
         ensures vote { VotesAs S.view transaction result self.old.stores.items self.new.stores.items }
         ensures agrees { (decisions : List Standing) → EachStore S.view (Agrees decisions self.old.name.items) self.old.stores.items self.new.stores.items }
     {
-        match transaction.participants.roll() {
-            Roll::Nobody => Vote::Nothing,
-            Roll::Single(store) => self.end_alone(rt, transaction, store),
-            Roll::Several => self.prepare_each(rt, transaction),
+        match transaction.participants.turnout() {
+            Turnout::Nobody => Vote::Nothing,
+            Turnout::Single(store) => self.end_alone(rt, transaction, store),
+            Turnout::Several => self.prepare_each(rt, transaction),
         }
     }
 }

@@ -3,7 +3,7 @@ ghost use Rattle.std.specs.Prelude.{◌≡◌, ◌<◌, ◌≤◌, ◌+◌, ◌^
 ghost use Rattle.std.specs.List.{list_any};
 ghost use Rattle.xa_xid.specs.Xid.{same_xid};
 ghost use Rattle.xa_coordinator.specs.Branch.{branch_xid};
-ghost use Rattle.xa_coordinator.specs.Recovery.{closing_by as closing_by_decision, counted, total, SettlesOne, Settled, IsBroken};
+ghost use Rattle.xa_coordinator.specs.Recovery.{finish_decided as finish_by_decision, counted, total, SettlesOne, Settled, IsBroken};
 ghost use Rattle.xa_coordinator.specs.Stores.{AtStore, ChangesAt};
 
 use crate::closing::{Closing, Found};
@@ -14,8 +14,8 @@ use std::sync::Wait;
 use xa_xid::Xid;
 
 /// How a recovery finishes a branch.
-fn closing_by(decided: bool) -> Closing
-    ensures { result ≡ closing_by_decision decided }
+fn finish_decided(decided: bool) -> Closing
+    ensures { result ≡ finish_by_decision decided }
 {
     if decided {
         Closing::InTwoPhases
@@ -71,7 +71,7 @@ impl<S: Speak> Coordinator<S> {
             return Ok(tally);
         };
         let decided = decisions.is_decided(number);
-        match self.finish_branch(rt, store, number, closing_by(decided)) {
+        match self.finish_branch(rt, store, number, finish_decided(decided)) {
             Ok(found) => Ok(with_one(tally, decided, found)),
             Err(cause) => Err(cause),
         }

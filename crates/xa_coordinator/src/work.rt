@@ -19,7 +19,7 @@ use xa_xid::Statement;
 
 impl<S: Speak> Coordinator<S> {
     /// Gives a row statement to a store in which the coordinator has the transaction's branch open and ACTIVE.
-    fn row<R: Wait>(
+    fn execute_row<R: Wait>(
         &mut self,
         rt: &R,
         store: u8,
@@ -62,7 +62,7 @@ impl<S: Speak> Coordinator<S> {
         ensures works { WorksWithin S.view (branch_of transaction.old store) store statement.now result self.old.stores.items self.new.stores.items }
     {
         transaction.participants.insert(store);
-        match self.row(rt, store, transaction.number, statement) {
+        match self.execute_row(rt, store, transaction.number, statement) {
             Ok(reply) => Ok(reply),
             Err(fault) => Err(WorkFault::Session(fault)),
         }

@@ -9,7 +9,8 @@ use Rattle.xa_coordinator.specs.declared.standing.Standing.{Standing}
 use Rattle.xa_coordinator_tests.specs.Sites.{sites}
 
 module _ {S : Type 0} (view : S → SessionView) where
-  kept_from : (fact : ℕ → SessionView → SessionView → Type 0) → ((store : ℕ) (old new : SessionView) → fact store old new → new.place ≡ old.place) → (old new : List S) → length new ≡ length old →
+  kept_from : (fact : ℕ → SessionView → SessionView → Type 0) → ((store : ℕ) (old new : SessionView) → fact store old new → new.identity ≡ old.identity)
+      → (old new : List S) → length new ≡ length old →
       EachStore view fact old new → sites view new ≡ sites view old
   kept_from fact keeps [] [] count each = refl
   kept_from fact keeps [] (session ∷ new) count each = absurd (omega (arith, count))
@@ -19,23 +20,34 @@ module _ {S : Type 0} (view : S → SessionView) where
       (kept_from (λ store. fact (suc store)) (λ store. keeps (suc store)) old new (omega (arith, count)) (λ store. each (suc store)))
 
   -- a call that adds only what agrees with decisions
-  pub sites_kept : (decisions : List Standing) (name : List ℕ) (old new : List S) → length new ≡ length old → EachStore view (Agrees decisions name) old new → sites view new ≡ sites view old
-  sites_kept decisions name = kept_from (Agrees decisions name) (λ store old new agrees. agrees.adds.log.place)
+  pub sites_kept : (decisions : List Standing) (name : List ℕ) (old new : List S) → length new ≡ length old → EachStore view (Agrees decisions name) old new
+      → sites view new ≡ sites view old
+  sites_kept decisions name = kept_from (Agrees decisions name) (λ store old new agrees. agrees.adds.log.identity)
 
   -- what became of each of three sessions
   pub three_kept : (before after : List S) (a b c x y z : S) → before ≡ a ∷ b ∷ c ∷ [] → after ≡ x ∷ y ∷ z ∷ [] → sites view after ≡ sites view before
-      → ((view x).place ≡ (view a).place) × ((view y).place ≡ (view b).place) × ((view z).place ≡ (view c).place)
+      → ((view x).identity ≡ (view a).identity) × ((view y).identity ≡ (view b).identity) × ((view z).identity ≡ (view c).identity)
   three_kept before after a b c x y z old new kept =
-      let same : (view x).place ∷ (view y).place ∷ (view z).place ∷ [] ≡ (view a).place ∷ (view b).place ∷ (view c).place ∷ [] =
+      let same : (view x).identity ∷ (view y).identity ∷ (view z).identity ∷ [] ≡ (view a).identity ∷ (view b).identity ∷ (view c).identity ∷ [] =
       ap (sites view) (sym new) ∙ kept ∙ ap (sites view) old in
       (cc, cc, cc)
 
 -- three elements, taken from behind
-pub three_taken : {S : Type 0} (all two one none : List S) (first second third : S) → length all ≡ 3 → all ≡ two ++ third ∷ [] → two ≡ one ++ second ∷ [] → one ≡ none ++ first ∷ [] → all ≡ first ∷ second ∷ third ∷ []
+pub three_taken : {S : Type 0} (all two one none : List S) (first second third : S) → length all ≡ 3 → all ≡ two ++ third ∷ [] → two ≡ one ++ second ∷ []
+    → one ≡ none ++ first ∷ [] → all ≡ first ∷ second ∷ third ∷ []
 three_taken all two one [] first second third count last middle begin =
     last ∙ ap (λ list. list ++ third ∷ []) (middle ∙ ap (λ list. list ++ second ∷ []) begin)
 three_taken all two one (more ∷ none) first second third count last middle begin =
-    absurd (omega (arith, count, ap length last, length-append two (third ∷ []), ap length middle, length-append one (second ∷ []), ap length begin, length-append none (first ∷ [])))
+    absurd (omega (
+      arith,
+      count,
+      ap length last,
+      length-append two (third ∷ []),
+      ap length middle,
+      length-append one (second ∷ []),
+      ap length begin,
+      length-append none (first ∷ []),
+    ))
 
 -- a list of as many elements has as many items
 pub counted : {S : Type 0} (old new : Vec S) → vec_len new ≡ vec_len old → length new.items ≡ length old.items

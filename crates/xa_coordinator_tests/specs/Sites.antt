@@ -1,9 +1,9 @@
 -- Of which logs the sessions of a coordinator are.
 --     sites           their logs, in order
 use Rattle.std.specs.Prelude.{List, map}
-use Rattle.decision_log.specs.Known.{Place}
+use Rattle.decision_log.specs.Known.{LogIdentity}
 use Rattle.xa_coordinator.specs.View.{SessionView}
 
 -- the logs of sessions, in order
-abbrev pub sites : {S : Type 0} → (S → SessionView) → List S → List Place
-sites view sessions = map (λ session. (view session).place) sessions
+abbrev pub sites : {S : Type 0} → (S → SessionView) → List S → List LogIdentity
+sites view sessions = map (λ session. (view session).identity) sessions

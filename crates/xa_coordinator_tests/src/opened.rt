@@ -11,8 +11,8 @@ use xa_store::{Log, Pass, Store};
 
 /// A store with room for so many entries, and its two passes.
 pub(crate) fn opened(rt: &impl Abort, alloc: Global, capacity: u64) -> (Store, Pass, Pass)
-    ensures first { ⟦<Log as DecisionLog>⟧.home result.1 ≡ ⟦<Log as DecisionLog>⟧.place result.0.log }
-    ensures second { ⟦<Log as DecisionLog>⟧.home result.2 ≡ ⟦<Log as DecisionLog>⟧.place result.0.log }
+    ensures first { ⟦<Log as DecisionLog>⟧.belongs_to result.1 ≡ ⟦<Log as DecisionLog>⟧.identity result.0.log }
+    ensures second { ⟦<Log as DecisionLog>⟧.belongs_to result.2 ≡ ⟦<Log as DecisionLog>⟧.identity result.0.log }
 {
     let Ok((store, mut passes)) = Store::open(alloc, capacity, 2) else {
         panic!(rt; "not opened")
@@ -25,8 +25,8 @@ pub(crate) fn opened(rt: &impl Abort, alloc: Global, capacity: u64) -> (Store, P
 
 /// A session of a store.
 pub(crate) fn connected<'a>(rt: &impl Abort, store: &'a Store, pass: Pass) -> Session<'a, Log>
-    requires { ⟦<Log as DecisionLog>⟧.home pass ≡ ⟦<Log as DecisionLog>⟧.place store.now.log }
-    ensures { ⟦<Log as DecisionLog>⟧.home result.pass ≡ ⟦<Log as DecisionLog>⟧.place store.now.log }
+    requires { ⟦<Log as DecisionLog>⟧.belongs_to pass ≡ ⟦<Log as DecisionLog>⟧.identity store.now.log }
+    ensures { ⟦<Log as DecisionLog>⟧.belongs_to result.pass ≡ ⟦<Log as DecisionLog>⟧.identity store.now.log }
 {
     let Ok(session) = store.connect(pass) else {
         panic!(rt; "not connected")
@@ -61,9 +61,9 @@ pub(crate) fn opened_for_three(
     alloc: Global,
     capacity: u64,
 ) -> (Store, Pass, Pass, Pass)
-    ensures first { ⟦<Log as DecisionLog>⟧.home result.1 ≡ ⟦<Log as DecisionLog>⟧.place result.0.log }
-    ensures second { ⟦<Log as DecisionLog>⟧.home result.2 ≡ ⟦<Log as DecisionLog>⟧.place result.0.log }
-    ensures third { ⟦<Log as DecisionLog>⟧.home result.3 ≡ ⟦<Log as DecisionLog>⟧.place result.0.log }
+    ensures first { ⟦<Log as DecisionLog>⟧.belongs_to result.1 ≡ ⟦<Log as DecisionLog>⟧.identity result.0.log }
+    ensures second { ⟦<Log as DecisionLog>⟧.belongs_to result.2 ≡ ⟦<Log as DecisionLog>⟧.identity result.0.log }
+    ensures third { ⟦<Log as DecisionLog>⟧.belongs_to result.3 ≡ ⟦<Log as DecisionLog>⟧.identity result.0.log }
 {
     let Ok((store, mut passes)) = Store::open(alloc, capacity, 3) else {
         panic!(rt; "not opened")

@@ -2,7 +2,7 @@
 //! new sessions.
 ghost use Rattle.std.specs.Prelude.{◌≡◌, vec_len};
 ghost use Rattle.std.specs.List.{All};
-ghost use Rattle.xa_store.specs.Passes.{place_of, home_of};
+ghost use Rattle.xa_store.specs.Passes.{identity_of, log_of};
 ghost use Rattle.xa_store.specs.Renewal.{AreGathered};
 ghost use Rattle.xa_coordinator.specs.declared.prepared.Ballot.TheVariants.{Ready as BallotReady};
 ghost use Rattle.xa_coordinator_tests.specs.Sites.{sites};
@@ -28,8 +28,8 @@ struct Site {
     store: Store,
     own: Pass,
     reader: Pass,
-    ghost own_home: { home_of own ≡ place_of store.log },
-    ghost reader_home: { home_of reader ≡ place_of store.log },
+    ghost own_belongs: { log_of own ≡ identity_of store.log },
+    ghost reader_belongs: { log_of reader ≡ identity_of store.log },
 }
 
 /// The second phase in stores that are full, which ends in the first of them; so does a recovery.
@@ -94,9 +94,9 @@ fn voted<S: Speak, R: Abort + Wait>(
 ) -> (S, S, S)
 where
     S: Drop,
-    ensures first { (S.view result.0).place ≡ (S.view sessions.0).place }
-    ensures second { (S.view result.1).place ≡ (S.view sessions.1).place }
-    ensures third { (S.view result.2).place ≡ (S.view sessions.2).place }
+    ensures first { (S.view result.0).identity ≡ (S.view sessions.0).identity }
+    ensures second { (S.view result.1).identity ≡ (S.view sessions.1).identity }
+    ensures third { (S.view result.2).identity ≡ (S.view sessions.2).identity }
 {
     let (first, second, third) = sessions;
     let mut coordinator = over_three(rt, alloc, first, second, third);
@@ -113,9 +113,9 @@ fn left(
     own: Session<'_, Log>,
     reader: Session<'_, Log>,
 ) -> Vec<Pass>
-    requires own { home_of own.pass ≡ place_of store.now.log }
-    requires reader { home_of reader.pass ≡ place_of store.now.log }
-    ensures { AreGathered (place_of store.now.log) result.items }
+    requires own { log_of own.pass ≡ identity_of store.now.log }
+    requires reader { log_of reader.pass ≡ identity_of store.now.log }
+    ensures { AreGathered (identity_of store.now.log) result.items }
 {
     let Ok(sessions) = vec![in alloc; own, reader] else {
         panic!(rt; "out of memory")
@@ -129,9 +129,9 @@ fn left(
 
 /// The last of the passes of a store.
 fn last_of(rt: &impl Abort, store: &Store, passes: &mut Vec<Pass>) -> Pass
-    requires { All (λ pass. home_of pass ≡ place_of store.now.log) passes.old.items }
-    ensures left { All (λ pass. home_of pass ≡ place_of store.now.log) passes.new.items }
-    ensures home { home_of result ≡ place_of store.now.log }
+    requires { All (λ pass. log_of pass ≡ identity_of store.now.log) passes.old.items }
+    ensures left { All (λ pass. log_of pass ≡ identity_of store.now.log) passes.new.items }
+    ensures belongs { log_of result ≡ identity_of store.now.log }
 {
     let Some(pass) = passes.pop() else {
         panic!(rt; "a pass")
@@ -141,7 +141,7 @@ fn last_of(rt: &impl Abort, store: &Store, passes: &mut Vec<Pass>) -> Pass
 
 /// The store with an empty history, and its new passes.
 fn renewed(rt: &impl Abort, alloc: Global, store: Store, passes: Vec<Pass>) -> Site
-    requires { AreGathered (place_of store.log) passes.items }
+    requires { AreGathered (identity_of store.log) passes.items }
 {
     let Ok((store, mut passes)) = store.renew(alloc, passes) else {
         panic!(rt; "out of memory")

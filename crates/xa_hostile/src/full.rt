@@ -1,6 +1,6 @@
 //! A store whose log is full, and a session that is dropped.
 ghost use Rattle.std.specs.Prelude.{◌≡◌};
-ghost use Rattle.chain_log.specs.ChainPass.{place_of, home_of};
+ghost use Rattle.chain_log.specs.ChainPass.{identity_of, log_of};
 
 use crate::made::{Wanted, is_wanted, said};
 use std::alloc::Global;
@@ -18,7 +18,7 @@ fn gives<R: Abort + Wait>(
     place: u64,
     wanted: Wanted,
 )
-    ensures { home_of session.new.pass ≡ home_of session.old.pass }
+    ensures { log_of session.new.pass ≡ log_of session.old.pass }
 {
     match session.execute(rt, &said(rt, text)) {
         Ok(answer) => {
@@ -31,7 +31,7 @@ fn gives<R: Abort + Wait>(
 
 /// Has a session try a statement for which the log has no room.
 fn is_full<R: Abort + Wait>(rt: &R, session: &mut Session<'_, Log>, text: &[u8]) -> bool
-    ensures { home_of session.new.pass ≡ home_of session.old.pass }
+    ensures { log_of session.new.pass ≡ log_of session.old.pass }
 {
     session.execute(rt, &said(rt, text)).err() == Some(Fault::Full)
 }
@@ -42,8 +42,8 @@ fn fills<R: Abort + Wait>(
     mut first: Session<'_, Log>,
     mut second: Session<'_, Log>,
 ) -> (Pass, Pass)
-    ensures first { home_of result.0 ≡ home_of first.entry.pass }
-    ensures second { home_of result.1 ≡ home_of second.entry.pass }
+    ensures first { log_of result.0 ≡ log_of first.entry.pass }
+    ensures second { log_of result.1 ≡ log_of second.entry.pass }
 {
     gives(rt, &mut first, b"XA START 'a'", 0, Wanted::Done);
     gives(rt, &mut first, b"PUT 'k','v'", 1, Wanted::Done);
@@ -82,7 +82,7 @@ fn full_store_gives_sessions_and_passes_back(rt: HostRuntime) {
 
 /// The history of a store, as its only session has it.
 fn history_of(store: &Store, alloc: Global, session: Session<'_, Log>) -> Option<Vec<Entry>>
-    requires { home_of session.pass ≡ place_of store.now.log }
+    requires { log_of session.pass ≡ identity_of store.now.log }
 {
     let mut sessions = vec![in alloc; session].ok()?;
     store.history(alloc, &mut sessions).ok()

@@ -1,7 +1,7 @@
 //! Sixteen sessions on threads of their own, until the log is full.
 ghost use Rattle.std.specs.Prelude.{◌≡◌, ◌++◌, ◌∷◌, [], length, map, IfSome};
 ghost use Rattle.std.specs.List.{All};
-ghost use Rattle.chain_log.specs.ChainPass.{place_of, home_of};
+ghost use Rattle.chain_log.specs.ChainPass.{identity_of, log_of};
 
 use crate::replay::{Account, Told, explains};
 use decision_log::DecisionLog;
@@ -72,7 +72,7 @@ struct Worked<'a, L: DecisionLog> {
 
 /// Has a session execute a statement.
 fn tells<L: DecisionLog, R: Wait>(rt: &R, worked: &mut Worked<'_, L>, statement: Statement)
-    ensures { L.home worked.new.session.pass ≡ L.home worked.old.session.pass }
+    ensures { L.belongs_to worked.new.session.pass ≡ L.belongs_to worked.old.session.pass }
 {
     match worked.session.execute(rt, &statement) {
         Ok(answer) => {
@@ -91,7 +91,7 @@ fn tells<L: DecisionLog, R: Wait>(rt: &R, worked: &mut Worked<'_, L>, statement:
 
 /// Has a session work through a branch.
 fn works_through<L: DecisionLog, R: Wait>(rt: &R, worked: &mut Worked<'_, L>, number: u8)
-    ensures { L.home worked.new.session.pass ≡ L.home worked.old.session.pass }
+    ensures { L.belongs_to worked.new.session.pass ≡ L.belongs_to worked.old.session.pass }
 {
     let session = worked.session.number().get() as u8;
     let Some(statements) = statements(session, number) else {
@@ -109,7 +109,7 @@ fn works<'a, L: DecisionLog, R: Wait>(
     alloc: Global,
     session: Session<'a, L>,
 ) -> Worked<'a, L>
-    ensures { L.home result.session.pass ≡ L.home session.entry.pass }
+    ensures { L.belongs_to result.session.pass ≡ L.belongs_to session.entry.pass }
 {
     let mut worked = Worked {
         session,
@@ -128,7 +128,7 @@ fn works<'a, L: DecisionLog, R: Wait>(
 struct StaysHome<'a, L: DecisionLog>(Snapshot<Session<'a, L>>);
 
 impl<'a, L: DecisionLog> Promise<Worked<'a, L>> for StaysHome<'a, L> {
-    ghost kept_by = { λ promise ended. L.home ended.session.pass ≡ L.home promise.0.value.pass };
+    ghost kept_by = { λ promise ended. L.belongs_to ended.session.pass ≡ L.belongs_to promise.0.value.pass };
 }
 
 /// Gives each session a thread of its own, and waits for all of them. All are started before the first is waited for. A session whose
@@ -142,8 +142,8 @@ fn side_by_side<'s, 'a: 's, E, L: DecisionLog + Sync, R: Threads + Wait + Sync>(
 ) -> Vec<Worked<'a, L>>
 where
     L::Pass: Send + Drop,
-    requires { All (λ session. L.home session.pass ≡ place_of store.now.log) sessions.items }
-    ensures { All (λ worked. L.home worked.session.pass ≡ place_of store.now.log) result.items }
+    requires { All (λ session. L.belongs_to session.pass ≡ identity_of store.now.log) sessions.items }
+    ensures { All (λ worked. L.belongs_to worked.session.pass ≡ identity_of store.now.log) result.items }
 {
     let Some(session) = sessions.pop() else {
         return Vec::new(alloc);
@@ -169,8 +169,8 @@ fn connected<'a>(
     store: &'a Store,
     mut passes: Vec<Pass>,
 ) -> Vec<Session<'a, Log>>
-    requires { All (λ pass. home_of pass ≡ place_of store.now.log) passes.items }
-    ensures { All (λ session. home_of session.pass ≡ place_of store.now.log) result.items }
+    requires { All (λ pass. log_of pass ≡ identity_of store.now.log) passes.items }
+    ensures { All (λ session. log_of session.pass ≡ identity_of store.now.log) result.items }
 {
     let Some(pass) = passes.pop() else {
         return Vec::new(alloc);
@@ -192,8 +192,8 @@ fn apart<'a>(
     store: &Store,
     mut all: Vec<Worked<'a, Log>>,
 ) -> (Vec<Session<'a, Log>>, Vec<Account>)
-    requires { All (λ worked. home_of worked.session.pass ≡ place_of store.now.log) all.items }
-    ensures { All (λ session. home_of session.pass ≡ place_of store.now.log) result.0.items }
+    requires { All (λ worked. log_of worked.session.pass ≡ identity_of store.now.log) all.items }
+    ensures { All (λ session. log_of session.pass ≡ identity_of store.now.log) result.0.items }
 {
     let Some(worked) = all.pop() else {
         return (Vec::new(alloc), Vec::new(alloc));
@@ -227,15 +227,15 @@ fn worked_by<'a, L: DecisionLog + Sync, R: Threads + Wait + Sync>(
 ) -> Vec<Worked<'a, L>>
 where
     L::Pass: Send + Drop,
-    requires { All (λ session. L.home session.pass ≡ place_of store.now.log) sessions.items }
-    ensures { All (λ worked. L.home worked.session.pass ≡ place_of store.now.log) result.items }
+    requires { All (λ session. L.belongs_to session.pass ≡ identity_of store.now.log) sessions.items }
+    ensures { All (λ worked. L.belongs_to worked.session.pass ≡ identity_of store.now.log) result.items }
 {
     thread::scope(
         thread::scope_env(),
         rt,
         |scope| -> Vec<Worked<'_, L>>
-            requires { All (λ session. L.home session.pass ≡ place_of store.now.log) sessions.items }
-            ensures { All (λ worked. L.home worked.session.pass ≡ place_of store.entry.now.log) result.items }
+            requires { All (λ session. L.belongs_to session.pass ≡ identity_of store.now.log) sessions.items }
+            ensures { All (λ worked. L.belongs_to worked.session.pass ≡ identity_of store.entry.now.log) result.items }
         { side_by_side(scope, rt, alloc, store, sessions) },
     )
 }

@@ -22,12 +22,15 @@ has_more old more one has = subst (λ l. Contains l one) (sym (map_append config
 pub has_still : (old new : List Configuration) (one : Config) → Grows old new → Has old one → Has new one
 has_still old new one grows has = subst (λ l. Has l one) (sym grows.parts) (has_more old grows.more one has)
 
-pub still_there : (old new : List Configuration) (place : ℕ) (one : Configuration) → Grows old new → slice_get old place ≡ Some one → slice_get new place ≡ Some one
+pub still_there : (old new : List Configuration) (place : ℕ) (one : Configuration) → Grows old new → slice_get old place ≡ Some one
+    → slice_get new place ≡ Some one
 still_there old new place one grows found = subst (λ l. slice_get l place ≡ Some one) (sym grows.parts) (get_front old grows.more place one found)
 
 pub has_added : (old new : List Configuration) (one : Configuration) → IsAdded old one new → Has new (config_of one)
 has_added old new one (inl was) = subst (λ l. Has l (config_of one)) (sym was.1) was.0
-has_added old new one (inr is) = subst (λ l. Has l (config_of one)) (sym is) (subst (λ l. Contains l (config_of one)) (sym (map_append config_of old (one ∷ []))) (Contains-push (configs old) (config_of one)))
+has_added old new one (inr is) =
+    subst (λ l. Has l (config_of one)) (sym is)
+    (subst (λ l. Contains l (config_of one)) (sym (map_append config_of old (one ∷ []))) (Contains-push (configs old) (config_of one)))
 
 pub has_kept : (old new : List Configuration) (one : Configuration) (other : Config) → IsAdded old one new → Has old other → Has new other
 has_kept old new one other (inl was) has = subst (λ l. Has l other) (sym was.1) has
@@ -44,12 +47,14 @@ grows_more old mid new first second = record {
 }
 
 -- what an effect leads to is reached
-pub reaches_effect : (base : State) (events : List Event) (trunk : List Move) (old new : Configuration) (session : ℕ) (act : Act) → Reaches base events trunk old → IsSession session
+pub reaches_effect : (base : State) (events : List Event) (trunk : List Move) (old new : Configuration) (session : ℕ) (act : Act)
+    → Reaches base events trunk old → IsSession session
     → effect_of (config_of old) session act ≡ Some (config_of new) → new.path.items ≡ old.path.items ++ Effect session act ∷ [] → Reaches base events trunk new
 unfolding Reaches
 reaches_effect base events trunk old new session act reach is at path =
     let more = runs_effect (opening base) (config_of old) (config_of new) events (trunk ++ old.path.items) session act reach is at in
-    subst (λ l. Runs (opening base) events l (config_of new)) (append_assoc trunk old.path.items (Effect session act ∷ []) ∙ ap (λ l. trunk ++ l) (sym path)) more
+    subst (λ l. Runs (opening base) events l (config_of new))
+    (append_assoc trunk old.path.items (Effect session act ∷ []) ∙ ap (λ l. trunk ++ l) (sym path)) more
 
 -- and what an event leads to, by one event more
 pub reaches_event : (base : State) (events : List Event) (trunk : List Move) (old new : Configuration) (event : Event) → Reaches base events trunk old
@@ -57,7 +62,8 @@ pub reaches_event : (base : State) (events : List Event) (trunk : List Move) (ol
 unfolding Reaches
 reaches_event base events trunk old new event reach at path =
     let more = runs_event (opening base) (config_of old) (config_of new) events (trunk ++ old.path.items) event reach at in
-    subst (λ l. Runs (opening base) (events ++ event ∷ []) l (config_of new)) (append_assoc trunk old.path.items (Seeing ∷ []) ∙ ap (λ l. trunk ++ l) (sym path)) more
+    subst (λ l. Runs (opening base) (events ++ event ∷ []) l (config_of new))
+    (append_assoc trunk old.path.items (Seeing ∷ []) ∙ ap (λ l. trunk ++ l) (sym path)) more
 
 pub all_added : (P : Configuration → Type 0) (old new : List Configuration) (one : Configuration) → IsAdded old one new → All P old → P one → All P new
 all_added P old new one (inl was) all p = subst (λ l. All P l) (sym was.1) all
@@ -70,8 +76,10 @@ all_at P list place one all found = at list place all found
     at list place all found = subst P (get_or_from_slice_get list place one one found) (all place one (slice_get_within list place one found))
 
 -- the list with what an effect of one of it leads to
-pub grows_added : (old new : List Configuration) (place : ℕ) (one next : Configuration) (session : ℕ) (act : Act) → slice_get old place ≡ Some one → IsSession session
-    → effect_of (config_of one) session act ≡ Some (config_of next) → next.path.items ≡ one.path.items ++ Effect session act ∷ [] → IsAdded old next new → Grows old new
+pub grows_added : (old new : List Configuration) (place : ℕ) (one next : Configuration) (session : ℕ) (act : Act) → slice_get old place ≡ Some one
+    → IsSession session
+    → effect_of (config_of one) session act ≡ Some (config_of next) → next.path.items ≡ one.path.items ++ Effect session act ∷ [] → IsAdded old next new
+    → Grows old new
 grows_added old new place one next session act found is at path added = record {
   more = parts.0;
   parts = parts.1;

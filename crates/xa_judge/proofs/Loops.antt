@@ -15,18 +15,22 @@ use Rattle.xa_judge.specs.declared.moves.Move.{Move}
 use Rattle.xa_judge.specs.declared.moves.Move.TheVariants.{Effect}
 use Rattle.xa_judge.specs.declared.configuration.Configuration.{Configuration}
 use Rattle.xa_judge.specs.Explained.{Config, effect_of, observed, IsSession}
-use Rattle.xa_judge.specs.Found.{config_of, configs, Has, Reaches, Grows, settled, IsAdded, IsSettledFrom, IsSeenAdded, IsAnsweredIn, IsAnswerAdded, IsExpandedBelow, IsClosedBelow}
+use Rattle.xa_judge.specs.Found.{config_of, configs, Has, Reaches, Grows, settled, IsAdded, IsSettledFrom, IsSeenAdded, IsAnsweredIn, IsAnswerAdded}
+use Rattle.xa_judge.specs.Found.{IsExpandedBelow, IsClosedBelow}
 use Rattle.xa_judge.proofs.Places.{map_append, get_within, place_mapped}
 use Rattle.xa_judge.proofs.Growth.{has_still, has_added, has_kept, still_there, all_added, reaches_effect, reaches_event, grows_added}
 
 -- where the first list is reached, so are what is left of it and what was made of the rest
 abbrev pub KeepsReachBoth : List Configuration → List Configuration → List Configuration → Type 0
-KeepsReachBoth first rest list = (base : State) (events : List Event) (trunk : List Move) → All (Reaches base events trunk) first → All (Reaches base events trunk) rest × All (Reaches base events trunk) list
+KeepsReachBoth first rest list =
+    (base : State) (events : List Event) (trunk : List Move) → All (Reaches base events trunk) first
+    → All (Reaches base events trunk) rest × All (Reaches base events trunk) list
 
 -- and so by one event more is what was made of the rest
 abbrev pub ReachesPastBoth : Event → List Configuration → List Configuration → List Configuration → Type 0
 ReachesPastBoth event first rest list =
-    (base : State) (events : List Event) (trunk : List Move) → All (Reaches base events trunk) first → All (Reaches base events trunk) rest × All (Reaches base (events ++ event ∷ []) trunk) list
+    (base : State) (events : List Event) (trunk : List Move) → All (Reaches base events trunk) first
+    → All (Reaches base events trunk) rest × All (Reaches base (events ++ event ∷ []) trunk) list
 
 -- each of the first list is still to come, or has settled
 abbrev pub SettlesBoth : ℕ → List Configuration → List Configuration → List Configuration → Type 0
@@ -41,9 +45,11 @@ has_pushed list new one is = has_added list new one (inr is)
 
 -- a member of a list with one more at its end
 has_last : (rest known : List Configuration) (one : Configuration) (c : Config) → known ≡ rest ++ one ∷ [] → Has known c → Has rest c ⊎ (config_of one ≡ c)
-has_last rest known one c parts has = Contains-push_cases (configs rest) (config_of one) c (subst (λ l. Contains l c) (ap configs parts ∙ map_append config_of rest (one ∷ [])) has)
+has_last rest known one c parts has =
+    Contains-push_cases (configs rest) (config_of one) c (subst (λ l. Contains l c) (ap configs parts ∙ map_append config_of rest (one ∷ [])) has)
 
-pub settles_step : (session : ℕ) (first known rest list new : List Configuration) (one next : Configuration) → known ≡ rest ++ one ∷ [] → new ≡ list ++ next ∷ [] → config_of next ≡ settled (config_of one) session
+pub settles_step : (session : ℕ) (first known rest list new : List Configuration) (one next : Configuration) → known ≡ rest ++ one ∷ []
+    → new ≡ list ++ next ∷ [] → config_of next ≡ settled (config_of one) session
     → SettlesBoth session first known list → SettlesBoth session first rest new
 settles_step session first known rest list new one next parts pushed is has = λ c was. elim (has c was) [
   | inl there ↦ elim (has_last rest known one c parts there) [
@@ -53,18 +59,22 @@ settles_step session first known rest list new one next parts pushed is has = λ
   | inr done ↦ inr (has_kept list new next (settled c session) (inr pushed) done)
 ]
 
-reaches_settled : (base : State) (events : List Event) (trunk : List Move) (session : ℕ) (one next : Configuration) → IsSettledFrom session one next → Reaches base events trunk one → Reaches base events trunk next
+reaches_settled : (base : State) (events : List Event) (trunk : List Move) (session : ℕ) (one next : Configuration) → IsSettledFrom session one next
+    → Reaches base events trunk one → Reaches base events trunk next
 reaches_settled base events trunk session one next (inl same) reach = subst (Reaches base events trunk) (sym same) reach
-reaches_settled base events trunk session one next (inr effect) reach = reaches_effect base events trunk one next session Statement reach effect.0 effect.1 effect.2
+reaches_settled base events trunk session one next (inr effect) reach =
+    reaches_effect base events trunk one next session Statement reach effect.0 effect.1 effect.2
 
-pub settles_reach : (session : ℕ) (first known rest list new : List Configuration) (one next : Configuration) → known ≡ rest ++ one ∷ [] → new ≡ list ++ next ∷ [] → IsSettledFrom session one next
+pub settles_reach : (session : ℕ) (first known rest list new : List Configuration) (one next : Configuration) → known ≡ rest ++ one ∷ []
+    → new ≡ list ++ next ∷ [] → IsSettledFrom session one next
     → KeepsReachBoth first known list → KeepsReachBoth first rest new
 settles_reach session first known rest list new one next parts pushed from reach = λ base events trunk all.
     let both = reach base events trunk all in
     let cut = All-pop (Reaches base events trunk) known rest (Some one) parts both.0 in
     (cut.0, all_added (Reaches base events trunk) list new next (inr pushed) both.1 (reaches_settled base events trunk session one next from cut.1))
 
-pub sees_step : (event : Event) (first known rest list new : List Configuration) (one : Configuration) → known ≡ rest ++ one ∷ [] → IsSeenAdded event one list new → SeesBoth event first known list → SeesBoth event first rest new
+pub sees_step : (event : Event) (first known rest list new : List Configuration) (one : Configuration) → known ≡ rest ++ one ∷ []
+    → IsSeenAdded event one list new → SeesBoth event first known list → SeesBoth event first rest new
 sees_step event first known rest list new one parts (inl none) has = λ c next was at. elim (has c next was at) [
   | inl there ↦ elim (has_last rest known one c parts there) [
     | inl still ↦ inl still
@@ -75,31 +85,43 @@ sees_step event first known rest list new one parts (inl none) has = λ c next w
 sees_step event first known rest list new one parts (inr some) has = λ c next was at. elim (has c next was at) [
   | inl there ↦ elim (has_last rest known one c parts there) [
     | inl still ↦ inl still
-    | inr here ↦ inr (subst (λ d. Has new d) (same_Some (config_of some.0) next (sym some.1 ∙ ap (λ d. observed d event) here ∙ at)) (has_added list new some.0 some.3))
+    | inr here ↦ inr (subst (λ d. Has new d) (same_Some (config_of some.0) next (sym some.1 ∙ ap (λ d. observed d event) here ∙ at))
+        (has_added list new some.0 some.3))
   ]
   | inr done ↦ inr (has_kept list new some.0 next some.3 done)
 ]
 
-pub sees_reach : (event : Event) (first known rest list new : List Configuration) (one : Configuration) → known ≡ rest ++ one ∷ [] → IsSeenAdded event one list new → ReachesPastBoth event first known list → ReachesPastBoth event first rest new
+pub sees_reach : (event : Event) (first known rest list new : List Configuration) (one : Configuration) → known ≡ rest ++ one ∷ []
+    → IsSeenAdded event one list new → ReachesPastBoth event first known list → ReachesPastBoth event first rest new
 sees_reach event first known rest list new one parts (inl none) reach = λ base events trunk all.
     let both = reach base events trunk all in
     let cut = All-pop (Reaches base events trunk) known rest (Some one) parts both.0 in
     (cut.0, subst (λ l. All (Reaches base (events ++ event ∷ []) trunk) l) (sym none.1) both.1)
 sees_reach event first known rest list new one parts (inr some) reach = λ base events trunk all.
     let both = reach base events trunk all in
-    let cut = All-pop (Reaches base events trunk) known rest (Some one) parts both.0 in
-    (cut.0, all_added (Reaches base (events ++ event ∷ []) trunk) list new some.0 some.3 both.1 (reaches_event base events trunk one some.0 event cut.1 some.1 some.2))
+    let cut = All-pop (Reaches base events trunk) known rest (Some one) parts both.0 in (
+      cut.0,
+      all_added (Reaches base (events ++ event ∷ []) trunk) list new some.0 some.3 both.1
+          (reaches_event base events trunk one some.0 event cut.1 some.1 some.2),
+    )
 
 -- one more answer
-pub answers_step : (known : List Configuration) (place session : ℕ) (one : Configuration) (old new : List Answer) → place < length known → one ≡ get_or known place one → IsAnswerAdded (slice_get one.standings.items session) old new
+pub answers_step : (known : List Configuration) (place session : ℕ) (one : Configuration) (old new : List Answer) → place < length known
+    → one ≡ get_or known place one → IsAnswerAdded (slice_get one.standings.items session) old new
     → All (IsAnsweredIn known session) old → All (IsAnsweredIn known session) new
 answers_step known place session one old new within at (inl same) all = subst (λ l. All (IsAnsweredIn known session) l) (sym same) all
 answers_step known place session one old new within at (inr more) all =
     subst (λ l. All (IsAnsweredIn known session) l) (sym more.2)
-    (All-push (IsAnsweredIn known session) old more.0 all (record { one = config_of one; has = place_mapped config_of known place one (slice_get_read known (length known) place one refl within at); stands = more.1 }))
+    (All-push (IsAnsweredIn known session) old more.0 all
+    (record {
+      one = config_of one;
+      has = place_mapped config_of known place one (slice_get_read known (length known) place one refl within at);
+      stands = more.1;
+    }))
 
 -- a list stays closed as it grows, and is at one place more
-pub closed_more : (place returning : ℕ) (old new : List Configuration) → place < length old → IsClosedBelow place returning old → Grows old new → ((one : Configuration) → slice_get old place ≡ Some one → IsExpandedBelow 17 one returning new)
+pub closed_more : (place returning : ℕ) (old new : List Configuration) → place < length old → IsClosedBelow place returning old → Grows old new
+    → ((one : Configuration) → slice_get old place ≡ Some one → IsExpandedBelow 17 one returning new)
     → IsClosedBelow (place + 1) returning new
 closed_more place returning old new within before grows here k one below found =
     let was = get_within old k (omega (arith, below, within)) in
@@ -113,14 +135,19 @@ closed_more place returning old new within before grows here k one below found =
     before_or_at k place below = elim (cases_lt k place) [ inl less ↦ inl less | inr more ↦ inr (omega arith) ]
 
 -- what one act leads to is added
-pub effect_added : (old new : List Configuration) (place : ℕ) (one next : Configuration) (found : Option Configuration) (session : ℕ) (act : Act) → slice_get old place ≡ Some one → IsSession session
-    → option_map config_of found ≡ effect_of (config_of one) session act → IfSome found (λ n. n.path.items ≡ one.path.items ++ Effect session act ∷ []) → found ≡ Some next → IsAdded old next new
-    → Grows old new × ((other : Configuration) (config : Config) → slice_get old place ≡ Some other → effect_of (config_of other) session act ≡ Some config → Has new config)
+pub effect_added : (old new : List Configuration) (place : ℕ) (one next : Configuration) (found : Option Configuration) (session : ℕ) (act : Act)
+    → slice_get old place ≡ Some one → IsSession session
+    → option_map config_of found ≡ effect_of (config_of one) session act → IfSome found (λ n. n.path.items ≡ one.path.items ++ Effect session act ∷ [])
+    → found ≡ Some next → IsAdded old next new
+    → Grows old new × ((other : Configuration) (config : Config) → slice_get old place ≡ Some other → effect_of (config_of other) session act ≡ Some config
+    → Has new config)
 effect_added old new place one next found session act at is effect path some added = (
-  grows_added old new place one next session act at is led (subst (λ o. IfSome o (λ n. n.path.items ≡ one.path.items ++ Effect session act ∷ [])) some path) added,
+  grows_added old new place one next session act at is led
+      (subst (λ o. IfSome o (λ n. n.path.items ≡ one.path.items ++ Effect session act ∷ [])) some path) added,
   λ other config there leads.
       let same : one ≡ other = same_Some one other (sym at ∙ there) in
-      subst (λ d. Has new d) (same_Some (config_of next) config (sym led ∙ ap (λ o. effect_of (config_of o) session act) same ∙ leads)) (has_added old new next added),
+      subst (λ d. Has new d) (same_Some (config_of next) config (sym led ∙ ap (λ o. effect_of (config_of o) session act) same ∙ leads))
+      (has_added old new next added),
 )
   where
     led : effect_of (config_of one) session act ≡ Some (config_of next)
@@ -130,17 +157,22 @@ effect_added old new place one next found session act at is effect path some add
 pub effects_added : (old mid new : List Configuration) (place session : ℕ) → Grows old mid → Grows mid new
     → ((one : Configuration) (config : Config) → slice_get old place ≡ Some one → effect_of (config_of one) session Statement ≡ Some config → Has mid config)
     → ((one : Configuration) (config : Config) → slice_get mid place ≡ Some one → effect_of (config_of one) session Disconnect ≡ Some config → Has new config)
-    → (one : Configuration) (act : Act) (config : Config) → slice_get old place ≡ Some one → effect_of (config_of one) session act ≡ Some config → Has new config
+    → (one : Configuration) (act : Act) (config : Config) → slice_get old place ≡ Some one → effect_of (config_of one) session act ≡ Some config
+    → Has new config
 effects_added old mid new place session first second has then one Statement config at leads = has_still mid new config second (has one config at leads)
 effects_added old mid new place session first second has then one Disconnect config at leads = then one config (still_there old mid place one first at) leads
 
 -- what acts of the sessions up to this one lead to is there
-pub others_more : (old now new : List Configuration) (place number returning : ℕ) (one : Configuration) → Grows old now → Grows now new → slice_get old place ≡ Some one → IsExpandedBelow number one returning now
-    → ((other : Configuration) (act : Act) (config : Config) → slice_get now place ≡ Some other → IsSession number → number ≢ returning → effect_of (config_of other) number act ≡ Some config → Has new config)
+pub others_more : (old now new : List Configuration) (place number returning : ℕ) (one : Configuration) → Grows old now → Grows now new
+    → slice_get old place ≡ Some one → IsExpandedBelow number one returning now
+    → ((other : Configuration) (act : Act) (config : Config) → slice_get now place ≡ Some other → IsSession number → number ≢ returning
+    → effect_of (config_of other) number act ≡ Some config → Has new config)
     → IsExpandedBelow (number + 1) one returning new
-others_more old now new place number returning one first second at before here session act config below is apart unanswered leads = elim (cases_lt session number) [
-  | inl less ↦ has_still now new config second (before session act config less is apart unanswered leads)
-  | inr more ↦
-      let same : session ≡ number = omega arith in
-      here one act config (still_there old now place one first at) (subst IsSession same is) (λ e. apart (same ∙ e)) (ap (λ n. effect_of (config_of one) n act) (sym same) ∙ leads)
-]
+others_more old now new place number returning one first second at before here session act config below is apart unanswered leads =
+    elim (cases_lt session number) [
+      | inl less ↦ has_still now new config second (before session act config less is apart unanswered leads)
+      | inr more ↦
+          let same : session ≡ number = omega arith in
+          here one act config (still_there old now place one first at) (subst IsSession same is) (λ e. apart (same ∙ e))
+          (ap (λ n. effect_of (config_of one) n act) (sym same) ∙ leads)
+    ]

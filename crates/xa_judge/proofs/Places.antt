@@ -52,7 +52,8 @@ length_map f [] = refl
 length_map f (x ∷ xs) = ap suc (length_map f xs)
 
 -- a member of a mapped list comes from a place of the list
-pub mapped_place : {A B : Type 0} (f : A → B) (xs : List A) (y : B) → Contains (map f xs) y → (i : ℕ) × (x : A) × (i < length xs) × (slice_get xs i ≡ Some x) × (f x ≡ y)
+pub mapped_place : {A B : Type 0} (f : A → B) (xs : List A) (y : B) → Contains (map f xs) y
+    → (i : ℕ) × (x : A) × (i < length xs) × (slice_get xs i ≡ Some x) × (f x ≡ y)
 mapped_place {A} {B} f xs y has = by xs has.0 has.1 has.2
   where
     by : (xs : List A) (i : ℕ) → i < length (map f xs) → get_or (map f xs) i y ≡ y → (i : ℕ) × (x : A) × (i < length xs) × (slice_get xs i ≡ Some x) × (f x ≡ y)

@@ -30,13 +30,16 @@ answered_may (Some (Gone request)) e = absurd (false≢true e)
 answered_may (Some Left) e = absurd (false≢true e)
 
 -- a session that can't be answered never returns
-pub dead : (old new : Config) (session : ℕ) (seen : Seen) (more : List Event) (moves : List Move) → may_answer (slice_get old.standings session) ≡ false → Runs old (Return session seen ∷ more) moves new → ⊥
-dead old new session seen more (Seeing ∷ moves) none runs = false≢true (sym none ∙ answered_may (slice_get old.standings session) (return_answered old runs.0 session seen runs.1))
+pub dead : (old new : Config) (session : ℕ) (seen : Seen) (more : List Event) (moves : List Move) → may_answer (slice_get old.standings session) ≡ false
+    → Runs old (Return session seen ∷ more) moves new → ⊥
+dead old new session seen more (Seeing ∷ moves) none runs =
+    false≢true (sym none ∙ answered_may (slice_get old.standings session) (return_answered old runs.0 session seen runs.1))
 dead old new session seen more (Effect other act ∷ moves) none runs =
     let a = acted old runs.0 other act runs.2 in
     let stays : may_answer (slice_get runs.0.standings session) ≡ false = elim (same_number other session) [
       | inl e ↦
-          ap may_answer (ap (λ (c : Config). slice_get c.standings session) a.is ∙ ap (slice_get (set old.standings other a.next)) (sym e) ∙ get_written old.standings other a.before a.next a.found)
+          ap may_answer (ap (λ (c : Config). slice_get c.standings session) a.is ∙ ap (slice_get (set old.standings other a.next)) (sym e)
+          ∙ get_written old.standings other a.before a.next a.found)
           ∙ a.dead (ap may_answer (sym a.found ∙ ap (slice_get old.standings) e) ∙ none)
       | inr apart ↦ ap may_answer (ap (λ (c : Config). slice_get c.standings session) a.is ∙ get_apart old.standings other session a.next apart) ∙ none
     ] in
@@ -62,16 +65,20 @@ settled_answered old session answered = ap (λ r. settled_by r old session) (by 
     by (Some (Gone request)) e = absurd (false≢true e)
     by (Some Left) e = absurd (false≢true e)
 
-settles_answered : (list : List Configuration) (session : ℕ) (seen : Seen) (more : List Event) (old new : Config) (moves : List Move) → Has list old → is_answered old session ≡ true → Runs old (Return session seen ∷ more) moves new
+settles_answered : (list : List Configuration) (session : ℕ) (seen : Seen) (more : List Event) (old new : Config) (moves : List Move) → Has list old
+    → is_answered old session ≡ true → Runs old (Return session seen ∷ more) moves new
     → Settled list session seen more
 settles_answered list session seen more old new moves has answered runs = record {
   one = old;
   has = has;
-  rest = subst (λ c. First c (Return session seen) more) (sym (settled_answered old session answered)) (later old new (Return session seen) more moves answered runs);
+  rest =
+      subst (λ c. First c (Return session seen) more) (sym (settled_answered old session answered))
+      (later old new (Return session seen) more moves answered runs);
 }
 
 -- the session's own act: what it called for, or one after which it is never answered
-own_act : (list : List Configuration) (session : ℕ) (act : Act) (seen : Seen) (more : List Event) (old mid new : Config) (moves : List Move) → Has list old → effect_of old session act ≡ Some mid
+own_act : (list : List Configuration) (session : ℕ) (act : Act) (seen : Seen) (more : List Event) (old mid new : Config) (moves : List Move) → Has list old
+    → effect_of old session act ≡ Some mid
     → Runs mid (Return session seen ∷ more) moves new → Settled list session seen more
 unfolding effect_of carried_out disconnected settled
 own_act list session act seen more old mid new moves has at runs = by act (slice_get old.standings session) refl at
@@ -81,10 +88,17 @@ own_act list session act seen more old mid new moves has at runs = by act (slice
     by Statement (Some Idle) found is = absurd (none-some mid (sym (ap (λ o. carried_out o old session) found) ∙ is))
     by Statement (Some (Called request)) found is =
         let answer = Answered (answer_to old.state session request) in
-        let mid_is : record { state = next_state old.state session request; standings = set old.standings session answer } ≡ mid = same_Some _ mid (sym (ap (λ o. carried_out o old session) found) ∙ is) in
-        let here : is_answered mid session ≡ true = ap answered_so (ap (λ (c : Config). slice_get c.standings session) (sym mid_is) ∙ get_written old.standings session (Called request) answer found) in
+        let mid_is : record { state = next_state old.state session request; standings = set old.standings session answer } ≡ mid =
+        same_Some _ mid (sym (ap (λ o. carried_out o old session) found) ∙ is) in
+        let here : is_answered mid session ≡ true =
+        ap answered_so (ap (λ (c : Config). slice_get c.standings session) (sym mid_is)
+        ∙ get_written old.standings session (Called request) answer found) in
         let same : settled old session ≡ mid = ap (λ r. settled_by r old session) (ap called_for found) ∙ mid_is in
-        record { one = old; has = has; rest = subst (λ c. First c (Return session seen) more) (sym same) (later mid new (Return session seen) more moves here runs) }
+        record {
+          one = old;
+          has = has;
+          rest = subst (λ c. First c (Return session seen) more) (sym same) (later mid new (Return session seen) more moves here runs);
+        }
     by Statement (Some (Answered answer)) found is = absurd (none-some mid (sym (ap (λ o. carried_out o old session) found) ∙ is))
     by Statement (Some (Gone request)) found is = absurd (gone Statement request found is)
       where
@@ -92,7 +106,8 @@ own_act list session act seen more old mid new moves has at runs = by act (slice
         gone act request found is =
             let a = acted old mid session act is in
             dead mid new session seen more moves
-            (ap may_answer (ap (λ (c : Config). slice_get c.standings session) a.is ∙ get_written old.standings session a.before a.next a.found) ∙ a.dead (ap may_answer (sym a.found ∙ found))) runs
+            (ap may_answer (ap (λ (c : Config). slice_get c.standings session) a.is ∙ get_written old.standings session a.before a.next a.found)
+            ∙ a.dead (ap may_answer (sym a.found ∙ found))) runs
     by Statement (Some Left) found is = absurd (none-some mid (sym (ap (λ o. carried_out o old session) found) ∙ is))
     by Disconnect None found is = absurd (none-some mid (sym (ap (λ o. disconnected o old session) found) ∙ is))
     by Disconnect (Some Idle) found is = absurd (none-some mid (sym (ap (λ o. disconnected o old session) found) ∙ is))
@@ -100,20 +115,26 @@ own_act list session act seen more old mid new moves has at runs = by act (slice
     by Disconnect (Some (Answered answer)) found is = absurd (none-some mid (sym (ap (λ o. disconnected o old session) found) ∙ is))
     by Disconnect (Some (Gone request)) found is =
         let a = acted old mid session Disconnect is in
-        absurd (dead mid new session seen more moves (ap may_answer (ap (λ (c : Config). slice_get c.standings session) a.is ∙ get_written old.standings session a.before a.next a.found) ∙ a.dead (ap may_answer (sym a.found ∙ found))) runs)
+        absurd (dead mid new session seen more moves
+        (ap may_answer (ap (λ (c : Config). slice_get c.standings session) a.is ∙ get_written old.standings session a.before a.next a.found)
+        ∙ a.dead (ap may_answer (sym a.found ∙ found))) runs)
     by Disconnect (Some Left) found is = absurd (none-some mid (sym (ap (λ o. disconnected o old session) found) ∙ is))
 
 -- the act of another session leads to one of a closed list
-other_act : (list : List Configuration) (returning session : ℕ) (act : Act) (old mid : Config) → IsClosedBelow (length list) returning list → Has list old → IsSession session → session ≢ returning → is_answered old returning ≡ false
+other_act : (list : List Configuration) (returning session : ℕ) (act : Act) (old mid : Config) → IsClosedBelow (length list) returning list → Has list old
+    → IsSession session → session ≢ returning → is_answered old returning ≡ false
     → effect_of old session act ≡ Some mid → Has list mid
 other_act list returning session act old mid closed has is apart unanswered at =
     let place = mapped_place config_of list old has in
     let same : config_of place.1 ≡ old = place.4 in
-    closed place.0 place.1 place.2 place.3 session act mid (omega (arith, is.1)) is apart (ap (λ c. is_answered c returning) same ∙ unanswered) (ap (λ c. effect_of c session act) same ∙ at)
+    closed place.0 place.1 place.2 place.3 session act mid (omega (arith, is.1)) is apart (ap (λ c. is_answered c returning) same ∙ unanswered)
+    (ap (λ c. effect_of c session act) same ∙ at)
 
 -- a run that begins with an act, where one that begins behind an act of another session settles
-settles_effect : (list : List Configuration) (session other : ℕ) (act : Act) (seen : Seen) (more : List Event) (old new : Config) (moves : List Move) → IsClosedBelow (length list) session list → Has list old
-    → (runs : Runs old (Return session seen ∷ more) (Effect other act ∷ moves) new) → (Has list runs.0 → Settled list session seen more) → Settled list session seen more
+settles_effect : (list : List Configuration) (session other : ℕ) (act : Act) (seen : Seen) (more : List Event) (old new : Config) (moves : List Move)
+    → IsClosedBelow (length list) session list → Has list old
+    → (runs : Runs old (Return session seen ∷ more) (Effect other act ∷ moves) new) → (Has list runs.0 → Settled list session seen more)
+    → Settled list session seen more
 settles_effect list session other act seen more old new moves closed has runs go_on = by (is_answered old session) refl
   where
     by : (b : Bool) → is_answered old session ≡ b → Settled list session seen more
@@ -123,9 +144,11 @@ settles_effect list session other act seen more old new moves closed has runs go
       | inr apart ↦ go_on (other_act list session other act old runs.0 closed has runs.1 apart unanswered runs.2)
     ]
 
-pub settles : (list : List Configuration) (session : ℕ) (seen : Seen) (more : List Event) (old new : Config) (moves : List Move) → IsClosedBelow (length list) session list → Has list old → Runs old (Return session seen ∷ more) moves new
+pub settles : (list : List Configuration) (session : ℕ) (seen : Seen) (more : List Event) (old new : Config) (moves : List Move)
+    → IsClosedBelow (length list) session list → Has list old → Runs old (Return session seen ∷ more) moves new
     → Settled list session seen more
-settles list session seen more old new (Seeing ∷ moves) closed has runs = settles_answered list session seen more old new (Seeing ∷ moves) has (return_answered old runs.0 session seen runs.1) runs
+settles list session seen more old new (Seeing ∷ moves) closed has runs =
+    settles_answered list session seen more old new (Seeing ∷ moves) has (return_answered old runs.0 session seen runs.1) runs
 settles list session seen more old new (Effect other act ∷ moves) closed has runs =
     settles_effect list session other act seen more old new moves closed has runs (λ there. settles list session seen more runs.0 new moves closed there runs.3)
 settles list session seen more old new [] closed has runs = absurd runs

@@ -18,34 +18,46 @@ use Rattle.xa_judge.proofs.Growth.{all_at}
 abbrev pub IsComplete : State → List Event → List Configuration → Type 0
 IsComplete base seen list = (more : List Event) → Explained base (seen ++ more) → Continues list more
 
-pub complete_more : (base : State) (events : List Event) (place : ℕ) (event : Event) (old new : List Configuration) → place < length events → event ≡ get_or events place event → IsComplete base (take place events) old
+pub complete_more : (base : State) (events : List Event) (place : ℕ) (event : Event) (old new : List Configuration) → place < length events
+    → event ≡ get_or events place event → IsComplete base (take place events) old
     → ((more : List Event) → Continues old (event ∷ more) → Continues new more) → IsComplete base (take (place + 1) events) new
 complete_more base events place event old new within at complete leads = λ more explained.
     let parts : take (place + 1) events ++ more ≡ take place events ++ event ∷ more =
-    ap (λ l. l ++ more) (take_more events place event within ∙ ap (λ x. take place events ++ x ∷ []) (sym at)) ∙ append_assoc (take place events) (event ∷ []) more in
+    ap (λ l. l ++ more) (take_more events place event within ∙ ap (λ x. take place events ++ x ∷ []) (sym at))
+    ∙ append_assoc (take place events) (event ∷ []) more in
     leads more (complete (event ∷ more) (subst (Explained base) parts explained))
 
-pub reach_more : (base : State) (events : List Event) (place : ℕ) (event : Event) (trunk : List Move) (old new : List Configuration) → place < length events → event ≡ get_or events place event
+pub reach_more : (base : State) (events : List Event) (place : ℕ) (event : Event) (trunk : List Move) (old new : List Configuration) → place < length events
+    → event ≡ get_or events place event
     → All (Reaches base (take place events) trunk) old → ReachesPast event old new → All (Reaches base (take (place + 1) events) trunk) new
 reach_more base events place event trunk old new within at all leads =
-    let parts : take place events ++ event ∷ [] ≡ take (place + 1) events = sym (take_more events place event within ∙ ap (λ x. take place events ++ x ∷ []) (sym at)) in
+    let parts : take place events ++ event ∷ [] ≡ take (place + 1) events =
+    sym (take_more events place event within ∙ ap (λ x. take place events ++ x ∷ []) (sym at)) in
     subst (λ l. All (Reaches base l trunk) new) parts (leads base (take place events) trunk all)
 
 -- one of the list explains what was seen
-pub explained_by : (base : State) (seen : List Event) (trunk : List Move) (list : List Configuration) → 0 < length list → All (Reaches base seen trunk) list → Explained base seen
+pub explained_by : (base : State) (seen : List Event) (trunk : List Move) (list : List Configuration) → 0 < length list → All (Reaches base seen trunk) list
+    → Explained base seen
 unfolding Reaches
 explained_by base seen trunk list some all =
     let first = get_within list 0 some in
     (trunk ++ first.0.path.items, config_of first.0, all_at (Reaches base seen trunk) list 0 first.0 all first.1)
 
-pub legal : (base : State) (events : List Event) (trunk moves : List Move) (list : List Configuration) → All (Reaches base (take (length events) events) trunk) list → IsPathOf trunk list moves → (new : Config) × Runs (opening base) events moves new
+pub legal : (base : State) (events : List Event) (trunk moves : List Move) (list : List Configuration)
+    → All (Reaches base (take (length events) events) trunk) list → IsPathOf trunk list moves → (new : Config) × Runs (opening base) events moves new
 unfolding Reaches
 legal base events trunk moves list all path =
-    let reach : Reaches base (take (length events) events) trunk path.0 = all_at (Reaches base (take (length events) events) trunk) list 0 path.0 all path.1 in
-    (config_of path.0, subst (λ l. Runs (opening base) l moves (config_of path.0)) (take_all (length events) events (omega arith)) (subst (λ m. Runs (opening base) (take (length events) events) m (config_of path.0)) (sym path.2) reach))
+    let reach : Reaches base (take (length events) events) trunk path.0 =
+    all_at (Reaches base (take (length events) events) trunk) list 0 path.0 all path.1 in (
+      config_of path.0,
+      subst (λ l. Runs (opening base) l moves (config_of path.0)) (take_all (length events) events (omega arith))
+          (subst (λ m. Runs (opening base) (take (length events) events) m (config_of path.0)) (sym path.2) reach),
+    )
 
-pub refuted : (base : State) (events : List Event) (place : ℕ) (event : Event) (trunk : List Move) (list : List Configuration) → place < length events → event ≡ get_or events place event → 0 < length list
-    → All (Reaches base (take place events) trunk) list → IsComplete base (take place events) list → ((more : List Event) → Continues list (event ∷ more) → ⊥) → IsRefuted base events place
+pub refuted : (base : State) (events : List Event) (place : ℕ) (event : Event) (trunk : List Move) (list : List Configuration) → place < length events
+    → event ≡ get_or events place event → 0 < length list
+    → All (Reaches base (take place events) trunk) list → IsComplete base (take place events) list → ((more : List Event) → Continues list (event ∷ more) → ⊥)
+    → IsRefuted base events place
 refuted base events place event trunk list within at some all complete none = record {
   within = within;
   before = explained_by base (take place events) trunk list some all;
@@ -57,16 +69,21 @@ refuted base events place event trunk list within at some all complete none = re
     upto = take_more events place event within ∙ ap (λ x. take place events ++ x ∷ []) (sym at)
 
     parts : events ≡ take place events ++ event ∷ drop (place + 1) events
-    parts = sym (take-append-drop (place + 1) events) ∙ ap (λ l. l ++ drop (place + 1) events) upto ∙ append_assoc (take place events) (event ∷ []) (drop (place + 1) events)
+    parts =
+        sym (take-append-drop (place + 1) events) ∙ ap (λ l. l ++ drop (place + 1) events) upto
+        ∙ append_assoc (take place events) (event ∷ []) (drop (place + 1) events)
 
-pub wide : (base : State) (events : List Event) (limit place : ℕ) (trunk : List Move) (list many : List Configuration) → place < length events → All (Reaches base (take place events) trunk) list → limit < length many → KeepsReach list many
+pub wide : (base : State) (events : List Event) (limit place : ℕ) (trunk : List Move) (list many : List Configuration) → place < length events
+    → All (Reaches base (take place events) trunk) list → limit < length many → KeepsReach list many
     → IsWide base events limit place
 unfolding Reaches
 wide base events limit place trunk list many within all over keeps = record {
   within = within;
   many = configs many;
   over = subst (λ n. limit < n) (sym (length_map config_of many)) over;
-  reached = All-map (IsReached base (take place events)) config_of many (λ k d below. record { moves = trunk ++ (get_or many k d).path.items; runs = keeps base (take place events) trunk all k d below });
+  reached =
+      All-map (IsReached base (take place events)) config_of many
+      (λ k d below. record { moves = trunk ++ (get_or many k d).path.items; runs = keeps base (take place events) trunk all k d below });
 }
 
 pub opens_reached : (base : State) (list : List Configuration) → IsOpening base list → All (Reaches base [] []) list
@@ -85,20 +102,24 @@ opens_complete base list is more explained = record {
   runs = explained.2;
 }
 
-pub continues_shortened : (trunk longer : List Move) (old new : List Configuration) (more : List Event) → IsShortened trunk longer old new → Continues old more → Continues new more
-continues_shortened trunk longer old new more is now = record { one = now.one; has = subst (λ l. Contains l now.one) (sym is.same) now.has; moves = now.moves; new = now.new; runs = now.runs }
+pub continues_shortened : (trunk longer : List Move) (old new : List Configuration) (more : List Event) → IsShortened trunk longer old new → Continues old more
+    → Continues new more
+continues_shortened trunk longer old new more is now =
+    record { one = now.one; has = subst (λ l. Contains l now.one) (sym is.same) now.has; moves = now.moves; new = now.new; runs = now.runs }
 
 pub some_shortened : (trunk longer : List Move) (old new : List Configuration) → IsShortened trunk longer old new → 0 < length old → 0 < length new
 some_shortened trunk longer old new is some = omega (arith, length_map config_of old, length_map config_of new, ap length is.same)
 
 -- the only configuration without its path, which is the trunk's end now
-pub shortened : (trunk longer : List Move) (old rest new : List Configuration) (only next : Configuration) → length rest ≡ 0 → old ≡ rest ++ only ∷ [] → new ≡ rest ++ next ∷ [] → config_of next ≡ config_of only → next.path.items ≡ []
+pub shortened : (trunk longer : List Move) (old rest new : List Configuration) (only next : Configuration) → length rest ≡ 0 → old ≡ rest ++ only ∷ []
+    → new ≡ rest ++ next ∷ [] → config_of next ≡ config_of only → next.path.items ≡ []
     → longer ≡ trunk ++ only.path.items → IsShortened trunk longer old new
 unfolding Reaches
 shortened trunk longer old [] new only next none was now same path parts = record {
   same = ap configs now ∙ ap (λ c. c ∷ []) same ∙ sym (ap configs was);
   reach = λ base events all.
-      let reach : Runs (opening base) events (trunk ++ only.path.items) (config_of only) = All-head (Reaches base events trunk) only [] (subst (λ l. All (Reaches base events trunk) l) was all) in
+      let reach : Runs (opening base) events (trunk ++ only.path.items) (config_of only) =
+      All-head (Reaches base events trunk) only [] (subst (λ l. All (Reaches base events trunk) l) was all) in
       let end : trunk ++ only.path.items ≡ longer ++ next.path.items = sym parts ∙ sym (append-nil longer) ∙ ap (λ l. longer ++ l) (sym path) in
       let moved : Runs (opening base) events (longer ++ next.path.items) (config_of next) =
       subst (λ d. Runs (opening base) events (longer ++ next.path.items) d) (sym same) (subst (λ m. Runs (opening base) events m (config_of only)) end reach) in

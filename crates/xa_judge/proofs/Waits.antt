@@ -20,19 +20,24 @@ use Rattle.xa_judge.specs.declared.moves.Act.{Act}
 use Rattle.xa_judge.specs.declared.moves.Act.TheVariants.{Statement, Disconnect}
 use Rattle.xa_judge.specs.declared.moves.Move.{Move}
 use Rattle.xa_judge.specs.declared.moves.Move.TheVariants.{Event as Seeing, Effect}
-use Rattle.xa_judge.specs.Explained.{Config, with_standing, effect_of, carried_out, disconnected, observed, called, returned, lost, agrees, answer_to, next_state, Runs, IsSession}
+use Rattle.xa_judge.specs.Explained.{Config, with_standing, effect_of, carried_out, disconnected, observed, called, returned, lost, agrees, answer_to}
+use Rattle.xa_judge.specs.Explained.{next_state, Runs, IsSession}
 use Rattle.xa_judge.specs.Found.{is_answered, answered_so, called_for}
 use Rattle.xa_judge.proofs.Places.{same_number, get_written, get_apart, set_apart}
 
-pub runs_effect : (old mid new : Config) (events : List Event) (moves : List Move) (session : ℕ) (act : Act) → Runs old events moves mid → IsSession session → effect_of mid session act ≡ Some new
+pub runs_effect : (old mid new : Config) (events : List Event) (moves : List Move) (session : ℕ) (act : Act) → Runs old events moves mid → IsSession session
+    → effect_of mid session act ≡ Some new
     → Runs old events (moves ++ Effect session act ∷ []) new
-runs_effect old mid new events (Effect other its ∷ moves) session act runs is at = (runs.0, runs.1, runs.2, runs_effect runs.0 mid new events moves session act runs.3 is at)
+runs_effect old mid new events (Effect other its ∷ moves) session act runs is at =
+    (runs.0, runs.1, runs.2, runs_effect runs.0 mid new events moves session act runs.3 is at)
 runs_effect old mid new [] (Seeing ∷ moves) session act runs is at = absurd runs
-runs_effect old mid new (event ∷ events) (Seeing ∷ moves) session act runs is at = (runs.0, runs.1, runs_effect runs.0 mid new events moves session act runs.2 is at)
+runs_effect old mid new (event ∷ events) (Seeing ∷ moves) session act runs is at =
+    (runs.0, runs.1, runs_effect runs.0 mid new events moves session act runs.2 is at)
 runs_effect old mid new [] [] session act runs is at = let P : Config → Type 0 = λ c. effect_of c session act ≡ Some new in (new, is, subst P runs at, refl)
 runs_effect old mid new (event ∷ events) [] session act runs is at = absurd runs
 
-pub runs_event : (old mid new : Config) (events : List Event) (moves : List Move) (event : Event) → Runs old events moves mid → observed mid event ≡ Some new → Runs old (events ++ event ∷ []) (moves ++ Seeing ∷ []) new
+pub runs_event : (old mid new : Config) (events : List Event) (moves : List Move) (event : Event) → Runs old events moves mid → observed mid event ≡ Some new
+    → Runs old (events ++ event ∷ []) (moves ++ Seeing ∷ []) new
 runs_event old mid new events (Effect other its ∷ moves) event runs at = (runs.0, runs.1, runs.2, runs_event runs.0 mid new events moves event runs.3 at)
 runs_event old mid new [] (Seeing ∷ moves) event runs at = absurd runs
 runs_event old mid new (first ∷ events) (Seeing ∷ moves) event runs at = (runs.0, runs.1, runs_event runs.0 mid new events moves event runs.2 at)
@@ -58,12 +63,14 @@ pub record Acted (old : Config) (session : ℕ) (act : Act) (new : Config) : Typ
   pub state : State
   pub found : slice_get old.standings session ≡ Some before
   pub is : new ≡ record { state = state; standings = set old.standings session next }
-  pub again : (other : Config) → slice_get other.standings session ≡ Some before → other.state ≡ old.state → effect_of other session act ≡ Some (record { state = state; standings = set other.standings session next })
+  pub again : (other : Config) → slice_get other.standings session ≡ Some before → other.state ≡ old.state
+      → effect_of other session act ≡ Some (record { state = state; standings = set other.standings session next })
   pub busy : next ≡ Idle → ⊥
   pub unanswered : answered_so (Some before) ≡ false
   pub dead : may_answer (Some before) ≡ false → may_answer (Some next) ≡ false
 
-acted_statement : (o : Option Standing) (old new : Config) (session : ℕ) → slice_get old.standings session ≡ o → carried_out o old session ≡ Some new → Acted old session Statement new
+acted_statement : (o : Option Standing) (old new : Config) (session : ℕ) → slice_get old.standings session ≡ o → carried_out o old session ≡ Some new
+    → Acted old session Statement new
 unfolding effect_of carried_out
 acted_statement None old new session found is = absurd (none-some new is)
 acted_statement (Some Idle) old new session found is = absurd (none-some new is)
@@ -97,7 +104,8 @@ acted_statement (Some (Gone (Some request))) old new session found is = record {
 }
 acted_statement (Some Left) old new session found is = absurd (none-some new is)
 
-acted_disconnect : (o : Option Standing) (old new : Config) (session : ℕ) → slice_get old.standings session ≡ o → disconnected o old session ≡ Some new → Acted old session Disconnect new
+acted_disconnect : (o : Option Standing) (old new : Config) (session : ℕ) → slice_get old.standings session ≡ o → disconnected o old session ≡ Some new
+    → Acted old session Disconnect new
 unfolding effect_of disconnected
 acted_disconnect None old new session found is = absurd (none-some new is)
 acted_disconnect (Some Idle) old new session found is = absurd (none-some new is)
@@ -125,14 +133,19 @@ acted old new session Disconnect is = acted_disconnect (slice_get old.standings 
 
 -- what a session has called for takes effect
 pub effect_called : (config : Config) (session : ℕ) (request : Request) → called_for (slice_get config.standings session) ≡ Some request
-    → effect_of config session Statement ≡ some_config (next_state config.state session request) (set config.standings session (Answered (answer_to config.state session request)))
+    → effect_of config session Statement
+    ≡ some_config (next_state config.state session request) (set config.standings session (Answered (answer_to config.state session request)))
 unfolding effect_of carried_out
 effect_called config session request = by (slice_get config.standings session)
   where
-    by : (o : Option Standing) → called_for o ≡ Some request → carried_out o config session ≡ some_config (next_state config.state session request) (set config.standings session (Answered (answer_to config.state session request)))
+    by : (o : Option Standing) → called_for o ≡ Some request
+        → carried_out o config session
+        ≡ some_config (next_state config.state session request) (set config.standings session (Answered (answer_to config.state session request)))
     by None is = absurd (none-some request is)
     by (Some Idle) is = absurd (none-some request is)
-    by (Some (Called other)) is = ap (λ r. some_config (next_state config.state session r) (set config.standings session (Answered (answer_to config.state session r)))) (same_Some other request is)
+    by (Some (Called other)) is =
+        ap (λ r. some_config (next_state config.state session r) (set config.standings session (Answered (answer_to config.state session r))))
+        (same_Some other request is)
     by (Some (Answered answer)) is = absurd (none-some request is)
     by (Some (Gone other)) is = absurd (none-some request is)
     by (Some Left) is = absurd (none-some request is)
@@ -149,19 +162,30 @@ pub record Saw (old : Config) (event : Event) (new : Config) : Type 0 where
   pub next : Standing
   pub found : slice_get old.standings (session_in event) ≡ Some before
   pub is : new ≡ with_standing old (session_in event) next
-  pub again : (other : Config) → slice_get other.standings (session_in event) ≡ Some before → observed other event ≡ Some (with_standing other (session_in event) next)
+  pub again : (other : Config) → slice_get other.standings (session_in event) ≡ Some before
+      → observed other event ≡ Some (with_standing other (session_in event) next)
 
-saw_call : (o : Option Standing) (old new : Config) (session : ℕ) (request : Request) → slice_get old.standings session ≡ o → called o old session request ≡ Some new → Saw old (Call session request) new × (o ≡ Some Idle)
+saw_call : (o : Option Standing) (old new : Config) (session : ℕ) (request : Request) → slice_get old.standings session ≡ o
+    → called o old session request ≡ Some new → Saw old (Call session request) new × (o ≡ Some Idle)
 unfolding observed called
 saw_call None old new session request found is = absurd (none-some new is)
-saw_call (Some Idle) old new session request found is =
-    (record { before = Idle; next = Called request; found = found; is = sym (same_Some _ new is); again = λ other at. ap (λ o. called o other session request) at }, refl)
+saw_call (Some Idle) old new session request found is = (
+  record {
+    before = Idle;
+    next = Called request;
+    found = found;
+    is = sym (same_Some _ new is);
+    again = λ other at. ap (λ o. called o other session request) at;
+  },
+  refl,
+)
 saw_call (Some (Called other)) old new session request found is = absurd (none-some new is)
 saw_call (Some (Answered answer)) old new session request found is = absurd (none-some new is)
 saw_call (Some (Gone other)) old new session request found is = absurd (none-some new is)
 saw_call (Some Left) old new session request found is = absurd (none-some new is)
 
-saw_return : (o : Option Standing) (old new : Config) (session : ℕ) (seen : Seen) → slice_get old.standings session ≡ o → returned o old session seen ≡ Some new → Saw old (Return session seen) new × (answered_so o ≡ true)
+saw_return : (o : Option Standing) (old new : Config) (session : ℕ) (seen : Seen) → slice_get old.standings session ≡ o → returned o old session seen ≡ Some new
+    → Saw old (Return session seen) new × (answered_so o ≡ true)
 unfolding observed returned
 saw_return None old new session seen found is = absurd (none-some new is)
 saw_return (Some Idle) old new session seen found is = absurd (none-some new is)
@@ -180,12 +204,20 @@ saw_return (Some (Answered answer)) old new session seen found is =
 saw_return (Some (Gone request)) old new session seen found is = absurd (none-some new is)
 saw_return (Some Left) old new session seen found is = absurd (none-some new is)
 
-saw_lost : (o : Option Standing) (old new : Config) (session : ℕ) → slice_get old.standings session ≡ o → lost o old session ≡ Some new → Saw old (Lost session) new
+saw_lost : (o : Option Standing) (old new : Config) (session : ℕ) → slice_get old.standings session ≡ o → lost o old session ≡ Some new
+    → Saw old (Lost session) new
 unfolding observed lost
 saw_lost None old new session found is = absurd (none-some new is)
-saw_lost (Some Idle) old new session found is = record { before = Idle; next = Gone None; found = found; is = sym (same_Some _ new is); again = λ other at. ap (λ o. lost o other session) at }
+saw_lost (Some Idle) old new session found is =
+    record { before = Idle; next = Gone None; found = found; is = sym (same_Some _ new is); again = λ other at. ap (λ o. lost o other session) at }
 saw_lost (Some (Called request)) old new session found is =
-    record { before = Called request; next = Gone (Some request); found = found; is = sym (same_Some _ new is); again = λ other at. ap (λ o. lost o other session) at }
+    record {
+      before = Called request;
+      next = Gone (Some request);
+      found = found;
+      is = sym (same_Some _ new is);
+      again = λ other at. ap (λ o. lost o other session) at;
+    }
 saw_lost (Some (Answered answer)) old new session found is =
     record { before = Answered answer; next = Gone None; found = found; is = sym (same_Some _ new is); again = λ other at. ap (λ o. lost o other session) at }
 saw_lost (Some (Gone request)) old new session found is = absurd (none-some new is)
@@ -196,10 +228,12 @@ abbrev Swapped : Config → Event → ℕ → Act → Config → Type 0
 Swapped old event session act new = (first : Config) × (observed old event ≡ Some first) × (effect_of first session act ≡ Some new)
 
 -- an act and an event of different sessions
-commute : (old mid new : Config) (session : ℕ) (act : Act) (event : Event) → Acted old session act mid → Saw mid event new → session ≢ session_in event → Swapped old event session act new
+commute : (old mid new : Config) (session : ℕ) (act : Act) (event : Event) → Acted old session act mid → Saw mid event new → session ≢ session_in event
+    → Swapped old event session act new
 commute old mid new session act event a s apart =
     let other = session_in event in
-    let here : slice_get mid.standings other ≡ slice_get old.standings other = ap (λ (c : Config). slice_get c.standings other) a.is ∙ get_apart old.standings session other a.next apart in
+    let here : slice_get mid.standings other ≡ slice_get old.standings other =
+    ap (λ (c : Config). slice_get c.standings other) a.is ∙ get_apart old.standings session other a.next apart in
     let first : Config = with_standing old other s.next in
     let there : slice_get first.standings session ≡ Some a.before = get_apart old.standings other session s.next (λ e. apart (sym e)) ∙ a.found in
     let end : record { state = a.state; standings = set first.standings session a.next } ≡ new =
@@ -208,7 +242,8 @@ commute old mid new session act event a s apart =
     (first, s.again old (sym here ∙ s.found), a.again first there refl ∙ ap Some end)
 
 -- the act was the loss of a client's
-lost_alone : (o : Option Standing) (old mid new : Config) (session : ℕ) → slice_get old.standings session ≡ o → carried_out o old session ≡ Some mid → Saw mid (Lost session) new → lost (slice_get mid.standings session) mid session ≡ Some new
+lost_alone : (o : Option Standing) (old mid new : Config) (session : ℕ) → slice_get old.standings session ≡ o → carried_out o old session ≡ Some mid
+    → Saw mid (Lost session) new → lost (slice_get mid.standings session) mid session ≡ Some new
     → Swapped old (Lost session) session Statement new
 unfolding effect_of observed carried_out lost
 lost_alone None old mid new session found is s at = absurd (none-some mid is)
@@ -217,28 +252,36 @@ lost_alone (Some (Called request)) old mid new session found is s at =
     let answer = Answered (answer_to old.state session request) in
     let first : Config = with_standing old session (Gone (Some request)) in
     let mid_is : record { state = next_state old.state session request; standings = set old.standings session answer } ≡ mid = same_Some _ mid is in
-    let here : slice_get mid.standings session ≡ Some answer = ap (λ (c : Config). slice_get c.standings session) (sym mid_is) ∙ get_written old.standings session (Called request) answer found in
+    let here : slice_get mid.standings session ≡ Some answer =
+    ap (λ (c : Config). slice_get c.standings session) (sym mid_is) ∙ get_written old.standings session (Called request) answer found in
     let gone : with_standing mid session (Gone None) ≡ new = same_Some _ new (sym (ap (λ o. lost o mid session) here) ∙ at) in
-    let there : slice_get first.standings session ≡ Some (Gone (Some request)) = get_written old.standings session (Called request) (Gone (Some request)) found in
-    let end : record { state = next_state old.state session request; standings = set (set old.standings session (Gone (Some request))) session (Gone None) } ≡ new =
-    ap (λ l. record { state = next_state old.state session request; standings = l }) (set-set old.standings session (Gone (Some request)) (Gone None) ∙ sym (set-set old.standings session answer (Gone None)))
+    let there : slice_get first.standings session ≡ Some (Gone (Some request)) =
+    get_written old.standings session (Called request) (Gone (Some request)) found in
+    let end : record { state = next_state old.state session request; standings = set (set old.standings session (Gone (Some request))) session (Gone None) }
+    ≡ new =
+    ap (λ l. record { state = next_state old.state session request; standings = l })
+    (set-set old.standings session (Gone (Some request)) (Gone None) ∙ sym (set-set old.standings session answer (Gone None)))
     ∙ ap (λ (c : Config). with_standing c session (Gone None)) mid_is ∙ gone in
     (first, ap (λ o. lost o old session) found, ap (λ o. carried_out o first session) there ∙ ap Some end)
 lost_alone (Some (Answered answer)) old mid new session found is s at = absurd (none-some mid is)
 lost_alone (Some (Gone None)) old mid new session found is s at = absurd (none-some mid is)
 lost_alone (Some (Gone (Some request))) old mid new session found is s at =
-    let here : slice_get mid.standings session ≡ Some (Gone None) = ap (λ (c : Config). slice_get c.standings session) (sym (same_Some _ mid is)) ∙ get_written old.standings session (Gone (Some request)) (Gone None) found in
+    let here : slice_get mid.standings session ≡ Some (Gone None) =
+    ap (λ (c : Config). slice_get c.standings session) (sym (same_Some _ mid is))
+    ∙ get_written old.standings session (Gone (Some request)) (Gone None) found in
     absurd (none-some new (sym (ap (λ o. lost o mid session) here) ∙ at))
 lost_alone (Some Left) old mid new session found is s at = absurd (none-some mid is)
 
-left_alone : (o : Option Standing) (old mid new : Config) (session : ℕ) → slice_get old.standings session ≡ o → disconnected o old session ≡ Some mid → lost (slice_get mid.standings session) mid session ≡ Some new → ⊥
+left_alone : (o : Option Standing) (old mid new : Config) (session : ℕ) → slice_get old.standings session ≡ o → disconnected o old session ≡ Some mid
+    → lost (slice_get mid.standings session) mid session ≡ Some new → ⊥
 unfolding disconnected lost
 left_alone None old mid new session found is at = none-some mid is
 left_alone (Some Idle) old mid new session found is at = none-some mid is
 left_alone (Some (Called request)) old mid new session found is at = none-some mid is
 left_alone (Some (Answered answer)) old mid new session found is at = none-some mid is
 left_alone (Some (Gone request)) old mid new session found is at =
-    let here : slice_get mid.standings session ≡ Some Left = ap (λ (c : Config). slice_get c.standings session) (sym (same_Some _ mid is)) ∙ get_written old.standings session (Gone request) Left found in
+    let here : slice_get mid.standings session ≡ Some Left =
+    ap (λ (c : Config). slice_get c.standings session) (sym (same_Some _ mid is)) ∙ get_written old.standings session (Gone request) Left found in
     none-some new (sym (ap (λ o. lost o mid session) here) ∙ at)
 left_alone (Some Left) old mid new session found is at = none-some mid is
 
@@ -253,36 +296,44 @@ answered_apart : (old mid : Config) (session other : ℕ) (act : Act) → Acted 
 answered_apart old mid session other act a answered = λ e.
     false≢true (sym a.unanswered ∙ ap answered_so (sym a.found ∙ ap (slice_get old.standings) e) ∙ answered)
 
-swap : (old mid new : Config) (session : ℕ) (act : Act) (event : Event) → effect_of old session act ≡ Some mid → observed mid event ≡ Some new → CanWait old event → Swapped old event session act new
+swap : (old mid new : Config) (session : ℕ) (act : Act) (event : Event) → effect_of old session act ≡ Some mid → observed mid event ≡ Some new
+    → CanWait old event → Swapped old event session act new
 unfolding effect_of observed
 swap old mid new session act (Call other request) is at waits =
     let a = acted old mid session act is in
     let s = saw_call (slice_get mid.standings other) mid new other request refl at in
     commute old mid new session act (Call other request) a s.0 (λ e.
-    let here : slice_get mid.standings other ≡ Some a.next = ap (λ (c : Config). slice_get c.standings other) a.is ∙ ap (slice_get (set old.standings session a.next)) (sym e) ∙ get_written old.standings session a.before a.next a.found in
+    let here : slice_get mid.standings other ≡ Some a.next =
+    ap (λ (c : Config). slice_get c.standings other) a.is ∙ ap (slice_get (set old.standings session a.next)) (sym e)
+    ∙ get_written old.standings session a.before a.next a.found in
     a.busy (same_Some a.next Idle (sym here ∙ s.1)))
 swap old mid new session act (Return other seen) is at waits =
     let a = acted old mid session act is in
-    commute old mid new session act (Return other seen) a (saw_return (slice_get mid.standings other) mid new other seen refl at).0 (answered_apart old mid session other act a waits)
+    commute old mid new session act (Return other seen) a (saw_return (slice_get mid.standings other) mid new other seen refl at).0
+    (answered_apart old mid session other act a waits)
 swap old mid new session Statement (Lost other) is at waits = elim (same_number session other) [
   | inl e ↦
       let at' : lost (slice_get mid.standings session) mid session ≡ Some new = ap (λ n. lost (slice_get mid.standings n) mid n) e ∙ at in
-      let alone : Swapped old (Lost session) session Statement new = lost_alone (slice_get old.standings session) old mid new session refl is (saw_lost (slice_get mid.standings session) mid new session refl at') at' in
+      let alone : Swapped old (Lost session) session Statement new =
+      lost_alone (slice_get old.standings session) old mid new session refl is (saw_lost (slice_get mid.standings session) mid new session refl at') at' in
       subst (λ n. Swapped old (Lost n) session Statement new) e alone
-  | inr apart ↦ commute old mid new session Statement (Lost other) (acted old mid session Statement is) (saw_lost (slice_get mid.standings other) mid new other refl at) apart
+  | inr apart ↦ commute old mid new session Statement (Lost other) (acted old mid session Statement is)
+      (saw_lost (slice_get mid.standings other) mid new other refl at) apart
 ]
 swap old mid new session Disconnect (Lost other) is at waits = elim (same_number session other) [
   | inl e ↦
       let at' : lost (slice_get mid.standings session) mid session ≡ Some new = ap (λ n. lost (slice_get mid.standings n) mid n) e ∙ at in
       absurd (left_alone (slice_get old.standings session) old mid new session refl is at')
-  | inr apart ↦ commute old mid new session Disconnect (Lost other) (acted old mid session Disconnect is) (saw_lost (slice_get mid.standings other) mid new other refl at) apart
+  | inr apart ↦ commute old mid new session Disconnect (Lost other) (acted old mid session Disconnect is)
+      (saw_lost (slice_get mid.standings other) mid new other refl at) apart
 ]
 
 still_waits : (old mid : Config) (session : ℕ) (act : Act) (event : Event) → effect_of old session act ≡ Some mid → CanWait old event → CanWait mid event
 still_waits old mid session act (Call other request) is waits = tt
 still_waits old mid session act (Return other seen) is waits =
     let a = acted old mid session act is in
-    ap answered_so (ap (λ (c : Config). slice_get c.standings other) a.is ∙ get_apart old.standings session other a.next (answered_apart old mid session other act a waits)) ∙ waits
+    ap answered_so (ap (λ (c : Config). slice_get c.standings other) a.is
+    ∙ get_apart old.standings session other a.next (answered_apart old mid session other act a waits)) ∙ waits
 still_waits old mid session act (Lost other) is waits = tt
 
 -- the event is seen first, and then come the other moves
@@ -293,7 +344,8 @@ pub record First (old : Config) (event : Event) (more : List Event) : Type 0 whe
   pub new : Config
   pub runs : Runs first more moves new
 
-pub later : (old new : Config) (event : Event) (more : List Event) (moves : List Move) → CanWait old event → Runs old (event ∷ more) moves new → First old event more
+pub later : (old new : Config) (event : Event) (more : List Event) (moves : List Move) → CanWait old event → Runs old (event ∷ more) moves new
+    → First old event more
 later old new event more (Seeing ∷ moves) waits runs = record { first = runs.0; sees = runs.1; moves = moves; new = new; runs = runs.2 }
 later old new event more (Effect session act ∷ moves) waits runs =
     let rest = later runs.0 new event more moves (still_waits old runs.0 session act event runs.2 waits) runs.3 in

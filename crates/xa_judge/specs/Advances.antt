@@ -29,12 +29,14 @@ IsReturnOf session (Lost other) = ⊥
 
 -- each configuration that the event leads to at once is in the list, or there is none
 abbrev pub IsSeenFrom : List Configuration → List Answer → Event → Advance → Type 0
-IsSeenFrom old answers event (Known list) = (0 < vec_len list) × ((one new : Config) → Has old one → observed one event ≡ Some new → Has list.items new) × ReachesPast event old list.items
+IsSeenFrom old answers event (Known list) =
+    (0 < vec_len list) × ((one new : Config) → Has old one → observed one event ≡ Some new → Has list.items new) × ReachesPast event old list.items
 IsSeenFrom old answers event (Impossible others) = (one new : Config) → Has old one → observed one event ≡ Some new → ⊥
 IsSeenFrom old answers event TooMany = ⊥
 
 -- what the event leads to: where events go on from the old list, they do from the new one; or they never do; or too many are reached
 abbrev pub IsAdvance : List Configuration → Event → ℕ → Advance → Type 0
-IsAdvance old event limit (Known list) = (0 < vec_len list) × ((more : List Event) → Continues old (event ∷ more) → Continues list.items more) × ReachesPast event old list.items
+IsAdvance old event limit (Known list) =
+    (0 < vec_len list) × ((more : List Event) → Continues old (event ∷ more) → Continues list.items more) × ReachesPast event old list.items
 IsAdvance old event limit (Impossible answers) = (more : List Event) → Continues old (event ∷ more) → ⊥
 IsAdvance old event limit TooMany = (many : List Configuration) × (limit < length many) × KeepsReach old many

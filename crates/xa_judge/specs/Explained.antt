@@ -64,7 +64,8 @@ carried_out (Some (Called request)) config session =
     Some (with_standing (record config { state = next_state config.state session request }) session (Answered (answer_to config.state session request)))
 carried_out (Some (Answered answer)) config session = None
 carried_out (Some (Gone None)) config session = None
-carried_out (Some (Gone (Some request))) config session = Some (with_standing (record config { state = next_state config.state session request }) session (Gone None))
+carried_out (Some (Gone (Some request))) config session =
+    Some (with_standing (record config { state = next_state config.state session request }) session (Gone None))
 carried_out (Some Left) config session = None
 
 -- the DISCONNECT of a session whose client is gone takes effect; what it had called for then never does

@@ -41,7 +41,11 @@ called_for (Some Left) = None
 
 abbrev pub settled_by : Option Request → Config → ℕ → Config
 settled_by None config session = config
-settled_by (Some request) config session = record { state = next_state config.state session request; standings = slice_set config.standings session (Answered (answer_to config.state session request)) }
+settled_by (Some request) config session =
+    record {
+      state = next_state config.state session request;
+      standings = slice_set config.standings session (Answered (answer_to config.state session request));
+    }
 
 -- the configuration once what the session has called for has taken effect
 unfoldable pub settled : Config → ℕ → Config
@@ -73,11 +77,14 @@ KeepsReach old new = (base : State) (events : List Event) (trunk : List Move) �
 
 -- each of the new list is reached by one event more where the old list is
 abbrev pub ReachesPast : Event → List Configuration → List Configuration → Type 0
-ReachesPast event old new = (base : State) (events : List Event) (trunk : List Move) → All (Reaches base events trunk) old → All (Reaches base (events ++ event ∷ []) trunk) new
+ReachesPast event old new =
+    (base : State) (events : List Event) (trunk : List Move) → All (Reaches base events trunk) old → All (Reaches base (events ++ event ∷ []) trunk) new
 
 -- the configuration is as it was, or its path has one effect more
 abbrev pub IsSettledFrom : ℕ → Configuration → Configuration → Type 0
-IsSettledFrom session old new = (new ≡ old) ⊎ (IsSession session × (effect_of (config_of old) session Statement ≡ Some (config_of new)) × (new.path.items ≡ old.path.items ++ Effect session Statement ∷ []))
+IsSettledFrom session old new =
+    (new ≡ old) ⊎ (IsSession session × (effect_of (config_of old) session Statement ≡ Some (config_of new))
+    × (new.path.items ≡ old.path.items ++ Effect session Statement ∷ []))
 
 -- the list is as it was, and things stood so in one of it; or it has this one more
 abbrev pub IsAdded : List Configuration → Configuration → List Configuration → Type 0
@@ -87,7 +94,8 @@ IsAdded old one new = (Has old (config_of one) × (new ≡ old)) ⊎ (new ≡ ol
 abbrev pub IsSeenAdded : Event → Configuration → List Configuration → List Configuration → Type 0
 IsSeenAdded event one old new =
     ((observed (config_of one) event ≡ None) × (new ≡ old))
-    ⊎ ((next : Configuration) × (observed (config_of one) event ≡ Some (config_of next)) × (next.path.items ≡ one.path.items ++ Seeing ∷ []) × IsAdded old next new)
+    ⊎ ((next : Configuration) × (observed (config_of one) event ≡ Some (config_of next)) × (next.path.items ≡ one.path.items ++ Seeing ∷ [])
+    × IsAdded old next new)
 
 -- the list is as it was, or has this answer more
 abbrev pub IsAnswerAdded : Option Standing → List Answer → List Answer → Type 0

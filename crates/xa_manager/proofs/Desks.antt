@@ -40,12 +40,14 @@ decided-length : (decisions : List Standing) (number : ℕ) → length (with_dec
 unfolding with_decided
 decided-length decisions number = length-set decisions (number - 1) Decided
 
-pub after_decision : {A B : Type 0} (result : Result A B) (old new : List Standing) (number : ℕ) → OnOk result (new ≡ with_decided old number) → OnErr result (new ≡ old) → length new ≡ length old
+pub after_decision : {A B : Type 0} (result : Result A B) (old new : List Standing) (number : ℕ) → OnOk result (new ≡ with_decided old number)
+    → OnErr result (new ≡ old) → length new ≡ length old
 after_decision (Ok a) old new number decided kept = ap length decided ∙ decided-length old number
 after_decision (Err b) old new number decided kept = ap length kept
 
 -- a vote keeps its transaction
-pub voted_kept : {S : Type 0} (view : S → SessionView) (transaction : Transaction) (vote : Vote) (old new : List S) (count number : ℕ) → VotesAs view transaction vote old new → IsOf count number transaction
+pub voted_kept : {S : Type 0} (view : S → SessionView) (transaction : Transaction) (vote : Vote) (old new : List S) (count number : ℕ)
+    → VotesAs view transaction vote old new → IsOf count number transaction
     → (kept : Transaction) → transaction_in (stage_after vote) ≡ Some kept → IsOf count number kept
 voted_kept view transaction (VoteReady prepared) old new count number votes is kept keeps =
     let same : kept ≡ transaction = let e = ap (λ (p : Prepared). p.transaction) votes.0 in cc in
@@ -68,18 +70,21 @@ voted_ready view transaction (VoteNo prepared store cause) old new votes kept ke
 voted_ready view transaction VoteNothing old new votes kept keeps = absurd (cc)
 
 -- work keeps the transaction's number, name and count of stores
-pub worked_kept : (store count number : ℕ) (old new : Transaction) → Keeps store old new → IsOf count number old → (kept : Transaction) → transaction_in (Working new) ≡ Some kept → IsOf count number kept
+pub worked_kept : (store count number : ℕ) (old new : Transaction) → Keeps store old new → IsOf count number old → (kept : Transaction)
+    → transaction_in (Working new) ≡ Some kept → IsOf count number kept
 worked_kept store count number old new keeps is kept same =
     let e : new ≡ kept = cc in
     let P : Transaction → Type 0 = λ t. IsOf count number t in
     subst P e (record { number = keeps.number ∙ is.number; name = (let e = keeps.name in let f = is.name in cc); stores = keeps.stores ∙ is.stores })
 
 -- the transaction that has begun
-pub working_kept : (count number : ℕ) (transaction : Transaction) → IsOf count number transaction → (kept : Transaction) → transaction_in (Working transaction) ≡ Some kept → IsOf count number kept
+pub working_kept : (count number : ℕ) (transaction : Transaction) → IsOf count number transaction → (kept : Transaction)
+    → transaction_in (Working transaction) ≡ Some kept → IsOf count number kept
 working_kept count number transaction is kept same =
     let e : transaction ≡ kept = cc in
     let P : Transaction → Type 0 = λ t. IsOf count number t in
     subst P e is
 
-pub begun_on : (stages : List Stage) (number : ℕ) (begun : Stage) (added now : List Stage) → number ≡ length stages + 1 → added ≡ stages ++ Over ∷ [] → now ≡ with_stage added number begun → now ≡ stages ++ begun ∷ []
+pub begun_on : (stages : List Stage) (number : ℕ) (begun : Stage) (added now : List Stage) → number ≡ length stages + 1 → added ≡ stages ++ Over ∷ []
+    → now ≡ with_stage added number begun → now ≡ stages ++ begun ∷ []
 begun_on stages number begun added now is one put = put ∙ ap (λ list. with_stage list number begun) one ∙ with_stage-last stages Over begun number is

@@ -8,7 +8,8 @@ use Rattle.xa_coordinator.specs.declared.fused.Fused.{Fused}
 use Rattle.xa_coordinator.specs.Stores.{ChangesAt}
 use Rattle.xa_manager.specs.Limits.{Passes}
 
-pub passes_grown : {S : Type 0} (store calls : ℕ) (old new : List (Fused S)) → ((other : ℕ) → other < store → Passes other calls old) → Passes store calls new → ChangesAt store old new →
+pub passes_grown : {S : Type 0} (store calls : ℕ) (old new : List (Fused S)) → ((other : ℕ) → other < store → Passes other calls old) → Passes store calls new
+    → ChangesAt store old new →
     (other : ℕ) → other < store + 1 → Passes other calls new
 passes_grown {S} store calls old new so_far there changes = λ other below.
     elim (cases_lt other store) [

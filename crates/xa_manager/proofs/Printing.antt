@@ -1,5 +1,6 @@
 -- Printing lists one element after another.
-use Rattle.std.proofs.Common.{◌≡◌, ℕ, ◌+◌, ◌<◌, ◌⊎◌, inl, inr, Bool, true, false, cond, List, [], ◌∷◌, ◌++◌, Result, length, get_or, take, sym, ◌∙◌, ap, append_assoc, append-nil, add-zero, codes, decimal, arith}
+use Rattle.std.proofs.Common.{◌≡◌, ℕ, ◌+◌, ◌<◌, ◌⊎◌, inl, inr, Bool, true, false, cond, List, [], ◌∷◌, ◌++◌, Result, length, get_or, take, sym, ◌∙◌, ap}
+use Rattle.std.proofs.Common.{append_assoc, append-nil, add-zero, codes, decimal, arith}
 use Rattle.std.proofs.lemmas.List.{take_more, get_or_default}
 use Rattle.std.proofs.lemmas.List.{length-take}
 use Rattle.xa_server.specs.declared.reply.Reply.{Reply}
@@ -16,13 +17,17 @@ grown all one xs i x begin before now within is more was step =
 
 stores_text-more : (xs : List ℕ) (x : ℕ) → stores_text (xs ++ x ∷ []) ≡ stores_text xs ++ (codes " " ++ decimal x)
 stores_text-more [] x = append-nil (codes " " ++ decimal x)
-stores_text-more (y ∷ ys) x = ap (λ text. codes " " ++ decimal y ++ text) (stores_text-more ys x) ∙ sym (append_assoc (codes " " ++ decimal y) (stores_text ys) (codes " " ++ decimal x))
+stores_text-more (y ∷ ys) x =
+    ap (λ text. codes " " ++ decimal y ++ text) (stores_text-more ys x) ∙ sym (append_assoc (codes " " ++ decimal y) (stores_text ys) (codes " " ++ decimal x))
 
-pub stores_grown : (xs : List ℕ) (i x : ℕ) (begin before now : List ℕ) → i < length xs → x ≡ get_or xs i x → before ≡ begin ++ stores_text (take i xs) → now ≡ before ++ (codes " " ++ decimal x)
+pub stores_grown : (xs : List ℕ) (i x : ℕ) (begin before now : List ℕ) → i < length xs → x ≡ get_or xs i x → before ≡ begin ++ stores_text (take i xs)
+    → now ≡ before ++ (codes " " ++ decimal x)
     → now ≡ begin ++ stores_text (take (i + 1) xs)
-stores_grown xs i x begin before now within is was step = grown stores_text (codes " " ++ decimal x) xs i x begin before now within is (stores_text-more (take i xs) x) was step
+stores_grown xs i x begin before now within is was step =
+    grown stores_text (codes " " ++ decimal x) xs i x begin before now within is (stores_text-more (take i xs) x) was step
 
-shown-more : (n : ℕ) (xs : List (Result Reply Fault)) (x : Result Reply Fault) → stores_shown_text n (xs ++ x ∷ []) ≡ stores_shown_text n xs ++ store_text (n + length xs) x
+shown-more : (n : ℕ) (xs : List (Result Reply Fault)) (x : Result Reply Fault)
+    → stores_shown_text n (xs ++ x ∷ []) ≡ stores_shown_text n xs ++ store_text (n + length xs) x
 shown-more n [] x = append-nil (store_text n x) ∙ ap (λ k. store_text k x) (sym (add-zero n))
 shown-more n (y ∷ ys) x =
     let same : n + 1 + length ys ≡ n + length (y ∷ ys) = omega arith in
@@ -33,9 +38,11 @@ pub shown_grown : (xs : List (Result Reply Fault)) (i : ℕ) (x : Result Reply F
     → before ≡ begin ++ stores_shown_text 0 (take i xs) → now ≡ before ++ store_text i x → now ≡ begin ++ stores_shown_text 0 (take (i + 1) xs)
 shown_grown xs i x begin before now within is was step =
     let count : 0 + length (take i xs) ≡ i = omega (arith, length-take {A = Result Reply Fault}) in
-    grown (stores_shown_text 0) (store_text i x) xs i x begin before now within is (shown-more 0 (take i xs) x ∙ ap (λ k. stores_shown_text 0 (take i xs) ++ store_text k x) count) was step
+    grown (stores_shown_text 0) (store_text i x) xs i x begin before now within is
+    (shown-more 0 (take i xs) x ∙ ap (λ k. stores_shown_text 0 (take i xs) ++ store_text k x) count) was step
 
-numbers-more : (wanted : Standing) (n : ℕ) (xs : List Standing) (x : Standing) → numbers_text wanted n (xs ++ x ∷ []) ≡ numbers_text wanted n xs ++ number_text wanted (n + length xs) x
+numbers-more : (wanted : Standing) (n : ℕ) (xs : List Standing) (x : Standing)
+    → numbers_text wanted n (xs ++ x ∷ []) ≡ numbers_text wanted n xs ++ number_text wanted (n + length xs) x
 numbers-more wanted n [] x = append-nil (number_text wanted n x) ∙ ap (λ k. number_text wanted k x) (sym (add-zero n))
 numbers-more wanted n (y ∷ ys) x =
     let same : n + 1 + length ys ≡ n + length (y ∷ ys) = omega arith in
@@ -43,24 +50,31 @@ numbers-more wanted n (y ∷ ys) x =
     ∙ sym (append_assoc (number_text wanted n y) (numbers_text wanted (n + 1) ys) (number_text wanted (n + length (y ∷ ys)) x))
 
 pub numbers_grown : (wanted : Standing) (xs : List Standing) (i : ℕ) (x : Standing) (begin before now : List ℕ) → i < length xs → x ≡ get_or xs i x
-    → before ≡ begin ++ numbers_text wanted 1 (take i xs) → now ≡ before ++ number_text wanted (i + 1) x → now ≡ begin ++ numbers_text wanted 1 (take (i + 1) xs)
+    → before ≡ begin ++ numbers_text wanted 1 (take i xs) → now ≡ before ++ number_text wanted (i + 1) x
+    → now ≡ begin ++ numbers_text wanted 1 (take (i + 1) xs)
 numbers_grown wanted xs i x begin before now within is was step =
     let count : 1 + length (take i xs) ≡ i + 1 = omega (arith, length-take {A = Standing}) in
-    grown (numbers_text wanted 1) (number_text wanted (i + 1) x) xs i x begin before now within is (numbers-more wanted 1 (take i xs) x ∙ ap (λ k. numbers_text wanted 1 (take i xs) ++ number_text wanted k x) count) was step
+    grown (numbers_text wanted 1) (number_text wanted (i + 1) x) xs i x begin before now within is
+    (numbers-more wanted 1 (take i xs) x ∙ ap (λ k. numbers_text wanted 1 (take i xs) ++ number_text wanted k x) count) was step
 
 -- a number is told where it stands as wanted, and nothing is where it doesn't
-pub numbers_grown_if : (wanted : Standing) (xs : List Standing) (i : ℕ) (d : Standing) (stands : Bool) (begin before now : List ℕ) → i < length xs → stands ≡ stands_as wanted (get_or xs i d)
-    → before ≡ begin ++ numbers_text wanted 1 (take i xs) → ((stands ≡ true) × (now ≡ before ++ (codes " " ++ decimal (i + 1)))) ⊎ ((stands ≡ false) × (now ≡ before))
+pub numbers_grown_if : (wanted : Standing) (xs : List Standing) (i : ℕ) (d : Standing) (stands : Bool) (begin before now : List ℕ) → i < length xs
+    → stands ≡ stands_as wanted (get_or xs i d)
+    → before ≡ begin ++ numbers_text wanted 1 (take i xs)
+    → ((stands ≡ true) × (now ≡ before ++ (codes " " ++ decimal (i + 1)))) ⊎ ((stands ≡ false) × (now ≡ before))
     → now ≡ begin ++ numbers_text wanted 1 (take (i + 1) xs)
 numbers_grown_if wanted xs i d stands begin before now within is was step =
-    numbers_grown wanted xs i (get_or xs i d) begin before now within (get_or_default xs i d (get_or xs i d) within) was (by (stands_as wanted (get_or xs i d)) is step)
+    numbers_grown wanted xs i (get_or xs i d) begin before now within (get_or_default xs i d (get_or xs i d) within) was
+    (by (stands_as wanted (get_or xs i d)) is step)
   where
-    by : (b : Bool) → stands ≡ b → ((stands ≡ true) × (now ≡ before ++ (codes " " ++ decimal (i + 1)))) ⊎ ((stands ≡ false) × (now ≡ before)) → now ≡ before ++ cond b (codes " " ++ decimal (i + 1)) []
+    by : (b : Bool) → stands ≡ b → ((stands ≡ true) × (now ≡ before ++ (codes " " ++ decimal (i + 1)))) ⊎ ((stands ≡ false) × (now ≡ before))
+        → now ≡ before ++ cond b (codes " " ++ decimal (i + 1)) []
     by true so (inl told) = told.1
     by true so (inr silent) = let no = silent.0 in absurd (cc)
     by false so (inl told) = let yes = told.0 in absurd (cc)
     by false so (inr silent) = silent.1 ∙ sym (append-nil before)
 
 -- three words and their counts
-pub three_grown : (begin first second now a b c d e f : List ℕ) → first ≡ begin ++ (a ++ b) → second ≡ first ++ (c ++ d) → now ≡ second ++ (e ++ f) → now ≡ begin ++ (a ++ b ++ c ++ d ++ e ++ f)
+pub three_grown : (begin first second now a b c d e f : List ℕ) → first ≡ begin ++ (a ++ b) → second ≡ first ++ (c ++ d) → now ≡ second ++ (e ++ f)
+    → now ≡ begin ++ (a ++ b ++ c ++ d ++ e ++ f)
 three_grown begin first second now a b c d e f p q r = r ∙ ap (λ text. text ++ (e ++ f)) (q ∙ ap (λ text. text ++ (c ++ d)) p) ∙ simp append_assoc

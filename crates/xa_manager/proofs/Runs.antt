@@ -1,5 +1,6 @@
 -- Answering lines one after another.
-use Rattle.std.proofs.Common.{◌≡◌, ℕ, Option, Some, None, List, [], ◌∷◌, ◌++◌, length, take, refl, sym, ◌∙◌, ap, subst, append_assoc, append-nil, inl, inr, true, arith}
+use Rattle.std.proofs.Common.{◌≡◌, ℕ, Option, Some, None, List, [], ◌∷◌, ◌++◌, length, take, refl, sym, ◌∙◌, ap, subst, append_assoc, append-nil, inl, inr}
+use Rattle.std.proofs.Common.{true, arith}
 use Rattle.std.specs.Prelude.{◌==◌, IfSome}
 use Rattle.std.proofs.lemmas.Bool.{eqb-true}
 use Rattle.std.specs.Io.KnownBytes.{Appends}
@@ -16,11 +17,18 @@ use Rattle.xa_manager.specs.Answers.{Desk, Answers, IsRun, new_desk}
 use Rattle.xa_manager.specs.Written.{IsWhole, IsCut, MayBePart, AfterFault}
 
 -- one line more
-pub run-more : (start now next : Desk) (done : List (List ℕ)) (text line : List ℕ) (response : Response) → IsRun start done text now → Answers now (call_of line) response next
+pub run-more : (start now next : Desk) (done : List (List ℕ)) (text line : List ℕ) (response : Response) → IsRun start done text now
+    → Answers now (call_of line) response next
     → IsRun start (done ++ line ∷ []) (text ++ answer_text next.decisions response) next
 run-more start now next [] text line response run answered =
-    let P : Desk → Type 0 = λ desk. Answers desk (call_of line) response next in
-    (next, response, [], subst P run.1 answered, ap (λ t. t ++ answer_text next.decisions response) run.0 ∙ sym (append-nil (answer_text next.decisions response)), (refl, refl))
+    let P : Desk → Type 0 = λ desk. Answers desk (call_of line) response next in (
+      next,
+      response,
+      [],
+      subst P run.1 answered,
+      ap (λ t. t ++ answer_text next.decisions response) run.0 ∙ sym (append-nil (answer_text next.decisions response)),
+      (refl, refl),
+    )
 run-more start now next (first ∷ more) text line response run answered =
     let rest = run.2 in (
       run.0,
@@ -42,7 +50,8 @@ pub record IsSoFar (start now : Desk) (lines left : List (List ℕ)) (old new : 
 pub so_far_none : (start : Desk) (lines : List (List ℕ)) (old : Option (List ℕ)) → IsSoFar start start lines lines old old
 so_far_none start lines old = record { done = []; parts = refl; text = []; run = (refl, refl); written = Appends-nil old }
 
-pub so_far_more : (start now next : Desk) (lines left : List (List ℕ)) (line : List ℕ) (response : Response) (old mid new : Option (List ℕ)) → IsSoFar start now lines (line ∷ left) old mid
+pub so_far_more : (start now next : Desk) (lines left : List (List ℕ)) (line : List ℕ) (response : Response) (old mid new : Option (List ℕ))
+    → IsSoFar start now lines (line ∷ left) old mid
     → Answers now (call_of line) response next → Appends mid new (answer_text next.decisions response) → IsSoFar start next lines left old new
 so_far_more start now next lines left line response old mid new so answered appended = record {
   done = so.done ++ line ∷ [];
@@ -52,14 +61,16 @@ so_far_more start now next lines left line response old mid new so answered appe
   written = Appends-trans old mid new so.text (answer_text next.decisions response) so.written appended;
 }
 
-pub whole : (start now : Desk) (script : List ℕ) (left : List (List ℕ)) (old new : Option (List ℕ)) → IsSoFar start now (lines_of script) left old new → left ≡ [] → IsWhole start script old new
+pub whole : (start now : Desk) (script : List ℕ) (left : List (List ℕ)) (old new : Option (List ℕ)) → IsSoFar start now (lines_of script) left old new
+    → left ≡ [] → IsWhole start script old new
 whole start now script left old new so none =
     let all : so.done ≡ lines_of script = sym (so.parts ∙ ap (λ rest. so.done ++ rest) none ∙ append-nil so.done) in
     let P : List (List ℕ) → Type 0 = λ lines. IsRun start lines so.text now in
     record { text = so.text; final = now; run = subst P all so.run; written = so.written }
 
 -- nothing of the next answer was written
-pub cut_before : (start now : Desk) (script line : List ℕ) (left : List (List ℕ)) (old new : Option (List ℕ)) → IsSoFar start now (lines_of script) (line ∷ left) old new → IsCut start script old new
+pub cut_before : (start now : Desk) (script line : List ℕ) (left : List (List ℕ)) (old new : Option (List ℕ))
+    → IsSoFar start now (lines_of script) (line ∷ left) old new → IsCut start script old new
 cut_before start now script line left old new so = record {
   done = so.done;
   rest = line ∷ left;
@@ -73,7 +84,8 @@ cut_before start now script line left old new so = record {
 }
 
 -- a part of the next answer was written
-pub cut_within : (start now next : Desk) (script line : List ℕ) (left : List (List ℕ)) (response : Response) (old mid new : Option (List ℕ)) → IsSoFar start now (lines_of script) (line ∷ left) old mid
+pub cut_within : (start now next : Desk) (script line : List ℕ) (left : List (List ℕ)) (response : Response) (old mid new : Option (List ℕ))
+    → IsSoFar start now (lines_of script) (line ∷ left) old mid
     → Answers now (call_of line) response next → AppendsPrefix mid new (answer_text next.decisions response) → IsCut start script old new
 cut_within start now next script line left response old mid new so answered part = record {
   done = so.done;
@@ -120,7 +132,8 @@ after_reading stores GateShut input old is = absurd (grind arith)
 after_reading stores ThreadRefused input old is = absurd (grind arith)
 
 -- the same lines, the same call
-pub so_far_as : (start now : Desk) (lines left left' : List (List ℕ)) (old new : Option (List ℕ)) → IsSoFar start now lines left old new → left ≡ left' → IsSoFar start now lines left' old new
+pub so_far_as : (start now : Desk) (lines left left' : List (List ℕ)) (old new : Option (List ℕ)) → IsSoFar start now lines left old new → left ≡ left'
+    → IsSoFar start now lines left' old new
 so_far_as start now lines left left' old new so is = let P : List (List ℕ) → Type 0 = λ rest. IsSoFar start now lines rest old new in subst P is so
 
 pub answered_as : (now next : Desk) (call call' : Call) (response : Response) → Answers now call response next → call ≡ call' → Answers now call' response next

@@ -1,5 +1,6 @@
 -- How far transactions have come, in a list.
-use Rattle.std.proofs.Common.{◌≡◌, ◌≢◌, ◌≤◌, ℕ, ◌<◌, ◌+◌, ◌-◌, ◌⊎◌, List, [], ◌∷◌, ◌++◌, zero, suc, length, take, length-append, arith, sym, refl, ap, subst, ◌∙◌, inl, inr, Some, None, Bool, true, false, cond}
+use Rattle.std.proofs.Common.{◌≡◌, ◌≢◌, ◌≤◌, ℕ, ◌<◌, ◌+◌, ◌-◌, ◌⊎◌, List, [], ◌∷◌, ◌++◌, zero, suc, length, take, length-append, arith, sym, refl, ap, subst}
+use Rattle.std.proofs.Common.{◌∙◌, inl, inr, Some, None, Bool, true, false, cond}
 use Rattle.std.proofs.lemmas.Bool.{eqb-false, eqb-true}
 use Rattle.std.proofs.Math.Seq.{set-append_seam, take-append_seam}
 use Rattle.std.specs.Prelude.{◌==◌, slice_get, slice_set}
@@ -44,7 +45,8 @@ set-twice [] place x y = refl
 set-twice (z ∷ zs) zero x y = refl
 set-twice (z ∷ zs) (suc n) x y = ap (λ rest. z ∷ rest) (set-twice zs n x y)
 
-pub with_stage-twice : (stages : List Stage) (number : ℕ) (before after : Stage) → with_stage (with_stage stages number before) number after ≡ with_stage stages number after
+pub with_stage-twice : (stages : List Stage) (number : ℕ) (before after : Stage)
+    → with_stage (with_stage stages number before) number after ≡ with_stage stages number after
 unfolding with_stage
 with_stage-twice stages number before after = by (number == 0)
   where
@@ -69,13 +71,15 @@ with_stage-same stages number stage is = by (number == 0) is
     by false there = set-same stages (number - 1) stage there
 
 -- one that was taken out is put back
-pub put_back : (stages : List Stage) (number : ℕ) (between stage : Stage) (taken now : List Stage) → stage_of stages number ≡ Some stage → taken ≡ with_stage stages number between → now ≡ with_stage taken number stage
+pub put_back : (stages : List Stage) (number : ℕ) (between stage : Stage) (taken now : List Stage) → stage_of stages number ≡ Some stage
+    → taken ≡ with_stage stages number between → now ≡ with_stage taken number stage
     → now ≡ stages
 put_back stages number between stage taken now is out back =
     back ∙ ap (λ list. with_stage list number stage) out ∙ with_stage-twice stages number between stage ∙ with_stage-same stages number stage is
 
 -- another stage is put in its place
-pub put_on : (stages : List Stage) (number : ℕ) (between stage : Stage) (taken now : List Stage) → taken ≡ with_stage stages number between → now ≡ with_stage taken number stage → now ≡ with_stage stages number stage
+pub put_on : (stages : List Stage) (number : ℕ) (between stage : Stage) (taken now : List Stage) → taken ≡ with_stage stages number between
+    → now ≡ with_stage taken number stage → now ≡ with_stage stages number stage
 put_on stages number between stage taken now out back = back ∙ ap (λ list. with_stage list number stage) out ∙ with_stage-twice stages number between stage
 
 -- a transaction that was put back with another stage, or another one
@@ -84,7 +88,8 @@ pub stage_of-with : (stages : List Stage) (number other : ℕ) (stage found : St
 unfolding stage_of with_stage
 stage_of-with stages number other stage found is = by (number == 0) (other == 0) refl refl is
   where
-    by : (b e : Bool) → (number == 0) ≡ b → (other == 0) ≡ e → cond e None (slice_get (cond b stages (slice_set stages (number - 1) stage)) (other - 1)) ≡ Some found
+    by : (b e : Bool) → (number == 0) ≡ b → (other == 0) ≡ e
+        → cond e None (slice_get (cond b stages (slice_set stages (number - 1) stage)) (other - 1)) ≡ Some found
         → ((other ≡ number) × (stage ≡ found)) ⊎ (cond e None (slice_get stages (other - 1)) ≡ Some found)
     by true true nb ne there = absurd (cc)
     by false true nb ne there = absurd (cc)
@@ -99,7 +104,8 @@ stage_of-with stages number other stage found is = by (number == 0) (other == 0)
     ]
 
 -- one transaction more
-get-append : (stages : List Stage) (last found : Stage) (place : ℕ) → slice_get (stages ++ last ∷ []) place ≡ Some found → ((place ≡ length stages) × (last ≡ found)) ⊎ (slice_get stages place ≡ Some found)
+get-append : (stages : List Stage) (last found : Stage) (place : ℕ) → slice_get (stages ++ last ∷ []) place ≡ Some found
+    → ((place ≡ length stages) × (last ≡ found)) ⊎ (slice_get stages place ≡ Some found)
 get-append [] last found zero is = inl (refl, cc)
 get-append [] last found (suc n) is = absurd (cc)
 get-append (y ∷ ys) last found zero is = inr is
@@ -125,7 +131,8 @@ stage_of-append stages last found other is = by (other == 0) refl is
     ]
 
 -- the last one comes to another stage, or is taken away
-pub with_stage-last : (stages : List Stage) (before after : Stage) (number : ℕ) → number ≡ length stages + 1 → with_stage (stages ++ before ∷ []) number after ≡ stages ++ after ∷ []
+pub with_stage-last : (stages : List Stage) (before after : Stage) (number : ℕ) → number ≡ length stages + 1
+    → with_stage (stages ++ before ∷ []) number after ≡ stages ++ after ∷ []
 unfolding with_stage
 with_stage-last stages before after number is = by (number == 0) refl
   where
@@ -141,12 +148,15 @@ take-last stages last =
     ap (λ n. take n (stages ++ last ∷ [])) count ∙ take-append_seam stages (last ∷ [])
 
 abbrev pub Kept : ℕ → List Stage → Type 0
-Kept count stages = (number : ℕ) (stage : Stage) (transaction : Transaction) → stage_of stages number ≡ Some stage → transaction_in stage ≡ Some transaction → IsOf count number transaction
+Kept count stages =
+    (number : ℕ) (stage : Stage) (transaction : Transaction) → stage_of stages number ≡ Some stage → transaction_in stage ≡ Some transaction
+    → IsOf count number transaction
 
 abbrev pub AllReady : List Stage → Type 0
 AllReady stages = (number : ℕ) (prepared : Prepared) → stage_of stages number ≡ Some (Ready prepared) → prepared.ballot ≡ BallotReady
 
-pub kept_with : (count : ℕ) (stages : List Stage) (number : ℕ) (stage : Stage) → Kept count stages → ((transaction : Transaction) → transaction_in stage ≡ Some transaction → IsOf count number transaction)
+pub kept_with : (count : ℕ) (stages : List Stage) (number : ℕ) (stage : Stage) → Kept count stages
+    → ((transaction : Transaction) → transaction_in stage ≡ Some transaction → IsOf count number transaction)
     → Kept count (with_stage stages number stage)
 kept_with count stages number stage kept is other found transaction there keeps = elim (stage_of-with stages number other stage found there) [
   | inl same ↦
@@ -155,7 +165,8 @@ kept_with count stages number stage kept is other found transaction there keeps 
   | inr before ↦ kept other found transaction before keeps
 ]
 
-pub ready_with : (stages : List Stage) (number : ℕ) (stage : Stage) → AllReady stages → ((prepared : Prepared) → stage ≡ Ready prepared → prepared.ballot ≡ BallotReady)
+pub ready_with : (stages : List Stage) (number : ℕ) (stage : Stage) → AllReady stages
+    → ((prepared : Prepared) → stage ≡ Ready prepared → prepared.ballot ≡ BallotReady)
     → AllReady (with_stage stages number stage)
 ready_with stages number stage ready is other prepared there = elim (stage_of-with stages number other stage (Ready prepared) there) [
   | inl same ↦ is prepared same.1
@@ -163,7 +174,8 @@ ready_with stages number stage ready is other prepared there = elim (stage_of-wi
 ]
 
 -- one transaction more is kept, where it is that of the next number
-pub kept_more : (count : ℕ) (stages : List Stage) (last : Stage) → Kept count stages → ((transaction : Transaction) → transaction_in last ≡ Some transaction → IsOf count (length stages + 1) transaction)
+pub kept_more : (count : ℕ) (stages : List Stage) (last : Stage) → Kept count stages
+    → ((transaction : Transaction) → transaction_in last ≡ Some transaction → IsOf count (length stages + 1) transaction)
     → Kept count (stages ++ last ∷ [])
 kept_more count stages last kept is other found transaction there keeps = elim (stage_of-append stages last found other there) [
   | inl same ↦
@@ -172,7 +184,8 @@ kept_more count stages last kept is other found transaction there keeps = elim (
   | inr before ↦ kept other found transaction before keeps
 ]
 
-pub ready_more : (stages : List Stage) (last : Stage) → AllReady stages → ((prepared : Prepared) → last ≡ Ready prepared → prepared.ballot ≡ BallotReady) → AllReady (stages ++ last ∷ [])
+pub ready_more : (stages : List Stage) (last : Stage) → AllReady stages → ((prepared : Prepared) → last ≡ Ready prepared → prepared.ballot ≡ BallotReady)
+    → AllReady (stages ++ last ∷ [])
 ready_more stages last ready is other prepared there = elim (stage_of-append stages last (Ready prepared) other there) [
   | inl same ↦ is prepared same.1
   | inr before ↦ ready other prepared before
@@ -186,7 +199,8 @@ pub ready_over : (stages : List Stage) (number : ℕ) → AllReady stages → Al
 ready_over stages number ready = ready_with stages number Over ready (λ prepared is. absurd (cc))
 
 -- the transaction of a vote
-pub kept_voted : (count : ℕ) (stages : List Stage) (number : ℕ) (prepared : Prepared) → Kept count stages → (stage_of stages number ≡ Some (Ready prepared)) ⊎ (stage_of stages number ≡ Some (Voted prepared))
+pub kept_voted : (count : ℕ) (stages : List Stage) (number : ℕ) (prepared : Prepared) → Kept count stages
+    → (stage_of stages number ≡ Some (Ready prepared)) ⊎ (stage_of stages number ≡ Some (Voted prepared))
     → IsOf count number prepared.transaction
 kept_voted count stages number prepared kept (inl ready) = kept number (Ready prepared) prepared.transaction ready refl
 kept_voted count stages number prepared kept (inr voted) = kept number (Voted prepared) prepared.transaction voted refl

@@ -24,14 +24,16 @@ use Rattle.xa_coordinator.specs.Decisions.{closed_of, may_be_decided, with_decid
 use Rattle.xa_transcript.specs.Printed.{converts}
 use Rattle.xa_transcript.specs.Script.{lines_of}
 use Rattle.xa_manager.specs.declared.call.Call.{Call}
-use Rattle.xa_manager.specs.declared.call.Call.TheVariants.{Silent as SilentCall, Unread as UnreadCall, Begin, Work, Prepare, Decide, Finish, Abandon, Fail, Stop, Recover, At, Show}
+use Rattle.xa_manager.specs.declared.call.Call.TheVariants.{Silent as SilentCall, Unread as UnreadCall, Begin, Work, Prepare, Decide, Finish, Abandon, Fail}
+use Rattle.xa_manager.specs.declared.call.Call.TheVariants.{Stop, Recover, At, Show}
 use Rattle.xa_manager.specs.declared.listing.Listing.{Listing}
 use Rattle.xa_manager.specs.declared.poll.Poll.{Poll}
 use Rattle.xa_manager.specs.declared.poll.Poll.TheVariants.{Ready as PollReady, OnePhase as PollOnePhase, Nothing as PollNothing, No as PollNo}
 use Rattle.xa_manager.specs.declared.stage.Stage.{Stage}
 use Rattle.xa_manager.specs.declared.stage.Stage.TheVariants.{Working, Ready, Voted as VotedStage, Over}
 use Rattle.xa_manager.specs.declared.response.Response.{Response}
-use Rattle.xa_manager.specs.declared.response.Response.TheVariants.{Silent, Unread, UnknownStore, UnknownTransaction, WrongStage, Begun, NumbersSpent, Worked, Voted, Decided, Closed, Ended, Limited, Stopped, Recovered, Replied, Shown}
+use Rattle.xa_manager.specs.declared.response.Response.TheVariants.{Silent, Unread, UnknownStore, UnknownTransaction, WrongStage, Begun, NumbersSpent, Worked}
+use Rattle.xa_manager.specs.declared.response.Response.TheVariants.{Voted, Decided, Closed, Ended, Limited, Stopped, Recovered, Replied, Shown}
 use Rattle.xa_manager.specs.Calls.{call_of}
 use Rattle.xa_manager.specs.Ledger.{stage_of, with_stage}
 use Rattle.xa_manager.specs.Texts.{answer_text}

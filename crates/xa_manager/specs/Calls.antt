@@ -11,7 +11,8 @@ use Rattle.xa_xid.specs.declared.statement.Statement.TheVariants.{Start, End, Pr
 use Rattle.xa_statement.specs.Reading.{read_of}
 use Rattle.xa_transcript.specs.Script.{is_empty, without_blanks, first_word, after_word}
 use Rattle.xa_manager.specs.declared.call.Call.{Call}
-use Rattle.xa_manager.specs.declared.call.Call.TheVariants.{Silent, Unread, Begin, Work, Prepare as PrepareCall, Decide, Finish, Abandon, Fail, Stop, Recover as RecoverCall, At, Show}
+use Rattle.xa_manager.specs.declared.call.Call.TheVariants.{Silent, Unread, Begin, Work, Prepare as PrepareCall, Decide, Finish, Abandon, Fail, Stop}
+use Rattle.xa_manager.specs.declared.call.Call.TheVariants.{Recover as RecoverCall, At, Show}
 
 -- a number that is the whole of a word
 abbrev pub whole : Reading ℕ → Option ℕ

@@ -21,7 +21,7 @@ use Rattle.xa_session.specs.Answer.{IsAnswered, Fails}
 use Rattle.xa_coordinator.specs.View.{SessionView}
 use Rattle.xa_coordinator.specs.Stores.{AtStore, ChangesAt}
 use Rattle.xa_coordinator.specs.Work.{WorksAs}
-use Rattle.xa_coordinator.specs.Outcomes.{EndsAs, VotesAs, closing_for}
+use Rattle.xa_coordinator.specs.Outcomes.{EndsAs, VotesAs, finish_for}
 use Rattle.xa_coordinator.specs.Recovery.{Recovers, BreaksOff}
 use Rattle.xa_coordinator.specs.Decisions.{is_decided}
 use Rattle.xa_coordinator.specs.declared.open_branch.OpenBranch.{OpenBranch}
@@ -38,7 +38,8 @@ use Rattle.xa_manager.specs.declared.call.Call.TheVariants.{Work, Prepare, Finis
 use Rattle.xa_manager.specs.declared.poll.Poll.{Poll}
 use Rattle.xa_manager.specs.declared.stage.Stage.TheVariants.{Working, Ready, Voted as VotedStage}
 use Rattle.xa_manager.specs.declared.response.Response.{Response}
-use Rattle.xa_manager.specs.declared.response.Response.TheVariants.{Silent, Unread, UnknownStore, UnknownTransaction, WrongStage, Begun, NumbersSpent, Worked, Voted, Decided, Closed, Ended, Limited, Stopped, Recovered, Replied, Shown}
+use Rattle.xa_manager.specs.declared.response.Response.TheVariants.{Silent, Unread, UnknownStore, UnknownTransaction, WrongStage, Begun, NumbersSpent, Worked}
+use Rattle.xa_manager.specs.declared.response.Response.TheVariants.{Voted, Decided, Closed, Ended, Limited, Stopped, Recovered, Replied, Shown}
 use Rattle.xa_manager.specs.Ledger.{stage_of, with_stage}
 use Rattle.xa_manager.specs.Answers.{Desk, poll_of, stage_after}
 
@@ -88,7 +89,7 @@ pub record SaysFinish {C T : Type 0} (view : C → SessionView) (call : Call) (e
   pub prepared : Prepared
   pub voted : (stage_of old.desk.stages number ≡ Some (Ready prepared)) ⊎ (stage_of old.desk.stages number ≡ Some (VotedStage prepared))
   pub of_number : prepared.transaction.number ≡ number
-  pub ends : EndsAs view old.branches prepared.transaction (closing_for (is_decided old.desk.decisions number) prepared.ballot) ending old.sessions new.sessions
+  pub ends : EndsAs view old.branches prepared.transaction (finish_for (is_decided old.desk.decisions number) prepared.ballot) ending old.sessions new.sessions
 
 -- the coordinator rolled back a transaction that takes work
 pub record SaysAbandon {C T : Type 0} (view : C → SessionView) (call : Call) (ending : Ending) (old new : Floor C T) : Type 0 where
@@ -112,7 +113,7 @@ reply_of (Err fault) = Err fault
 -- a session answered a statement so, or didn't for this fault
 abbrev pub RepliesAs : Statement → Result Reply Fault → SessionView → SessionView → Type 0
 RepliesAs statement (Ok reply) old new = (place : ℕ) × IsAnswered old.base statement (record { place = place; reply = reply }) old.known new.known
-RepliesAs statement (Err fault) old new = Fails old.turns old.place.capacity old.base statement fault old.known new.known
+RepliesAs statement (Err fault) old new = Fails old.turns old.identity.capacity old.base statement fault old.known new.known
 
 -- the stranger's session in a store was given the statement, and answered so
 pub record SaysReply {C T : Type 0} (view : T → SessionView) (call : Call) (answer : Result Reply Fault) (old new : Floor C T) : Type 0 where
@@ -139,7 +140,8 @@ Says view view' call (Worked answer) old new = SaysWork view call answer old new
 Says view view' call (Voted poll) old new = SaysVote view call poll old new × IsQuiet view' old.strangers new.strangers
 Says view view' call Decided old new = SaysNothing view view' old new
 Says view view' call Closed old new = SaysNothing view view' old new
-Says view view' call (Ended ending) old new = (SaysFinish view call ending old new ⊎ SaysAbandon view call ending old new) × IsQuiet view' old.strangers new.strangers
+Says view view' call (Ended ending) old new =
+    (SaysFinish view call ending old new ⊎ SaysAbandon view call ending old new) × IsQuiet view' old.strangers new.strangers
 Says view view' call Limited old new = SaysNothing view view' old new
 Says view view' call Stopped old new = SaysNothing view view' old new
 Says view view' call (Recovered outcome) old new = SaysRecovery view call outcome old new × IsQuiet view' old.strangers new.strangers

@@ -21,7 +21,9 @@ use Rattle.xa_manager.specs.declared.call.Call.TheVariants.{Silent, Unread}
 use Rattle.xa_manager.specs.declared.poll.Poll.{Poll}
 use Rattle.xa_manager.specs.declared.poll.Poll.TheVariants.{Ready, OnePhase, Nothing, No}
 use Rattle.xa_manager.specs.declared.response.Response.{Response}
-use Rattle.xa_manager.specs.declared.response.Response.TheVariants.{Silent as Quiet, Unread as NotRead, UnknownStore, UnknownTransaction, WrongStage, Begun, NumbersSpent, Worked, Voted, Decided, Closed, Ended, Limited, Stopped, Recovered, Replied, Shown}
+use Rattle.xa_manager.specs.declared.response.Response.TheVariants.{Silent as Quiet, Unread as NotRead, UnknownStore, UnknownTransaction, WrongStage, Begun}
+use Rattle.xa_manager.specs.declared.response.Response.TheVariants.{NumbersSpent, Worked, Voted, Decided, Closed, Ended, Limited, Stopped, Recovered, Replied}
+use Rattle.xa_manager.specs.declared.response.Response.TheVariants.{Shown}
 use Rattle.xa_manager.specs.Calls.{call_of}
 use Rattle.xa_manager.specs.Texts.{answer_text}
 use Rattle.xa_manager.specs.Answers.{Desk, Answers}

@@ -22,13 +22,16 @@ use Rattle.xa_coordinator.specs.declared.ending.Ending.{Ending}
 use Rattle.xa_coordinator.specs.declared.ending.Ending.TheVariants.{Committed, RolledBack, Hazard, Unfinished}
 use Rattle.xa_coordinator.specs.declared.report.Report.{Report}
 use Rattle.xa_coordinator.specs.declared.recover_fault.RecoverFault.{RecoverFault}
-use Rattle.xa_coordinator.specs.declared.recover_fault.RecoverFault.TheVariants.{Session as RecoverSession, StillPrepared, NoMemory as RecoverNoMemory, Refused as RecoverRefused}
+use Rattle.xa_coordinator.specs.declared.recover_fault.RecoverFault.TheVariants.{Session as RecoverSession, StillPrepared, NoMemory as RecoverNoMemory}
+use Rattle.xa_coordinator.specs.declared.recover_fault.RecoverFault.TheVariants.{Refused as RecoverRefused}
 use Rattle.xa_coordinator.specs.declared.standing.Standing.{Standing}
 use Rattle.xa_coordinator.specs.declared.standing.Standing.TheVariants.{Undecided, Decided, Closed}
 use Rattle.xa_manager.specs.declared.poll.Poll.{Poll}
 use Rattle.xa_manager.specs.declared.poll.Poll.TheVariants.{Ready, OnePhase, Nothing, No}
 use Rattle.xa_manager.specs.declared.response.Response.{Response}
-use Rattle.xa_manager.specs.declared.response.Response.TheVariants.{Silent, Unread, UnknownStore, UnknownTransaction, WrongStage, Begun, NumbersSpent, Worked, Voted, Decided as WasDecided, Closed as WasClosed, Ended, Limited, Stopped, Recovered, Replied, Shown}
+use Rattle.xa_manager.specs.declared.response.Response.TheVariants.{Silent, Unread, UnknownStore, UnknownTransaction, WrongStage, Begun, NumbersSpent, Worked}
+use Rattle.xa_manager.specs.declared.response.Response.TheVariants.{Voted, Decided as WasDecided, Closed as WasClosed, Ended, Limited, Stopped, Recovered}
+use Rattle.xa_manager.specs.declared.response.Response.TheVariants.{Replied, Shown}
 
 -- why a session didn't answer; one that tries again is never left overtaken or busy
 abbrev pub fault_text : Fault → List ℕ
@@ -78,7 +81,8 @@ recover_fault_text (RecoverRefused store error) = codes "UNRECOVERED " ++ decima
 -- what a recovery did
 abbrev pub report_text : Report → List ℕ
 report_text report =
-    codes "RECOVERED committed " ++ decimal report.committed ++ codes " rolled back " ++ decimal report.rolled_back ++ codes " missing " ++ decimal report.missing
+    codes "RECOVERED committed " ++ decimal report.committed ++ codes " rolled back " ++ decimal report.rolled_back ++ codes " missing "
+    ++ decimal report.missing
 
 -- what a recovery came to
 abbrev pub recovered_text : Result Report RecoverFault → List ℕ
@@ -123,7 +127,8 @@ numbers_text wanted number (standing ∷ standings) = number_text wanted number 
 -- the numbers by how they stand
 abbrev pub standings_text : List Standing → List ℕ
 standings_text standings =
-    codes "UNDECIDED" ++ numbers_text Undecided 1 standings ++ codes "\nDECIDED" ++ numbers_text Decided 1 standings ++ codes "\nCLOSED" ++ numbers_text Closed 1 standings
+    codes "UNDECIDED" ++ numbers_text Undecided 1 standings ++ codes "\nDECIDED" ++ numbers_text Decided 1 standings ++ codes "\nCLOSED"
+    ++ numbers_text Closed 1 standings
 
 -- what a call was answered, once the decisions are these
 abbrev pub response_text : List Standing → Response → List ℕ

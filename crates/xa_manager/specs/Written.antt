@@ -6,7 +6,7 @@
 use Rattle.std.specs.Prelude.{◌≡◌, ◌⊎◌, ℕ, Option, List, [], ◌∷◌, ◌++◌, take, IfSome}
 use Rattle.std.specs.Io.KnownBytes.{Keeps, Appends}
 use Rattle.std.specs.List.{AllZip}
-use Rattle.chain_log.specs.ChainPass.{place_of, home_of}
+use Rattle.chain_log.specs.ChainPass.{identity_of, log_of}
 use Rattle.chain_log.specs.declared.pass.ChainPass.{ChainPass}
 use Rattle.xa_store.specs.declared.store.Store.{Store}
 use Rattle.xa_transcript.specs.declared.script_fault.ScriptFault.{ScriptFault}
@@ -19,7 +19,7 @@ use Rattle.xa_manager.specs.Answers.{Desk, new_desk, Answers, IsRun}
 
 -- each pass is of the store in its place
 abbrev pub AreOf : List Store → List ChainPass → Type 0
-AreOf stores passes = AllZip (λ store pass. home_of pass ≡ place_of store.log) stores passes
+AreOf stores passes = AllZip (λ store pass. log_of pass ≡ identity_of store.log) stores passes
 
 -- every line of the script was answered, and the writer got all answers
 pub record IsWhole (start : Desk) (script : List ℕ) (old new : Option (List ℕ)) : Type 0 where

@@ -1,7 +1,7 @@
 //! Calls of a coordinator over stores of its own, line by line.
 ghost use Rattle.std.specs.Prelude.{◌≡◌, ◌≤◌, [], length, vec_len, OnOk, IfOk, OnErr, IfErr, IfSome, Err};
 ghost use Rattle.std.specs.Io.KnownBytes.{IsAtEnd};
-ghost use Rattle.chain_log.specs.ChainPass.{home_of, place_of};
+ghost use Rattle.chain_log.specs.ChainPass.{log_of, identity_of};
 ghost use Rattle.xa_transcript.specs.Limits.{script_bytes};
 ghost use Rattle.xa_transcript.specs.Transcript.{ConsumesMoreThan, IsOfRun};
 ghost use Rattle.xa_manager.specs.Answers.{new_desk};
@@ -62,7 +62,7 @@ fn answer_lines<S: Speak + Drop, T: Speak + Drop, W: Write, R: Wait>(
 
 /// Opens a store, and gives the passes of its two sessions.
 fn open_store(alloc: Global, capacity: u64) -> Result<(Store, Pass, Pass), NoMemory>
-    ensures { IfOk result (λ opened. (home_of opened.1 ≡ place_of opened.0.log) × (home_of opened.2 ≡ place_of opened.0.log)) }
+    ensures { IfOk result (λ opened. (log_of opened.1 ≡ identity_of opened.0.log) × (log_of opened.2 ≡ identity_of opened.0.log)) }
 {
     let Ok((store, mut passes)) = Store::open(alloc, capacity, 2) else {
         return Err(AllocError);

@@ -22,7 +22,8 @@ answered_given : (state : State) (session : ℕ) (text : List ℕ) → AnswersSo
 unfolding answer_of
 answered_given state session text = answered_by state session (read_of text)
 
-pub line_answered : (state : State) (line : List ℕ) (session : ℕ) (request : Request) → GivesRequest line session request → AnswersSo state session request (answer_of state (line_of line))
+pub line_answered : (state : State) (line : List ℕ) (session : ℕ) (request : Request) → GivesRequest line session request
+    → AnswersSo state session request (answer_of state (line_of line))
 line_answered state line session request gives =
     subst (λ (l : Line). AnswersSo state session request (answer_of state l)) (sym gives.given)
     (subst (λ (r : Request). AnswersSo state session r (answer_of state (Given session gives.text))) (sym gives.asks) (answered_given state session gives.text))
@@ -35,8 +36,10 @@ then_given : (state : State) (session : ℕ) (text : List ℕ) → state_after s
 unfolding state_after
 then_given state session text = then_by state session (read_of text)
 
-pub line_followed : (state : State) (line : List ℕ) (session : ℕ) (request : Request) → GivesRequest line session request → state_after state (line_of line) ≡ next_state state session request
-line_followed state line session request gives = ap (state_after state) gives.given ∙ then_given state session gives.text ∙ ap (next_state state session) (sym gives.asks)
+pub line_followed : (state : State) (line : List ℕ) (session : ℕ) (request : Request) → GivesRequest line session request
+    → state_after state (line_of line) ≡ next_state state session request
+line_followed state line session request gives =
+    ap (state_after state) gives.given ∙ then_given state session gives.text ∙ ap (next_state state session) (sym gives.asks)
 
 pub order_joined : (calls : List (List ℕ)) (noted : List Noted) (moves : List Move) → order_text calls noted moves ≡ joined (order_lines calls noted moves)
 unfolding order_text order_lines joined

@@ -1,6 +1,7 @@
 -- The lines of an order along the moves that lead through the events.
 --     Kept         at each session's number, the text of what it has called for that may still take effect
-use Rattle.std.proofs.Common.{◌≡◌, ℕ, zero, suc, ◌<◌, Option, Some, None, List, [], ◌∷◌, ◌++◌, length, codes, decimal, set, slice_get, replicate, refl, ap, sym, ◌∙◌, subst, inl, inr, arith}
+use Rattle.std.proofs.Common.{◌≡◌, ℕ, zero, suc, ◌<◌, Option, Some, None, List, [], ◌∷◌, ◌++◌, length, codes, decimal, set, slice_get, replicate, refl, ap, sym}
+use Rattle.std.proofs.Common.{◌∙◌, subst, inl, inr, arith}
 use Rattle.std.proofs.lemmas.Option.{none-some, same_Some, slice_get_within, cond_some}
 use Rattle.xa_statement.specs.Canonical.{statement_text}
 use Rattle.xa_statement.proofs.Canon.{disconnect_spelled}
@@ -19,7 +20,8 @@ use Rattle.xa_judge.specs.declared.moves.Act.{Act}
 use Rattle.xa_judge.specs.declared.moves.Act.TheVariants.{Statement as ItsStatement, Disconnect as ItsDisconnect}
 use Rattle.xa_judge.specs.declared.moves.Move.{Move}
 use Rattle.xa_judge.specs.declared.moves.Move.TheVariants.{Event as Seeing, Effect}
-use Rattle.xa_judge.specs.Explained.{Config, opening, with_standing, effect_of, carried_out, disconnected, observed, called, returned, lost, agrees, IsSession, Runs}
+use Rattle.xa_judge.specs.Explained.{Config, opening, with_standing, effect_of, carried_out, disconnected, observed, called, returned, lost, agrees, IsSession}
+use Rattle.xa_judge.specs.Explained.{Runs}
 use Rattle.xa_judge.proofs.Places.{same_number, get_written, get_apart, get_within}
 use Rattle.xa_record.specs.Lines.{Told, Calls, Returns, Leaves}
 use Rattle.xa_record.specs.Reading.{Noted}
@@ -45,30 +47,36 @@ length-kept (y ∷ list) zero x = refl
 length-kept (y ∷ list) (suc place) x = ap suc (length-kept list place x)
 
 -- a standing without an open request was written
-kept_without : (calls : List (List ℕ)) (standings : List Standing) (session : ℕ) (before next : Standing) → slice_get standings session ≡ Some before → open_request (Some next) ≡ None → Kept calls standings → Kept calls (set standings session next)
+kept_without : (calls : List (List ℕ)) (standings : List Standing) (session : ℕ) (before next : Standing) → slice_get standings session ≡ Some before
+    → open_request (Some next) ≡ None → Kept calls standings → Kept calls (set standings session next)
 kept_without calls standings session before next found none kept = record {
   long = kept.long ∙ sym (length-kept standings session next);
   each = λ other request opened. elim (same_number session other) [
-    | inl same ↦ absurd (none-some request (sym none ∙ ap open_request (sym (get_written standings session before next found)) ∙ ap (λ (n : ℕ). open_request (slice_get (set standings session next) n)) same ∙ opened))
+    | inl same ↦ absurd (none-some request
+        (sym none ∙ ap open_request (sym (get_written standings session before next found))
+        ∙ ap (λ (n : ℕ). open_request (slice_get (set standings session next) n)) same ∙ opened))
     | inr apart ↦ kept.each other request (sym (ap open_request (get_apart standings session other next apart)) ∙ opened)
   ];
 }
 
 -- a standing with the same open request was written
-kept_same : (calls : List (List ℕ)) (standings : List Standing) (session : ℕ) (before next : Standing) → slice_get standings session ≡ Some before → open_request (Some next) ≡ open_request (Some before) → Kept calls standings
+kept_same : (calls : List (List ℕ)) (standings : List Standing) (session : ℕ) (before next : Standing) → slice_get standings session ≡ Some before
+    → open_request (Some next) ≡ open_request (Some before) → Kept calls standings
     → Kept calls (set standings session next)
 kept_same calls standings session before next found same_open kept = record {
   long = kept.long ∙ sym (length-kept standings session next);
   each = λ other request opened. elim (same_number session other) [
     | inl same ↦ subst (λ (n : ℕ). KeepsText calls n request) same
         (kept.each session request
-        (ap open_request found ∙ sym same_open ∙ ap open_request (sym (get_written standings session before next found)) ∙ ap (λ (n : ℕ). open_request (slice_get (set standings session next) n)) same ∙ opened))
+        (ap open_request found ∙ sym same_open ∙ ap open_request (sym (get_written standings session before next found))
+        ∙ ap (λ (n : ℕ). open_request (slice_get (set standings session next) n)) same ∙ opened))
     | inr apart ↦ kept.each other request (sym (ap open_request (get_apart standings session other next apart)) ∙ opened)
   ];
 }
 
 -- an idle session called for a text
-kept_call : (calls : List (List ℕ)) (standings : List Standing) (session : ℕ) (text : List ℕ) → slice_get standings session ≡ Some Idle → IsWellCalled text → Kept calls standings
+kept_call : (calls : List (List ℕ)) (standings : List Standing) (session : ℕ) (text : List ℕ) → slice_get standings session ≡ Some Idle → IsWellCalled text
+    → Kept calls standings
     → Kept (set calls session text) (set standings session (Called (request_called text)))
 kept_call calls standings session text found well kept = record {
   long = length-kept calls session text ∙ kept.long ∙ sym (length-kept standings session (Called (request_called text)));
@@ -77,10 +85,14 @@ kept_call calls standings session text found well kept = record {
       text = text;
       found = get_written calls session first.0 text first.1;
       well = well;
-      is = sym (same_Some _ request (ap open_request (sym (get_written standings session Idle (Called (request_called text)) found)) ∙ ap (λ (n : ℕ). open_request (slice_get (set standings session (Called (request_called text))) n)) same ∙ opened));
+      is =
+          sym (same_Some _ request
+          (ap open_request (sym (get_written standings session Idle (Called (request_called text)) found))
+          ∙ ap (λ (n : ℕ). open_request (slice_get (set standings session (Called (request_called text))) n)) same ∙ opened));
     })
     | inr apart ↦
-        let old : KeepsText calls other request = kept.each other request (sym (ap open_request (get_apart standings session other (Called (request_called text)) apart)) ∙ opened) in
+        let old : KeepsText calls other request =
+        kept.each other request (sym (ap open_request (get_apart standings session other (Called (request_called text)) apart)) ∙ opened) in
         record { text = old.text; found = get_apart calls session other text apart ∙ old.found; well = old.well; is = old.is }
   ];
 }
@@ -92,11 +104,13 @@ kept_call calls standings session text found well kept = record {
     first = get_within calls session within
 
 -- the line of a statement that takes effect
-statement_line : (calls : List (List ℕ)) (config : Config) (session : ℕ) (request : Request) → IsSession session → Kept calls config.standings → open_request (slice_get config.standings session) ≡ Some request
+statement_line : (calls : List (List ℕ)) (config : Config) (session : ℕ) (request : Request) → IsSession session → Kept calls config.standings
+    → open_request (slice_get config.standings session) ≡ Some request
     → IsEffectLine config session ItsStatement (effect_line calls session ItsStatement)
 statement_line calls config session request is kept opened =
     let keeps : KeepsText calls session request = kept.each session request opened in
-    let line : effect_line calls session ItsStatement ≡ decimal session ++ codes " " ++ call_text keeps.text = ap (λ (o : Option (List ℕ)). decimal session ++ codes " " ++ text_of_call o) keeps.found in
+    let line : effect_line calls session ItsStatement ≡ decimal session ++ codes " " ++ call_text keeps.text =
+    ap (λ (o : Option (List ℕ)). decimal session ++ codes " " ++ text_of_call o) keeps.found in
     record {
       request = request;
       is = opened;
@@ -107,7 +121,8 @@ statement_line calls config session request is kept opened =
       };
     }
 
-disconnect_line : (calls : List (List ℕ)) (config : Config) (session : ℕ) → IsSession session → IsEffectLine config session ItsDisconnect (effect_line calls session ItsDisconnect)
+disconnect_line : (calls : List (List ℕ)) (config : Config) (session : ℕ) → IsSession session
+    → IsEffectLine config session ItsDisconnect (effect_line calls session ItsDisconnect)
 unfolding statement_text
 disconnect_line calls config session is = record {
   request = Asked Disconnect;
@@ -127,7 +142,8 @@ pub record HasLine (calls : List (List ℕ)) (config : Config) (session : ℕ) (
 standings_of : (first second : Config) → Some first ≡ Some second → first.standings ≡ second.standings
 standings_of first second same = ap (λ (c : Config). c.standings) (same_Some first second same)
 
-statement_by : (o : Option Standing) (calls : List (List ℕ)) (config : Config) (session : ℕ) (mid : Config) → slice_get config.standings session ≡ o → IsSession session → Kept calls config.standings → carried_out o config session ≡ Some mid
+statement_by : (o : Option Standing) (calls : List (List ℕ)) (config : Config) (session : ℕ) (mid : Config) → slice_get config.standings session ≡ o
+    → IsSession session → Kept calls config.standings → carried_out o config session ≡ Some mid
     → HasLine calls config session ItsStatement mid
 unfolding carried_out
 statement_by None calls config session mid found is kept at = absurd (none-some mid at)
@@ -144,7 +160,8 @@ statement_by (Some (Gone (Some request))) calls config session mid found is kept
 }
 statement_by (Some Left) calls config session mid found is kept at = absurd (none-some mid at)
 
-disconnect_by : (o : Option Standing) (calls : List (List ℕ)) (config : Config) (session : ℕ) (mid : Config) → slice_get config.standings session ≡ o → IsSession session → Kept calls config.standings → disconnected o config session ≡ Some mid
+disconnect_by : (o : Option Standing) (calls : List (List ℕ)) (config : Config) (session : ℕ) (mid : Config) → slice_get config.standings session ≡ o
+    → IsSession session → Kept calls config.standings → disconnected o config session ≡ Some mid
     → HasLine calls config session ItsDisconnect mid
 unfolding disconnected
 disconnect_by None calls config session mid found is kept at = absurd (none-some mid at)
@@ -157,23 +174,27 @@ disconnect_by (Some (Gone request)) calls config session mid found is kept at = 
 }
 disconnect_by (Some Left) calls config session mid found is kept at = absurd (none-some mid at)
 
-has_line : (calls : List (List ℕ)) (config : Config) (session : ℕ) (act : Act) (mid : Config) → IsSession session → Kept calls config.standings → effect_of config session act ≡ Some mid → HasLine calls config session act mid
+has_line : (calls : List (List ℕ)) (config : Config) (session : ℕ) (act : Act) (mid : Config) → IsSession session → Kept calls config.standings
+    → effect_of config session act ≡ Some mid → HasLine calls config session act mid
 unfolding effect_of
 has_line calls config session ItsStatement mid is kept at = statement_by (slice_get config.standings session) calls config session mid refl is kept at
 has_line calls config session ItsDisconnect mid is kept at = disconnect_by (slice_get config.standings session) calls config session mid refl is kept at
 
 -- an event was seen
-call_by : (o : Option Standing) (calls : List (List ℕ)) (config : Config) (session : ℕ) (text : List ℕ) (mid : Config) → slice_get config.standings session ≡ o → IsWellCalled text → Kept calls config.standings
+call_by : (o : Option Standing) (calls : List (List ℕ)) (config : Config) (session : ℕ) (text : List ℕ) (mid : Config) → slice_get config.standings session ≡ o
+    → IsWellCalled text → Kept calls config.standings
     → called o config session (request_called text) ≡ Some mid → Kept (set calls session text) mid.standings
 unfolding called
 call_by None calls config session text mid found well kept at = absurd (none-some mid at)
-call_by (Some Idle) calls config session text mid found well kept at = subst (Kept (set calls session text)) (standings_of _ mid at) (kept_call calls config.standings session text found well kept)
+call_by (Some Idle) calls config session text mid found well kept at =
+    subst (Kept (set calls session text)) (standings_of _ mid at) (kept_call calls config.standings session text found well kept)
 call_by (Some (Called other)) calls config session text mid found well kept at = absurd (none-some mid at)
 call_by (Some (Answered answer)) calls config session text mid found well kept at = absurd (none-some mid at)
 call_by (Some (Gone other)) calls config session text mid found well kept at = absurd (none-some mid at)
 call_by (Some Left) calls config session text mid found well kept at = absurd (none-some mid at)
 
-return_by : (o : Option Standing) (calls : List (List ℕ)) (config : Config) (session : ℕ) (seen : Seen) (mid : Config) → slice_get config.standings session ≡ o → Kept calls config.standings → returned o config session seen ≡ Some mid → Kept calls mid.standings
+return_by : (o : Option Standing) (calls : List (List ℕ)) (config : Config) (session : ℕ) (seen : Seen) (mid : Config) → slice_get config.standings session ≡ o
+    → Kept calls config.standings → returned o config session seen ≡ Some mid → Kept calls mid.standings
 unfolding returned
 return_by None calls config session seen mid found kept at = absurd (none-some mid at)
 return_by (Some Idle) calls config session seen mid found kept at = absurd (none-some mid at)
@@ -184,25 +205,33 @@ return_by (Some (Answered answer)) calls config session seen mid found kept at =
 return_by (Some (Gone request)) calls config session seen mid found kept at = absurd (none-some mid at)
 return_by (Some Left) calls config session seen mid found kept at = absurd (none-some mid at)
 
-lost_by : (o : Option Standing) (calls : List (List ℕ)) (config : Config) (session : ℕ) (mid : Config) → slice_get config.standings session ≡ o → Kept calls config.standings → lost o config session ≡ Some mid → Kept calls mid.standings
+lost_by : (o : Option Standing) (calls : List (List ℕ)) (config : Config) (session : ℕ) (mid : Config) → slice_get config.standings session ≡ o
+    → Kept calls config.standings → lost o config session ≡ Some mid → Kept calls mid.standings
 unfolding lost
 lost_by None calls config session mid found kept at = absurd (none-some mid at)
-lost_by (Some Idle) calls config session mid found kept at = subst (Kept calls) (standings_of _ mid at) (kept_without calls config.standings session Idle _ found refl kept)
-lost_by (Some (Called request)) calls config session mid found kept at = subst (Kept calls) (standings_of _ mid at) (kept_same calls config.standings session (Called request) _ found refl kept)
-lost_by (Some (Answered answer)) calls config session mid found kept at = subst (Kept calls) (standings_of _ mid at) (kept_without calls config.standings session (Answered answer) _ found refl kept)
+lost_by (Some Idle) calls config session mid found kept at =
+    subst (Kept calls) (standings_of _ mid at) (kept_without calls config.standings session Idle _ found refl kept)
+lost_by (Some (Called request)) calls config session mid found kept at =
+    subst (Kept calls) (standings_of _ mid at) (kept_same calls config.standings session (Called request) _ found refl kept)
+lost_by (Some (Answered answer)) calls config session mid found kept at =
+    subst (Kept calls) (standings_of _ mid at) (kept_without calls config.standings session (Answered answer) _ found refl kept)
 lost_by (Some (Gone request)) calls config session mid found kept at = absurd (none-some mid at)
 lost_by (Some Left) calls config session mid found kept at = absurd (none-some mid at)
 
-seen_kept : (calls : List (List ℕ)) (config : Config) (told : Told) (event : Event) (mid : Config) → IsWellTold told → IsEvent told event → Kept calls config.standings → observed config event ≡ Some mid → Kept (with_call told calls) mid.standings
+seen_kept : (calls : List (List ℕ)) (config : Config) (told : Told) (event : Event) (mid : Config) → IsWellTold told → IsEvent told event
+    → Kept calls config.standings → observed config event ≡ Some mid → Kept (with_call told calls) mid.standings
 unfolding observed
 seen_kept calls config (Calls session text) event mid well is kept at =
     call_by (slice_get config.standings session) calls config session text mid refl well kept (sym (ap (observed config) is) ∙ at)
 seen_kept calls config (Returns session shown) (Call other request) mid well is kept at = absurd is
-seen_kept calls config (Returns session shown) (Return other seen) mid well is kept at = return_by (slice_get config.standings other) calls config other seen mid refl kept at
+seen_kept calls config (Returns session shown) (Return other seen) mid well is kept at =
+    return_by (slice_get config.standings other) calls config other seen mid refl kept at
 seen_kept calls config (Returns session shown) (Lost other) mid well is kept at = absurd is
-seen_kept calls config (Leaves session) event mid well is kept at = lost_by (slice_get config.standings session) calls config session mid refl kept (sym (ap (observed config) is) ∙ at)
+seen_kept calls config (Leaves session) event mid well is kept at =
+    lost_by (slice_get config.standings session) calls config session mid refl kept (sym (ap (observed config) is) ∙ at)
 
-pub are_effects : (calls : List (List ℕ)) (noted : List Noted) (events : List Event) (moves : List Move) (old new : Config) → AreWellCalled noted → AreEvents noted events → Kept calls old.standings → Runs old events moves new
+pub are_effects : (calls : List (List ℕ)) (noted : List Noted) (events : List Event) (moves : List Move) (old new : Config) → AreWellCalled noted
+    → AreEvents noted events → Kept calls old.standings → Runs old events moves new
     → AreEffects old events moves (order_lines calls noted moves)
 unfolding order_lines
 are_effects calls noted events (Effect session act ∷ moves) old new well are kept runs =
@@ -210,8 +239,12 @@ are_effects calls noted events (Effect session act ∷ moves) old new well are k
     (runs.0, runs.2, has.line, are_effects calls noted events moves runs.0 new well are has.kept runs.3)
 are_effects calls noted [] (Seeing ∷ moves) old new well are kept runs = absurd runs
 are_effects calls [] (event ∷ events) (Seeing ∷ moves) old new well are kept runs = absurd are
-are_effects calls (one ∷ noted) (event ∷ events) (Seeing ∷ moves) old new well are kept runs =
-    (runs.0, runs.1, are_effects (with_call one.told calls) noted events moves runs.0 new well.1 are.1 (seen_kept calls old one.told event runs.0 well.0 are.0 kept runs.1) runs.2)
+are_effects calls (one ∷ noted) (event ∷ events) (Seeing ∷ moves) old new well are kept runs = (
+  runs.0,
+  runs.1,
+  are_effects (with_call one.told calls) noted events moves runs.0 new well.1 are.1
+      (seen_kept calls old one.told event runs.0 well.0 are.0 kept runs.1) runs.2,
+)
 are_effects calls noted [] [] old new well are kept runs = tt
 are_effects calls noted (event ∷ events) [] old new well are kept runs = absurd runs
 
@@ -225,6 +258,7 @@ none_kept : (base : State) → Kept no_calls (opening base).standings
 unfolding opening
 none_kept base = record { long = refl; each = λ session request opened. absurd (idle_open 17 session request opened) }
 
-pub order_replayed : (base : State) (noted : List Noted) (events : List Event) (moves : List Move) (new : Config) → AreWellCalled noted → AreEvents noted events → Runs (opening base) events moves new
+pub order_replayed : (base : State) (noted : List Noted) (events : List Event) (moves : List Move) (new : Config) → AreWellCalled noted → AreEvents noted events
+    → Runs (opening base) events moves new
     → AreEffects (opening base) events moves (order_lines no_calls noted moves)
 order_replayed base noted events moves new well are runs = are_effects no_calls noted events moves (opening base) new well are (none_kept base) runs

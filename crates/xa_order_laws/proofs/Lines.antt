@@ -1,5 +1,6 @@
 -- The line of an effect, read back.
-use Rattle.std.proofs.Common.{◌≡◌, ◌≢◌, ℕ, zero, suc, ◌+◌, true, false, Result, Ok, Err, List, [], ◌∷◌, ◌++◌, codes, decimal, drop, refl, ap, sym, ◌∙◌, subst, arith, lit<, lit≤}
+use Rattle.std.proofs.Common.{◌≡◌, ◌≢◌, ℕ, zero, suc, ◌+◌, true, false, Result, Ok, Err, List, [], ◌∷◌, ◌++◌, codes, decimal, drop, refl, ap, sym, ◌∙◌, subst}
+use Rattle.std.proofs.Common.{arith, lit<, lit≤}
 use Rattle.std.specs.List.{prefix_len}
 use Rattle.std.proofs.lemmas.Fmt.{decimal_digit, decimal_step}
 use Rattle.xa_xid.specs.declared.statement.Statement.{Statement}
@@ -19,29 +20,54 @@ skipped : (text : List ℕ) → without_blanks text ≡ text → drop (1 + prefi
 skipped text bare = let one : 1 + prefix_len is_blank text ≡ suc (prefix_len is_blank text) = omega arith in rw one bare
 
 -- a session's number, a blank and a text that begins with none are a line of that session
-pub line_back : (session : ℕ) → IsSession session → (text : List ℕ) → without_blanks text ≡ text → line_of (decimal session ++ codes " " ++ text) ≡ Given session text
+pub line_back : (session : ℕ) → IsSession session → (text : List ℕ) → without_blanks text ≡ text
+    → line_of (decimal session ++ codes " " ++ text) ≡ Given session text
 unfolding line_of
 line_back zero is text bare = absurd (omega (arith, is.0))
-line_back (suc zero) is text bare = subst (λ (d : List ℕ). line_of (d ++ codes " " ++ text) ≡ Given 1 text) (sym (decimal_digit 1 (lit< tt))) (ap (Given 1) (skipped text bare))
-line_back (suc (suc zero)) is text bare = subst (λ (d : List ℕ). line_of (d ++ codes " " ++ text) ≡ Given 2 text) (sym (decimal_digit 2 (lit< tt))) (ap (Given 2) (skipped text bare))
-line_back (suc (suc (suc zero))) is text bare = subst (λ (d : List ℕ). line_of (d ++ codes " " ++ text) ≡ Given 3 text) (sym (decimal_digit 3 (lit< tt))) (ap (Given 3) (skipped text bare))
-line_back (suc (suc (suc (suc zero)))) is text bare = subst (λ (d : List ℕ). line_of (d ++ codes " " ++ text) ≡ Given 4 text) (sym (decimal_digit 4 (lit< tt))) (ap (Given 4) (skipped text bare))
-line_back (suc (suc (suc (suc (suc zero))))) is text bare = subst (λ (d : List ℕ). line_of (d ++ codes " " ++ text) ≡ Given 5 text) (sym (decimal_digit 5 (lit< tt))) (ap (Given 5) (skipped text bare))
-line_back (suc (suc (suc (suc (suc (suc zero)))))) is text bare = subst (λ (d : List ℕ). line_of (d ++ codes " " ++ text) ≡ Given 6 text) (sym (decimal_digit 6 (lit< tt))) (ap (Given 6) (skipped text bare))
-line_back (suc (suc (suc (suc (suc (suc (suc zero))))))) is text bare = subst (λ (d : List ℕ). line_of (d ++ codes " " ++ text) ≡ Given 7 text) (sym (decimal_digit 7 (lit< tt))) (ap (Given 7) (skipped text bare))
-line_back (suc (suc (suc (suc (suc (suc (suc (suc zero)))))))) is text bare = subst (λ (d : List ℕ). line_of (d ++ codes " " ++ text) ≡ Given 8 text) (sym (decimal_digit 8 (lit< tt))) (ap (Given 8) (skipped text bare))
-line_back (suc (suc (suc (suc (suc (suc (suc (suc (suc zero))))))))) is text bare = subst (λ (d : List ℕ). line_of (d ++ codes " " ++ text) ≡ Given 9 text) (sym (decimal_digit 9 (lit< tt))) (ap (Given 9) (skipped text bare))
-line_back (suc (suc (suc (suc (suc (suc (suc (suc (suc (suc zero)))))))))) is text bare = subst (λ (d : List ℕ). line_of (d ++ codes " " ++ text) ≡ Given 10 text) (sym (decimal_step 10 (lit≤ tt) (lit< tt) ∙ ap (λ (d : List ℕ). d ++ 48 ∷ []) (decimal_digit 1 (lit< tt)))) (ap (Given 10) (skipped text bare))
-line_back (suc (suc (suc (suc (suc (suc (suc (suc (suc (suc (suc zero))))))))))) is text bare = subst (λ (d : List ℕ). line_of (d ++ codes " " ++ text) ≡ Given 11 text) (sym (decimal_step 11 (lit≤ tt) (lit< tt) ∙ ap (λ (d : List ℕ). d ++ 49 ∷ []) (decimal_digit 1 (lit< tt)))) (ap (Given 11) (skipped text bare))
-line_back (suc (suc (suc (suc (suc (suc (suc (suc (suc (suc (suc (suc zero)))))))))))) is text bare = subst (λ (d : List ℕ). line_of (d ++ codes " " ++ text) ≡ Given 12 text) (sym (decimal_step 12 (lit≤ tt) (lit< tt) ∙ ap (λ (d : List ℕ). d ++ 50 ∷ []) (decimal_digit 1 (lit< tt)))) (ap (Given 12) (skipped text bare))
-line_back (suc (suc (suc (suc (suc (suc (suc (suc (suc (suc (suc (suc (suc zero))))))))))))) is text bare = subst (λ (d : List ℕ). line_of (d ++ codes " " ++ text) ≡ Given 13 text) (sym (decimal_step 13 (lit≤ tt) (lit< tt) ∙ ap (λ (d : List ℕ). d ++ 51 ∷ []) (decimal_digit 1 (lit< tt)))) (ap (Given 13) (skipped text bare))
-line_back (suc (suc (suc (suc (suc (suc (suc (suc (suc (suc (suc (suc (suc (suc zero)))))))))))))) is text bare = subst (λ (d : List ℕ). line_of (d ++ codes " " ++ text) ≡ Given 14 text) (sym (decimal_step 14 (lit≤ tt) (lit< tt) ∙ ap (λ (d : List ℕ). d ++ 52 ∷ []) (decimal_digit 1 (lit< tt)))) (ap (Given 14) (skipped text bare))
-line_back (suc (suc (suc (suc (suc (suc (suc (suc (suc (suc (suc (suc (suc (suc (suc zero))))))))))))))) is text bare = subst (λ (d : List ℕ). line_of (d ++ codes " " ++ text) ≡ Given 15 text) (sym (decimal_step 15 (lit≤ tt) (lit< tt) ∙ ap (λ (d : List ℕ). d ++ 53 ∷ []) (decimal_digit 1 (lit< tt)))) (ap (Given 15) (skipped text bare))
-line_back (suc (suc (suc (suc (suc (suc (suc (suc (suc (suc (suc (suc (suc (suc (suc (suc zero)))))))))))))))) is text bare = subst (λ (d : List ℕ). line_of (d ++ codes " " ++ text) ≡ Given 16 text) (sym (decimal_step 16 (lit≤ tt) (lit< tt) ∙ ap (λ (d : List ℕ). d ++ 54 ∷ []) (decimal_digit 1 (lit< tt)))) (ap (Given 16) (skipped text bare))
+line_back (suc zero) is text bare =
+    subst (λ (d : List ℕ). line_of (d ++ codes " " ++ text) ≡ Given 1 text) (sym (decimal_digit 1 (lit< tt))) (ap (Given 1) (skipped text bare))
+line_back (suc (suc zero)) is text bare =
+    subst (λ (d : List ℕ). line_of (d ++ codes " " ++ text) ≡ Given 2 text) (sym (decimal_digit 2 (lit< tt))) (ap (Given 2) (skipped text bare))
+line_back (suc (suc (suc zero))) is text bare =
+    subst (λ (d : List ℕ). line_of (d ++ codes " " ++ text) ≡ Given 3 text) (sym (decimal_digit 3 (lit< tt))) (ap (Given 3) (skipped text bare))
+line_back (suc (suc (suc (suc zero)))) is text bare =
+    subst (λ (d : List ℕ). line_of (d ++ codes " " ++ text) ≡ Given 4 text) (sym (decimal_digit 4 (lit< tt))) (ap (Given 4) (skipped text bare))
+line_back (suc (suc (suc (suc (suc zero))))) is text bare =
+    subst (λ (d : List ℕ). line_of (d ++ codes " " ++ text) ≡ Given 5 text) (sym (decimal_digit 5 (lit< tt))) (ap (Given 5) (skipped text bare))
+line_back (suc (suc (suc (suc (suc (suc zero)))))) is text bare =
+    subst (λ (d : List ℕ). line_of (d ++ codes " " ++ text) ≡ Given 6 text) (sym (decimal_digit 6 (lit< tt))) (ap (Given 6) (skipped text bare))
+line_back (suc (suc (suc (suc (suc (suc (suc zero))))))) is text bare =
+    subst (λ (d : List ℕ). line_of (d ++ codes " " ++ text) ≡ Given 7 text) (sym (decimal_digit 7 (lit< tt))) (ap (Given 7) (skipped text bare))
+line_back (suc (suc (suc (suc (suc (suc (suc (suc zero)))))))) is text bare =
+    subst (λ (d : List ℕ). line_of (d ++ codes " " ++ text) ≡ Given 8 text) (sym (decimal_digit 8 (lit< tt))) (ap (Given 8) (skipped text bare))
+line_back (suc (suc (suc (suc (suc (suc (suc (suc (suc zero))))))))) is text bare =
+    subst (λ (d : List ℕ). line_of (d ++ codes " " ++ text) ≡ Given 9 text) (sym (decimal_digit 9 (lit< tt))) (ap (Given 9) (skipped text bare))
+line_back (suc (suc (suc (suc (suc (suc (suc (suc (suc (suc zero)))))))))) is text bare =
+    subst (λ (d : List ℕ). line_of (d ++ codes " " ++ text) ≡ Given 10 text)
+    (sym (decimal_step 10 (lit≤ tt) (lit< tt) ∙ ap (λ (d : List ℕ). d ++ 48 ∷ []) (decimal_digit 1 (lit< tt)))) (ap (Given 10) (skipped text bare))
+line_back (suc (suc (suc (suc (suc (suc (suc (suc (suc (suc (suc zero))))))))))) is text bare =
+    subst (λ (d : List ℕ). line_of (d ++ codes " " ++ text) ≡ Given 11 text)
+    (sym (decimal_step 11 (lit≤ tt) (lit< tt) ∙ ap (λ (d : List ℕ). d ++ 49 ∷ []) (decimal_digit 1 (lit< tt)))) (ap (Given 11) (skipped text bare))
+line_back (suc (suc (suc (suc (suc (suc (suc (suc (suc (suc (suc (suc zero)))))))))))) is text bare =
+    subst (λ (d : List ℕ). line_of (d ++ codes " " ++ text) ≡ Given 12 text)
+    (sym (decimal_step 12 (lit≤ tt) (lit< tt) ∙ ap (λ (d : List ℕ). d ++ 50 ∷ []) (decimal_digit 1 (lit< tt)))) (ap (Given 12) (skipped text bare))
+line_back (suc (suc (suc (suc (suc (suc (suc (suc (suc (suc (suc (suc (suc zero))))))))))))) is text bare =
+    subst (λ (d : List ℕ). line_of (d ++ codes " " ++ text) ≡ Given 13 text)
+    (sym (decimal_step 13 (lit≤ tt) (lit< tt) ∙ ap (λ (d : List ℕ). d ++ 51 ∷ []) (decimal_digit 1 (lit< tt)))) (ap (Given 13) (skipped text bare))
+line_back (suc (suc (suc (suc (suc (suc (suc (suc (suc (suc (suc (suc (suc (suc zero)))))))))))))) is text bare =
+    subst (λ (d : List ℕ). line_of (d ++ codes " " ++ text) ≡ Given 14 text)
+    (sym (decimal_step 14 (lit≤ tt) (lit< tt) ∙ ap (λ (d : List ℕ). d ++ 52 ∷ []) (decimal_digit 1 (lit< tt)))) (ap (Given 14) (skipped text bare))
+line_back (suc (suc (suc (suc (suc (suc (suc (suc (suc (suc (suc (suc (suc (suc (suc zero))))))))))))))) is text bare =
+    subst (λ (d : List ℕ). line_of (d ++ codes " " ++ text) ≡ Given 15 text)
+    (sym (decimal_step 15 (lit≤ tt) (lit< tt) ∙ ap (λ (d : List ℕ). d ++ 53 ∷ []) (decimal_digit 1 (lit< tt)))) (ap (Given 15) (skipped text bare))
+line_back (suc (suc (suc (suc (suc (suc (suc (suc (suc (suc (suc (suc (suc (suc (suc (suc zero)))))))))))))))) is text bare =
+    subst (λ (d : List ℕ). line_of (d ++ codes " " ++ text) ≡ Given 16 text)
+    (sym (decimal_step 16 (lit≤ tt) (lit< tt) ∙ ap (λ (d : List ℕ). d ++ 54 ∷ []) (decimal_digit 1 (lit< tt)))) (ap (Given 16) (skipped text bare))
 line_back (suc (suc (suc (suc (suc (suc (suc (suc (suc (suc (suc (suc (suc (suc (suc (suc (suc more))))))))))))))))) is text bare = absurd (omega (arith, is.1))
 
 -- the canonical form of a statement begins with no blank
-canonical_bare : (statement : Statement) (text : List ℕ) → without_blanks text ≡ text → without_blanks (canonical_text statement text) ≡ canonical_text statement text
+canonical_bare : (statement : Statement) (text : List ℕ) → without_blanks text ≡ text
+    → without_blanks (canonical_text statement text) ≡ canonical_text statement text
 unfolding statement_text
 canonical_bare (Start xid) text bare = refl
 canonical_bare (End xid) text bare = refl
@@ -67,7 +93,8 @@ call_bare text bare = text_bare (read_of text) text bare
 spelled_back : (statement : Statement) → Spells (statement_text statement) statement → read_of (statement_text statement) ≡ Ok statement
 spelled_back statement spells = (reads_spelled (statement_text statement) statement).1 spells
 
-canonical_back : (statement : Statement) (text : List ℕ) → read_of text ≡ Ok statement → (statement ≢ Unsupported → Spells (statement_text statement) statement) → read_of (canonical_text statement text) ≡ Ok statement
+canonical_back : (statement : Statement) (text : List ℕ) → read_of text ≡ Ok statement → (statement ≢ Unsupported → Spells (statement_text statement) statement)
+    → read_of (canonical_text statement text) ≡ Ok statement
 canonical_back (Start xid) text is spells = spelled_back (Start xid) (spells (λ e. cc))
 canonical_back (End xid) text is spells = spelled_back (End xid) (spells (λ e. cc))
 canonical_back (Prepare xid) text is spells = spelled_back (Prepare xid) (spells (λ e. cc))
@@ -80,7 +107,8 @@ canonical_back (Put key value) text is spells = spelled_back (Put key value) (sp
 canonical_back (Del key) text is spells = spelled_back (Del key) (spells (λ e. cc))
 canonical_back Disconnect text is spells = spelled_back Disconnect (spells (λ e. cc))
 
-read_back : (read : Result Statement ℕ) (text : List ℕ) → read_of text ≡ read → IsWellCalled text → request_read read ≡ request_read (read_of (text_read read text))
+read_back : (read : Result Statement ℕ) (text : List ℕ) → read_of text ≡ read → IsWellCalled text
+    → request_read read ≡ request_read (read_of (text_read read text))
 read_back (Ok statement) text is well = sym (ap request_read (canonical_back statement text is (well.canonical statement is)))
 read_back (Err place) text is well = sym (ap request_read is)
 

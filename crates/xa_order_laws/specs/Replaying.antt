@@ -81,14 +81,16 @@ pub record IsEffectLine (config : Config) (session : ℕ) (act : Act) (line : Li
 -- the lines give what takes effect, in order, along moves that lead through the events
 abbrev pub AreEffects : Config → List Event → List Move → List (List ℕ) → Type 0
 AreEffects old events (Effect session act ∷ moves) [] = ⊥
-AreEffects old events (Effect session act ∷ moves) (line ∷ lines) = (mid : Config) × (effect_of old session act ≡ Some mid) × IsEffectLine old session act line × AreEffects mid events moves lines
+AreEffects old events (Effect session act ∷ moves) (line ∷ lines) =
+    (mid : Config) × (effect_of old session act ≡ Some mid) × IsEffectLine old session act line × AreEffects mid events moves lines
 AreEffects old [] (Seeing ∷ moves) lines = ⊥
 AreEffects old (event ∷ events) (Seeing ∷ moves) lines = (mid : Config) × (observed old event ≡ Some mid) × AreEffects mid events moves lines
 AreEffects old [] [] [] = Unit {0}
 AreEffects old [] [] (line ∷ lines) = ⊥
 AreEffects old (event ∷ events) [] lines = ⊥
 
--- a text that a session calls for begins with no blank, and the canonical form of its statement is read as that statement, as `canonical_text_is_spelled` of `xa_statement` says of each
+-- a text that a session calls for begins with no blank, and the canonical form of its statement is read as that statement, as `canonical_text_is_spelled` of
+-- `xa_statement` says of each
 pub record IsWellCalled (text : List ℕ) : Type 0 where
   pub bare : without_blanks text ≡ text
   pub canonical : (statement : Statement) → read_of text ≡ Ok statement → statement ≢ Unsupported → Spells (statement_text statement) statement

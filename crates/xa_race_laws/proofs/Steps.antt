@@ -5,7 +5,8 @@
 --     Goes               the lines can be written down so that they are explained
 --     emits              a line of a session is next
 --     begins             each session calls for its first line
-use Rattle.std.proofs.Common.{◌≡◌, ◌≢◌, ℕ, zero, suc, ◌<◌, ◌≤◌, true, cond, Option, Some, None, List, [], ◌∷◌, ◌++◌, set, refl, ap, sym, ◌∙◌, subst, inl, inr, arith, append_assoc}
+use Rattle.std.proofs.Common.{◌≡◌, ◌≢◌, ℕ, zero, suc, ◌<◌, ◌≤◌, true, cond, Option, Some, None, List, [], ◌∷◌, ◌++◌, set, refl, ap, sym, ◌∙◌, subst, inl, inr}
+use Rattle.std.proofs.Common.{arith, append_assoc}
 use Rattle.std.specs.Prelude.{slice_get}
 use Rattle.xa_server.specs.State.{State}
 use Rattle.xa_server.specs.declared.reply.Reply.{Reply}
@@ -49,48 +50,66 @@ pub record Goes (lines : Lines) (config : Config) : Type 0 where
 
 -- the session's statement takes effect
 effect_now : (config : Config) (session : ℕ) (line : Line) → slice_get config.standings session ≡ Some (Called (Given line.statement))
-    → effect_of config session ItsStatement ≡ Some (record { state = after config.state session line.statement; standings = set config.standings session (Answered (Replied (reply_to config.state session line.statement))) })
+    → effect_of config session ItsStatement
+    ≡ Some (record {
+      state = after config.state session line.statement;
+      standings = set config.standings session (Answered (Replied (reply_to config.state session line.statement)));
+    })
 unfolding effect_of carried_out
 effect_now config session line found = ap (λ (o : Option Standing). carried_out o config session) found
 
 -- its call returns
-return_now : (config : Config) (session : ℕ) (line : Line) (answer : Answer) → slice_get config.standings session ≡ Some (Answered answer) → agrees line.seen answer ≡ true
+return_now : (config : Config) (session : ℕ) (line : Line) (answer : Answer) → slice_get config.standings session ≡ Some (Answered answer)
+    → agrees line.seen answer ≡ true
     → observed config (Return session line.seen) ≡ Some (with_standing config session Idle)
 unfolding observed returned
 return_now config session line answer found shows =
     ap (λ (o : Option Standing). returned o config session line.seen) found ∙ ap (λ b. cond b (Some (with_standing config session Idle)) None) shows
 
 -- an idle session calls
-call_now : (config : Config) (session : ℕ) (line : Line) → slice_get config.standings session ≡ Some Idle → observed config (Call session (Given line.statement)) ≡ Some (with_standing config session (Called (Given line.statement)))
+call_now : (config : Config) (session : ℕ) (line : Line) → slice_get config.standings session ≡ Some Idle
+    → observed config (Call session (Given line.statement)) ≡ Some (with_standing config session (Called (Given line.statement)))
 unfolding observed called
 call_now config session line found = ap (λ (o : Option Standing). called o config session (Given line.statement)) found
 
 -- the session's standing was written, and the others stand as they did
-written_stands : (lines : Lines) (session : ℕ) (rest : List Line) (old new : Config) → Stands lines old → slice_get new.standings session ≡ Some (standing_of rest)
+written_stands : (lines : Lines) (session : ℕ) (rest : List Line) (old new : Config) → Stands lines old
+    → slice_get new.standings session ≡ Some (standing_of rest)
     → ((other : ℕ) → session ≢ other → slice_get new.standings other ≡ slice_get old.standings other) → Stands (with_lines lines session rest) new
 written_stands lines session rest old new stands own others other is_other = elim (same_number session other) [
-  | inl same ↦ subst (λ (n : ℕ). slice_get new.standings n ≡ Some (standing_of (with_lines lines session rest n))) same (own ∙ ap (λ (l : List Line). Some (standing_of l)) (sym (lines_own lines session rest)))
-  | inr apart ↦ others other apart ∙ stands other is_other ∙ ap (λ (l : List Line). Some (standing_of l)) (sym (lines_other lines session other rest (λ e. apart (sym e))))
+  | inl same ↦ subst (λ (n : ℕ). slice_get new.standings n ≡ Some (standing_of (with_lines lines session rest n))) same
+      (own ∙ ap (λ (l : List Line). Some (standing_of l)) (sym (lines_own lines session rest)))
+  | inr apart ↦ others other apart ∙ stands other is_other
+      ∙ ap (λ (l : List Line). Some (standing_of l)) (sym (lines_other lines session other rest (λ e. apart (sym e))))
 ]
 
 -- how things stand once the session's statement has taken effect, and once its call has returned
 abbrev pub effected : Config → ℕ → Line → Config
-effected config session line = record { state = after config.state session line.statement; standings = set config.standings session (Answered (Replied (reply_to config.state session line.statement))) }
+effected config session line =
+    record {
+      state = after config.state session line.statement;
+      standings = set config.standings session (Answered (Replied (reply_to config.state session line.statement)));
+    }
 
 abbrev pub idle_again : Config → ℕ → Line → Config
 idle_again config session line = with_standing (effected config session line) session Idle
 
 answered_there : (config : Config) (session : ℕ) (line : Line) → slice_get config.standings session ≡ Some (Called (Given line.statement))
     → slice_get (effected config session line).standings session ≡ Some (Answered (Replied (reply_to config.state session line.statement)))
-answered_there config session line found = get_written config.standings session (Called (Given line.statement)) (Answered (Replied (reply_to config.state session line.statement))) found
+answered_there config session line found =
+    get_written config.standings session (Called (Given line.statement)) (Answered (Replied (reply_to config.state session line.statement))) found
 
-idle_there : (config : Config) (session : ℕ) (line : Line) → slice_get config.standings session ≡ Some (Called (Given line.statement)) → slice_get (idle_again config session line).standings session ≡ Some Idle
+idle_there : (config : Config) (session : ℕ) (line : Line) → slice_get config.standings session ≡ Some (Called (Given line.statement))
+    → slice_get (idle_again config session line).standings session ≡ Some Idle
 idle_there config session line found =
-    get_written (effected config session line).standings session (Answered (Replied (reply_to config.state session line.statement))) Idle (answered_there config session line found)
+    get_written (effected config session line).standings session (Answered (Replied (reply_to config.state session line.statement))) Idle
+    (answered_there config session line found)
 
-others_there : (config : Config) (session : ℕ) (line : Line) (other : ℕ) → session ≢ other → slice_get (idle_again config session line).standings other ≡ slice_get config.standings other
+others_there : (config : Config) (session : ℕ) (line : Line) (other : ℕ) → session ≢ other
+    → slice_get (idle_again config session line).standings other ≡ slice_get config.standings other
 others_there config session line other apart =
-    get_apart (effected config session line).standings session other Idle apart ∙ get_apart config.standings session other (Answered (Replied (reply_to config.state session line.statement))) apart
+    get_apart (effected config session line).standings session other Idle apart
+    ∙ get_apart config.standings session other (Answered (Replied (reply_to config.state session line.statement))) apart
 
 -- the session calls again where it has lines left, and things go on
 pub record GoesNext (lines : Lines) (session : ℕ) (rest : List Line) (config : Config) : Type 0 where
@@ -98,19 +117,23 @@ pub record GoesNext (lines : Lines) (session : ℕ) (rest : List Line) (config :
   pub overlap : Overlap (with_lines lines session rest) events
   pub run : RunsOn config (next_call session rest ++ events)
 
-goes_next : (lines : Lines) (session : ℕ) (line : Line) (rest : List Line) (config : Config) → Stands lines config → slice_get config.standings session ≡ Some (Called (Given line.statement))
-    → ((new : Config) → new.state ≡ after config.state session line.statement → Stands (with_lines lines session rest) new → Goes (with_lines lines session rest) new)
+goes_next : (lines : Lines) (session : ℕ) (line : Line) (rest : List Line) (config : Config) → Stands lines config
+    → slice_get config.standings session ≡ Some (Called (Given line.statement))
+    → ((new : Config) → new.state ≡ after config.state session line.statement → Stands (with_lines lines session rest) new
+    → Goes (with_lines lines session rest) new)
     → GoesNext lines session rest (idle_again config session line)
 goes_next lines session line [] config stands found go =
     let idle : Config = idle_again config session line in
-    let next : Goes (with_lines lines session []) idle = go idle refl (written_stands lines session [] config idle stands (idle_there config session line found) (others_there config session line)) in
+    let next : Goes (with_lines lines session []) idle =
+    go idle refl (written_stands lines session [] config idle stands (idle_there config session line found) (others_there config session line)) in
     record { events = next.events; overlap = next.overlap; run = next.run }
 goes_next lines session line (second ∷ rest) config stands found go =
     let idle : Config = idle_again config session line in
     let waits : Config = with_standing idle session (Called (Given second.statement)) in
     let there : slice_get idle.standings session ≡ Some Idle = idle_there config session line found in
     let next : Goes (with_lines lines session (second ∷ rest)) waits =
-    go waits refl (written_stands lines session (second ∷ rest) config waits stands (get_written idle.standings session Idle (Called (Given second.statement)) there)
+    go waits refl (written_stands lines session (second ∷ rest) config waits stands
+    (get_written idle.standings session Idle (Called (Given second.statement)) there)
     (λ other apart. get_apart idle.standings session other (Called (Given second.statement)) apart ∙ others_there config session line other apart)) in
     record {
       events = next.events;
@@ -119,10 +142,13 @@ goes_next lines session line (second ∷ rest) config stands found go =
     }
 
 -- a line of a session is next: its statement takes effect now, and its call returns
-pub emits : (lines : Lines) (session : ℕ) (line : Line) (rest : List Line) (config : Config) → IsSession session → lines session ≡ line ∷ rest → Stands lines config → line.answer.reply ≡ reply_to config.state session line.statement
-    → ((new : Config) → new.state ≡ after config.state session line.statement → Stands (with_lines lines session rest) new → Goes (with_lines lines session rest) new) → Goes lines config
+pub emits : (lines : Lines) (session : ℕ) (line : Line) (rest : List Line) (config : Config) → IsSession session → lines session ≡ line ∷ rest
+    → Stands lines config → line.answer.reply ≡ reply_to config.state session line.statement
+    → ((new : Config) → new.state ≡ after config.state session line.statement → Stands (with_lines lines session rest) new
+    → Goes (with_lines lines session rest) new) → Goes lines config
 emits lines session line rest config is left stands reply go =
-    let found : slice_get config.standings session ≡ Some (Called (Given line.statement)) = stands session is ∙ ap (λ (l : List Line). Some (standing_of l)) left in
+    let found : slice_get config.standings session ≡ Some (Called (Given line.statement)) =
+    stands session is ∙ ap (λ (l : List Line). Some (standing_of l)) left in
     let answer : Answer = Replied (reply_to config.state session line.statement) in
     let shows : agrees line.seen answer ≡ true = ap (λ (r : Reply). agrees line.seen (Replied r)) (sym reply) ∙ line.shows in
     let next : GoesNext lines session rest (idle_again config session line) = goes_next lines session line rest config stands found go in
@@ -136,7 +162,11 @@ emits lines session line rest config is left stands reply go =
           effected config session line,
           is,
           effect_now config session line found,
-          (idle_again config session line, return_now (effected config session line) session line answer (answered_there config session line found) shows, next.run.runs),
+          (
+            idle_again config session line,
+            return_now (effected config session line) session line answer (answered_there config session line found) shows,
+            next.run.runs,
+          ),
         );
       };
     }
@@ -153,7 +183,8 @@ pub record BegunOne (count : ℕ) (lines : Lines) (config : Config) (left : List
   pub called : HaveCalled count lines new
   pub back : (events : List Event) → RunsOn new events → RunsOn config (next_call (suc count) left ++ events)
 
-begins_one : (count : ℕ) → count < 16 → (lines : Lines) (config : Config) (left : List Line) → lines (suc count) ≡ left → HaveCalled (suc count) lines config → BegunOne count lines config left
+begins_one : (count : ℕ) → count < 16 → (lines : Lines) (config : Config) (left : List Line) → lines (suc count) ≡ left → HaveCalled (suc count) lines config
+    → BegunOne count lines config left
 begins_one count within lines config [] is have = record {
   new = config;
   state = refl;
@@ -181,12 +212,14 @@ begins_one count within lines config (line ∷ rest) is have = record {
 
     above : (session : ℕ) → IsSession session → count < session → slice_get waits.standings session ≡ Some (standing_of (lines session))
     above session own high = elim (same_number (suc count) session) [
-      | inl same ↦ subst (λ (n : ℕ). slice_get waits.standings n ≡ Some (standing_of (lines n))) same (get_written config.standings (suc count) Idle (Called (Given line.statement)) there ∙ ap (λ (l : List Line). Some (standing_of l)) (sym is))
+      | inl same ↦ subst (λ (n : ℕ). slice_get waits.standings n ≡ Some (standing_of (lines n))) same
+          (get_written config.standings (suc count) Idle (Called (Given line.statement)) there ∙ ap (λ (l : List Line). Some (standing_of l)) (sym is))
       | inr apart ↦ get_apart config.standings (suc count) session (Called (Given line.statement)) apart ∙ have.above session own (omega arith)
     ]
 
     below : (session : ℕ) → IsSession session → session ≤ count → slice_get waits.standings session ≡ Some Idle
-    below session own low = get_apart config.standings (suc count) session (Called (Given line.statement)) (λ e. absurd (omega arith)) ∙ have.below session own (omega arith)
+    below session own low =
+        get_apart config.standings (suc count) session (Called (Given line.statement)) (λ e. absurd (omega arith)) ∙ have.below session own (omega arith)
 
 -- the sessions up to a number have called too
 pub record Begun (count : ℕ) (lines : Lines) (config : Config) : Type 0 where
@@ -198,7 +231,8 @@ pub record Begun (count : ℕ) (lines : Lines) (config : Config) : Type 0 where
 -- each session calls for its first line
 pub begins : (count : ℕ) → count ≤ 16 → (lines : Lines) (config : Config) → HaveCalled count lines config → Begun count lines config
 unfolding first_calls
-begins zero within lines config have = record { new = config; state = refl; stands = λ session own. have.above session own (omega arith); back = λ events run. run }
+begins zero within lines config have =
+    record { new = config; state = refl; stands = λ session own. have.above session own (omega arith); back = λ events run. run }
 begins (suc count) within lines config have =
     let one : BegunOne count lines config (lines (suc count)) = begins_one count (omega arith) lines config (lines (suc count)) refl have in
     let all : Begun count lines one.new = begins count (omega arith) lines one.new one.called in
@@ -206,7 +240,9 @@ begins (suc count) within lines config have =
       new = all.new;
       state = all.state ∙ one.state;
       stands = all.stands;
-      back = λ events run. subst (RunsOn config) (sym (append_assoc (next_call (suc count) (lines (suc count))) (first_calls count lines) events)) (one.back (first_calls count lines ++ events) (all.back events run));
+      back =
+          λ events run. subst (RunsOn config) (sym (append_assoc (next_call (suc count) (lines (suc count))) (first_calls count lines) events))
+          (one.back (first_calls count lines ++ events) (all.back events run));
     }
 
 -- before all calls every session is idle

@@ -50,7 +50,8 @@ first_calls (suc count) lines = next_call (suc count) (lines (suc count)) ++ fir
 -- each session has called for the first of its lines: a call returns, and the session calls for the next, until all lines are done
 pub data Overlap : Lines → List Event → Type 0 where
   over : {lines : Lines} → ((session : ℕ) → lines session ≡ []) → Overlap lines []
-  returned : {lines : Lines} {session : ℕ} {line : Line} {rest : List Line} {events : List Event} → IsSession session → lines session ≡ line ∷ rest → Overlap (with_lines lines session rest) events
+  returned : {lines : Lines} {session : ℕ} {line : Line} {rest : List Line} {events : List Event} → IsSession session → lines session ≡ line ∷ rest
+      → Overlap (with_lines lines session rest) events
       → Overlap lines (Return session line.seen ∷ (next_call session rest ++ events))
 
 -- so written down, in some order of the returns, the lines are explained

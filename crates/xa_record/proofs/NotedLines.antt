@@ -24,9 +24,11 @@ abbrev pub made : Notes → List Noted → List Presence → Notes
 made notes list presence = record notes { told = list; presence = presence }
 
 -- what happens was noted, with what is then said of its session
-pub noted-so : (notes : Notes) (number : ℕ) (told : Told) (list : List Noted) (presence : List Presence) → cause_of (slice_get notes.presence (session_of told)) told ≡ None
+pub noted-so : (notes : Notes) (number : ℕ) (told : Told) (list : List Noted) (presence : List Presence)
+    → cause_of (slice_get notes.presence (session_of told)) told ≡ None
     → list ≡ notes.told ++ record { number = number; told = told } ∷ [] → presence ≡ slice_set notes.presence (session_of told) (presence_after told)
     → made notes list presence ≡ noted notes number told
 unfolding noted_if
 noted-so notes number told list presence no_fault one two =
-    ap (λ (l : List Noted). made notes l presence) one ∙ ap (made notes (notes.told ++ record { number = number; told = told } ∷ [])) two ∙ sym (ap (λ (c : Option LineFault). noted_if c notes number told) no_fault)
+    ap (λ (l : List Noted). made notes l presence) one ∙ ap (made notes (notes.told ++ record { number = number; told = told } ∷ [])) two
+    ∙ sym (ap (λ (c : Option LineFault). noted_if c notes number told) no_fault)

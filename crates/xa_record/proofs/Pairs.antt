@@ -8,7 +8,8 @@ use Rattle.xa_record.specs.Events.{IsEvent, AreEvents}
 use Rattle.xa_record.specs.Kept.{told_kept, noted_kept}
 
 -- one event more
-pub AreEvents-more : (noted : List Noted) (events : List Event) (one : Noted) (event : Event) → AreEvents noted events → IsEvent one.told event → AreEvents (noted ++ one ∷ []) (events ++ event ∷ [])
+pub AreEvents-more : (noted : List Noted) (events : List Event) (one : Noted) (event : Event) → AreEvents noted events → IsEvent one.told event
+    → AreEvents (noted ++ one ∷ []) (events ++ event ∷ [])
 AreEvents-more [] [] one event are is = (is, tt)
 AreEvents-more [] (first ∷ events) one event are is = absurd are
 AreEvents-more (first ∷ noted) [] one event are is = absurd are
@@ -19,8 +20,10 @@ map-push [] one = refl
 map-push (first ∷ list) one = ap (λ l. noted_kept first ∷ l) (map-push list one)
 
 -- one event more, of the thing that happens at this place
-pub AreEvents-next : (noted : List NotedRead) (events longer : List Event) (index : ℕ) (one : NotedRead) (event : Event) → index < length noted → one ≡ get_or noted index one
-    → AreEvents (map noted_kept (take index noted)) events → IsEvent (told_kept one.happening) event → longer ≡ events ++ event ∷ [] → AreEvents (map noted_kept (take (index + 1) noted)) longer
+pub AreEvents-next : (noted : List NotedRead) (events longer : List Event) (index : ℕ) (one : NotedRead) (event : Event) → index < length noted
+    → one ≡ get_or noted index one
+    → AreEvents (map noted_kept (take index noted)) events → IsEvent (told_kept one.happening) event → longer ≡ events ++ event ∷ []
+    → AreEvents (map noted_kept (take (index + 1) noted)) longer
 AreEvents-next noted events longer index one event within at are is parts =
     let upto : map noted_kept (take (index + 1) noted) ≡ map noted_kept (take index noted) ++ noted_kept one ∷ [] =
     ap (map noted_kept) (take_more noted index one within ∙ ap (λ x. take index noted ++ x ∷ []) (sym at)) ∙ map-push (take index noted) one in

@@ -14,7 +14,8 @@ use Rattle.xa_record.specs.Kept.{noted_kept}
 use Rattle.xa_record.specs.VerdictText.{answer_text, with_answers, texts_of, answers_text, number_of_line, number_at}
 
 -- answers one after another
-with_answers-append : (texts : List (List ℕ)) (answers more : List Answer) → with_answers texts (answers ++ more) ≡ with_answers (with_answers texts answers) more
+with_answers-append : (texts : List (List ℕ)) (answers more : List Answer)
+    → with_answers texts (answers ++ more) ≡ with_answers (with_answers texts answers) more
 unfolding with_answers
 with_answers-append texts [] more = refl
 with_answers-append texts (answer ∷ answers) more = with_answers-append (insert_key bytes_cmp texts (answer_text answer)) answers more
@@ -24,25 +25,31 @@ with_answers-more : (answers : List Answer) (index : ℕ) (answer : Answer) → 
     → texts_of (take (index + 1) answers) ≡ insert_key bytes_cmp (texts_of (take index answers)) (answer_text answer)
 unfolding with_answers
 with_answers-more answers index answer within at =
-    ap texts_of (take_more answers index answer within ∙ ap (λ x. take index answers ++ x ∷ []) (sym at)) ∙ with_answers-append [] (take index answers) (answer ∷ [])
+    ap texts_of (take_more answers index answer within ∙ ap (λ x. take index answers ++ x ∷ []) (sym at))
+    ∙ with_answers-append [] (take index answers) (answer ∷ [])
 
 -- keys that are told apart by their bytes alone are put in where these are
-inserted : {A : Type 0} (bytes : A → List ℕ) (keys : List A) (key : A) → map bytes (insert_key (λ x y. bytes_cmp (bytes x) (bytes y)) keys key) ≡ insert_key bytes_cmp (map bytes keys) (bytes key)
+inserted : {A : Type 0} (bytes : A → List ℕ) (keys : List A) (key : A)
+    → map bytes (insert_key (λ x y. bytes_cmp (bytes x) (bytes y)) keys key) ≡ insert_key bytes_cmp (map bytes keys) (bytes key)
 inserted bytes [] key = refl
 inserted bytes (first ∷ keys) key = by (bytes_cmp (bytes key) (bytes first)) (inserted bytes keys key)
   where
     by : (o : Ordering) → map bytes (insert_key (λ x y. bytes_cmp (bytes x) (bytes y)) keys key) ≡ insert_key bytes_cmp (map bytes keys) (bytes key)
         → map bytes (match_ordering o (key ∷ first ∷ keys) (first ∷ keys) (first ∷ insert_key (λ x y. bytes_cmp (bytes x) (bytes y)) keys key))
-        ≡ match_ordering o (bytes key ∷ bytes first ∷ map bytes keys) (bytes first ∷ map bytes keys) (bytes first ∷ insert_key bytes_cmp (map bytes keys) (bytes key))
+        ≡ match_ordering o (bytes key ∷ bytes first ∷ map bytes keys) (bytes first ∷ map bytes keys)
+        (bytes first ∷ insert_key bytes_cmp (map bytes keys) (bytes key))
     by Less later = refl
     by Equal later = refl
     by Greater later = ap (λ l. bytes first ∷ l) later
 
 -- the text of one answer more was put in
-pub texts-more : {A : Type 0} (bytes : A → List ℕ) (old new : List A) (key : A) (answers : List Answer) (index : ℕ) (answer : Answer) → index < length answers → answer ≡ get_or answers index answer
-    → map bytes old ≡ texts_of (take index answers) → bytes key ≡ answer_text answer → new ≡ insert_key (λ x y. bytes_cmp (bytes x) (bytes y)) old key → map bytes new ≡ texts_of (take (index + 1) answers)
+pub texts-more : {A : Type 0} (bytes : A → List ℕ) (old new : List A) (key : A) (answers : List Answer) (index : ℕ) (answer : Answer) → index < length answers
+    → answer ≡ get_or answers index answer
+    → map bytes old ≡ texts_of (take index answers) → bytes key ≡ answer_text answer → new ≡ insert_key (λ x y. bytes_cmp (bytes x) (bytes y)) old key
+    → map bytes new ≡ texts_of (take (index + 1) answers)
 texts-more bytes old new key answers index answer within at before is put =
-    ap (map bytes) put ∙ inserted bytes old key ∙ ap (λ l. insert_key bytes_cmp l (bytes key)) before ∙ ap (insert_key bytes_cmp (texts_of (take index answers))) is
+    ap (map bytes) put ∙ inserted bytes old key ∙ ap (λ l. insert_key bytes_cmp l (bytes key)) before
+    ∙ ap (insert_key bytes_cmp (texts_of (take index answers))) is
     ∙ sym (with_answers-more answers index answer within at)
 
 pub texts-none : {A : Type 0} (bytes : A → List ℕ) (keys : List A) (answers : List Answer) → keys ≡ [] → map bytes keys ≡ texts_of (take 0 answers)
@@ -50,11 +57,13 @@ unfolding with_answers
 texts-none bytes keys answers none = ap (map bytes) none
 
 -- one text more was written
-pub written-text : (whole out first second third text : List ℕ) (texts : List (List ℕ)) → whole ≡ out ++ answers_text (text ∷ texts) → first ≡ out ++ codes "COULD BE " → second ≡ first ++ text → third ≡ second ++ codes "\n"
+pub written-text : (whole out first second third text : List ℕ) (texts : List (List ℕ)) → whole ≡ out ++ answers_text (text ∷ texts)
+    → first ≡ out ++ codes "COULD BE " → second ≡ first ++ text → third ≡ second ++ codes "\n"
     → whole ≡ third ++ answers_text texts
 unfolding answers_text
 written-text whole out first second third text texts is one two three =
-    let parts : out ++ (((codes "COULD BE " ++ text) ++ codes "\n") ++ answers_text texts) ≡ (((out ++ codes "COULD BE ") ++ text) ++ codes "\n") ++ answers_text texts = simp append_assoc in
+    let parts : out ++ (((codes "COULD BE " ++ text) ++ codes "\n") ++ answers_text texts)
+    ≡ (((out ++ codes "COULD BE ") ++ text) ++ codes "\n") ++ answers_text texts = simp append_assoc in
     let made : third ≡ ((out ++ codes "COULD BE ") ++ text) ++ codes "\n" = three ∙ ap (λ l. l ++ codes "\n") (two ∙ ap (λ l. l ++ text) one) in
     is ∙ parts ∙ ap (λ l. l ++ answers_text texts) (sym made)
 
@@ -64,8 +73,10 @@ unfolding answers_text
 written-whole whole out texts is none = sym (is ∙ ap (λ t. out ++ answers_text t) none ∙ append-nil out)
 
 -- the number of the line, in the list as the program keeps it
-pub number_at-within : (noted : List NotedRead) (place : ℕ) (one : NotedRead) → place < length noted → one ≡ get_or noted place one → one.number ≡ number_at (map noted_kept noted) place
-number_at-within noted place one within at = sym (ap number_of_line (slice_get-map noted_kept noted place ∙ ap (option_map noted_kept) (slice_get_read noted (length noted) place one refl within at)))
+pub number_at-within : (noted : List NotedRead) (place : ℕ) (one : NotedRead) → place < length noted → one ≡ get_or noted place one
+    → one.number ≡ number_at (map noted_kept noted) place
+number_at-within noted place one within at =
+    sym (ap number_of_line (slice_get-map noted_kept noted place ∙ ap (option_map noted_kept) (slice_get_read noted (length noted) place one refl within at)))
 
 -- there is no such line
 pub number_at-past : (noted : List NotedRead) (place : ℕ) → length noted ≤ place → 0 ≡ number_at (map noted_kept noted) place

@@ -45,11 +45,13 @@ noted_kept noted = record { number = noted.number; told = told_kept noted.happen
 
 -- rows that are still to come
 abbrev pub awaited_kept : Pending → Awaited
-awaited_kept pending = record { session = pending.session; number = pending.number; missing = pending.missing; rows = pending.rows.items; faults = pending.faults.items }
+awaited_kept pending =
+    record { session = pending.session; number = pending.number; missing = pending.missing; rows = pending.rows.items; faults = pending.faults.items }
 
 -- what was read so far
 abbrev pub notes_kept : NotesRead → Notes
-notes_kept notes = record { told = map noted_kept notes.noted.items; faults = notes.faults.items; presence = notes.presence; awaited = option_map awaited_kept notes.pending }
+notes_kept notes =
+    record { told = map noted_kept notes.noted.items; faults = notes.faults.items; presence = notes.presence; awaited = option_map awaited_kept notes.pending }
 
 -- at each session's number, the text that it called for last
 abbrev pub calls_kept : CallsRead → List (List ℕ)

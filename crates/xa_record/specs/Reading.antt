@@ -1,5 +1,6 @@
 -- How a record is read, line by line. All of it is our own: docs/JUDGE.md, 'Records'.
--- Faulty lines are written in ascending order, each once: what is written for those among the rows of a return is held until that return is judged, and comes behind it.
+-- Faulty lines are written in ascending order, each once: what is written for those among the rows of a return is held until that return is judged, and comes
+-- behind it.
 --     cause_of            why what happens to a session is faulty, by what the lines before say of it
 --     fault_text          what is written for a faulty line
 --     Awaited             rows that are still to come, and the faulty lines among those that came
@@ -89,7 +90,10 @@ blamed_too notes faults = record notes { faults = notes.faults ++ faults }
 
 unfoldable pub noted_if : Option LineFault → Notes → ℕ → Told → Notes
 noted_if None notes number told =
-    record notes { told = notes.told ++ record { number = number; told = told } ∷ []; presence = slice_set notes.presence (session_of told) (presence_after told) }
+    record notes {
+      told = notes.told ++ record { number = number; told = told } ∷ [];
+      presence = slice_set notes.presence (session_of told) (presence_after told);
+    }
 noted_if (Some fault) notes number told = blamed notes number fault
 
 -- this happens on the line of this number, or the line is faulty
@@ -111,7 +115,8 @@ with_row notes awaited number (Some xid) = awaiting notes (record awaited { miss
 
 -- a line where a row is to stand
 unfoldable pub noted_row : Notes → Awaited → ℕ → List ℕ → Notes
-noted_row notes awaited number line = if is_remark line then notes else with_row (record notes { awaited = None }) awaited number (row_said (without_blanks line))
+noted_row notes awaited number line =
+    if is_remark line then notes else with_row (record notes { awaited = None }) awaited number (row_said (without_blanks line))
 
 -- a line where none is
 unfoldable pub noted_said : Notes → ℕ → LineSaid → Notes

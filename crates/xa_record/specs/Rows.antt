@@ -36,7 +36,8 @@ digits_named (zero_digit ∷ letter ∷ digits) = if zero_digit == 48 && letter 
 
 -- the identifier of these bytes, the first of which are its gtrid
 abbrev pub xid_of : ℕ → ℕ → Result (List ℕ) FromHexError → Option Xid
-xid_of format_id gtrid (Ok bytes) = Some (record { format_id = format_id; gtrid = record { items = take gtrid bytes }; bqual = record { items = drop gtrid bytes } })
+xid_of format_id gtrid (Ok bytes) =
+    Some (record { format_id = format_id; gtrid = record { items = take gtrid bytes }; bqual = record { items = drop gtrid bytes } })
 xid_of format_id gtrid (Err fault) = None
 
 -- the identifier of a formatID, of the lengths of gtrid and bqual, and of the digits of both
@@ -53,7 +54,8 @@ xid_with (Some format_id) (Some gtrid) (Some bqual) (Some digits) = xid_written 
 -- the identifier of four words, behind which nothing stands
 unfoldable pub row_of : List ℕ → List ℕ → List ℕ → List ℕ → Option Xid
 row_of first second third fourth =
-    if is_empty (behind_word fourth) then xid_with (number_named (first_word first)) (number_named (first_word second)) (number_named (first_word third)) (digits_named (first_word fourth)) else None
+    if is_empty (behind_word fourth) then xid_with (number_named (first_word first)) (number_named (first_word second)) (number_named (first_word third))
+    (digits_named (first_word fourth)) else None
 
 -- the identifier that a line is written as, from its first byte on that isn't a blank
 unfoldable pub row_said : List ℕ → Option Xid

@@ -10,7 +10,8 @@ some_is : {text other : Text} → Some text ≡ Some other → text ≡ other
 some_is e = cc
 
 -- a number is read only where it is given
-pub seed_read : {E : Type 0} (gives : List ℕ → Result ℕ E → Type 0) → ((text : Text) (r : Result ℕ E) → gives text r → ParsesUnsigned 64 10 text r) → (given : Option Text) (read : Option ℕ) → (given ≡ None → read ≡ None)
+pub seed_read : {E : Type 0} (gives : List ℕ → Result ℕ E → Type 0) → ((text : Text) (r : Result ℕ E) → gives text r → ParsesUnsigned 64 10 text r)
+    → (given : Option Text) (read : Option ℕ) → (given ≡ None → read ≡ None)
     → ((text : List ℕ) → given ≡ Some text → ReadsOne gives text read) → IfSome read (λ seed. IsSomeAnd given (IsSeedText seed))
 seed_read gives parses given None none value = tt
 seed_read gives parses None (Some seed) none value = let e : Some seed ≡ None = none refl in cc
@@ -19,7 +20,8 @@ seed_read gives parses (Some text) (Some seed) none value =
     (p.0.0, p.1, subst (λ n. n < 2 ^ 64) (sym p.1) p.0.1)
 
 -- no number is read only where none is given
-pub none_read : {E : Type 0} (gives : List ℕ → Result ℕ E → Type 0) → ((text : Text) (r : Result ℕ E) → gives text r → ParsesUnsigned 64 10 text r) → (given : Option Text) (read : Option ℕ) → (given ≡ None → read ≡ None)
+pub none_read : {E : Type 0} (gives : List ℕ → Result ℕ E → Type 0) → ((text : Text) (r : Result ℕ E) → gives text r → ParsesUnsigned 64 10 text r)
+    → (given : Option Text) (read : Option ℕ) → (given ≡ None → read ≡ None)
     → ((text : List ℕ) → given ≡ Some text → ReadsOne gives text read) → read ≡ None → HasNoSeed given
 none_read gives parses None read none value is seed named = named
 none_read gives parses (Some text) (Some other) none value is seed named = cc
@@ -28,7 +30,8 @@ none_read gives parses (Some text) None none value is seed named =
     parses text (Err failed.0) failed.1 (named.0, subst (λ n. n < 2 ^ 64) named.1 named.2)
 
 -- the flag is read as given only where it is
-pub flag_read : {E : Type 0} (gives : List ℕ → Result Bool E → Type 0) → ((text : Text) (r : Result Bool E) → gives text r → ParsesBool text r) → (given : Option Text) (read : Option Bool) → (given ≡ None → read ≡ None)
+pub flag_read : {E : Type 0} (gives : List ℕ → Result Bool E → Type 0) → ((text : Text) (r : Result Bool E) → gives text r → ParsesBool text r)
+    → (given : Option Text) (read : Option Bool) → (given ≡ None → read ≡ None)
     → ((text : List ℕ) → given ≡ Some text → ReadsOne gives text read) → unwrap_or read false ≡ true → given ≡ Some (codes "true")
 flag_read gives parses given None none value is = cc
 flag_read gives parses None (Some flag) none value is = let e : Some flag ≡ None = none refl in cc
@@ -36,7 +39,8 @@ flag_read gives parses (Some text) (Some false) none value is = cc
 flag_read gives parses (Some text) (Some true) none value is = ap Some (parses text (Ok true) (value text refl))
 
 -- and as not given only where it isn't
-pub no_flag_read : {E : Type 0} (gives : List ℕ → Result Bool E → Type 0) → ((text : Text) (r : Result Bool E) → gives text r → ParsesBool text r) → (given : Option Text) (read : Option Bool) → (given ≡ None → read ≡ None)
+pub no_flag_read : {E : Type 0} (gives : List ℕ → Result Bool E → Type 0) → ((text : Text) (r : Result Bool E) → gives text r → ParsesBool text r)
+    → (given : Option Text) (read : Option Bool) → (given ≡ None → read ≡ None)
     → ((text : List ℕ) → given ≡ Some text → ReadsOne gives text read) → unwrap_or read false ≡ false → given ≢ Some (codes "true")
 no_flag_read gives parses None read none value is same = cc
 no_flag_read gives parses (Some text) (Some true) none value is same = cc
@@ -48,6 +52,7 @@ no_flag_read gives parses (Some text) None none value is same =
     absurd ((parses text (Err failed.0) failed.1).0 (some_is same))
 
 -- a race goes on where the flag is given
-pub renewal_of : (renew : Option Text) (renews : Bool) → (renews ≡ true → renew ≡ Some (codes "true")) → (renews ≡ false → renew ≢ Some (codes "true")) → IsRenewalOf renew renews
+pub renewal_of : (renew : Option Text) (renews : Bool) → (renews ≡ true → renew ≡ Some (codes "true")) → (renews ≡ false → renew ≢ Some (codes "true"))
+    → IsRenewalOf renew renews
 renewal_of renew true given absent = given refl
 renewal_of renew false given absent = absent refl

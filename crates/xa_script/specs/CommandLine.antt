@@ -22,7 +22,9 @@ use Rattle.xa_script.specs.declared.command.Job.TheVariants.{Run, Race, Coordina
 
 -- `--capacity N`, a number from 1 to 1024, and 1024 where it isn't given
 abbrev pub capacity_rule : Rule
-capacity_rule = record (new_rule (codes "capacity")) { long = Some (codes "capacity"); value_names = 1; parser = Some (parser.Unsigned 1 1024); defaults = codes "1024" ∷ [] }
+capacity_rule =
+    record (new_rule (codes "capacity"))
+    { long = Some (codes "capacity"); value_names = 1; parser = Some (parser.Unsigned 1 1024); defaults = codes "1024" ∷ [] }
 
 -- `--together`, which has no value
 abbrev pub together_rule : Rule
@@ -42,7 +44,8 @@ race_app = with_rule (with_rule (with_rule (with_rule (new_app (codes "race")) c
 
 -- `--stores N`, a number from 1 to 16, and 3 where it isn't given
 abbrev pub stores_rule : Rule
-stores_rule = record (new_rule (codes "stores")) { long = Some (codes "stores"); value_names = 1; parser = Some (parser.Unsigned 1 16); defaults = codes "3" ∷ [] }
+stores_rule =
+    record (new_rule (codes "stores")) { long = Some (codes "stores"); value_names = 1; parser = Some (parser.Unsigned 1 16); defaults = codes "3" ∷ [] }
 
 -- `coordinate [--stores N] [--capacity C]`
 abbrev pub coordinate_app : App
@@ -51,7 +54,8 @@ coordinate_app = with_rule (with_rule (new_app (codes "coordinate")) stores_rule
 -- `--limit N`, a number from 1 to 1,000,000, and 100,000 where it isn't given
 abbrev pub limit_rule : Rule
 limit_rule =
-    record (new_rule (codes "limit")) { long = Some (codes "limit"); value_names = 1; parser = Some (parser.Unsigned 1 1000000); defaults = codes "100000" ∷ [] }
+    record (new_rule (codes "limit"))
+    { long = Some (codes "limit"); value_names = 1; parser = Some (parser.Unsigned 1 1000000); defaults = codes "100000" ∷ [] }
 
 -- `judge [--limit N]`
 abbrev pub judge_app : App
@@ -68,7 +72,8 @@ bare_app = on_top (λ shape. record shape { subcommand_required = true; has_vers
 -- `xa_script run`, `race`, `coordinate`, `serve`, `show` and `judge`
 abbrev pub script_app : App
 script_app =
-    with_subcommand (with_subcommand (with_subcommand (with_subcommand (with_subcommand (with_subcommand bare_app (new_app (codes "run")).top) race_app.top) coordinate_app.top)
+    with_subcommand (with_subcommand
+    (with_subcommand (with_subcommand (with_subcommand (with_subcommand bare_app (new_app (codes "run")).top) race_app.top) coordinate_app.top)
     (new_app (codes "serve")).top) (new_app (codes "show")).top) judge_app.top
 
 -- the text of a value is this number, which a log can have as its capacity
@@ -113,7 +118,8 @@ IsRenewalOf renew false = renew ≢ Some (codes "true")
 -- the job is a race of the capacity that a value's text is, in the manner that two others give, and in rounds where a fourth says so
 abbrev pub IsRaceOf : (capacity together shuffle renew : Option Text) → Job → Type 0
 IsRaceOf capacity together shuffle renew Run = ⊥
-IsRaceOf capacity together shuffle renew (Race room manner renews) = IsSomeAnd capacity (IsCapacityText room) × IsMannerOf together shuffle manner × IsRenewalOf renew renews
+IsRaceOf capacity together shuffle renew (Race room manner renews) =
+    IsSomeAnd capacity (IsCapacityText room) × IsMannerOf together shuffle manner × IsRenewalOf renew renews
 IsRaceOf capacity together shuffle renew (Coordinate stores room) = ⊥
 IsRaceOf capacity together shuffle renew Serve = ⊥
 IsRaceOf capacity together shuffle renew Show = ⊥
@@ -144,7 +150,8 @@ IsJob Serve found = found.0 ≡ codes "serve"
 IsJob Show found = found.0 ≡ codes "show"
 IsJob (Race capacity manner renews) found =
     (found.0 ≡ codes "race")
-    × IsRaceOf (one_of (codes "capacity") found.1) (one_of (codes "together") found.1) (one_of (codes "shuffle") found.1) (one_of (codes "renew") found.1) (Race capacity manner renews)
+    × IsRaceOf (one_of (codes "capacity") found.1) (one_of (codes "together") found.1) (one_of (codes "shuffle") found.1) (one_of (codes "renew") found.1)
+    (Race capacity manner renews)
 IsJob (Coordinate stores capacity) found =
     (found.0 ≡ codes "coordinate") × IsCoordinateOf (one_of (codes "stores") found.1) (one_of (codes "capacity") found.1) (Coordinate stores capacity)
 IsJob (Judge limit) found = (found.0 ≡ codes "judge") × IsJudgeOf (one_of (codes "limit") found.1) (Judge limit)
@@ -156,7 +163,8 @@ Names words job = IsSomeAnd (subcommand_of script_app words) (IsJob job)
 -- a command line is read only where `clap` finds no fault in it; else the error has the kind of its fault, or memory ran
 -- out, or the words name no job
 abbrev pub ReadsCommand : List Text → Result Job Error → Type 0
-ReadsCommand words answer = MatchResult answer (λ job. fault_of script_app words ≡ []) (λ error. HasKind (fault_of script_app words) error ⊎ ((job : Job) → Names words job → ⊥))
+ReadsCommand words answer =
+    MatchResult answer (λ job. fault_of script_app words ≡ []) (λ error. HasKind (fault_of script_app words) error ⊎ ((job : Job) → Names words job → ⊥))
 
 -- a log can have the capacity, there are 1 to 16 stores, and a limit is at most 1,000,000
 abbrev pub CanBeDone : Job → Type 0

@@ -28,4 +28,5 @@ status_for Faulty = 6
 
 -- the writer got what is written for a record that ends so, and the status is for that end
 abbrev pub AppendsVerdict : (limit status : ℕ) → Option (List ℕ) → Option (List ℕ) → Option (List ℕ) → Type 0
-AppendsVerdict limit status input old new = (outcome : Outcome) × (status ≡ status_for outcome) × IfSome input (λ text. AppendsJudged limit outcome text old new)
+AppendsVerdict limit status input old new =
+    (outcome : Outcome) × (status ≡ status_for outcome) × IfSome input (λ text. AppendsJudged limit outcome text old new)

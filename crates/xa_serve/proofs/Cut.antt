@@ -1,5 +1,6 @@
 -- Cutting what is heard into lines.
-use Rattle.std.proofs.Common.{◌≡◌, ◌≤◌, ◌<◌, ℕ, ◌==◌, Bool, true, false, cond, List, [], ◌∷◌, ◌++◌, length, refl, sym, ap, ◌∙◌, append_assoc, append-nil, nat_le, arith, length-append}
+use Rattle.std.proofs.Common.{◌≡◌, ◌≤◌, ◌<◌, ℕ, ◌==◌, Bool, true, false, cond, List, [], ◌∷◌, ◌++◌, length, refl, sym, ap, ◌∙◌, append_assoc, append-nil}
+use Rattle.std.proofs.Common.{nat_le, arith, length-append}
 use Rattle.std.proofs.lemmas.Bool.Decides.{nat_tests}
 use Rattle.std.specs.Prelude.{All}
 use Rattle.std.specs.List.{flat_map}
@@ -44,7 +45,8 @@ pub cut_none : IsCut [] [] []
 cut_none = record { whole = refl; each = All-nil HasNoFeed; last = All-nil (λ b. (b == 10) ≡ false) }
 
 -- one byte more of a line
-pub cut_more : (bytes : List ℕ) (lines : List (List ℕ)) (begun : List ℕ) (byte : ℕ) → (byte == 10) ≡ false → IsCut bytes lines begun → IsCut (bytes ++ byte ∷ []) lines (begun ++ byte ∷ [])
+pub cut_more : (bytes : List ℕ) (lines : List (List ℕ)) (begun : List ℕ) (byte : ℕ) → (byte == 10) ≡ false → IsCut bytes lines begun
+    → IsCut (bytes ++ byte ∷ []) lines (begun ++ byte ∷ [])
 cut_more bytes lines begun byte other cut = record {
   whole = ap (λ xs. xs ++ byte ∷ []) cut.whole ∙ append_assoc (flat_map with_feed lines) begun (byte ∷ []);
   each = cut.each;
@@ -63,13 +65,17 @@ cut_feed bytes lines begun cut =
     }
 
 -- the lines of what was cut
-pub lines_of-cut : (bytes : List ℕ) (lines : List (List ℕ)) (begun rest : List ℕ) → IsCut bytes lines begun → lines_of (bytes ++ rest) ≡ lines ++ lines_of (begun ++ rest)
+pub lines_of-cut : (bytes : List ℕ) (lines : List (List ℕ)) (begun rest : List ℕ) → IsCut bytes lines begun
+    → lines_of (bytes ++ rest) ≡ lines ++ lines_of (begun ++ rest)
 lines_of-cut bytes lines begun rest cut =
-    ap (λ xs. lines_of (xs ++ rest)) cut.whole ∙ ap lines_of (append_assoc (flat_map with_feed lines) begun rest) ∙ lines_of-feeds lines (begun ++ rest) cut.each
+    ap (λ xs. lines_of (xs ++ rest)) cut.whole ∙ ap lines_of (append_assoc (flat_map with_feed lines) begun rest)
+    ∙ lines_of-feeds lines (begun ++ rest) cut.each
 
-pub lines_of-cut_feed : (bytes : List ℕ) (lines : List (List ℕ)) (begun rest : List ℕ) → IsCut bytes lines begun → lines_of (bytes ++ 10 ∷ rest) ≡ (lines ++ begun ∷ []) ++ lines_of rest
+pub lines_of-cut_feed : (bytes : List ℕ) (lines : List (List ℕ)) (begun rest : List ℕ) → IsCut bytes lines begun
+    → lines_of (bytes ++ 10 ∷ rest) ≡ (lines ++ begun ∷ []) ++ lines_of rest
 lines_of-cut_feed bytes lines begun rest cut =
-    lines_of-cut bytes lines begun (10 ∷ rest) cut ∙ ap (λ xs. lines ++ xs) (lines_of-feed begun rest cut.last) ∙ sym (append_assoc lines (begun ∷ []) (lines_of rest))
+    lines_of-cut bytes lines begun (10 ∷ rest) cut ∙ ap (λ xs. lines ++ xs) (lines_of-feed begun rest cut.last)
+    ∙ sym (append_assoc lines (begun ∷ []) (lines_of rest))
 
 pub heard_line-nothing : Whole [] ≡ heard_line []
 unfolding heard_line
@@ -105,7 +111,8 @@ lines_of-some [] none some = cc
 lines_of-some (byte ∷ line) none some = lines_of-last byte line none
 
 -- one byte more of a line that is kept
-pub put_short : (long : Bool) (line next : List ℕ) (byte : ℕ) → long ≡ false → length line < 65536 → next ≡ line ++ byte ∷ [] → cond long TooLong (Whole next) ≡ longer (cond long TooLong (Whole line)) byte
+pub put_short : (long : Bool) (line next : List ℕ) (byte : ℕ) → long ≡ false → length line < 65536 → next ≡ line ++ byte ∷ []
+    → cond long TooLong (Whole next) ≡ longer (cond long TooLong (Whole line)) byte
 unfolding heard_line
 put_short true line next byte short room is = cc
 put_short false line next byte short room is =

@@ -1,5 +1,6 @@
 -- What the sequential server told.
-use Rattle.std.proofs.Common.{◌≡◌, ℕ, Bool, true, false, cond, nat_le, Option, Some, None, Result, Ok, Err, List, [], ◌∷◌, ◌++◌, length, refl, sym, ap, ◌∙◌, inl, inr, append_assoc, append-nil, arith, codes, decimal, lit<}
+use Rattle.std.proofs.Common.{◌≡◌, ℕ, Bool, true, false, cond, nat_le, Option, Some, None, Result, Ok, Err, List, [], ◌∷◌, ◌++◌, length, refl, sym, ap, ◌∙◌}
+use Rattle.std.proofs.Common.{inl, inr, append_assoc, append-nil, arith, codes, decimal, lit<}
 use Rattle.std.proofs.lemmas.Fmt.{decimal_digit}
 use Rattle.std.specs.Prelude.{All, OnOk, IfErr, IfSome}
 use Rattle.std.proofs.lemmas.List.Elements.{All-head, All-tail}
@@ -37,7 +38,8 @@ marks_of [] later first last text a = ([], ap (λ s. served_text [] s later) (sy
 marks_of (line ∷ lines) later first last text a =
     let m = mark_of first a.0 (heard_line line) a.1 a.3 in
     let more = marks_of lines later a.0 last a.2 a.4 in
-    let next : served_text more.0 (state_of m.0 first (said (heard_line line))) (lines ++ later) ≡ a.2 ++ served_text [] last later = ap (λ s. served_text more.0 s (lines ++ later)) (sym m.1.state_is) ∙ more.1 in (
+    let next : served_text more.0 (state_of m.0 first (said (heard_line line))) (lines ++ later) ≡ a.2 ++ served_text [] last later =
+    ap (λ s. served_text more.0 s (lines ++ later)) (sym m.1.state_is) ∙ more.1 in (
       m.0 ∷ more.0,
       ap (λ t. t ++ served_text more.0 (state_of m.0 first (said (heard_line line))) (lines ++ later)) (sym m.1.text_is) ∙ ap (λ t. a.1 ++ t) next
           ∙ sym (append_assoc a.1 a.2 (served_text [] last later)) ∙ ap (λ t. t ++ served_text [] last later) (sym a.5),
@@ -48,7 +50,8 @@ unfolding served_text
 nothing_later state = refl
 
 -- the answers to lines, with those that come later
-part_told : (lines later : List (List ℕ)) (text : List ℕ) → AreAnswers IsEmpty IsAnswer lines text → (marks : List Bool) × (unsaid : List ℕ) × (served_text marks no_state (lines ++ later) ≡ text ++ unsaid)
+part_told : (lines later : List (List ℕ)) (text : List ℕ) → AreAnswers IsEmpty IsAnswer lines text
+    → (marks : List Bool) × (unsaid : List ℕ) × (served_text marks no_state (lines ++ later) ≡ text ++ unsaid)
 part_told lines later text a =
     let m = marks_of lines later a.first a.last text a.answers in
     (m.0, served_text [] a.last later, ap (λ s. served_text m.0 s (lines ++ later)) (sym a.begins) ∙ m.1)
@@ -57,7 +60,9 @@ part_told lines later text a =
 all_told : (lines : List (List ℕ)) (text : List ℕ) → AreAnswers IsEmpty IsAnswer lines text → (marks : List Bool) × (text ≡ served_text marks no_state lines)
 all_told lines text a =
     let m = marks_of lines [] a.first a.last text a.answers in
-    let whole : served_text m.0 no_state lines ≡ text = ap (served_text m.0 no_state) (sym (append-nil lines)) ∙ ap (λ s. served_text m.0 s (lines ++ [])) (sym a.begins) ∙ m.1 ∙ ap (λ t. text ++ t) (nothing_later a.last) ∙ append-nil text in
+    let whole : served_text m.0 no_state lines ≡ text =
+    ap (served_text m.0 no_state) (sym (append-nil lines)) ∙ ap (λ s. served_text m.0 s (lines ++ [])) (sym a.begins) ∙ m.1
+    ∙ ap (λ t. text ++ t) (nothing_later a.last) ∙ append-nil text in
     (m.0, sym whole)
 
 pub served_told : (o : Option Exchange) → IfSome o (IsServed IsEmpty IsAnswer) → IfSome o IsTold
@@ -81,7 +86,8 @@ after_fault Full exchange a = a
 after_fault GateShut exchange a = a
 after_fault ThreadRefused exchange a = a
 
-pub served_fault : {A : Type 0} (result : Result A ScriptFault) (o : Option Exchange) → IfErr result (λ fault. IfSome o (AfterFault IsEmpty IsAnswer fault)) → IfErr result (λ fault. IfSome o (AfterFaultOfStatements fault))
+pub served_fault : {A : Type 0} (result : Result A ScriptFault) (o : Option Exchange) → IfErr result (λ fault. IfSome o (AfterFault IsEmpty IsAnswer fault))
+    → IfErr result (λ fault. IfSome o (AfterFaultOfStatements fault))
 served_fault (Ok x) o a = tt
 served_fault (Err fault) None a = tt
 served_fault (Err fault) (Some exchange) a = after_fault fault exchange a
@@ -108,18 +114,22 @@ pub blank_answered : (state : State) (line : Line) (text : List ℕ) → Blank �
 unfolding answer_of state_after
 blank_answered state line text is none = (rw (← is) none, rw (← is) refl)
 
-pub bad_answered : (state : State) (line : Line) (text : List ℕ) → Bad ≡ line → text ≡ answer_text (codes "-") (syntax_text 0) → (text ≡ answer_of state line) × (state ≡ state_after state line)
+pub bad_answered : (state : State) (line : Line) (text : List ℕ) → Bad ≡ line → text ≡ answer_text (codes "-") (syntax_text 0)
+    → (text ≡ answer_of state line) × (state ≡ state_after state line)
 unfolding answer_of state_after
 bad_answered state line text is told = (rw (← is) told, rw (← is) refl)
 
-pub given_answered : (old new : State) (session : ℕ) (statement : List ℕ) (line : Line) (text : List ℕ) → Given session statement ≡ line → text ≡ answer_to old session (read_of statement) → new ≡ state_then old session (read_of statement)
+pub given_answered : (old new : State) (session : ℕ) (statement : List ℕ) (line : Line) (text : List ℕ) → Given session statement ≡ line
+    → text ≡ answer_to old session (read_of statement) → new ≡ state_then old session (read_of statement)
     → (text ≡ answer_of old line) × (new ≡ state_after old line)
 unfolding answer_of state_after
 given_answered old new session statement line text is told then = (rw (← is) told, rw (← is) then)
 
 -- the text of the answer to a bad line
 pub bad_text : codes "-" ++ codes " ERROR 1064 (42000): syntax fault at byte 0\n" ≡ answer_text (codes "-") (syntax_text 0)
-bad_text = let e : decimal 0 ≡ 48 ∷ [] = decimal_digit 0 (lit< tt) in ap (λ d. answer_text (codes "-") (codes "ERROR 1064 (42000): syntax fault at byte " ++ d)) (sym e)
+bad_text =
+    let e : decimal 0 ≡ 48 ∷ [] =
+    decimal_digit 0 (lit< tt) in ap (λ d. answer_text (codes "-") (codes "ERROR 1064 (42000): syntax fault at byte " ++ d)) (sym e)
 
 -- that of the answer to a statement for which memory was refused
 pub refused_text-parts : (who : List ℕ) (session : ℕ) → who ≡ decimal session → who ++ codes " ERROR 1037 (HY001): out of memory\n" ≡ refused_text session

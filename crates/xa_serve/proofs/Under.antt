@@ -1,5 +1,6 @@
 -- A conversation, byte by byte and answer by answer.
-use Rattle.std.proofs.Common.{◌≡◌, ℕ, ◌==◌, true, false, List, [], ◌∷◌, ◌++◌, length, take, drop, refl, sym, ap, subst, ◌∙◌, append_assoc, append-nil, ◌≤◌, ◌+◌, arith, length-append}
+use Rattle.std.proofs.Common.{◌≡◌, ℕ, ◌==◌, true, false, List, [], ◌∷◌, ◌++◌, length, take, drop, refl, sym, ap, subst, ◌∙◌, append_assoc, append-nil, ◌≤◌, ◌+◌}
+use Rattle.std.proofs.Common.{arith, length-append}
 use Rattle.std.proofs.lemmas.List.{length-take}
 use Rattle.std.proofs.lemmas.Bool.Decides.{nat_tests}
 use Rattle.std.proofs.lemmas.List.{take-append-drop}
@@ -10,7 +11,8 @@ use Rattle.xa_serve.specs.Served.{AnswersAll, AreAnswers, IsAnswerSoFar, IsAnswe
 use Rattle.xa_serve.specs.UnderWay.{IsUnderWay, IsReady, IsAllAnswered}
 use Rattle.xa_serve.specs.declared.stage.Stage.{Stage}
 use Rattle.xa_serve.specs.declared.stage.Stage.TheVariants.{Open, Ended, Deaf}
-use Rattle.xa_serve.proofs.Cut.{cut_none, cut_more, cut_feed, lines_of-cut, lines_of-cut_feed, lines_of-some, lines_of-nothing, nothing_begun, heard_line-nothing, heard_line-longer}
+use Rattle.xa_serve.proofs.Cut.{cut_none, cut_more, cut_feed, lines_of-cut, lines_of-cut_feed, lines_of-some, lines_of-nothing, nothing_begun}
+use Rattle.xa_serve.proofs.Cut.{heard_line-nothing, heard_line-longer}
 
 -- a read that gives something
 longer_heard : (reads n : ℕ) (heard piece : List ℕ) → (n == 0) ≡ false → n ≤ length piece → reads ≤ length heard → reads + 1 ≤ length (heard ++ take n piece)
@@ -22,7 +24,8 @@ module _ {S : Type 0} (Begins : S → Type 0) (Answers : S → Heard → List �
   answers_none state = (refl, refl)
 
   -- one line more is answered
-  answers_more : (lines : List (List ℕ)) (first mid last : S) (text : List ℕ) (line answer : List ℕ) → AnswersAll Answers first lines text mid → Answers mid (heard_line line) answer last
+  answers_more : (lines : List (List ℕ)) (first mid last : S) (text : List ℕ) (line answer : List ℕ) → AnswersAll Answers first lines text mid
+      → Answers mid (heard_line line) answer last
       → AnswersAll Answers first (lines ++ line ∷ []) (text ++ answer) last
   unfolding AnswersAll
   answers_more [] first mid last text line answer before now =
@@ -33,7 +36,8 @@ module _ {S : Type 0} (Begins : S → Type 0) (Answers : S → Heard → List �
       (before.0, before.1, before.2 ++ answer, before.3, more, ap (λ xs. xs ++ answer) before.5 ∙ append_assoc before.1 before.2 answer)
 
   -- nothing has passed yet
-  pub fresh : (exchange : Exchange) (line : Heard) (server : S) → IsFresh exchange → line ≡ Whole [] → Begins server → IsReady Begins Answers Open 0 exchange line server
+  pub fresh : (exchange : Exchange) (line : Heard) (server : S) → IsFresh exchange → line ≡ Whole [] → Begins server
+      → IsReady Begins Answers Open 0 exchange line server
   fresh exchange line server none nothing begins =
       let P : List ℕ → Type 0 = λ xs. AnswersAll Answers server [] xs server in (
         none.2 ∙ sym none.1,
@@ -53,7 +57,8 @@ module _ {S : Type 0} (Begins : S → Type 0) (Answers : S → Heard → List �
       )
 
   -- one byte more of a line
-  pub put : (stage : Stage) (reads : ℕ) (exchange : Exchange) (byte : ℕ) (waiting : List ℕ) (line next : Heard) (server : S) → (byte == 10) ≡ false → next ≡ longer line byte
+  pub put : (stage : Stage) (reads : ℕ) (exchange : Exchange) (byte : ℕ) (waiting : List ℕ) (line next : Heard) (server : S) → (byte == 10) ≡ false
+      → next ≡ longer line byte
       → IsUnderWay Begins Answers stage reads exchange (byte ∷ waiting) line server → IsUnderWay Begins Answers stage reads exchange waiting next server
   put stage reads exchange byte waiting line next server other is u = record {
     done = u.done ++ byte ∷ [];
@@ -70,7 +75,8 @@ module _ {S : Type 0} (Begins : S → Type 0) (Answers : S → Heard → List �
   }
 
   -- a line feed, and the answer to the line that it ends
-  pub answered : (stage : Stage) (reads : ℕ) (exchange new : Exchange) (waiting answer : List ℕ) (line : Heard) (server after : S) → new ≡ record exchange { given = exchange.given ++ answer } → Answers server line answer after
+  pub answered : (stage : Stage) (reads : ℕ) (exchange new : Exchange) (waiting answer : List ℕ) (line : Heard) (server after : S)
+      → new ≡ record exchange { given = exchange.given ++ answer } → Answers server line answer after
       → IsUnderWay Begins Answers stage reads exchange (10 ∷ waiting) line server → IsUnderWay Begins Answers stage reads new waiting (Whole []) after
   answered stage reads exchange new waiting answer line server after is now u =
       let P : Exchange → Type 0 = λ e. IsUnderWay Begins Answers stage reads e waiting (Whole []) after in
@@ -90,7 +96,8 @@ module _ {S : Type 0} (Begins : S → Type 0) (Answers : S → Heard → List �
       })
 
   -- the answer to the line is given in part
-  pub begun_answer : (stage : Stage) (reads : ℕ) (exchange new : Exchange) (waiting answer : List ℕ) (n : ℕ) (line : Heard) (server after : S) → new ≡ record exchange { given = exchange.given ++ take n answer } → Answers server line answer after
+  pub begun_answer : (stage : Stage) (reads : ℕ) (exchange new : Exchange) (waiting answer : List ℕ) (n : ℕ) (line : Heard) (server after : S)
+      → new ≡ record exchange { given = exchange.given ++ take n answer } → Answers server line answer after
       → IsUnderWay Begins Answers stage reads exchange (10 ∷ waiting) line server → IsBegunAnswer Begins Answers new.heard new.given
   begun_answer stage reads exchange new waiting answer n line server after is now u =
       let P : Exchange → Type 0 = λ e. IsBegunAnswer Begins Answers e.heard e.given in
@@ -103,11 +110,18 @@ module _ {S : Type 0} (Begins : S → Type 0) (Answers : S → Heard → List �
         later = lines_of waiting;
         unsaid = drop n answer;
         parts = ap lines_of u.parts ∙ lines_of-cut_feed u.done u.lines u.begun waiting u.cut;
-        answers = subst R whole (record { first = u.first; last = after; begins = u.begins; answers = answers_more u.lines u.first server after exchange.given u.begun answer u.answers (subst Q u.held now) });
+        answers =
+            subst R whole (record {
+              first = u.first;
+              last = after;
+              begins = u.begins;
+              answers = answers_more u.lines u.first server after exchange.given u.begun answer u.answers (subst Q u.held now);
+            });
       })
 
   -- what was heard waits
-  pub heard : (reads : ℕ) (exchange new : Exchange) (n : ℕ) (piece : List ℕ) (line : Heard) (server : S) → (n == 0) ≡ false → n ≤ length piece → new ≡ with_heard exchange n piece
+  pub heard : (reads : ℕ) (exchange new : Exchange) (n : ℕ) (piece : List ℕ) (line : Heard) (server : S) → (n == 0) ≡ false → n ≤ length piece
+      → new ≡ with_heard exchange n piece
       → IsUnderWay Begins Answers Open reads exchange [] line server → IsUnderWay Begins Answers Open (reads + 1) new (take n piece) line server
   heard reads exchange new n piece line server some within is u =
       let P : Exchange → Type 0 = λ e. IsUnderWay Begins Answers Open (reads + 1) e (take n piece) line server in
@@ -126,7 +140,8 @@ module _ {S : Type 0} (Begins : S → Type 0) (Answers : S → Heard → List �
       })
 
   -- nothing more is to be heard
-  pub heard_end : (reads : ℕ) (exchange new : Exchange) (n : ℕ) (piece : List ℕ) (line : Heard) (server : S) → (n == 0) ≡ true → new ≡ with_heard exchange n piece
+  pub heard_end : (reads : ℕ) (exchange new : Exchange) (n : ℕ) (piece : List ℕ) (line : Heard) (server : S) → (n == 0) ≡ true
+      → new ≡ with_heard exchange n piece
       → IsUnderWay Begins Answers Open reads exchange [] line server → IsUnderWay Begins Answers Ended reads new [] line server
   heard_end reads exchange new n piece line server none is u =
       let P : Exchange → Type 0 = λ e. IsUnderWay Begins Answers Ended reads e [] line server in
@@ -148,7 +163,8 @@ module _ {S : Type 0} (Begins : S → Type 0) (Answers : S → Heard → List �
       })
 
   -- all whole lines are answered
-  so_far : (stage : Stage) (reads : ℕ) (exchange : Exchange) (text : List ℕ) (line : Heard) (server : S) → text ≡ exchange.given → IsUnderWay Begins Answers stage reads exchange [] line server → IsAnswerSoFar Begins Answers exchange.heard text
+  so_far : (stage : Stage) (reads : ℕ) (exchange : Exchange) (text : List ℕ) (line : Heard) (server : S) → text ≡ exchange.given
+      → IsUnderWay Begins Answers stage reads exchange [] line server → IsAnswerSoFar Begins Answers exchange.heard text
   so_far stage reads exchange text line server is u =
       let P : List ℕ → Type 0 = λ xs. IsCut xs u.lines u.begun in
       let Q : List ℕ → Type 0 = λ xs. AreAnswers Begins Answers u.lines xs in
@@ -159,23 +175,42 @@ module _ {S : Type 0} (Begins : S → Type 0) (Answers : S → Heard → List �
         answers = subst Q (sym is) (record { first = u.first; last = server; begins = u.begins; answers = u.answers });
       }
 
-  pub ready_answered : (reads : ℕ) (exchange : Exchange) (line : Heard) (server : S) → IsReady Begins Answers Open reads exchange line server → IsAnswered Begins Answers exchange
+  pub ready_answered : (reads : ℕ) (exchange : Exchange) (line : Heard) (server : S) → IsReady Begins Answers Open reads exchange line server
+      → IsAnswered Begins Answers exchange
   ready_answered reads exchange line server r = (r.1.stage_is, so_far Open reads exchange exchange.told line server r.0 r.1)
 
   -- the peer is deaf from now on
-  pub deaf : (reads : ℕ) (exchange new : Exchange) (line : Heard) (server : S) → new ≡ record exchange { stage = Deaf } → IsReady Begins Answers Open reads exchange line server → IsAnswerSoFar Begins Answers new.heard new.told × (new.stage ≡ Deaf)
+  pub deaf : (reads : ℕ) (exchange new : Exchange) (line : Heard) (server : S) → new ≡ record exchange { stage = Deaf }
+      → IsReady Begins Answers Open reads exchange line server → IsAnswerSoFar Begins Answers new.heard new.told × (new.stage ≡ Deaf)
   deaf reads exchange new line server is r =
       let P : Exchange → Type 0 = λ e. IsAnswerSoFar Begins Answers e.heard e.told × (e.stage ≡ Deaf) in
       subst P (sym is) (so_far Open reads exchange exchange.told line server r.0 r.1, refl)
 
   -- all that was given was said
-  pub flushed : (stage : Stage) (reads : ℕ) (exchange new : Exchange) (line : Heard) (server : S) → new ≡ record exchange { told = exchange.given } → IsUnderWay Begins Answers stage reads exchange [] line server → IsReady Begins Answers stage reads new line server
+  pub flushed : (stage : Stage) (reads : ℕ) (exchange new : Exchange) (line : Heard) (server : S) → new ≡ record exchange { told = exchange.given }
+      → IsUnderWay Begins Answers stage reads exchange [] line server → IsReady Begins Answers stage reads new line server
   flushed stage reads exchange new line server is u =
       let P : Exchange → Type 0 = λ e. IsReady Begins Answers stage reads e line server in
-      subst P (sym is) (refl, record { done = u.done; lines = u.lines; begun = u.begun; first = u.first; parts = u.parts; cut = u.cut; held = u.held; begins = u.begins; answers = u.answers; stage_is = u.stage_is; counted = u.counted })
+      subst P (sym is) (
+        refl,
+        record {
+          done = u.done;
+          lines = u.lines;
+          begun = u.begun;
+          first = u.first;
+          parts = u.parts;
+          cut = u.cut;
+          held = u.held;
+          begins = u.begins;
+          answers = u.answers;
+          stage_is = u.stage_is;
+          counted = u.counted;
+        },
+      )
 
   -- the whole lines are answered, and the line that has begun may be unanswered
-  pub unflushed : (stage : Stage) (reads : ℕ) (exchange new : Exchange) (told : List ℕ) (line : Heard) (server : S) → new ≡ record exchange { told = told } → IsUnderWay Begins Answers stage reads exchange [] line server → IsBegunAnswer Begins Answers new.heard new.given
+  pub unflushed : (stage : Stage) (reads : ℕ) (exchange new : Exchange) (told : List ℕ) (line : Heard) (server : S) → new ≡ record exchange { told = told }
+      → IsUnderWay Begins Answers stage reads exchange [] line server → IsBegunAnswer Begins Answers new.heard new.given
   unflushed stage reads exchange new told line server is u =
       let P : Exchange → Type 0 = λ e. IsBegunAnswer Begins Answers e.heard e.given in
       let Q : List ℕ → Type 0 = λ xs. AreAnswers Begins Answers u.lines xs in
@@ -188,32 +223,40 @@ module _ {S : Type 0} (Begins : S → Type 0) (Answers : S → Heard → List �
       })
 
   -- nothing of a last line has come
-  pub end_nothing : (reads : ℕ) (exchange : Exchange) (line : Heard) (server : S) → is_nothing line ≡ true → IsUnderWay Begins Answers Ended reads exchange [] line server → IsAllAnswered Begins Answers exchange
+  pub end_nothing : (reads : ℕ) (exchange : Exchange) (line : Heard) (server : S) → is_nothing line ≡ true
+      → IsUnderWay Begins Answers Ended reads exchange [] line server → IsAllAnswered Begins Answers exchange
   end_nothing reads exchange line server none u =
       let none_begun : u.begun ≡ [] = nothing_begun u.begun (ap is_nothing (sym u.held) ∙ none) in
       let all : lines_of exchange.heard ≡ u.lines =
-      ap lines_of u.parts ∙ lines_of-cut u.done u.lines u.begun [] u.cut ∙ ap (λ xs. u.lines ++ lines_of (xs ++ [])) none_begun ∙ ap (λ xs. u.lines ++ xs) lines_of-nothing ∙ append-nil u.lines in
+      ap lines_of u.parts ∙ lines_of-cut u.done u.lines u.begun [] u.cut ∙ ap (λ xs. u.lines ++ lines_of (xs ++ [])) none_begun
+      ∙ ap (λ xs. u.lines ++ xs) lines_of-nothing ∙ append-nil u.lines in
       let P : List (List ℕ) → Type 0 = λ lines. AreAnswers Begins Answers lines exchange.given in
       (u.stage_is, subst P (sym all) (record { first = u.first; last = server; begins = u.begins; answers = u.answers }))
 
   -- the lines, where the last of them has no line feed
-  all_lines : (reads : ℕ) (exchange : Exchange) (line : Heard) (server : S) → is_nothing line ≡ false → (u : IsUnderWay Begins Answers Ended reads exchange [] line server) → lines_of exchange.heard ≡ u.lines ++ u.begun ∷ []
+  all_lines : (reads : ℕ) (exchange : Exchange) (line : Heard) (server : S) → is_nothing line ≡ false
+      → (u : IsUnderWay Begins Answers Ended reads exchange [] line server) → lines_of exchange.heard ≡ u.lines ++ u.begun ∷ []
   all_lines reads exchange line server some u =
       ap lines_of u.parts ∙ lines_of-cut u.done u.lines u.begun [] u.cut ∙ ap (λ xs. u.lines ++ lines_of xs) (append-nil u.begun)
       ∙ ap (λ xs. u.lines ++ xs) (lines_of-some u.begun u.cut.last (ap is_nothing (sym u.held) ∙ some))
 
   -- the last line is answered
-  pub end_answered : (reads : ℕ) (exchange new : Exchange) (answer : List ℕ) (line : Heard) (server after : S) → is_nothing line ≡ false → new ≡ record exchange { given = exchange.given ++ answer } → Answers server line answer after
+  pub end_answered : (reads : ℕ) (exchange new : Exchange) (answer : List ℕ) (line : Heard) (server after : S) → is_nothing line ≡ false
+      → new ≡ record exchange { given = exchange.given ++ answer } → Answers server line answer after
       → IsUnderWay Begins Answers Ended reads exchange [] line server → IsAllAnswered Begins Answers new
   end_answered reads exchange new answer line server after some is now u =
       let P : Exchange → Type 0 = λ e. IsAllAnswered Begins Answers e in
       let Q : Heard → Type 0 = λ l. Answers server l answer after in
       let R : List (List ℕ) → Type 0 = λ lines. AreAnswers Begins Answers lines (exchange.given ++ answer) in
       let answers = answers_more u.lines u.first server after exchange.given u.begun answer u.answers (subst Q u.held now) in
-      subst P (sym is) (u.stage_is, subst R (sym (all_lines reads exchange line server some u)) (record { first = u.first; last = after; begins = u.begins; answers = answers }))
+      subst P (sym is) (
+        u.stage_is,
+        subst R (sym (all_lines reads exchange line server some u)) (record { first = u.first; last = after; begins = u.begins; answers = answers }),
+      )
 
   -- or in part
-  pub end_begun : (reads : ℕ) (exchange new : Exchange) (answer : List ℕ) (n : ℕ) (line : Heard) (server after : S) → is_nothing line ≡ false → new ≡ record exchange { given = exchange.given ++ take n answer }
+  pub end_begun : (reads : ℕ) (exchange new : Exchange) (answer : List ℕ) (n : ℕ) (line : Heard) (server after : S) → is_nothing line ≡ false
+      → new ≡ record exchange { given = exchange.given ++ take n answer }
       → Answers server line answer after → IsUnderWay Begins Answers Ended reads exchange [] line server → IsBegunAnswer Begins Answers new.heard new.given
   end_begun reads exchange new answer n line server after some is now u =
       let P : Exchange → Type 0 = λ e. IsBegunAnswer Begins Answers e.heard e.given in
@@ -226,7 +269,13 @@ module _ {S : Type 0} (Begins : S → Type 0) (Answers : S → Heard → List �
         later = [];
         unsaid = drop n answer;
         parts = all_lines reads exchange line server some u ∙ sym (append-nil (u.lines ++ u.begun ∷ []));
-        answers = subst R whole (record { first = u.first; last = after; begins = u.begins; answers = answers_more u.lines u.first server after exchange.given u.begun answer u.answers (subst Q u.held now) });
+        answers =
+            subst R whole (record {
+              first = u.first;
+              last = after;
+              begins = u.begins;
+              answers = answers_more u.lines u.first server after exchange.given u.begun answer u.answers (subst Q u.held now);
+            });
       })
 
   -- all that was given was said
@@ -235,8 +284,15 @@ module _ {S : Type 0} (Begins : S → Type 0) (Answers : S → Heard → List �
       let P : Exchange → Type 0 = λ e. IsServed Begins Answers e in
       subst P (sym is) (all.0, refl, all.1)
 
-  pub unserved : (exchange new : Exchange) (told : List ℕ) → new ≡ record exchange { told = told } → IsAllAnswered Begins Answers exchange → IsBegunAnswer Begins Answers new.heard new.given
+  pub unserved : (exchange new : Exchange) (told : List ℕ) → new ≡ record exchange { told = told } → IsAllAnswered Begins Answers exchange
+      → IsBegunAnswer Begins Answers new.heard new.given
   unserved exchange new told is all =
       let P : Exchange → Type 0 = λ e. IsBegunAnswer Begins Answers e.heard e.given in
       let Q : List ℕ → Type 0 = λ xs. AreAnswers Begins Answers (lines_of exchange.heard) xs in
-      subst P (sym is) (record { lines = lines_of exchange.heard; later = []; unsaid = []; parts = sym (append-nil (lines_of exchange.heard)); answers = subst Q (sym (append-nil exchange.given)) all.1 })
+      subst P (sym is) (record {
+        lines = lines_of exchange.heard;
+        later = [];
+        unsaid = [];
+        parts = sym (append-nil (lines_of exchange.heard));
+        answers = subst Q (sym (append-nil exchange.given)) all.1;
+      })

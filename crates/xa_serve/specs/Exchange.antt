@@ -47,7 +47,8 @@ abbrev pub Flushes : {A E : Type 0} → Option Exchange → Option Exchange → 
 Flushes None None result = ⊤
 Flushes None (Some new) result = ⊥
 Flushes (Some old) None result = ⊥
-Flushes (Some old) (Some new) result = MatchResult result (λ _. new ≡ record old { told = old.given }) (λ _. (told : List ℕ) × (new ≡ record old { told = told }))
+Flushes (Some old) (Some new) result =
+    MatchResult result (λ _. new ≡ record old { told = old.given }) (λ _. (told : List ℕ) × (new ≡ record old { told = told }))
 
 -- nothing passes
 abbrev pub Keeps : Option Exchange → Option Exchange → Type 0

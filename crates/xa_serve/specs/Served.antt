@@ -38,7 +38,8 @@ IsAnswered Begins Answers exchange = (exchange.stage ≡ Open) × IsAnswerSoFar 
 
 -- nothing more is to be heard: all lines are answered, and the peer was told so
 abbrev pub IsServed : {S : Type 0} → (S → Type 0) → (S → Heard → List ℕ → S → Type 0) → Exchange → Type 0
-IsServed Begins Answers exchange = (exchange.stage ≡ Ended) × (exchange.told ≡ exchange.given) × AreAnswers Begins Answers (lines_of exchange.heard) exchange.told
+IsServed Begins Answers exchange =
+    (exchange.stage ≡ Ended) × (exchange.told ≡ exchange.given) × AreAnswers Begins Answers (lines_of exchange.heard) exchange.told
 
 -- what was given begins the answers to the lines that were heard
 pub record IsBegunAnswer {S : Type 0} (Begins : S → Type 0) (Answers : S → Heard → List ℕ → S → Type 0) (heard given : List ℕ) : Type 0 where
@@ -51,7 +52,8 @@ pub record IsBegunAnswer {S : Type 0} (Begins : S → Type 0) (Answers : S → H
 -- what a fault leaves. After a read fault all whole lines are answered, and the peer is deaf, or gave more reads than are
 -- counted; after a write fault the answers are begun; without memory nothing has passed
 abbrev pub AfterFault : {S : Type 0} → (S → Type 0) → (S → Heard → List ℕ → S → Type 0) → ScriptFault → Exchange → Type 0
-AfterFault Begins Answers Read exchange = IsAnswerSoFar Begins Answers exchange.heard exchange.told × ((exchange.stage ≡ Deaf) ⊎ (2 ^ 64 - 1 ≤ length exchange.heard))
+AfterFault Begins Answers Read exchange =
+    IsAnswerSoFar Begins Answers exchange.heard exchange.told × ((exchange.stage ≡ Deaf) ⊎ (2 ^ 64 - 1 ≤ length exchange.heard))
 AfterFault Begins Answers Write exchange = IsBegunAnswer Begins Answers exchange.heard exchange.given
 AfterFault Begins Answers NoMemory exchange = IsFresh exchange
 AfterFault Begins Answers ScriptTooLong exchange = ⊥

@@ -66,7 +66,8 @@ later_marks (mark ∷ marks) = marks
 unfoldable pub served_text : List Bool → State → List (List ℕ) → List ℕ
 served_text marks state [] = []
 served_text marks state (line ∷ lines) =
-    text_of (next_mark marks) state (said (heard_line line)) ++ served_text (later_marks marks) (state_of (next_mark marks) state (said (heard_line line))) lines
+    text_of (next_mark marks) state (said (heard_line line))
+    ++ served_text (later_marks marks) (state_of (next_mark marks) state (said (heard_line line))) lines
 
 -- nothing more is to be heard; what was told are the answers to all lines, for some of whose statements memory was refused
 abbrev pub IsTold : Exchange → Type 0

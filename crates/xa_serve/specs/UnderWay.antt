@@ -12,7 +12,8 @@ use Rattle.xa_serve.specs.declared.stage.Stage.{Stage}
 
 -- but for the bytes that wait, what was heard is cut into lines, all of which are answered, and a line that has begun; there
 -- are no fewer bytes than reads so far
-pub record IsUnderWay {S : Type 0} (Begins : S → Type 0) (Answers : S → Heard → List ℕ → S → Type 0) (stage : Stage) (reads : ℕ) (exchange : Exchange) (waiting : List ℕ) (line : Heard) (server : S) : Type 0 where
+pub record IsUnderWay {S : Type 0} (Begins : S → Type 0) (Answers : S → Heard → List ℕ → S → Type 0) (stage : Stage) (reads : ℕ) (exchange : Exchange)
+    (waiting : List ℕ) (line : Heard) (server : S) : Type 0 where
   pub done : List ℕ
   pub lines : List (List ℕ)
   pub begun : List ℕ

@@ -21,7 +21,8 @@ use Rattle.xa_server.specs.declared.seat.Seat.TheVariants.{Free, Active, Idle}
 use Rattle.xa_server.specs.State.{Shared, Branch, State, is_known, phase_at, is_prepared, is_prepared_phase, own_xid, seat_in, seat_of, IsOpen}
 use Rattle.xa_server.specs.Locks.{holds, is_held_against, is_locked_against}
 use Rattle.xa_server.specs.Replies.{ok_if, refused_if, table, reply_to}
-use Rattle.xa_server.specs.Step.{after, effect, enters, may_enter, makes_record, may_take_memory, is_recover, is_refused, unless_refused, with_branch, with_changed, with_lock}
+use Rattle.xa_server.specs.Step.{after, effect, enters, may_enter, makes_record, may_take_memory, is_recover, is_refused, unless_refused, with_branch}
+use Rattle.xa_server.specs.Step.{with_changed, with_lock}
 use Rattle.xa_server.proofs.Maps.{same_is, same_or_apart, get_inserted, get_inserted_apart}
 use Rattle.xa_server.proofs.Index.{not_none}
 use Rattle.xa_server.proofs.Steps.{same_state, same_branches}
@@ -87,19 +88,22 @@ own_is xid own error e = same_is xids_total exact_xids xid own (passes (same_xid
 
 -- ---- accepted statements
 
-pub accepted_start : (state : State) (seat : Seat) (xid : Xid) → is_refused (table state seat (Start xid)) ≡ false → (seat ≡ Free) × (is_known state xid ≡ false)
+pub accepted_start : (state : State) (seat : Seat) (xid : Xid) → is_refused (table state seat (Start xid)) ≡ false
+    → (seat ≡ Free) × (is_known state xid ≡ false)
 unfolding table
 accepted_start state Free xid e = (refl, let_through (is_known state xid) _ _ e)
 accepted_start state (Active own) xid e = absurd (true≢false e)
 accepted_start state (Idle own) xid e = absurd (true≢false e)
 
-pub accepted_end : (state : State) (seat : Seat) (xid : Xid) → IsOpen state seat → is_refused (table state seat (End xid)) ≡ false → is_prepared state xid ≡ false
+pub accepted_end : (state : State) (seat : Seat) (xid : Xid) → IsOpen state seat → is_refused (table state seat (End xid)) ≡ false
+    → is_prepared state xid ≡ false
 unfolding table
 accepted_end state Free xid seated e = absurd (true≢false e)
 accepted_end state (Active own) xid seated e = ap (is_prepared state) (own_is xid own _ e) ∙ unprepared state own seated
 accepted_end state (Idle own) xid seated e = absurd (true≢false e)
 
-pub accepted_commit : (state : State) (seat : Seat) (xid : Xid) (one_phase : Bool) → IsOpen state seat → is_refused (table state seat (Commit xid one_phase)) ≡ false → is_known state xid ≡ true
+pub accepted_commit : (state : State) (seat : Seat) (xid : Xid) (one_phase : Bool) → IsOpen state seat
+    → is_refused (table state seat (Commit xid one_phase)) ≡ false → is_known state xid ≡ true
 unfolding table
 accepted_commit state Free xid false seated e = known_prepared state xid (passes (is_prepared state xid) _ e)
 accepted_commit state Free xid true seated e = absurd (never (is_prepared state xid) e)
@@ -112,25 +116,30 @@ accepted_commit state (Active own) xid true seated e = absurd (true≢false e)
 accepted_commit state (Idle own) xid false seated e = absurd (true≢false e)
 accepted_commit state (Idle own) xid true seated e = ap (is_known state) (own_is xid own _ e) ∙ known_in state own PhaseIdle seated
 
-pub accepted_rollback : (state : State) (seat : Seat) (xid : Xid) → IsOpen state seat → is_refused (table state seat (Rollback xid)) ≡ false → is_known state xid ≡ true
+pub accepted_rollback : (state : State) (seat : Seat) (xid : Xid) → IsOpen state seat → is_refused (table state seat (Rollback xid)) ≡ false
+    → is_known state xid ≡ true
 unfolding table
 accepted_rollback state Free xid seated e = known_prepared state xid (passes (is_prepared state xid) _ e)
 accepted_rollback state (Active own) xid seated e = absurd (true≢false e)
 accepted_rollback state (Idle own) xid seated e = ap (is_known state) (own_is xid own _ e) ∙ known_in state own PhaseIdle seated
 
-pub accepted_get : (state : State) (own : Xid) (key : List ℕ) → is_refused (table state (Active own) (Get key)) ≡ false → is_locked_against state (Active own) key ≡ false
+pub accepted_get : (state : State) (own : Xid) (key : List ℕ) → is_refused (table state (Active own) (Get key)) ≡ false
+    → is_locked_against state (Active own) key ≡ false
 unfolding table
 accepted_get state own key e = let_through (is_locked_against state (Active own) key) _ _ e
 
-pub accepted_put : (state : State) (own : Xid) (key : List ℕ) (value : Text) → is_refused (table state (Active own) (Put key value)) ≡ false → is_held_against state (Active own) key ≡ false
+pub accepted_put : (state : State) (own : Xid) (key : List ℕ) (value : Text) → is_refused (table state (Active own) (Put key value)) ≡ false
+    → is_held_against state (Active own) key ≡ false
 unfolding table
 accepted_put state own key value e = let_through (is_held_against state (Active own) key) _ _ e
 
-pub accepted_put_free : (state : State) (key : List ℕ) (value : Text) → is_refused (table state Free (Put key value)) ≡ false → is_held_against state Free key ≡ false
+pub accepted_put_free : (state : State) (key : List ℕ) (value : Text) → is_refused (table state Free (Put key value)) ≡ false
+    → is_held_against state Free key ≡ false
 unfolding table
 accepted_put_free state key value e = let_through (is_held_against state Free key) _ _ e
 
-pub accepted_del : (state : State) (own : Xid) (key : List ℕ) → is_refused (table state (Active own) (Del key)) ≡ false → is_held_against state (Active own) key ≡ false
+pub accepted_del : (state : State) (own : Xid) (key : List ℕ) → is_refused (table state (Active own) (Del key)) ≡ false
+    → is_held_against state (Active own) key ≡ false
 unfolding table
 accepted_del state own key e = let_through (is_held_against state (Active own) key) _ _ e
 
@@ -145,7 +154,8 @@ pub locked_again : (state : State) (own : Xid) (key : List ℕ) → holds state 
 locked_again state own key held = by (map.get state.branches own) refl held
   where
     locks : (branch : Branch) → map.contains_key branch.locks key ≡ true → with_lock key branch ≡ branch
-    locks branch e = λ i. record { phase = branch.phase; owner = branch.owner; writes = branch.writes; locks = cond (e i) branch.locks (map.insert branch.locks key Shared) }
+    locks branch e =
+        λ i. record { phase = branch.phase; owner = branch.owner; writes = branch.writes; locks = cond (e i) branch.locks (map.insert branch.locks key Shared) }
 
     by : (found : Option Branch) → map.get state.branches own ≡ found → is_some (option_and_then (λ (branch : Branch). map.get branch.locks key) found) ≡ true →
         option_map_or (λ branch. with_branch state own (with_lock key branch)) found state ≡ state
@@ -158,27 +168,32 @@ locked_again state own key held = by (map.get state.branches own) refl held
 -- ---- statements and their steps
 
 -- the seat's own test, as the answers to the session's statements have it
-pub accepted_there : (state : State) (session : ℕ) (statement : Statement) → is_refused (reply_to state session statement) ≡ false → is_refused (table state (seat_of state session) statement) ≡ false
+pub accepted_there : (state : State) (session : ℕ) (statement : Statement) → is_refused (reply_to state session statement) ≡ false
+    → is_refused (table state (seat_of state session) statement) ≡ false
 unfolding reply_to
 accepted_there state session statement e = e
 
-pub accepted_as : (state : State) (session : ℕ) (statement : Statement) (seat : Seat) → seat_of state session ≡ seat → is_refused (reply_to state session statement) ≡ false → is_refused (table state seat statement) ≡ false
+pub accepted_as : (state : State) (session : ℕ) (statement : Statement) (seat : Seat) → seat_of state session ≡ seat
+    → is_refused (reply_to state session statement) ≡ false → is_refused (table state seat statement) ≡ false
 unfolding reply_to
 accepted_as state session statement seat is e = ap (λ s. is_refused (table state s statement)) (sym is) ∙ e
 
 -- an accepted statement leaves its effect
-pub after_accepted : (state : State) (session : ℕ) (statement : Statement) → is_refused (reply_to state session statement) ≡ false → effect state session (seat_of state session) statement ≡ after state session statement
+pub after_accepted : (state : State) (session : ℕ) (statement : Statement) → is_refused (reply_to state session statement) ≡ false
+    → effect state session (seat_of state session) statement ≡ after state session statement
 unfolding after
 after_accepted state session statement accepted = sym (by (reply_to state session statement) accepted)
   where
-    by : (r : Reply) → is_refused r ≡ false → unless_refused r state (effect state session (seat_of state session) statement) ≡ effect state session (seat_of state session) statement
+    by : (r : Reply) → is_refused r ≡ false
+        → unless_refused r state (effect state session (seat_of state session) statement) ≡ effect state session (seat_of state session) statement
     by Accepted e = refl
     by (Value value) e = refl
     by (Recovered xids) e = refl
     by (Refused error) e = absurd (true≢false e)
 
 -- a refused statement leaves the state
-pub after_refused : (state : State) (session : ℕ) (statement : Statement) → is_refused (reply_to state session statement) ≡ true → state ≡ after state session statement
+pub after_refused : (state : State) (session : ℕ) (statement : Statement) → is_refused (reply_to state session statement) ≡ true
+    → state ≡ after state session statement
 unfolding after
 after_refused state session statement refused = sym (by (reply_to state session statement) refused)
   where
@@ -189,13 +204,15 @@ after_refused state session statement refused = sym (by (reply_to state session 
     by (Refused error) e = refl
 
 -- the reply that the seat has in the table is the reply to the session
-pub replied : (state : State) (session : ℕ) (seat : Seat) (statement : Statement) (reply : Reply) → seat ≡ seat_of state session → reply ≡ table state seat statement → reply ≡ reply_to state session statement
+pub replied : (state : State) (session : ℕ) (seat : Seat) (statement : Statement) (reply : Reply) → seat ≡ seat_of state session
+    → reply ≡ table state seat statement → reply ≡ reply_to state session statement
 unfolding reply_to
 replied state session seat statement reply is answered = answered ∙ ap (λ s. table state s statement) is
 
 -- an allocation fails only where the statement enters and makes a record
 pub may_run_out : (old : State) (session : ℕ) (statement : Statement) →
-    is_refused (reply_to old session statement) ≡ false → may_enter old (seat_of old session) statement ≡ true → makes_record statement ≡ true → may_take_memory old session statement ≡ true
+    is_refused (reply_to old session statement) ≡ false → may_enter old (seat_of old session) statement ≡ true → makes_record statement ≡ true
+    → may_take_memory old session statement ≡ true
 unfolding enters
 may_run_out old session statement accepted enters_it makes =
     ap (λ b. is_recover statement || (not b && may_enter old (seat_of old session) statement && makes_record statement)) accepted
@@ -207,7 +224,8 @@ may_run_out old session statement accepted enters_it makes =
     or_true false = refl
 
 pub may_run_out_at : {T E : Type 0} (result : Result T E) (old : State) (session : ℕ) (statement : Statement) →
-    is_refused (reply_to old session statement) ≡ false → OnErr result (may_enter old (seat_of old session) statement ≡ true) → OnErr result (makes_record statement ≡ true)
+    is_refused (reply_to old session statement) ≡ false → OnErr result (may_enter old (seat_of old session) statement ≡ true)
+    → OnErr result (makes_record statement ≡ true)
     → OnErr result (may_take_memory old session statement ≡ true)
 may_run_out_at (Ok value) old session statement accepted enters_it makes = enters_it
 may_run_out_at (Err error) old session statement accepted enters_it makes = may_run_out old session statement accepted enters_it makes

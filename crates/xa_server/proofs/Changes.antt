@@ -17,7 +17,8 @@ use Rattle.xa_server.specs.declared.seat.Seat.{Seat}
 use Rattle.xa_server.specs.declared.seat.Seat.TheVariants.{Free, Active, Idle}
 use Rattle.xa_server.specs.State.{Branch, State, seat_of}
 use Rattle.xa_server.specs.Replies.{table, reply_to}
-use Rattle.xa_server.specs.Step.{started_by, with_branch, with_changed, with_writes, without_branch, committed, with_lock, with_own_write, effect, is_refused, unless_refused, after}
+use Rattle.xa_server.specs.Step.{started_by, with_branch, with_changed, with_writes, without_branch, committed, with_lock, with_own_write, effect, is_refused}
+use Rattle.xa_server.specs.Step.{unless_refused, after}
 use Rattle.xa_server.proofs.Maps.{same_or_apart}
 
 unfoldable pub idle : Branch → Branch
@@ -50,7 +51,8 @@ branch_after session (Idle own) Disconnect at found = cond (same_xid at own) Non
 
 -- ---- the parts of a step
 
-put_in : (state : State) (xid : Xid) (branch : Branch) (at : Xid) → map.get (with_branch state xid branch).branches at ≡ cond (same_xid at xid) (Some branch) (map.get state.branches at)
+put_in : (state : State) (xid : Xid) (branch : Branch) (at : Xid)
+    → map.get (with_branch state xid branch).branches at ≡ cond (same_xid at xid) (Some branch) (map.get state.branches at)
 put_in state xid branch at = get-insert xids_total state.branches xid branch at
 
 taken_out : (state : State) (xid at : Xid) → map.get (without_branch state xid).branches at ≡ cond (same_xid at xid) None (map.get state.branches at)
@@ -65,14 +67,16 @@ changed state xid change at = by (map.get state.branches xid) refl
     nothing false found e = refl
 
     by : (found : Option Branch) → map.get state.branches xid ≡ found →
-        map.get (option_map_or (λ branch. with_branch state xid (change branch)) found state).branches at ≡ cond (same_xid at xid) (option_map change (map.get state.branches at)) (map.get state.branches at)
+        map.get (option_map_or (λ branch. with_branch state xid (change branch)) found state).branches at
+        ≡ cond (same_xid at xid) (option_map change (map.get state.branches at)) (map.get state.branches at)
     by None e = elim (same_or_apart xids_total exact_xids at xid) [
       | inl is ↦ nothing (same_xid at xid) (map.get state.branches at) (ap (map.get state.branches) is ∙ e)
       | inr apart ↦ sym (ap (λ b. cond b (option_map change (map.get state.branches at)) (map.get state.branches at)) apart)
     ]
     by (Some branch) e = put_in state xid (change branch) at ∙ (elim (same_or_apart xids_total exact_xids at xid) [
       | inl is ↦ ap (λ found. cond (same_xid at xid) found (map.get state.branches at)) (sym (ap (option_map change) (ap (map.get state.branches) is ∙ e)))
-      | inr apart ↦ ap (λ b. cond b (Some (change branch)) (map.get state.branches at)) apart ∙ sym (ap (λ b. cond b (option_map change (map.get state.branches at)) (map.get state.branches at)) apart)
+      | inr apart ↦ ap (λ b. cond b (Some (change branch)) (map.get state.branches at)) apart
+          ∙ sym (ap (λ b. cond b (option_map change (map.get state.branches at)) (map.get state.branches at)) apart)
     ])
 
 ended : (state : State) (xid at : Xid) → map.get (committed state xid).branches at ≡ cond (same_xid at xid) None (map.get state.branches at)
@@ -84,7 +88,8 @@ ended state xid at = by (map.get state.branches xid) refl
     nothing false found e = refl
 
     by : (found : Option Branch) → map.get state.branches xid ≡ found →
-        map.get (option_map_or (λ (branch : Branch). record (without_branch state xid) { rows = with_writes (map.entries branch.writes) state.rows }) found state).branches at ≡ cond (same_xid at xid) None (map.get state.branches at)
+        map.get (option_map_or (λ (branch : Branch). record (without_branch state xid) { rows = with_writes (map.entries branch.writes) state.rows }) found
+        state).branches at ≡ cond (same_xid at xid) None (map.get state.branches at)
     by None e = elim (same_or_apart xids_total exact_xids at xid) [
       | inl is ↦ nothing (same_xid at xid) (map.get state.branches at) (ap (map.get state.branches) is ∙ e)
       | inr apart ↦ sym (ap (λ b. cond b None (map.get state.branches at)) apart)
@@ -118,7 +123,8 @@ effect-branch state session (Idle own) Disconnect at = taken_out state own at
 -- ---- refused or accepted
 
 -- a statement that is refused leaves the state
-pub refused_leaves : (state : State) (session : ℕ) (statement : Statement) → is_refused (reply_to state session statement) ≡ true → after state session statement ≡ state
+pub refused_leaves : (state : State) (session : ℕ) (statement : Statement) → is_refused (reply_to state session statement) ≡ true
+    → after state session statement ≡ state
 unfolding after
 refused_leaves state session statement e = by (reply_to state session statement) e
   where
@@ -129,11 +135,13 @@ refused_leaves state session statement e = by (reply_to state session statement)
     by (Refused error) e = refl
 
 -- one that isn't is carried out
-pub accepted_done : (state : State) (session : ℕ) (statement : Statement) → is_refused (reply_to state session statement) ≡ false → after state session statement ≡ effect state session (seat_of state session) statement
+pub accepted_done : (state : State) (session : ℕ) (statement : Statement) → is_refused (reply_to state session statement) ≡ false
+    → after state session statement ≡ effect state session (seat_of state session) statement
 unfolding after
 accepted_done state session statement e = by (reply_to state session statement) e
   where
-    by : (reply : Reply) → is_refused reply ≡ false → unless_refused reply state (effect state session (seat_of state session) statement) ≡ effect state session (seat_of state session) statement
+    by : (reply : Reply) → is_refused reply ≡ false
+        → unless_refused reply state (effect state session (seat_of state session) statement) ≡ effect state session (seat_of state session) statement
     by Accepted e = refl
     by (Value value) e = refl
     by (Recovered xids) e = refl
@@ -142,12 +150,14 @@ accepted_done state session statement e = by (reply_to state session statement) 
 -- the statement is refused and leaves the state, or the table of replies accepts it and it is carried out
 pub outcome : (state : State) (session : ℕ) (statement : Statement) →
     ((is_refused (reply_to state session statement) ≡ true) × (after state session statement ≡ state))
-    ⊎ ((is_refused (table state (seat_of state session) statement) ≡ false) × (after state session statement ≡ effect state session (seat_of state session) statement))
+    ⊎ ((is_refused (table state (seat_of state session) statement) ≡ false)
+    × (after state session statement ≡ effect state session (seat_of state session) statement))
 unfolding reply_to
 outcome state session statement = by (is_refused (reply_to state session statement)) refl
   where
     by : (b : Bool) → is_refused (reply_to state session statement) ≡ b →
         ((is_refused (reply_to state session statement) ≡ true) × (after state session statement ≡ state))
-        ⊎ ((is_refused (table state (seat_of state session) statement) ≡ false) × (after state session statement ≡ effect state session (seat_of state session) statement))
+        ⊎ ((is_refused (table state (seat_of state session) statement) ≡ false)
+        × (after state session statement ≡ effect state session (seat_of state session) statement))
     by true e = inl (e, refused_leaves state session statement e)
     by false e = inr (e, accepted_done state session statement e)

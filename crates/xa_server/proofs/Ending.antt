@@ -25,13 +25,15 @@ use Rattle.xa_server.proofs.Seen.{get-branches}
 use Rattle.xa_server.proofs.Steps.{same_state, same_branches, gather_same}
 
 -- at each key the newest of the writes, else what stood there
-get-with_writes : (writes : List (List ℕ × Write)) (rows : map.FinMap bytes_cmp Text) (key : List ℕ) → map.get (with_writes writes rows) key ≡ unwrap_or (find bytes_cmp key writes) (map.get rows key)
+get-with_writes : (writes : List (List ℕ × Write)) (rows : map.FinMap bytes_cmp Text) (key : List ℕ)
+    → map.get (with_writes writes rows) key ≡ unwrap_or (find bytes_cmp key writes) (map.get rows key)
 get-with_writes [] rows key = refl
 get-with_writes (write ∷ writes) rows key =
     let rest = get-with_writes writes rows key in
     elim (same_or_apart bytes_total exact_texts key write.0) [
       | inl is ↦ ap (map.get (with_write write.0 write.1 (with_writes writes rows))) is ∙ here write.0 write.1 (with_writes writes rows)
-          ∙ ap (λ b. unwrap_or (cond b (Some write.1) (find bytes_cmp key writes)) (map.get rows key)) (sym (ap (eq_by_cmp bytes_cmp key) (sym is) ∙ same_itself bytes_total exact_texts key))
+          ∙ ap (λ b. unwrap_or (cond b (Some write.1) (find bytes_cmp key writes)) (map.get rows key))
+          (sym (ap (eq_by_cmp bytes_cmp key) (sym is) ∙ same_itself bytes_total exact_texts key))
       | inr apart ↦ beside write.0 write.1 (with_writes writes rows) apart ∙ rest
           ∙ ap (λ b. unwrap_or (cond b (Some write.1) (find bytes_cmp key writes)) (map.get rows key)) (sym apart)
     ]
@@ -40,7 +42,8 @@ get-with_writes (write ∷ writes) rows key =
     here at None rest = get_removed bytes_total exact_texts rest at
     here at (Some value) rest = get_inserted bytes_total exact_texts rest at value
 
-    beside : (at : List ℕ) (w : Write) (rest : map.FinMap bytes_cmp Text) → eq_by_cmp bytes_cmp key at ≡ false → map.get (with_write at w rest) key ≡ map.get rest key
+    beside : (at : List ℕ) (w : Write) (rest : map.FinMap bytes_cmp Text) → eq_by_cmp bytes_cmp key at ≡ false
+        → map.get (with_write at w rest) key ≡ map.get rest key
     beside at None rest apart = get_removed_apart bytes_total exact_texts rest at key apart
     beside at (Some value) rest apart = get_inserted_apart bytes_total exact_texts rest at value key apart
 
@@ -63,7 +66,8 @@ unneeded_write : (xid : Xid) (row : RowRecord) → is_needed row ≡ false → w
 unneeded_write xid row e = unwritten xid (Some row) (ap is_some (unneeded_mode xid row e))
 
 -- a record says what it said, kept or not, where one that isn't needed says nothing
-kept_says : {W : Type 0} (says : RowRecord → Option W) (row : RowRecord) → (is_needed row ≡ false → says row ≡ None) → option_and_then says (kept row) ≡ says row
+kept_says : {W : Type 0} (says : RowRecord → Option W) (row : RowRecord) → (is_needed row ≡ false → says row ≡ None)
+    → option_and_then says (kept row) ≡ says row
 kept_says says row nothing = by (is_needed row) refl
   where
     by : (b : Bool) → is_needed row ≡ b → option_and_then says (cond b (Some row) None) ≡ says row
@@ -72,7 +76,8 @@ kept_says says row nothing = by (is_needed row) refl
 
 -- what a freed record says of another branch is what the record said
 freed_says : {W : Type 0} (says : RowRecord → Option W) → ((row : RowRecord) → is_needed row ≡ false → says row ≡ None) → (commits : Bool) (xid : Xid) →
-    ((row : RowRecord) → says (freed_row commits xid row) ≡ says row) → (found : Option RowRecord) → option_and_then says (freed commits xid found) ≡ option_and_then says found
+    ((row : RowRecord) → says (freed_row commits xid row) ≡ says row) → (found : Option RowRecord)
+    → option_and_then says (freed commits xid found) ≡ option_and_then says found
 freed_says says nothing commits xid same None = refl
 freed_says says nothing commits xid same (Some row) = kept_says says (freed_row commits xid row) (nothing (freed_row commits xid row)) ∙ same row
 
@@ -90,15 +95,18 @@ never true = refl
 never false = refl
 
 -- of a row, where there is one
-freed_value : (commits : Bool) (xid : Xid) (found : Option RowRecord) → committed_of (freed commits xid found) ≡ value_after commits (option_and_then (write_by xid) found) (committed_of found)
+freed_value : (commits : Bool) (xid : Xid) (found : Option RowRecord)
+    → committed_of (freed commits xid found) ≡ value_after commits (option_and_then (write_by xid) found) (committed_of found)
 unfolding value_after
 freed_value commits xid None = never commits
 freed_value commits xid (Some row) = kept_says (λ row. row.committed) (freed_row commits xid row) (λ e. (unneeded (freed_row commits xid row) e).0)
 
 -- a row that the branch doesn't hold keeps its value
-unheld_value : (commits : Bool) (xid : Xid) (found : Option RowRecord) → is_some (mode_of xid found) ≡ false → value_after commits (option_and_then (write_by xid) found) (committed_of found) ≡ committed_of found
+unheld_value : (commits : Bool) (xid : Xid) (found : Option RowRecord) → is_some (mode_of xid found) ≡ false
+    → value_after commits (option_and_then (write_by xid) found) (committed_of found) ≡ committed_of found
 unfolding value_after
-unheld_value commits xid found none = ap (λ write. cond commits (unwrap_or write (committed_of found)) (committed_of found)) (unwritten xid found none) ∙ same commits
+unheld_value commits xid found none =
+    ap (λ write. cond commits (unwrap_or write (committed_of found)) (committed_of found)) (unwritten xid found none) ∙ same commits
   where
     same : (b : Bool) → cond b (committed_of found) (committed_of found) ≡ committed_of found
     same true = refl
@@ -109,7 +117,8 @@ abbrev pub IsListedIn : Xid → List (List ℕ) → RowMap → Type 0
 IsListedIn xid keys rows = (key : List ℕ) → is_some (mode_of xid (map.get rows key)) ≡ true → list_any (eq_by_cmp bytes_cmp key) keys ≡ true
 
 -- how another branch holds each row
-pub beside_mode : (commits : Bool) (xid : Xid) (keys : List (List ℕ)) (old new : RowMap) → Frees commits xid keys old new → (other : Xid) → same_xid other xid ≡ false → (key : List ℕ) →
+pub beside_mode : (commits : Bool) (xid : Xid) (keys : List (List ℕ)) (old new : RowMap) → Frees commits xid keys old new → (other : Xid)
+    → same_xid other xid ≡ false → (key : List ℕ) →
     mode_of other (map.get new key) ≡ mode_of other (map.get old key)
 beside_mode commits xid keys old new frees other apart key = ap (mode_of other) (frees key) ∙ at (list_any (eq_by_cmp bytes_cmp key) keys)
   where
@@ -118,16 +127,19 @@ beside_mode commits xid keys old new frees other apart key = ap (mode_of other) 
     at false = refl
 
 -- what it writes
-beside_write : (commits : Bool) (xid : Xid) (keys : List (List ℕ)) (old new : RowMap) → Frees commits xid keys old new → (other : Xid) → same_xid other xid ≡ false → (key : List ℕ) →
+beside_write : (commits : Bool) (xid : Xid) (keys : List (List ℕ)) (old new : RowMap) → Frees commits xid keys old new → (other : Xid)
+    → same_xid other xid ≡ false → (key : List ℕ) →
     option_and_then (write_by other) (map.get new key) ≡ option_and_then (write_by other) (map.get old key)
 beside_write commits xid keys old new frees other apart key = ap (option_and_then (write_by other)) (frees key) ∙ at (list_any (eq_by_cmp bytes_cmp key) keys)
   where
-    at : (b : Bool) → option_and_then (write_by other) (cond b (freed commits xid (map.get old key)) (map.get old key)) ≡ option_and_then (write_by other) (map.get old key)
+    at : (b : Bool) → option_and_then (write_by other) (cond b (freed commits xid (map.get old key)) (map.get old key))
+        ≡ option_and_then (write_by other) (map.get old key)
     at true = freed_says (write_by other) (unneeded_write other) commits xid (λ row. freed_writes xid other row.lock apart) (map.get old key)
     at false = refl
 
 -- a row that isn't listed isn't the branch's
-unlisted : (xid : Xid) (keys : List (List ℕ)) (rows : RowMap) → IsListedIn xid keys rows → (key : List ℕ) → list_any (eq_by_cmp bytes_cmp key) keys ≡ false → is_some (mode_of xid (map.get rows key)) ≡ false
+unlisted : (xid : Xid) (keys : List (List ℕ)) (rows : RowMap) → IsListedIn xid keys rows → (key : List ℕ) → list_any (eq_by_cmp bytes_cmp key) keys ≡ false
+    → is_some (mode_of xid (map.get rows key)) ≡ false
 unlisted xid keys rows listed key none = by (is_some (mode_of xid (map.get rows key))) refl
   where
     by : (b : Bool) → is_some (mode_of xid (map.get rows key)) ≡ b → b ≡ false
@@ -135,15 +147,18 @@ unlisted xid keys rows listed key none = by (is_some (mode_of xid (map.get rows 
     by false e = refl
 
 -- the branch that ended holds no row
-pub own_mode : (commits : Bool) (xid : Xid) (keys : List (List ℕ)) (old new : RowMap) → Frees commits xid keys old new → IsListedIn xid keys old → (key : List ℕ) → is_some (mode_of xid (map.get new key)) ≡ false
+pub own_mode : (commits : Bool) (xid : Xid) (keys : List (List ℕ)) (old new : RowMap) → Frees commits xid keys old new → IsListedIn xid keys old
+    → (key : List ℕ) → is_some (mode_of xid (map.get new key)) ≡ false
 own_mode commits xid keys old new frees listed key = ap (λ found. is_some (mode_of xid found)) (frees key) ∙ at (list_any (eq_by_cmp bytes_cmp key) keys) refl
   where
-    at : (b : Bool) → list_any (eq_by_cmp bytes_cmp key) keys ≡ b → is_some (mode_of xid (cond b (freed commits xid (map.get old key)) (map.get old key))) ≡ false
+    at : (b : Bool) → list_any (eq_by_cmp bytes_cmp key) keys ≡ b
+        → is_some (mode_of xid (cond b (freed commits xid (map.get old key)) (map.get old key))) ≡ false
     at true e = ap is_some (freed_mode commits xid (map.get old key))
     at false e = unlisted xid keys old listed key e
 
 -- what the rows say of another branch
-ended_beside : (commits : Bool) (xid : Xid) (keys : List (List ℕ)) (old new : RowMap) → Frees commits xid keys old new → (other : Xid) → same_xid other xid ≡ false → branch_seen new other ≡ branch_seen old other
+ended_beside : (commits : Bool) (xid : Xid) (keys : List (List ℕ)) (old new : RowMap) → Frees commits xid keys old new → (other : Xid)
+    → same_xid other xid ≡ false → branch_seen new other ≡ branch_seen old other
 ended_beside commits xid keys old new frees other apart = λ i branch. record { phase = branch.phase; owner = branch.owner; writes = writes i; locks = locks i }
   where
     writes : gather (write_by other) new ≡ gather (write_by other) old
@@ -153,23 +168,28 @@ ended_beside commits xid keys old new frees other apart = λ i branch. record { 
     locks = gather_same (lock_by other) old new (beside_mode commits xid keys old new frees other apart)
 
 -- the committed value of each row
-ended_value : (commits : Bool) (xid : Xid) (keys : List (List ℕ)) (old new : RowMap) → Frees commits xid keys old new → IsListedIn xid keys old → (key : List ℕ) →
+ended_value : (commits : Bool) (xid : Xid) (keys : List (List ℕ)) (old new : RowMap) → Frees commits xid keys old new → IsListedIn xid keys old
+    → (key : List ℕ) →
     committed_of (map.get new key) ≡ value_after commits (option_and_then (write_by xid) (map.get old key)) (committed_of (map.get old key))
 ended_value commits xid keys old new frees listed key = ap committed_of (frees key) ∙ at (list_any (eq_by_cmp bytes_cmp key) keys) refl
   where
-    at : (b : Bool) → list_any (eq_by_cmp bytes_cmp key) keys ≡ b → committed_of (cond b (freed commits xid (map.get old key)) (map.get old key)) ≡ value_after commits (option_and_then (write_by xid) (map.get old key)) (committed_of (map.get old key))
+    at : (b : Bool) → list_any (eq_by_cmp bytes_cmp key) keys ≡ b
+        → committed_of (cond b (freed commits xid (map.get old key)) (map.get old key))
+        ≡ value_after commits (option_and_then (write_by xid) (map.get old key)) (committed_of (map.get old key))
     at true e = freed_value commits xid (map.get old key)
     at false e = sym (unheld_value commits xid (map.get old key) (unlisted xid keys old listed key e))
 
 -- the branches without the one that ended
 ended_branches : (branches : BranchMap) (commits : Bool) (xid : Xid) (keys : List (List ℕ)) (old new : RowMap) → Frees commits xid keys old new →
     (state_of (map.remove branches xid) new).branches ≡ map.remove (state_of branches old).branches xid
-ended_branches branches commits xid keys old new frees = same_branches _ _ (λ other. get-branches (map.remove branches xid) new other ∙ (elim (same_or_apart xids_total exact_xids other xid) [
-  | inl is ↦ rw is (ap (option_map (branch_seen new xid)) (get_removed xids_total exact_xids branches xid) ∙ sym (get_removed xids_total exact_xids (state_of branches old).branches xid))
-  | inr apart ↦ ap (option_map (branch_seen new other)) (get_removed_apart xids_total exact_xids branches xid other apart)
-      ∙ ap (λ (f : BranchRecord → Branch). option_map f (map.get branches other)) (ended_beside commits xid keys old new frees other apart)
-      ∙ sym (get_removed_apart xids_total exact_xids (state_of branches old).branches xid other apart ∙ get-branches branches old other)
-]))
+ended_branches branches commits xid keys old new frees =
+    same_branches _ _ (λ other. get-branches (map.remove branches xid) new other ∙ (elim (same_or_apart xids_total exact_xids other xid) [
+      | inl is ↦ rw is (ap (option_map (branch_seen new xid)) (get_removed xids_total exact_xids branches xid)
+          ∙ sym (get_removed xids_total exact_xids (state_of branches old).branches xid))
+      | inr apart ↦ ap (option_map (branch_seen new other)) (get_removed_apart xids_total exact_xids branches xid other apart)
+          ∙ ap (λ (f : BranchRecord → Branch). option_map f (map.get branches other)) (ended_beside commits xid keys old new frees other apart)
+          ∙ sym (get_removed_apart xids_total exact_xids (state_of branches old).branches xid other apart ∙ get-branches branches old other)
+    ]))
 
 -- a rollback
 pub seen_rolled_back : (branches : BranchMap) (xid : Xid) (keys : List (List ℕ)) (old new : RowMap) → Frees false xid keys old new → IsListedIn xid keys old →
@@ -180,7 +200,8 @@ seen_rolled_back branches xid keys old new frees listed = same_state _ _
     (gather_same (λ row. row.committed) old new (ended_value false xid keys old new frees listed))
 
 -- a commit
-pub seen_committed : (branches : BranchMap) (xid : Xid) (branch : BranchRecord) (keys : List (List ℕ)) (old new : RowMap) → map.get branches xid ≡ Some branch → Frees true xid keys old new → IsListedIn xid keys old →
+pub seen_committed : (branches : BranchMap) (xid : Xid) (branch : BranchRecord) (keys : List (List ℕ)) (old new : RowMap) → map.get branches xid ≡ Some branch
+    → Frees true xid keys old new → IsListedIn xid keys old →
     state_of (map.remove branches xid) new ≡ committed (state_of branches old) xid
 unfolding state_of committed value_after
 seen_committed branches xid branch keys old new is frees listed =
@@ -188,8 +209,11 @@ seen_committed branches xid branch keys old new is frees listed =
     (ended_branches branches true xid keys old new frees)
     (same_map bytes_total exact_texts _ _ (λ key.
     get-gather bytes_total exact_texts (λ row. row.committed) new key ∙ ended_value true xid keys old new frees listed key
-    ∙ (λ i. unwrap_or (sym (get-gather bytes_total exact_texts (write_by xid) old key) i) (sym (get-gather bytes_total exact_texts (λ row. row.committed) old key) i))
+    ∙ (λ i. unwrap_or (sym (get-gather bytes_total exact_texts (write_by xid) old key) i)
+    (sym (get-gather bytes_total exact_texts (λ row. row.committed) old key) i))
     ∙ ap (λ write. unwrap_or write (map.get (gather (λ row. row.committed) old) key)) (get-entries (gather (write_by xid) old) key)
     ∙ sym (get-with_writes (map.entries (gather (write_by xid) old)) (gather (λ row. row.committed) old) key)))
-    ∙ ap (λ found. option_map_or (λ (b : Branch). record (without_branch (state_of branches old) xid) { rows = with_writes (map.entries b.writes) (state_of branches old).rows }) found (state_of branches old))
+    ∙ ap (λ found. option_map_or
+    (λ (b : Branch). record (without_branch (state_of branches old) xid) { rows = with_writes (map.entries b.writes) (state_of branches old).rows }) found
+    (state_of branches old))
     (sym (get-branches branches old xid ∙ ap (option_map (branch_seen old xid)) is))

@@ -18,7 +18,8 @@ refuted true e = refl
 refuted false e = absurd (true≢false e)
 
 -- what has no place in the history does nothing
-idles : (state : State) (session : ℕ) (seat : Seat) (statement : Statement) → may_enter state seat statement ≡ false → effect state session seat statement ≡ state
+idles : (state : State) (session : ℕ) (seat : Seat) (statement : Statement) → may_enter state seat statement ≡ false
+    → effect state session seat statement ≡ state
 unfolding effect may_enter
 idles state session seat (Start xid) e = absurd (true≢false e)
 idles state session seat (End xid) e = absurd (true≢false e)

@@ -68,10 +68,12 @@ turns session Free (Get key) at found e f = never _ e f
 turns session (Active own) (Get key) at found e f = never _ (stays (same_xid at own) (option_map (with_lock key) found) found e (locked key found ∙ e)) f
 turns session (Idle own) (Get key) at found e f = never _ e f
 turns session Free (Put key value) at found e f = never _ e f
-turns session (Active own) (Put key value) at found e f = never _ (stays (same_xid at own) (option_map (with_own_write key (Some value)) found) found e (written key (Some value) found ∙ e)) f
+turns session (Active own) (Put key value) at found e f =
+    never _ (stays (same_xid at own) (option_map (with_own_write key (Some value)) found) found e (written key (Some value) found ∙ e)) f
 turns session (Idle own) (Put key value) at found e f = never _ e f
 turns session Free (Del key) at found e f = never _ e f
-turns session (Active own) (Del key) at found e f = never _ (stays (same_xid at own) (option_map (with_own_write key None) found) found e (written key None found ∙ e)) f
+turns session (Active own) (Del key) at found e f =
+    never _ (stays (same_xid at own) (option_map (with_own_write key None) found) found e (written key None found ∙ e)) f
 turns session (Idle own) (Del key) at found e f = never _ e f
 turns session Free Disconnect at found e f = never _ e f
 turns session (Active own) Disconnect at found e f = never _ (stays (same_xid at own) None found e refl) f
@@ -88,7 +90,8 @@ prepare_answer state (Active own) xid e = absurd (true≢false e)
 prepare_answer state (Idle own) xid e = passed (same_xid xid own) _ e
 
 -- a branch that wasn't PREPARED, and is, was prepared by the statement
-becomes_prepared : (state : State) (session : ℕ) (statement : Statement) (xid : Xid) → is_prepared state xid ≡ false → is_prepared (after state session statement) xid ≡ true →
+becomes_prepared : (state : State) (session : ℕ) (statement : Statement) (xid : Xid) → is_prepared state xid ≡ false
+    → is_prepared (after state session statement) xid ≡ true →
     (statement ≡ Prepare xid) × (reply_to state session (Prepare xid) ≡ Accepted)
 unfolding is_ready reply_to
 becomes_prepared state session statement xid e f = elim (outcome state session statement) [
@@ -109,10 +112,13 @@ gone state session statement xid accepted none =
     ∙ ap is_ready (effect-branch state session (seat_of state session) statement xid ∙ none)
 
 -- a branch that is finished isn't PREPARED any more
-finished : (state : State) (session : ℕ) (statement : Statement) (xid : Xid) → Finishes statement xid → reply_to state session statement ≡ Accepted → is_prepared (after state session statement) xid ≡ false
+finished : (state : State) (session : ℕ) (statement : Statement) (xid : Xid) → Finishes statement xid → reply_to state session statement ≡ Accepted
+    → is_prepared (after state session statement) xid ≡ false
 unfolding branch_after
-finished state session statement xid (commits x) accepted = gone state session (Commit x false) x accepted (ap (λ b. cond b None (map.get state.branches x)) (same_itself xids_total exact_xids x))
-finished state session statement xid (rolls_back x) accepted = gone state session (Rollback x) x accepted (ap (λ b. cond b None (map.get state.branches x)) (same_itself xids_total exact_xids x))
+finished state session statement xid (commits x) accepted =
+    gone state session (Commit x false) x accepted (ap (λ b. cond b None (map.get state.branches x)) (same_itself xids_total exact_xids x))
+finished state session statement xid (rolls_back x) accepted =
+    gone state session (Rollback x) x accepted (ap (λ b. cond b None (map.get state.branches x)) (same_itself xids_total exact_xids x))
 
 -- ---- along a history
 
@@ -122,41 +128,67 @@ record IsPreparedBefore (base : State) (history : List (ℕ × Statement)) (end_
   pub before : place < end_at
   pub prepares : PreparesAt base history place xid
 
-later_prepare : (base : State) (entry : ℕ × Statement) (entries : List (ℕ × Statement)) (place : ℕ) (xid : Xid) → PreparesAt (after base entry.0 entry.1) entries place xid → PreparesAt base (entry ∷ entries) (suc place) xid
+later_prepare : (base : State) (entry : ℕ × Statement) (entries : List (ℕ × Statement)) (place : ℕ) (xid : Xid)
+    → PreparesAt (after base entry.0 entry.1) entries place xid → PreparesAt base (entry ∷ entries) (suc place) xid
 later_prepare base entry entries place xid is = record { session = is.session; entry = is.entry; accepted = is.accepted }
 
 -- by whether the first statement makes the branch PREPARED
 by_first : (base : State) (entry : ℕ × Statement) (entries : List (ℕ × Statement)) (end_at : ℕ) (xid : Xid) → is_prepared base xid ≡ false →
-    (b : Bool) → is_prepared (after base entry.0 entry.1) xid ≡ b → (is_prepared (after base entry.0 entry.1) xid ≡ false → IsPreparedBefore (after base entry.0 entry.1) entries end_at xid) →
+    (b : Bool) → is_prepared (after base entry.0 entry.1) xid ≡ b
+    → (is_prepared (after base entry.0 entry.1) xid ≡ false → IsPreparedBefore (after base entry.0 entry.1) entries end_at xid) →
     IsPreparedBefore base (entry ∷ entries) (suc end_at) xid
 by_first base entry entries end_at xid e true now rest =
     let made = becomes_prepared base entry.0 entry.1 xid e now in
-    record { place = zero; before = omega arith; prepares = record { session = entry.0; entry = ap (λ statement. Some (entry.0, statement)) made.0; accepted = made.1 } }
+    record {
+      place = zero;
+      before = omega arith;
+      prepares = record { session = entry.0; entry = ap (λ statement. Some (entry.0, statement)) made.0; accepted = made.1 };
+    }
 by_first base entry entries end_at xid e false now rest =
     let found : IsPreparedBefore (after base entry.0 entry.1) entries end_at xid = rest now in
-    record { place = suc found.place; before = let before : found.place < end_at = found.before in omega arith; prepares = later_prepare base entry entries found.place xid found.prepares }
+    record {
+      place = suc found.place;
+      before = let before : found.place < end_at = found.before in omega arith;
+      prepares = later_prepare base entry entries found.place xid found.prepares;
+    }
 
 -- a branch that becomes PREPARED in a history is prepared in it
-prepared_before : (base : State) (history : List (ℕ × Statement)) (end_at : ℕ) (xid : Xid) → is_prepared base xid ≡ false → is_prepared (after_all base (take end_at history)) xid ≡ true → IsPreparedBefore base history end_at xid
+prepared_before : (base : State) (history : List (ℕ × Statement)) (end_at : ℕ) (xid : Xid) → is_prepared base xid ≡ false
+    → is_prepared (after_all base (take end_at history)) xid ≡ true → IsPreparedBefore base history end_at xid
 prepared_before base [] zero xid e f = never _ e f
 prepared_before base [] (suc end_at) xid e f = never _ e f
 prepared_before base (entry ∷ entries) zero xid e f = never _ e f
-prepared_before base (entry ∷ entries) (suc end_at) xid e f = by_first base entry entries end_at xid e (is_prepared (after base entry.0 entry.1) xid) refl (λ now. prepared_before (after base entry.0 entry.1) entries end_at xid now f)
+prepared_before base (entry ∷ entries) (suc end_at) xid e f =
+    by_first base entry entries end_at xid e (is_prepared (after base entry.0 entry.1) xid) refl
+    (λ now. prepared_before (after base entry.0 entry.1) entries end_at xid now f)
 
-later_finish : (base : State) (entry : ℕ × Statement) (entries : List (ℕ × Statement)) (place : ℕ) (xid : Xid) → FinishesAt base (entry ∷ entries) (suc place) xid → FinishesAt (after base entry.0 entry.1) entries place xid
-later_finish base entry entries place xid is = record { session = is.session; statement = is.statement; entry = is.entry; finishes = is.finishes; prepared = is.prepared; accepted = is.accepted }
+later_finish : (base : State) (entry : ℕ × Statement) (entries : List (ℕ × Statement)) (place : ℕ) (xid : Xid)
+    → FinishesAt base (entry ∷ entries) (suc place) xid → FinishesAt (after base entry.0 entry.1) entries place xid
+later_finish base entry entries place xid is =
+    record { session = is.session; statement = is.statement; entry = is.entry; finishes = is.finishes; prepared = is.prepared; accepted = is.accepted }
 
-first_finish : (base : State) (entry : ℕ × Statement) (entries : List (ℕ × Statement)) (xid : Xid) → FinishesAt base (entry ∷ entries) zero xid → is_prepared (after base entry.0 entry.1) xid ≡ false
-first_finish base entry entries xid is = ap (λ (e : ℕ × Statement). is_prepared (after base e.0 e.1) xid) (same_value entry (is.session, is.statement) is.entry) ∙ finished base is.session is.statement xid is.finishes is.accepted
+first_finish : (base : State) (entry : ℕ × Statement) (entries : List (ℕ × Statement)) (xid : Xid) → FinishesAt base (entry ∷ entries) zero xid
+    → is_prepared (after base entry.0 entry.1) xid ≡ false
+first_finish base entry entries xid is =
+    ap (λ (e : ℕ × Statement). is_prepared (after base e.0 e.1) xid) (same_value entry (is.session, is.statement) is.entry)
+    ∙ finished base is.session is.statement xid is.finishes is.accepted
 
-pub prepared_between : (base : State) (history : List (ℕ × Statement)) (first second : ℕ) (xid : Xid) → first < second → FinishesAt base history first xid → FinishesAt base history second xid → IsPreparedBetween base history first second xid
+pub prepared_between : (base : State) (history : List (ℕ × Statement)) (first second : ℕ) (xid : Xid) → first < second → FinishesAt base history first xid
+    → FinishesAt base history second xid → IsPreparedBetween base history first second xid
 prepared_between base [] first second xid less f g = not_none _ f.entry
 prepared_between base (entry ∷ entries) first zero xid less f g = absurd (omega arith)
 prepared_between base (entry ∷ entries) zero (suc second) xid less f g =
     let rest = prepared_before (after base entry.0 entry.1) entries second xid (first_finish base entry entries xid f) g.prepared in
-    record { place = suc rest.place; after_first = omega arith; before_second = let before : rest.place < second = rest.before in omega arith; prepares = later_prepare base entry entries rest.place xid rest.prepares }
+    record {
+      place = suc rest.place;
+      after_first = omega arith;
+      before_second = let before : rest.place < second = rest.before in omega arith;
+      prepares = later_prepare base entry entries rest.place xid rest.prepares;
+    }
 prepared_between base (entry ∷ entries) (suc first) (suc second) xid less f g =
-    let rest = prepared_between (after base entry.0 entry.1) entries first second xid (omega arith) (later_finish base entry entries first xid f) (later_finish base entry entries second xid g) in
+    let rest =
+    prepared_between (after base entry.0 entry.1) entries first second xid (omega arith) (later_finish base entry entries first xid f)
+    (later_finish base entry entries second xid g) in
     record {
       place = suc rest.place;
       after_first = let after_it : first < rest.place = rest.after_first in omega arith;

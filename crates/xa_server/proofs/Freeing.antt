@@ -27,10 +27,11 @@ use Rattle.std.proofs.lemmas.List.Folds.{list_any-append}
 
 -- a branch that doesn't share a row isn't taken out
 not_there : (sharers : Sharing) (xid : Xid) → set.contains sharers xid ≡ false → set.remove sharers xid ≡ sharers
-not_there sharers xid none = same_set xids_total exact_xids _ _ (λ other. contains-remove xids_total sharers xid other ∙ (elim (same_or_apart xids_total exact_xids other xid) [
-  | inl is ↦ by (same_xid other xid) (set.contains sharers other) (ap (set.contains sharers) is ∙ none)
-  | inr apart ↦ ap (λ b. not b && set.contains sharers other) apart
-]))
+not_there sharers xid none =
+    same_set xids_total exact_xids _ _ (λ other. contains-remove xids_total sharers xid other ∙ (elim (same_or_apart xids_total exact_xids other xid) [
+      | inl is ↦ by (same_xid other xid) (set.contains sharers other) (ap (set.contains sharers) is ∙ none)
+      | inr apart ↦ ap (λ b. not b && set.contains sharers other) apart
+    ]))
   where
     by : (b c : Bool) → c ≡ false → (not b && c) ≡ c
     by true c e = sym e
@@ -40,7 +41,8 @@ not_there sharers xid none = same_set xids_total exact_xids _ _ (λ other. conta
 freed_lock_twice : (xid : Xid) (lock : Lock) → freed_lock xid (freed_lock xid lock) ≡ freed_lock xid lock
 freed_lock_twice xid (HeldBy holder change) = by (same_xid holder xid) refl
   where
-    by : (b : Bool) → same_xid holder xid ≡ b → freed_lock xid (cond b (SharedBy set.empty) (HeldBy holder change)) ≡ cond b (SharedBy set.empty) (HeldBy holder change)
+    by : (b : Bool) → same_xid holder xid ≡ b
+        → freed_lock xid (cond b (SharedBy set.empty) (HeldBy holder change)) ≡ cond b (SharedBy set.empty) (HeldBy holder change)
     by true e = ap SharedBy (not_there set.empty xid (contains-empty xid_cmp xid))
     by false e = ap (λ b. cond b (SharedBy set.empty) (HeldBy holder change)) e
 freed_lock_twice xid (SharedBy sharers) =
@@ -63,8 +65,10 @@ freed_row_twice commits xid row = λ i. record { committed = again i; lock = fre
     same true value = refl
     same false value = refl
 
-    again : cond commits (unwrap_or (write_in xid (freed_lock xid row.lock)) (freed_row commits xid row).committed) (freed_row commits xid row).committed ≡ (freed_row commits xid row).committed
-    again = ap (λ write. cond commits (unwrap_or write (freed_row commits xid row).committed) (freed_row commits xid row).committed) (freed_unwritten xid row.lock)
+    again : cond commits (unwrap_or (write_in xid (freed_lock xid row.lock)) (freed_row commits xid row).committed) (freed_row commits xid row).committed
+        ≡ (freed_row commits xid row).committed
+    again =
+        ap (λ write. cond commits (unwrap_or write (freed_row commits xid row).committed) (freed_row commits xid row).committed) (freed_unwritten xid row.lock)
         ∙ same commits (freed_row commits xid row).committed
 
 -- and so is none
@@ -88,8 +92,12 @@ pub frees_one :
     ((other : List ℕ) → eq_by_cmp bytes_cmp other key ≡ false → map.get new other ≡ map.get old other) →
     Frees commits xid (key ∷ []) old new
 frees_one commits xid key old new at apart other = elim (same_or_apart bytes_total exact_texts other key) [
-  | inl is ↦ rw is (at ∙ sym (any_one (eq_by_cmp bytes_cmp key key) (freed commits xid (map.get old key)) (map.get old key) ∙ ap (λ b. cond b (freed commits xid (map.get old key)) (map.get old key)) (same_itself bytes_total exact_texts key)))
-  | inr is ↦ apart other is ∙ sym (any_one (eq_by_cmp bytes_cmp other key) (freed commits xid (map.get old other)) (map.get old other) ∙ ap (λ b. cond b (freed commits xid (map.get old other)) (map.get old other)) is)
+  | inl is ↦ rw is (at ∙ sym
+      (any_one (eq_by_cmp bytes_cmp key key) (freed commits xid (map.get old key)) (map.get old key)
+      ∙ ap (λ b. cond b (freed commits xid (map.get old key)) (map.get old key)) (same_itself bytes_total exact_texts key)))
+  | inr is ↦ apart other is
+      ∙ sym (any_one (eq_by_cmp bytes_cmp other key) (freed commits xid (map.get old other)) (map.get old other)
+      ∙ ap (λ b. cond b (freed commits xid (map.get old other)) (map.get old other)) is)
 ]
 
 -- what `free_in` leaves: the record changed in place
@@ -116,12 +124,14 @@ frees_kept commits xid key old new needed changes tells is = by (tree.get bytes_
         let stays : is_needed (freed_row commits xid row) ≡ true = sym told ∙ is in
         rw (row_set old new key (freed_row commits xid row) updates)
         (frees_one commits xid key (rows_in old) (map.insert (rows_in old) key (freed_row commits xid row))
-        (get_inserted bytes_total exact_texts (rows_in old) key _ ∙ sym (ap (freed commits xid) found ∙ ap (λ b. cond b (Some (freed_row commits xid row)) None) stays))
+        (get_inserted bytes_total exact_texts (rows_in old) key _
+        ∙ sym (ap (freed commits xid) found ∙ ap (λ b. cond b (Some (freed_row commits xid row)) None) stays))
         (λ other apart. get_inserted_apart bytes_total exact_texts (rows_in old) key _ other apart))
 
 -- the record goes
 pub frees_dropped : (commits : Bool) (xid : Xid) (key : List ℕ) (old mid new : BTreeMap (List ℕ) RowRecord) (needed : Bool) →
-    Changes commits xid key old mid → Tells commits xid key old needed → needed ≡ false → Updates bytes_cmp mid new key None → Frees commits xid (key ∷ []) (rows_in old) (rows_in new)
+    Changes commits xid key old mid → Tells commits xid key old needed → needed ≡ false → Updates bytes_cmp mid new key None
+    → Frees commits xid (key ∷ []) (rows_in old) (rows_in new)
 frees_dropped commits xid key old mid new needed changes tells is gone = by (tree.get bytes_cmp old key) refl changes tells
   where
     by : (found : Option RowRecord) → tree.get bytes_cmp old key ≡ found →
@@ -135,7 +145,8 @@ frees_dropped commits xid key old mid new needed changes tells is gone = by (tre
         rw (row_gone mid new key gone, row_set old mid key (freed_row commits xid row) updates)
         (frees_one commits xid key (rows_in old) (map.remove (map.insert (rows_in old) key (freed_row commits xid row)) key)
         (get_removed bytes_total exact_texts _ key ∙ sym (ap (freed commits xid) found ∙ ap (λ b. cond b (Some (freed_row commits xid row)) None) goes))
-        (λ other apart. get_removed_apart bytes_total exact_texts _ key other apart ∙ get_inserted_apart bytes_total exact_texts (rows_in old) key _ other apart))
+        (λ other apart. get_removed_apart bytes_total exact_texts _ key other apart
+        ∙ get_inserted_apart bytes_total exact_texts (rows_in old) key _ other apart))
 
 -- what the loop over the keys keeps: what is left to free, of what is there, is what was to free
 pub record IsFreed (commits : Bool) (xid : Xid) (all rest : List (List ℕ)) (old now : RowMap) : Type 0 where
@@ -143,7 +154,8 @@ pub record IsFreed (commits : Bool) (xid : Xid) (all rest : List (List ℕ)) (ol
       cond (list_any (eq_by_cmp bytes_cmp key) rest) (freed commits xid (map.get now key)) (map.get now key)
       ≡ cond (list_any (eq_by_cmp bytes_cmp key) all) (freed commits xid (map.get old key)) (map.get old key)
 
-any_more : (b c : Bool) (f : Option RowRecord → Option RowRecord) (x : Option RowRecord) → f (f x) ≡ f x → cond b (f (cond (c || false) (f x) x)) (cond (c || false) (f x) x) ≡ cond (b || (c || false)) (f x) x
+any_more : (b c : Bool) (f : Option RowRecord → Option RowRecord) (x : Option RowRecord) → f (f x) ≡ f x
+    → cond b (f (cond (c || false) (f x) x)) (cond (c || false) (f x) x) ≡ cond (b || (c || false)) (f x) x
 any_more true true f x twice = twice
 any_more true false f x twice = refl
 any_more false true f x twice = refl
@@ -154,7 +166,8 @@ pub freed_one_more : (commits : Bool) (xid : Xid) (all rest : List (List ℕ)) (
 freed_one_more commits xid all rest key old now next is frees = record {
   left = λ other.
       ap (λ found. cond (list_any (eq_by_cmp bytes_cmp other) rest) (freed commits xid found) found) (frees other)
-      ∙ any_more (list_any (eq_by_cmp bytes_cmp other) rest) (eq_by_cmp bytes_cmp other key) (freed commits xid) (map.get now other) (freed_twice commits xid (map.get now other))
+      ∙ any_more (list_any (eq_by_cmp bytes_cmp other) rest) (eq_by_cmp bytes_cmp other key) (freed commits xid) (map.get now other)
+      (freed_twice commits xid (map.get now other))
       ∙ sym (ap (λ b. cond b (freed commits xid (map.get now other)) (map.get now other)) (list_any-append (eq_by_cmp bytes_cmp other) rest (key ∷ [])))
       ∙ is.left other;
 }
@@ -196,25 +209,31 @@ holds_new key xid change old mid new back lock changes told is updates = by (tre
     by (Some row) e updated given = not_none lock (sym given ∙ is)
 
 -- a row's record that is put back as it was changes nothing
-pub put_back : (key : List ℕ) (old new : BTreeMap (List ℕ) RowRecord) → MatchOption (tree.get bytes_cmp old key) (new ≡ old) (λ row. Updates bytes_cmp old new key (Some row)) → rows_in new ≡ rows_in old
+pub put_back : (key : List ℕ) (old new : BTreeMap (List ℕ) RowRecord)
+    → MatchOption (tree.get bytes_cmp old key) (new ≡ old) (λ row. Updates bytes_cmp old new key (Some row)) → rows_in new ≡ rows_in old
 put_back key old new = by (tree.get bytes_cmp old key) refl
   where
-    by : (found : Option RowRecord) → tree.get bytes_cmp old key ≡ found → MatchOption found (new ≡ old) (λ row. Updates bytes_cmp old new key (Some row)) → rows_in new ≡ rows_in old
+    by : (found : Option RowRecord) → tree.get bytes_cmp old key ≡ found → MatchOption found (new ≡ old) (λ row. Updates bytes_cmp old new key (Some row))
+        → rows_in new ≡ rows_in old
     by None e same = ap rows_in same
-    by (Some row) e updates = row_set old new key row updates ∙ same_map bytes_total exact_texts _ _ (λ other. elim (same_or_apart bytes_total exact_texts other key) [
-      | inl is ↦ rw is (get_inserted bytes_total exact_texts (rows_in old) key row ∙ sym (get_view bytes_total exact_texts old key ∙ e))
-      | inr apart ↦ get_inserted_apart bytes_total exact_texts (rows_in old) key row other apart
-    ])
+    by (Some row) e updates =
+        row_set old new key row updates ∙ same_map bytes_total exact_texts _ _ (λ other. elim (same_or_apart bytes_total exact_texts other key) [
+          | inl is ↦ rw is (get_inserted bytes_total exact_texts (rows_in old) key row ∙ sym (get_view bytes_total exact_texts old key ∙ e))
+          | inr apart ↦ get_inserted_apart bytes_total exact_texts (rows_in old) key row other apart
+        ])
 
 -- what `share_in` leaves: the record changed in place
 abbrev pub Shares : Xid → List ℕ → BTreeMap (List ℕ) RowRecord → BTreeMap (List ℕ) RowRecord → Type 0
-Shares xid key old new = MatchOption (tree.get bytes_cmp old key) (new ≡ old) (λ row. Updates bytes_cmp old new key (Some (record row { lock = with_sharer xid row.lock })))
+Shares xid key old new =
+    MatchOption (tree.get bytes_cmp old key) (new ≡ old) (λ row. Updates bytes_cmp old new key (Some (record row { lock = with_sharer xid row.lock })))
 
 -- a row without a record has none after it
-pub nothing_shared : (xid : Xid) (key : List ℕ) (old new : BTreeMap (List ℕ) RowRecord) → Shares xid key old new → is_some (tree.get bytes_cmp old key) ≡ false → new ≡ old
+pub nothing_shared : (xid : Xid) (key : List ℕ) (old new : BTreeMap (List ℕ) RowRecord) → Shares xid key old new → is_some (tree.get bytes_cmp old key) ≡ false
+    → new ≡ old
 nothing_shared xid key old new shares none = by (tree.get bytes_cmp old key) none shares
   where
-    by : (found : Option RowRecord) → is_some found ≡ false → MatchOption found (new ≡ old) (λ row. Updates bytes_cmp old new key (Some (record row { lock = with_sharer xid row.lock }))) → new ≡ old
+    by : (found : Option RowRecord) → is_some found ≡ false
+        → MatchOption found (new ≡ old) (λ row. Updates bytes_cmp old new key (Some (record row { lock = with_sharer xid row.lock }))) → new ≡ old
     by None e same = same
     by (Some row) e updates = absurd (true≢false e)
 
@@ -227,14 +246,17 @@ shares_known xid key old new shares there = by (tree.get bytes_cmp old key) refl
         MatchOption found (new ≡ old) (λ row. Updates bytes_cmp old new key (Some (record row { lock = with_sharer xid row.lock }))) →
         rows_in new ≡ map.insert (rows_in old) key (shared_row xid (map.get (rows_in old) key))
     by None e there same = absurd (true≢false (sym there))
-    by (Some row) e there updates = row_set old new key _ updates ∙ ap (λ found. map.insert (rows_in old) key (shared_row xid found)) (sym (get_view bytes_total exact_texts old key ∙ e))
+    by (Some row) e there updates =
+        row_set old new key _ updates ∙ ap (λ found. map.insert (rows_in old) key (shared_row xid found)) (sym (get_view bytes_total exact_texts old key ∙ e))
 
 -- a branch comes to share a row that had no record
-pub shares_new : (xid : Xid) (key : List ℕ) (old mid new : BTreeMap (List ℕ) RowRecord) (lock : Lock) → Shares xid key old mid → is_some (tree.get bytes_cmp old key) ≡ false →
+pub shares_new : (xid : Xid) (key : List ℕ) (old mid new : BTreeMap (List ℕ) RowRecord) (lock : Lock) → Shares xid key old mid
+    → is_some (tree.get bytes_cmp old key) ≡ false →
     lock ≡ with_sharer xid (SharedBy set.empty) → Updates bytes_cmp mid new key (Some (record { committed = None; lock = lock })) →
     rows_in new ≡ map.insert (rows_in old) key (shared_row xid (map.get (rows_in old) key))
 shares_new xid key old mid new lock shares none lock_is updates =
     row_set mid new key _ updates
     ∙ ap (λ table. map.insert (rows_in table) key (record { committed = None; lock = lock })) (nothing_shared xid key old mid shares none)
     ∙ ap (λ l. map.insert (rows_in old) key (record { committed = None; lock = l })) lock_is
-    ∙ ap (λ found. map.insert (rows_in old) key (shared_row xid found)) (sym (get_view bytes_total exact_texts old key ∙ none_of (tree.get bytes_cmp old key) none))
+    ∙ ap (λ found. map.insert (rows_in old) key (shared_row xid found))
+    (sym (get_view bytes_total exact_texts old key ∙ none_of (tree.get bytes_cmp old key) none))

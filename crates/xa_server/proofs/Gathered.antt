@@ -7,7 +7,8 @@ use Rattle.std.specs.List.{list_any}
 use Rattle.std.specs.declared.cmp.Ordering.{Ordering}
 use Rattle.std.specs.Ordering.{eq_by_cmp, is_lt}
 use Rattle.std.specs.Cmp.{IsTotalOrder}
-use Rattle.std.specs.FinMap.{FinMap, get, insert, keys, entries, find, entries_sorted, entries-from_sorted, get-entries, get-empty, contains_key-keys, is_sorted}
+use Rattle.std.specs.FinMap.{FinMap, get, insert, keys, entries, find, entries_sorted, entries-from_sorted, get-entries, get-empty, contains_key-keys}
+use Rattle.std.specs.FinMap.{is_sorted}
 use Rattle.std.specs.FinMap.Entries.{below_all}
 use Rattle.std.proofs.lemmas.Map.Lookups.{CmpEqualImpliesEq}
 use Rattle.xa_server.specs.View.{gather_at, gather, map_values, mapped}
@@ -25,13 +26,16 @@ module _ {K V W : Type 0} {R : K → K → Ordering} (total : IsTotalOrder R) (e
       get (option_map_or (λ value. insert (gather_at found records ks) k value) (option_and_then found (get records k)) (gather_at found records ks)) q
       ≡ cond (eq_by_cmp R q k || list_any (eq_by_cmp R q) ks) (option_and_then found (get records q)) None
   first_at found records ks k q is rest None e =
-      ap (λ here. get (option_map_or (λ value. insert (gather_at found records ks) k value) here (gather_at found records ks)) q) (ap (λ x. option_and_then found (get records x)) (sym is) ∙ e)
+      ap (λ here. get (option_map_or (λ value. insert (gather_at found records ks) k value) here (gather_at found records ks)) q)
+      (ap (λ x. option_and_then found (get records x)) (sym is) ∙ e)
       ∙ rest ∙ none_at _ _ e ∙ sym (none_at (eq_by_cmp R q k || list_any (eq_by_cmp R q) ks) _ e)
   first_at found records ks k q is rest (Some w) e =
-      ap (λ here. get (option_map_or (λ value. insert (gather_at found records ks) k value) here (gather_at found records ks)) q) (ap (λ x. option_and_then found (get records x)) (sym is) ∙ e)
+      ap (λ here. get (option_map_or (λ value. insert (gather_at found records ks) k value) here (gather_at found records ks)) q)
+      (ap (λ x. option_and_then found (get records x)) (sym is) ∙ e)
       ∙ ap (get (insert (gather_at found records ks) k w)) is
       ∙ get_inserted total exact (gather_at found records ks) k w
-      ∙ sym (ap (λ b. cond (b || list_any (eq_by_cmp R q) ks) (option_and_then found (get records q)) None) (ap (eq_by_cmp R q) (sym is) ∙ same_itself total exact q) ∙ e)
+      ∙ sym (ap (λ b. cond (b || list_any (eq_by_cmp R q) ks) (option_and_then found (get records q)) None)
+      (ap (eq_by_cmp R q) (sym is) ∙ same_itself total exact q) ∙ e)
 
   -- at another key
   beside : (found : V → Option W) (records : FinMap R V) (ks : List K) (k q : K) → eq_by_cmp R q k ≡ false →
@@ -39,7 +43,8 @@ module _ {K V W : Type 0} {R : K → K → Ordering} (total : IsTotalOrder R) (e
       (here : Option W) →
       get (option_map_or (λ value. insert (gather_at found records ks) k value) here (gather_at found records ks)) q
       ≡ cond (eq_by_cmp R q k || list_any (eq_by_cmp R q) ks) (option_and_then found (get records q)) None
-  beside found records ks k q apart rest None = rest ∙ sym (ap (λ b. cond (b || list_any (eq_by_cmp R q) ks) (option_and_then found (get records q)) None) apart)
+  beside found records ks k q apart rest None =
+      rest ∙ sym (ap (λ b. cond (b || list_any (eq_by_cmp R q) ks) (option_and_then found (get records q)) None) apart)
   beside found records ks k q apart rest (Some w) =
       get_inserted_apart total exact (gather_at found records ks) k w q apart ∙ rest
       ∙ sym (ap (λ b. cond (b || list_any (eq_by_cmp R q) ks) (option_and_then found (get records q)) None) apart)
@@ -73,11 +78,13 @@ module _ {K V W : Type 0} {R : K → K → Ordering} (total : IsTotalOrder R) (e
 
   sorted-map_values : (change : K → V → W) (es : List (K × V)) → is_sorted R (map_values change es) ≡ is_sorted R es
   sorted-map_values change [] = refl
-  sorted-map_values change (e ∷ es) = ap (λ b. b && is_sorted R (map_values change es)) (below-map_values change e.0 es) ∙ ap (λ b. below_all R e.0 es && b) (sorted-map_values change es)
+  sorted-map_values change (e ∷ es) =
+      ap (λ b. b && is_sorted R (map_values change es)) (below-map_values change e.0 es) ∙ ap (λ b. below_all R e.0 es && b) (sorted-map_values change es)
 
   pub entries-mapped : (change : K → V → W) (records : FinMap R V) → entries (mapped change records) ≡ map_values change (entries records)
   unfolding mapped
-  entries-mapped change records = entries-from_sorted R (map_values change (entries records)) (subst T (sym (sorted-map_values change (entries records))) (entries_sorted records))
+  entries-mapped change records =
+      entries-from_sorted R (map_values change (entries records)) (subst T (sym (sorted-map_values change (entries records))) (entries_sorted records))
 
   keys-map_values : (change : K → V → W) (es : List (K × V)) → map (λ (e : K × W). e.0) (map_values change es) ≡ map (λ (e : K × V). e.0) es
   keys-map_values change [] = refl

@@ -42,7 +42,8 @@ branches-seen branches rows = ap (map entry_of) (entries-mapped xids_total exact
 hold-modes : (xid : Xid) (lock : Lock) → hold_in xid lock ≡ option_map (λ (mode : LockMode). hold_of (write_in xid lock)) (mode_in xid lock)
 hold-modes xid (HeldBy holder change) = by (same_xid holder xid)
   where
-    by : (b : Bool) → cond b (Some (hold_of (Some (write_of change)))) None ≡ option_map (λ (mode : LockMode). hold_of (cond b (Some (write_of change)) None)) (cond b (Some Exclusive) None)
+    by : (b : Bool) → cond b (Some (hold_of (Some (write_of change)))) None
+        ≡ option_map (λ (mode : LockMode). hold_of (cond b (Some (write_of change)) None)) (cond b (Some Exclusive) None)
     by true = refl
     by false = refl
 hold-modes xid (SharedBy sharers) = by (set.contains sharers xid)
@@ -54,19 +55,24 @@ hold-modes xid (SharedBy sharers) = by (set.contains sharers xid)
 -- a row before others
 held-more : (branch : Branch) (xid : Xid) (e : List ℕ × RowRecord) (es : List (List ℕ × RowRecord)) → fin.get branch.writes e.0 ≡ write_by xid e.1 →
     held_among xid es ≡ map (held_row branch) (kept (lock_by xid) es) → (mode : Option LockMode) →
-    with_held e.0 (option_map (λ (mode : LockMode). hold_of (write_in xid e.1.lock)) mode) (held_among xid es) ≡ map (held_row branch) (with_kept e.0 mode (kept (lock_by xid) es))
+    with_held e.0 (option_map (λ (mode : LockMode). hold_of (write_in xid e.1.lock)) mode) (held_among xid es)
+    ≡ map (held_row branch) (with_kept e.0 mode (kept (lock_by xid) es))
 held-more branch xid e es wrote rest None = rest
 held-more branch xid e es wrote rest (Some mode) =
     ap (λ (write : Option Write). let row : HeldRow = record { key = e.0; hold = hold_of write } in row ∷ held_among xid es) (sym wrote)
     ∙ ap (λ rows. held_row branch (e.0, mode) ∷ rows) rest
 
-held-kept : (branch : Branch) (xid : Xid) (es : List (List ℕ × RowRecord)) → AllByRecursion (λ (e : List ℕ × RowRecord). fin.get branch.writes e.0 ≡ write_by xid e.1) es →
+held-kept : (branch : Branch) (xid : Xid) (es : List (List ℕ × RowRecord))
+    → AllByRecursion (λ (e : List ℕ × RowRecord). fin.get branch.writes e.0 ≡ write_by xid e.1) es →
     held_among xid es ≡ map (held_row branch) (kept (lock_by xid) es)
 held-kept branch xid [] h = refl
-held-kept branch xid (e ∷ es) h = ap (λ held. with_held e.0 held (held_among xid es)) (hold-modes xid e.1.lock) ∙ held-more branch xid e es h.0 (held-kept branch xid es h.1) (mode_in xid e.1.lock)
+held-kept branch xid (e ∷ es) h =
+    ap (λ held. with_held e.0 held (held_among xid es)) (hold-modes xid e.1.lock)
+    ∙ held-more branch xid e es h.0 (held-kept branch xid es h.1) (mode_in xid e.1.lock)
 
 -- the branch's writes are those in the rows' records
-wrote-each : (rows : RowMap) (xid : Xid) (es : List (List ℕ × RowRecord)) → AllByRecursion (λ (e : List ℕ × RowRecord). find bytes_cmp e.0 (fin.entries rows) ≡ Some e.1) es →
+wrote-each : (rows : RowMap) (xid : Xid) (es : List (List ℕ × RowRecord))
+    → AllByRecursion (λ (e : List ℕ × RowRecord). find bytes_cmp e.0 (fin.entries rows) ≡ Some e.1) es →
     AllByRecursion (λ (e : List ℕ × RowRecord). fin.get (gather (write_by xid) rows) e.0 ≡ write_by xid e.1) es
 wrote-each rows xid [] h = tt
 wrote-each rows xid (e ∷ es) h = (writes-seen rows xid e.0 ∙ ap (option_and_then (write_by xid)) (get-entries rows e.0 ∙ h.0), wrote-each rows xid es h.1)
@@ -82,10 +88,12 @@ rows-known rows xid None there = absurd (true≢false (sym there))
 rows-known rows xid (Some branch) there = rows-seen rows xid branch
 
 -- the rows that a branch holds, by the rows' records
-pub rows_of-seen : (branches : BranchMap) (rows : RowMap) (xid : Xid) → is_known (state_of branches rows) xid ≡ true → rows_of (state_of branches rows) xid ≡ held_among xid (fin.entries rows)
+pub rows_of-seen : (branches : BranchMap) (rows : RowMap) (xid : Xid) → is_known (state_of branches rows) xid ≡ true
+    → rows_of (state_of branches rows) xid ≡ held_among xid (fin.entries rows)
 unfolding rows_of
 rows_of-seen branches rows xid known =
-    ap (λ found. option_map_or rows_held found []) (get-branches branches rows xid) ∙ rows-known rows xid (fin.get branches xid) (known_record branches rows xid known)
+    ap (λ found. option_map_or rows_held found []) (get-branches branches rows xid)
+    ∙ rows-known rows xid (fin.get branches xid) (known_record branches rows xid known)
 
 -- a branch that isn't known holds no row
 pub rows_of-unknown : (state : State) (xid : Xid) → is_known state xid ≡ false → rows_of state xid ≡ []

@@ -16,7 +16,8 @@ use Rattle.xa_server.specs.declared.seat.Seat.{Seat}
 use Rattle.xa_server.specs.declared.seat.Seat.TheVariants.{Active}
 use Rattle.xa_server.specs.State.{Write, LockMode, Shared, Exclusive}
 use Rattle.xa_server.specs.Locks.{is_another, is_exclusive}
-use Rattle.xa_server.specs.Rows.{lock_of, write_of, write_in, write_by, mode_in, lock_by, held_beside, locked_beside, held_against, locked_against, with_sharer, freed_lock}
+use Rattle.xa_server.specs.Rows.{lock_of, write_of, write_in, write_by, mode_in, lock_by, held_beside, locked_beside, held_against, locked_against, with_sharer}
+use Rattle.xa_server.specs.Rows.{freed_lock}
 use Rattle.xa_server.proofs.Maps.{same_or_apart, same_itself, same_is}
 
 -- ---- tests
@@ -140,19 +141,23 @@ writes_in xid (SharedBy sharers) e = absurd (true≢false (sym e))
 -- a holder that isn't the session's own is among those beside it
 pub beside_there : (seat : Seat) (lock : Lock) (xid : Xid) → is_some (mode_in xid lock) ≡ true → is_another seat xid ≡ true → held_beside seat lock ≡ true
 beside_there seat (HeldBy holder change) xid e f = ap (is_another seat) (one_xid holder xid (sym (some_if (same_xid holder xid) Exclusive) ∙ e)) ∙ f
-beside_there seat (SharedBy sharers) xid e f = any_some (is_another seat) (set.items sharers) xid (sym (contains-items sharers xid) ∙ sym (some_if (set.contains sharers xid) Shared) ∙ e) f
+beside_there seat (SharedBy sharers) xid e f =
+    any_some (is_another seat) (set.items sharers) xid (sym (contains-items sharers xid) ∙ sym (some_if (set.contains sharers xid) Shared) ∙ e) f
 
-pub beside_witness : (seat : Seat) (lock : Lock) → held_beside seat lock ≡ true → (xid : Xid) × (is_some (mode_in xid lock) ≡ true) × (is_another seat xid ≡ true)
+pub beside_witness : (seat : Seat) (lock : Lock) → held_beside seat lock ≡ true
+    → (xid : Xid) × (is_some (mode_in xid lock) ≡ true) × (is_another seat xid ≡ true)
 beside_witness seat (HeldBy holder change) e = (holder, some_if (same_xid holder holder) Exclusive ∙ itself holder, e)
 beside_witness seat (SharedBy sharers) e =
     let found = any_witness (is_another seat) (set.items sharers) e in
     (found.0, some_if (set.contains sharers found.0) Shared ∙ contains-items sharers found.0 ∙ found.1, found.2)
 
-pub locked_there : (seat : Seat) (lock : Lock) (xid : Xid) → is_exclusive (mode_in xid lock) ≡ true → is_another seat xid ≡ true → locked_beside seat lock ≡ true
+pub locked_there : (seat : Seat) (lock : Lock) (xid : Xid) → is_exclusive (mode_in xid lock) ≡ true → is_another seat xid ≡ true
+    → locked_beside seat lock ≡ true
 locked_there seat (HeldBy holder change) xid e f = ap (is_another seat) (one_xid holder xid (sym (exclusive_if (same_xid holder xid)) ∙ e)) ∙ f
 locked_there seat (SharedBy sharers) xid e f = absurd (true≢false (sym e ∙ share_only (set.contains sharers xid)))
 
-pub locked_witness : (seat : Seat) (lock : Lock) → locked_beside seat lock ≡ true → (xid : Xid) × (is_exclusive (mode_in xid lock) ≡ true) × (is_another seat xid ≡ true)
+pub locked_witness : (seat : Seat) (lock : Lock) → locked_beside seat lock ≡ true
+    → (xid : Xid) × (is_exclusive (mode_in xid lock) ≡ true) × (is_another seat xid ≡ true)
 locked_witness seat (HeldBy holder change) e = (holder, exclusive_if (same_xid holder holder) ∙ itself holder, e)
 locked_witness seat (SharedBy sharers) e = absurd (true≢false (sym e))
 
@@ -168,7 +173,8 @@ unwritten xid (Some row) e = by (write_in xid row.lock) refl
 -- ---- a row that comes to be shared
 
 -- the branch that comes to share it
-pub sharer_there : (xid : Xid) (lock : Lock) → is_exclusive (mode_in xid lock) ≡ false → locked_beside (Active xid) lock ≡ false → mode_in xid (with_sharer xid lock) ≡ Some Shared
+pub sharer_there : (xid : Xid) (lock : Lock) → is_exclusive (mode_in xid lock) ≡ false → locked_beside (Active xid) lock ≡ false
+    → mode_in xid (with_sharer xid lock) ≡ Some Shared
 sharer_there xid (HeldBy holder change) unheld free = absurd (true≢false (sym (ap not (sym (exclusive_if (same_xid holder xid)) ∙ unheld)) ∙ free))
 sharer_there xid (SharedBy sharers) unheld free =
     ap (λ b. cond b (Some Shared) None) (contains-insert xids_total sharers xid xid ∙ ap (λ b. b || set.contains sharers xid) (itself xid))
@@ -200,7 +206,8 @@ freed_own xid (SharedBy sharers) =
 pub freed_beside : (xid other : Xid) (lock : Lock) → same_xid other xid ≡ false → mode_in other (freed_lock xid lock) ≡ mode_in other lock
 freed_beside xid other (HeldBy holder change) apart = by (same_xid holder xid) refl
   where
-    by : (b : Bool) → same_xid holder xid ≡ b → mode_in other (cond b (SharedBy set.empty) (HeldBy holder change)) ≡ cond (same_xid holder other) (Some Exclusive) None
+    by : (b : Bool) → same_xid holder xid ≡ b
+        → mode_in other (cond b (SharedBy set.empty) (HeldBy holder change)) ≡ cond (same_xid holder other) (Some Exclusive) None
     by true e = ap (λ b. cond b (Some Shared) None) (contains-empty xid_cmp other)
         ∙ sym (ap (λ b. cond b (Some Exclusive) None) (ap (λ x. same_xid x other) (one_xid holder xid e) ∙ turned_apart xid other apart))
     by false e = refl
@@ -211,7 +218,8 @@ freed_beside xid other (SharedBy sharers) apart =
 pub freed_writes : (xid other : Xid) (lock : Lock) → same_xid other xid ≡ false → write_in other (freed_lock xid lock) ≡ write_in other lock
 freed_writes xid other (HeldBy holder change) apart = by (same_xid holder xid) refl
   where
-    by : (b : Bool) → same_xid holder xid ≡ b → write_in other (cond b (SharedBy set.empty) (HeldBy holder change)) ≡ cond (same_xid holder other) (Some (write_of change)) None
+    by : (b : Bool) → same_xid holder xid ≡ b
+        → write_in other (cond b (SharedBy set.empty) (HeldBy holder change)) ≡ cond (same_xid holder other) (Some (write_of change)) None
     by true e = sym (ap (λ b. cond b (Some (write_of change)) None) (ap (λ x. same_xid x other) (one_xid holder xid e) ∙ turned_apart xid other apart))
     by false e = refl
 freed_writes xid other (SharedBy sharers) apart = refl

@@ -51,7 +51,8 @@ with_same state xid = by (map.get state.branches xid) refl
       | inr apart ↦ get_inserted_apart xids_total exact_xids state.branches xid branch other apart
     ])) refl
 
-pub seen_listed : (branches : BranchMap) (rows : RowMap) (xid : Xid) (key : List ℕ) → state_of (with_record branches xid (longer key)) rows ≡ state_of branches rows
+pub seen_listed : (branches : BranchMap) (rows : RowMap) (xid : Xid) (key : List ℕ)
+    → state_of (with_record branches xid (longer key)) rows ≡ state_of branches rows
 unfolding longer
 seen_listed branches rows xid key = seen_changed branches rows xid (longer key) (λ branch. branch) (λ branch. refl) ∙ with_same (state_of branches rows) xid
 
@@ -63,13 +64,16 @@ back key branch = λ i. record { phase = branch.phase; owner = branch.owner; hel
 pub unlisted : (branches : BranchMap) (xid : Xid) (key : List ℕ) → with_record (with_record branches xid (longer key)) xid shorter ≡ branches
 unlisted branches xid key = by (map.get branches xid) refl
   where
-    by : (found : Option BranchRecord) → map.get branches xid ≡ found → with_record (option_map_or (λ branch. map.insert branches xid (longer key branch)) found branches) xid shorter ≡ branches
+    by : (found : Option BranchRecord) → map.get branches xid ≡ found
+        → with_record (option_map_or (λ branch. map.insert branches xid (longer key branch)) found branches) xid shorter ≡ branches
     by None e = ap (λ found. option_map_or (λ branch. map.insert branches xid (shorter branch)) found branches) e
     by (Some branch) e =
-        ap (λ found. option_map_or (λ b. map.insert (map.insert branches xid (longer key branch)) xid (shorter b)) found (map.insert branches xid (longer key branch))) (get_inserted xids_total exact_xids branches xid (longer key branch))
+        ap (λ found. option_map_or (λ b. map.insert (map.insert branches xid (longer key branch)) xid (shorter b)) found
+        (map.insert branches xid (longer key branch))) (get_inserted xids_total exact_xids branches xid (longer key branch))
         ∙ same_map xids_total exact_xids _ _ (λ other. elim (same_or_apart xids_total exact_xids other xid) [
           | inl is ↦ rw is (get_inserted xids_total exact_xids _ xid (shorter (longer key branch)) ∙ ap Some (back key branch) ∙ sym e)
-          | inr apart ↦ get_inserted_apart xids_total exact_xids _ xid (shorter (longer key branch)) other apart ∙ get_inserted_apart xids_total exact_xids branches xid (longer key branch) other apart
+          | inr apart ↦ get_inserted_apart xids_total exact_xids _ xid (shorter (longer key branch)) other apart
+              ∙ get_inserted_apart xids_total exact_xids branches xid (longer key branch) other apart
         ])
 
 -- the branch that holds a row exclusively
@@ -80,7 +84,8 @@ holder_beside : (own other : Xid) → same_xid other own ≡ false → cond (sam
 holder_beside own other apart = ap (λ b. cond b (Some Exclusive) None) (turned_apart own other apart)
 
 -- the branch has a record still
-known_longer : (branches : BranchMap) (xid : Xid) (key : List ℕ) → is_some (map.get branches xid) ≡ true → is_some (map.get (with_record branches xid (longer key)) xid) ≡ true
+known_longer : (branches : BranchMap) (xid : Xid) (key : List ℕ) → is_some (map.get branches xid) ≡ true
+    → is_some (map.get (with_record branches xid (longer key)) xid) ≡ true
 known_longer branches xid key known = ap is_some (changed_at branches xid (longer key)) ∙ by (map.get branches xid) known
   where
     by : (found : Option BranchRecord) → is_some found ≡ true → is_some (option_map (longer key) found) ≡ true
@@ -88,10 +93,12 @@ known_longer branches xid key known = ap is_some (changed_at branches xid (longe
     by (Some branch) e = refl
 
 -- what holding a row that the branch didn't hold leaves, where no other holds it
-pub held_anew : (branches : BranchMap) (rows : RowMap) (own : Xid) (key : List ℕ) (change : Change) → IsWhole branches rows → is_known (state_of branches rows) own ≡ true →
+pub held_anew : (branches : BranchMap) (rows : RowMap) (own : Xid) (key : List ℕ) (change : Change) → IsWhole branches rows
+    → is_known (state_of branches rows) own ≡ true →
     is_held_against (state_of branches rows) (Active own) key ≡ false → is_some (mode_of own (map.get rows key)) ≡ false →
     IsWhole (with_record branches own (longer key)) (map.insert rows key (held_row own change (map.get rows key)))
-    × (state_of (with_record branches own (longer key)) (map.insert rows key (held_row own change (map.get rows key))) ≡ with_changed (state_of branches rows) own (with_change key change))
+    × (state_of (with_record branches own (longer key)) (map.insert rows key (held_row own change (map.get rows key)))
+    ≡ with_changed (state_of branches rows) own (with_change key change))
 held_anew branches rows own key change whole known unheld none =
     let free = free_row branches rows own key whole unheld in (
       whole_more branches rows own key (held_row own change (map.get rows key)) (known_record branches rows own known) none (holder_there own)
@@ -101,7 +108,8 @@ held_anew branches rows own key change whole known unheld none =
     )
 
 -- what a new change of a row that the branch holds, in either way, leaves
-pub held_again : (branches : BranchMap) (rows : RowMap) (own : Xid) (key : List ℕ) (change : Change) → IsWhole branches rows → is_known (state_of branches rows) own ≡ true →
+pub held_again : (branches : BranchMap) (rows : RowMap) (own : Xid) (key : List ℕ) (change : Change) → IsWhole branches rows
+    → is_known (state_of branches rows) own ≡ true →
     is_held_against (state_of branches rows) (Active own) key ≡ false → is_some (mode_of own (map.get rows key)) ≡ true →
     IsWhole branches (map.insert rows key (held_row own change (map.get rows key)))
     × (state_of branches (map.insert rows key (held_row own change (map.get rows key))) ≡ with_changed (state_of branches rows) own (with_change key change))
@@ -115,7 +123,8 @@ held_again branches rows own key change whole known unheld there =
     )
 
 -- a row that may be shared
-shareable : (branches : BranchMap) (rows : RowMap) (own : Xid) (key : List ℕ) → IsWhole branches rows → is_locked_against (state_of branches rows) (Active own) key ≡ false → holds (state_of branches rows) own key ≡ false →
+shareable : (branches : BranchMap) (rows : RowMap) (own : Xid) (key : List ℕ) → IsWhole branches rows
+    → is_locked_against (state_of branches rows) (Active own) key ≡ false → holds (state_of branches rows) own key ≡ false →
     IsShareable own (map.get rows key)
 shareable branches rows own key whole unlocked unheld = record {
   unheld = sym (holds-seen branches rows own key whole) ∙ unheld;
@@ -126,10 +135,12 @@ shareable branches rows own key whole unlocked unheld = record {
 pub shared_anew : (branches : BranchMap) (rows : RowMap) (own : Xid) (key : List ℕ) → IsWhole branches rows → is_known (state_of branches rows) own ≡ true →
     is_locked_against (state_of branches rows) (Active own) key ≡ false → holds (state_of branches rows) own key ≡ false →
     IsWhole (with_record branches own (longer key)) (map.insert rows key (shared_row own (map.get rows key)))
-    × (state_of (with_record branches own (longer key)) (map.insert rows key (shared_row own (map.get rows key))) ≡ with_changed (state_of branches rows) own (with_lock key))
+    × (state_of (with_record branches own (longer key)) (map.insert rows key (shared_row own (map.get rows key)))
+    ≡ with_changed (state_of branches rows) own (with_lock key))
 shared_anew branches rows own key whole known unlocked unheld =
     let is = shareable branches rows own key whole unlocked unheld in (
-      whole_more branches rows own key (shared_row own (map.get rows key)) (known_record branches rows own known) is.unheld (ap is_some (share_there own (map.get rows key) is))
+      whole_more branches rows own key (shared_row own (map.get rows key)) (known_record branches rows own known) is.unheld
+          (ap is_some (share_there own (map.get rows key) is))
           (λ other apart. ap is_some (share_others own other (map.get rows key) apart)) whole,
       seen_shared (with_record branches own (longer key)) rows own key (known_longer branches own key (known_record branches rows own known)) is
           ∙ ap (λ s. with_changed s own (with_lock key)) (seen_listed branches rows own key),

@@ -30,7 +30,8 @@ indexed_empty owned places none = record {
 }
 
 -- records with the owners that they had
-pub indexed_moved : (owned : List (Option Xid)) (old new : BranchMap) → ((xid : Xid) → owner_of new xid ≡ owner_of old xid) → IsIndexed owned old → IsIndexed owned new
+pub indexed_moved : (owned : List (Option Xid)) (old new : BranchMap) → ((xid : Xid) → owner_of new xid ≡ owner_of old xid) → IsIndexed owned old
+    → IsIndexed owned new
 indexed_moved owned old new same is = record {
   places = is.places;
   found = λ session xid e. same xid ∙ is.found session xid e;
@@ -58,14 +59,16 @@ pub indexed_started :
     session < 17 → owner_of old xid ≡ None → ((other : Xid) → owner_of old other ≢ Some session) →
     ((other : Xid) → owner_of new other ≡ owners_with old xid (Some session) other) →
     IsIndexed owned old → IsIndexed (slice_set owned session (Some xid)) new
-indexed_started owned old new session xid within nobodys owns_none owners is = record { places = length-set owned session (Some xid) ∙ is.places; found = found; listed = listed }
+indexed_started owned old new session xid within nobodys owns_none owners is =
+    record { places = length-set owned session (Some xid) ∙ is.places; found = found; listed = listed }
   where
     placed : slice_index_or (slice_set owned session (Some xid)) session None ≡ Some xid
     placed = get_or-set_same owned session (Some xid) None (rw is.places within)
 
     found : (at : ℕ) (other : Xid) → owned_at (slice_set owned session (Some xid)) at ≡ Some other → owner_of new other ≡ Some at
     found at other e = elim (numbers_apart at session) [
-      | inl here_is ↦ rw here_is (let same : xid ≡ other = same_value xid other (sym placed ∙ (rw here_is at e)) in owners other ∙ rw (← same) (here old xid (Some session)))
+      | inl here_is ↦ rw here_is
+          (let same : xid ≡ other = same_value xid other (sym placed ∙ (rw here_is at e)) in owners other ∙ rw (← same) (here old xid (Some session)))
       | inr apart ↦
           let before : owned_at owned at ≡ Some other = sym (get_or-set_other owned session at (Some xid) None apart) ∙ e in
           let owner : owner_of old other ≡ Some at = is.found at other before in
@@ -91,7 +94,8 @@ pub indexed_freed :
     (owned : List (Option Xid)) (old new : BranchMap) (session : ℕ) (xid : Xid) →
     session < 17 → owner_of old xid ≡ Some session → ((other : Xid) → owner_of new other ≡ owners_with old xid None other) →
     IsIndexed owned old → IsIndexed (slice_set owned session None) new
-indexed_freed owned old new session xid within owner_is owners is = record { places = length-set owned session None ∙ is.places; found = found; listed = listed }
+indexed_freed owned old new session xid within owner_is owners is =
+    record { places = length-set owned session None ∙ is.places; found = found; listed = listed }
   where
     place_is : owned_at owned session ≡ Some xid
     place_is = is.listed session xid owner_is
@@ -113,7 +117,9 @@ indexed_freed owned old new session xid within owner_is owners is = record { pla
       | inr other_is ↦
           let owner : owner_of old other ≡ Some at = sym (there old xid None other other_is) ∙ sym (owners other) ∙ e in
           let place : owned_at owned at ≡ Some other = is.listed at other owner in
-          let apart : at ≢ session = λ at_is. true≢false (sym (ap (λ x. same_xid x xid) (same_value other xid (sym place ∙ (rw at_is place_is))) ∙ same_itself xids_total exact_xids xid) ∙ other_is) in
+          let apart : at ≢ session =
+          λ at_is. true≢false (sym
+          (ap (λ x. same_xid x xid) (same_value other xid (sym place ∙ (rw at_is place_is))) ∙ same_itself xids_total exact_xids xid) ∙ other_is) in
           get_or-set_other owned session at None None apart ∙ place
     ]
 
@@ -123,10 +129,13 @@ pub owner_of-changed :
     owner_of (with_record old xid change) other ≡ owner_of old other
 owner_of-changed old xid other change same = by (map.get old xid) refl
   where
-    by : (found : Option BranchRecord) → map.get old xid ≡ found → option_and_then (λ (b : BranchRecord). b.owner) (map.get (option_map_or (λ branch. map.insert old xid (change branch)) found old) other) ≡ owner_of old other
+    by : (found : Option BranchRecord) → map.get old xid ≡ found
+        → option_and_then (λ (b : BranchRecord). b.owner) (map.get (option_map_or (λ branch. map.insert old xid (change branch)) found old) other)
+        ≡ owner_of old other
     by None e = refl
     by (Some branch) e = elim (same_or_apart xids_total exact_xids other xid) [
-      | inl is ↦ rw is (ap (option_and_then (λ (b : BranchRecord). b.owner)) (get_inserted xids_total exact_xids old xid (change branch)) ∙ same branch ∙ sym (ap (option_and_then (λ (b : BranchRecord). b.owner)) e))
+      | inl is ↦ rw is (ap (option_and_then (λ (b : BranchRecord). b.owner)) (get_inserted xids_total exact_xids old xid (change branch)) ∙ same branch
+          ∙ sym (ap (option_and_then (λ (b : BranchRecord). b.owner)) e))
       | inr apart ↦ ap (option_and_then (λ (b : BranchRecord). b.owner)) (get_inserted_apart xids_total exact_xids old xid (change branch) other apart)
     ]
 
@@ -136,7 +145,8 @@ pub owner_of-inserted :
     owner_of (map.insert old xid branch) other ≡ owners_with old xid branch.owner other
 owner_of-inserted old xid branch other = elim (same_or_apart xids_total exact_xids other xid) [
   | inl is ↦ rw is (ap (option_and_then (λ (b : BranchRecord). b.owner)) (get_inserted xids_total exact_xids old xid branch) ∙ sym (here old xid branch.owner))
-  | inr apart ↦ ap (option_and_then (λ (b : BranchRecord). b.owner)) (get_inserted_apart xids_total exact_xids old xid branch other apart) ∙ sym (there old xid branch.owner other apart)
+  | inr apart ↦ ap (option_and_then (λ (b : BranchRecord). b.owner)) (get_inserted_apart xids_total exact_xids old xid branch other apart)
+      ∙ sym (there old xid branch.owner other apart)
 ]
 
 -- the owners once a record is taken out
@@ -144,7 +154,8 @@ pub owner_of-removed :
     (old : BranchMap) (xid : Xid) (other : Xid) → owner_of (map.remove old xid) other ≡ owners_with old xid None other
 owner_of-removed old xid other = elim (same_or_apart xids_total exact_xids other xid) [
   | inl is ↦ rw is (ap (option_and_then (λ (b : BranchRecord). b.owner)) (get_removed xids_total exact_xids old xid) ∙ sym (here old xid None))
-  | inr apart ↦ ap (option_and_then (λ (b : BranchRecord). b.owner)) (get_removed_apart xids_total exact_xids old xid other apart) ∙ sym (there old xid None other apart)
+  | inr apart ↦ ap (option_and_then (λ (b : BranchRecord). b.owner)) (get_removed_apart xids_total exact_xids old xid other apart)
+      ∙ sym (there old xid None other apart)
 ]
 
 -- a change of a record where there is none is none
@@ -161,9 +172,13 @@ pub owner_of-freed :
     owner_of (with_record old xid change) other ≡ owners_with old xid None other
 owner_of-freed old xid other change frees = by (map.get old xid) refl
   where
-    by : (found : Option BranchRecord) → map.get old xid ≡ found → option_and_then (λ (b : BranchRecord). b.owner) (map.get (option_map_or (λ branch. map.insert old xid (change branch)) found old) other) ≡ owners_with old xid None other
+    by : (found : Option BranchRecord) → map.get old xid ≡ found
+        → option_and_then (λ (b : BranchRecord). b.owner) (map.get (option_map_or (λ branch. map.insert old xid (change branch)) found old) other)
+        ≡ owners_with old xid None other
     by None e = sym (owners_with-none old xid other (ap (option_and_then (λ (b : BranchRecord). b.owner)) e))
     by (Some branch) e = elim (same_or_apart xids_total exact_xids other xid) [
-      | inl is ↦ rw is (ap (option_and_then (λ (b : BranchRecord). b.owner)) (get_inserted xids_total exact_xids old xid (change branch)) ∙ frees branch ∙ sym (here old xid None))
-      | inr apart ↦ ap (option_and_then (λ (b : BranchRecord). b.owner)) (get_inserted_apart xids_total exact_xids old xid (change branch) other apart) ∙ sym (there old xid None other apart)
+      | inl is ↦ rw is (ap (option_and_then (λ (b : BranchRecord). b.owner)) (get_inserted xids_total exact_xids old xid (change branch)) ∙ frees branch
+          ∙ sym (here old xid None))
+      | inr apart ↦ ap (option_and_then (λ (b : BranchRecord). b.owner)) (get_inserted_apart xids_total exact_xids old xid (change branch) other apart)
+          ∙ sym (there old xid None other apart)
     ]

@@ -74,7 +74,8 @@ sound_detached (Some branch) sound = record { detached = λ e. refl; attached = 
 sound_locked : (key : List ℕ) (found : Option Branch) → IsSound found → IsSound (option_map (with_lock key) found)
 unfolding is_ready owner_in mode_in is_writing
 sound_locked key None sound = sound_none
-sound_locked key (Some branch) sound = record { detached = sound.detached; attached = sound.attached; held = λ other e. share_exclusive branch.locks key other ∙ sound.held other e }
+sound_locked key (Some branch) sound =
+    record { detached = sound.detached; attached = sound.attached; held = λ other e. share_exclusive branch.locks key other ∙ sound.held other e }
 
 sound_written : (key : List ℕ) (write : Write) (found : Option Branch) → IsSound found → IsSound (option_map (with_own_write key write) found)
 unfolding is_ready owner_in mode_in is_writing
@@ -84,7 +85,8 @@ sound_written key write (Some branch) sound = record {
   attached = sound.attached;
   held = λ other e. elim (same_or_apart bytes_total exact_texts other key) [
     | inl is ↦ rw is (ap is_exclusive (get_inserted bytes_total exact_texts branch.locks key Exclusive))
-    | inr apart ↦ ap is_exclusive (get_inserted_apart bytes_total exact_texts branch.locks key Exclusive other apart) ∙ sound.held other (sym (ap is_some (get_inserted_apart bytes_total exact_texts branch.writes key write other apart)) ∙ e)
+    | inr apart ↦ ap is_exclusive (get_inserted_apart bytes_total exact_texts branch.locks key Exclusive other apart)
+        ∙ sound.held other (sym (ap is_some (get_inserted_apart bytes_total exact_texts branch.writes key write other apart)) ∙ e)
   ];
 }
 
@@ -92,14 +94,16 @@ one_of : (b : Bool) (new found : Option Branch) → IsSound new → IsSound foun
 one_of true new found n f = n
 one_of false new found n f = f
 
-idle_at : (state : State) (xid at : Xid) → is_prepared state xid ≡ false → IsSound (map.get state.branches at) → IsSound (cond (same_xid at xid) (option_map idle (map.get state.branches at)) (map.get state.branches at))
+idle_at : (state : State) (xid at : Xid) → is_prepared state xid ≡ false → IsSound (map.get state.branches at)
+    → IsSound (cond (same_xid at xid) (option_map idle (map.get state.branches at)) (map.get state.branches at))
 unfolding is_ready
 idle_at state xid at e sound = elim (same_or_apart xids_total exact_xids at xid) [
   | inl is ↦ one_of (same_xid at xid) _ _ (sound_idle (map.get state.branches at) (ap (is_prepared state) is ∙ e) sound) sound
   | inr apart ↦ subst (λ b. IsSound (cond b (option_map idle (map.get state.branches at)) (map.get state.branches at))) (sym apart) sound
 ]
 
-sound_after : (state : State) (session : ℕ) (seat : Seat) → IsOpen state seat → (statement : Statement) → is_refused (table state seat statement) ≡ false → (at : Xid) → IsSound (map.get state.branches at) →
+sound_after : (state : State) (session : ℕ) (seat : Seat) → IsOpen state seat → (statement : Statement) → is_refused (table state seat statement) ≡ false
+    → (at : Xid) → IsSound (map.get state.branches at) →
     IsSound (branch_after session seat statement at (map.get state.branches at))
 unfolding branch_after
 sound_after state session seat seated (Start xid) accepted at sound = one_of (same_xid at xid) _ _ (sound_started session) sound
@@ -110,13 +114,16 @@ sound_after state session seat seated (Rollback xid) accepted at sound = one_of 
 sound_after state session seat seated (Recover convert) accepted at sound = sound
 sound_after state session seat seated Unsupported accepted at sound = sound
 sound_after state session Free seated (Get key) accepted at sound = sound
-sound_after state session (Active own) seated (Get key) accepted at sound = one_of (same_xid at own) _ _ (sound_locked key (map.get state.branches at) sound) sound
+sound_after state session (Active own) seated (Get key) accepted at sound =
+    one_of (same_xid at own) _ _ (sound_locked key (map.get state.branches at) sound) sound
 sound_after state session (Idle own) seated (Get key) accepted at sound = sound
 sound_after state session Free seated (Put key value) accepted at sound = sound
-sound_after state session (Active own) seated (Put key value) accepted at sound = one_of (same_xid at own) _ _ (sound_written key (Some value) (map.get state.branches at) sound) sound
+sound_after state session (Active own) seated (Put key value) accepted at sound =
+    one_of (same_xid at own) _ _ (sound_written key (Some value) (map.get state.branches at) sound) sound
 sound_after state session (Idle own) seated (Put key value) accepted at sound = sound
 sound_after state session Free seated (Del key) accepted at sound = sound
-sound_after state session (Active own) seated (Del key) accepted at sound = one_of (same_xid at own) _ _ (sound_written key None (map.get state.branches at) sound) sound
+sound_after state session (Active own) seated (Del key) accepted at sound =
+    one_of (same_xid at own) _ _ (sound_written key None (map.get state.branches at) sound) sound
 sound_after state session (Idle own) seated (Del key) accepted at sound = sound
 sound_after state session Free seated Disconnect accepted at sound = sound
 sound_after state session (Active own) seated Disconnect accepted at sound = one_of (same_xid at own) _ _ sound_none sound
@@ -133,7 +140,8 @@ is_free (Idle own) = false
 owner_seated : (state : State) (session : ℕ) (xid : Xid) → LockLaw state → owns state session xid ≡ true → is_free (seat_of state session) ≡ false
 unfolding seat_of is_owned is_free
 owner_seated state session xid law e =
-    ap (λ own. is_free (option_map_or (λ xid. seat_in (phase_at state xid) xid) own Free)) (own_found state session xid e (λ other f. law.one_branch session xid other e f))
+    ap (λ own. is_free (option_map_or (λ xid. seat_in (phase_at state xid) xid) own Free))
+    (own_found state session xid e (λ other f. law.one_branch session xid other e f))
     ∙ by (phase_at state xid) refl
   where
     nothing : (found : Option Branch) → is_some found ≡ true → option_map (λ (b : Branch). b.phase) found ≡ None → is_free (seat_in None xid) ≡ false
@@ -150,14 +158,17 @@ start_of : (xid other : Xid) → Start xid ≡ Start other → xid ≡ other
 start_of xid other e = cc
 
 -- a session that starts a branch owned none
-starter_free : {A : Type 0} (state : State) (session who : ℕ) (statement : Statement) → LockLaw state → is_refused (table state (seat_of state session) statement) ≡ false →
+starter_free : {A : Type 0} (state : State) (session who : ℕ) (statement : Statement) → LockLaw state
+    → is_refused (table state (seat_of state session) statement) ≡ false →
     (xid other : Xid) → IsStarted session who statement xid → owns state who other ≡ true → A
 unfolding is_free
 starter_free state session who statement law accepted xid other started e =
-    let free : seat_of state session ≡ Free = (accepted_start state (seat_of state session) xid (sym (ap (λ s. is_refused (table state (seat_of state session) s)) started.0) ∙ accepted)).0 in
+    let free : seat_of state session ≡ Free =
+    (accepted_start state (seat_of state session) xid (sym (ap (λ s. is_refused (table state (seat_of state session) s)) started.0) ∙ accepted)).0 in
     absurd (true≢false (sym (ap is_free free) ∙ owner_seated state session other law (ap (λ s. owns state s other) started.1 ∙ e)))
 
-one_branch : (state : State) (session who : ℕ) (statement : Statement) → LockLaw state → is_refused (table state (seat_of state session) statement) ≡ false → (xid other : Xid) →
+one_branch : (state : State) (session who : ℕ) (statement : Statement) → LockLaw state → is_refused (table state (seat_of state session) statement) ≡ false
+    → (xid other : Xid) →
     (owns state who xid ≡ true) ⊎ IsStarted session who statement xid → (owns state who other ≡ true) ⊎ IsStarted session who statement other → xid ≡ other
 one_branch state session who statement law accepted xid other (inl e) (inl f) = law.one_branch who xid other e f
 one_branch state session who statement law accepted xid other (inl e) (inr f) = starter_free state session who statement law accepted other xid f e
@@ -166,7 +177,8 @@ one_branch state session who statement law accepted xid other (inr e) (inr f) = 
 
 -- ---- the law
 
-carried_out : (state : State) (session : ℕ) (statement : Statement) → LockLaw state → is_refused (table state (seat_of state session) statement) ≡ false → LockLaw (effect state session (seat_of state session) statement)
+carried_out : (state : State) (session : ℕ) (statement : Statement) → LockLaw state → is_refused (table state (seat_of state session) statement) ≡ false
+    → LockLaw (effect state session (seat_of state session) statement)
 unfolding is_ready owner_in mode_in is_writing is_owned Before
 carried_out state session statement law accepted = record {
   one_holder = λ xid other key e f. one_holder state (seat_of state session) law xid other key
@@ -180,11 +192,14 @@ carried_out state session statement law accepted = record {
   held_writes = λ xid. (sound xid).held;
 }
   where
-    is : (xid : Xid) → map.get (effect state session (seat_of state session) statement).branches xid ≡ branch_after session (seat_of state session) statement xid (map.get state.branches xid)
+    is : (xid : Xid) → map.get (effect state session (seat_of state session) statement).branches xid
+        ≡ branch_after session (seat_of state session) statement xid (map.get state.branches xid)
     is xid = effect-branch state session (seat_of state session) statement xid
 
     sound : (xid : Xid) → IsSound (map.get (effect state session (seat_of state session) statement).branches xid)
-    sound xid = subst IsSound (sym (is xid)) (sound_after state session (seat_of state session) (open_seat state session) statement accepted xid (sound_in state law xid))
+    sound xid =
+        subst IsSound (sym (is xid))
+        (sound_after state session (seat_of state session) (open_seat state session) statement accepted xid (sound_in state law xid))
 
 pub law_after : (state : State) (session : ℕ) (statement : Statement) → LockLaw state → LockLaw (after state session statement)
 law_after state session statement law = elim (outcome state session statement) [

@@ -9,7 +9,8 @@ use Rattle.std.specs.declared.cmp.Ordering.{Ordering}
 use Rattle.std.specs.declared.cmp.Ordering.TheVariants.{Less, Equal, Greater}
 use Rattle.std.specs.Ordering.{eq_by_cmp, is_lt, is_eq}
 use Rattle.std.specs.Cmp.{IsTotalOrder, eq_by_cmp_equiv}
-use Rattle.std.specs.FinMap.{FinMap, find, is_sorted, from_sorted, from_entries, entries, same_map, get-from_entries, get-from_sorted, entries-from_sorted, get-entries, entries_sorted}
+use Rattle.std.specs.FinMap.{FinMap, find, is_sorted, from_sorted, from_entries, entries, same_map, get-from_entries, get-from_sorted, entries-from_sorted}
+use Rattle.std.specs.FinMap.{get-entries, entries_sorted}
 use Rattle.std.specs.FinMap.Entries.{below_all}
 use Rattle.std.proofs.lemmas.Map.Lookups.{CmpEqualImpliesEq}
 use lib.Dec.{T}
@@ -50,11 +51,13 @@ module _ {K V W : Type 0} where
   kept found (e ∷ es) = with_kept e.0 (found e.1) (kept found es)
 
 module _ {K W : Type 0} (R : K → K → Ordering) where
-  below_with : (k other : K) (here : Option W) (rest : List (K × W)) → is_lt (R k other) ≡ true → below_all R k rest ≡ true → below_all R k (with_kept other here rest) ≡ true
+  below_with : (k other : K) (here : Option W) (rest : List (K × W)) → is_lt (R k other) ≡ true → below_all R k rest ≡ true
+      → below_all R k (with_kept other here rest) ≡ true
   below_with k other None rest e f = f
   below_with k other (Some w) rest e f = both (is_lt (R k other)) (below_all R k rest) e f
 
-  sorted_with : (k : K) (here : Option W) (rest : List (K × W)) → below_all R k rest ≡ true → is_sorted R rest ≡ true → is_sorted R (with_kept k here rest) ≡ true
+  sorted_with : (k : K) (here : Option W) (rest : List (K × W)) → below_all R k rest ≡ true → is_sorted R rest ≡ true
+      → is_sorted R (with_kept k here rest) ≡ true
   sorted_with k None rest e f = f
   sorted_with k (Some w) rest e f = both (below_all R k rest) (is_sorted R rest) e f
 
@@ -124,7 +127,8 @@ module _ {K V : Type 0} {R : K → K → Ordering} (total : IsTotalOrder R) (exa
       AllByRecursion (λ (f : K × V). find R f.0 (e ∷ all) ≡ Some f.1) es
   found_beside e all [] below h = tt
   found_beside e all (f ∷ es) below h =
-      let apart : eq_by_cmp R f.0 e.0 ≡ false = (eq_by_cmp_equiv total).symm f.0 e.0 ∙ apart_below (R e.0 f.0) (first (is_lt (R e.0 f.0)) (below_all R e.0 es) below) in
+      let apart : eq_by_cmp R f.0 e.0 ≡ false =
+      (eq_by_cmp_equiv total).symm f.0 e.0 ∙ apart_below (R e.0 f.0) (first (is_lt (R e.0 f.0)) (below_all R e.0 es) below) in
       (ap (λ b. cond b (Some e.1) (find R f.0 all)) apart ∙ h.0, found_beside e all es (second (is_lt (R e.0 f.0)) (below_all R e.0 es) below) h.1)
 
   -- each entry is found at its key

@@ -30,7 +30,8 @@ less Less e = refl
 less Equal e = absurd (true≢false (sym e))
 less Greater e = absurd (true≢false (sym e))
 
-all_above : (xid : Xid) (es : List (Xid × Branch)) → T (below_all xid_cmp xid es) → AllByRecursion (λ other. xid_cmp xid other ≡ Less) (map (λ (e : Xid × Branch). e.0) es)
+all_above : (xid : Xid) (es : List (Xid × Branch)) → T (below_all xid_cmp xid es)
+    → AllByRecursion (λ other. xid_cmp xid other ≡ Less) (map (λ (e : Xid × Branch). e.0) es)
 all_above xid [] h = tt
 all_above xid (e ∷ es) h =
     let parts = halves (is_lt (xid_cmp xid e.0)) (below_all xid_cmp xid es) h in
@@ -49,7 +50,8 @@ ascending (e ∷ es) h =
 
 pub prepared_ascend : (state : State) → IsStrictlySortedBy xid_cmp (prepared_xids state)
 unfolding prepared_xids
-prepared_ascend state = IsStrictlySortedBy-filter xid_cmp (is_prepared state) (fin.keys state.branches) (ascending (fin.entries state.branches) (entries_sorted state.branches))
+prepared_ascend state =
+    IsStrictlySortedBy-filter xid_cmp (is_prepared state) (fin.keys state.branches) (ascending (fin.entries state.branches) (entries_sorted state.branches))
 
 -- ---- exactly those
 
@@ -83,6 +85,8 @@ prepared_exactly state xid =
     ∙ ap (λ b. b && is_prepared state xid) (sym (contains_key-keys state.branches xid))
     ∙ by (fin.get state.branches xid)
   where
-    by : (found : Option Branch) → (is_some found && option_map_or is_prepared_phase (option_map (λ (b : Branch). b.phase) found) false) ≡ option_map_or is_prepared_phase (option_map (λ (b : Branch). b.phase) found) false
+    by : (found : Option Branch)
+        → (is_some found && option_map_or is_prepared_phase (option_map (λ (b : Branch). b.phase) found) false)
+        ≡ option_map_or is_prepared_phase (option_map (λ (b : Branch). b.phase) found) false
     by None = refl
     by (Some branch) = refl

@@ -27,28 +27,34 @@ somebody None e = absurd (true≢false e)
 somebody (Some owner) e = refl
 
 -- a PREPARED branch has no owner
-detached : (branches : BranchMap) (rows : RowMap) → IsWhole branches rows → (xid : Xid) → is_prepared (state_of branches rows) xid ≡ true → owner_at (state_of branches rows) xid ≡ None
+detached : (branches : BranchMap) (rows : RowMap) → IsWhole branches rows → (xid : Xid) → is_prepared (state_of branches rows) xid ≡ true
+    → owner_at (state_of branches rows) xid ≡ None
 unfolding is_prepared_in
 detached branches rows whole xid e = owner_at-seen branches rows xid ∙ by (map.get branches xid) refl (sym (is_prepared-seen branches rows xid) ∙ e)
   where
-    by : (found : Option BranchRecord) → map.get branches xid ≡ found → is_prepared_in found ≡ true → option_and_then (λ (b : BranchRecord). b.owner) found ≡ None
+    by : (found : Option BranchRecord) → map.get branches xid ≡ found → is_prepared_in found ≡ true
+        → option_and_then (λ (b : BranchRecord). b.owner) found ≡ None
     by None is e = absurd (true≢false (sym e))
     by (Some branch) is e = nobody branch.owner (whole.attached xid branch is ∙ e)
 
 -- an ACTIVE or IDLE branch has one
-attached : (branches : BranchMap) (rows : RowMap) → IsWhole branches rows → (xid : Xid) → is_known (state_of branches rows) xid ≡ true → is_prepared (state_of branches rows) xid ≡ false →
+attached : (branches : BranchMap) (rows : RowMap) → IsWhole branches rows → (xid : Xid) → is_known (state_of branches rows) xid ≡ true
+    → is_prepared (state_of branches rows) xid ≡ false →
     is_some (owner_at (state_of branches rows) xid) ≡ true
 unfolding is_prepared_in
 attached branches rows whole xid known e =
-    ap is_some (owner_at-seen branches rows xid) ∙ by (map.get branches xid) refl (sym (is_known-seen branches rows xid) ∙ known) (sym (is_prepared-seen branches rows xid) ∙ e)
+    ap is_some (owner_at-seen branches rows xid)
+    ∙ by (map.get branches xid) refl (sym (is_known-seen branches rows xid) ∙ known) (sym (is_prepared-seen branches rows xid) ∙ e)
   where
-    by : (found : Option BranchRecord) → map.get branches xid ≡ found → is_some found ≡ true → is_prepared_in found ≡ false → is_some (option_and_then (λ (b : BranchRecord). b.owner) found) ≡ true
+    by : (found : Option BranchRecord) → map.get branches xid ≡ found → is_some found ≡ true → is_prepared_in found ≡ false
+        → is_some (option_and_then (λ (b : BranchRecord). b.owner) found) ≡ true
     by None is there e = absurd (true≢false (sym there))
     by (Some branch) is there e = somebody branch.owner (whole.attached xid branch is ∙ e)
 
 -- who holds a row exclusively holds it alone
 alone : (xid other : Xid) (found : Option RowRecord) → is_exclusive (mode_of xid found) ≡ true → is_some (mode_of other found) ≡ true → xid ≡ other
-alone xid other found e f = alone_in xid other (lock_of found) (sym (ap is_exclusive (mode_of-lock xid found)) ∙ e) (sym (ap is_some (mode_of-lock other found)) ∙ f)
+alone xid other found e f =
+    alone_in xid other (lock_of found) (sym (ap is_exclusive (mode_of-lock xid found)) ∙ e) (sym (ap is_some (mode_of-lock other found)) ∙ f)
 
 -- who writes a row holds it exclusively
 writes : (xid : Xid) (found : Option RowRecord) → is_some (option_and_then (write_by xid) found) ≡ true → is_exclusive (mode_of xid found) ≡ true
@@ -62,5 +68,7 @@ lock_law branches rows whole = record {
   one_branch = λ session xid other e f. whole.one_owned session xid other (owns_owner branches rows session xid e) (owns_owner branches rows session other f);
   detached = detached branches rows whole;
   attached = attached branches rows whole;
-  held_writes = λ xid key e. ap is_exclusive (lock_at-seen branches rows xid key whole) ∙ writes xid (map.get rows key) (sym (ap is_some (write_at-seen branches rows xid key whole)) ∙ e);
+  held_writes =
+      λ xid key e. ap is_exclusive (lock_at-seen branches rows xid key whole)
+      ∙ writes xid (map.get rows key) (sym (ap is_some (write_at-seen branches rows xid key whole)) ∙ e);
 }

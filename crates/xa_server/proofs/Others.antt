@@ -40,7 +40,8 @@ IsOwn state session Free = Unit {0}
 IsOwn state session (Active own) = owns state session own ≡ true
 IsOwn state session (Idle own) = owns state session own ≡ true
 
-passing : (p : Xid → Bool) (x : Xid) (rest : Option Xid) (xid : Xid) → (rest ≡ Some xid → p xid ≡ true) → (b : Bool) → p x ≡ b → cond b (Some x) rest ≡ Some xid → p xid ≡ true
+passing : (p : Xid → Bool) (x : Xid) (rest : Option Xid) (xid : Xid) → (rest ≡ Some xid → p xid ≡ true) → (b : Bool) → p x ≡ b → cond b (Some x) rest ≡ Some xid
+    → p xid ≡ true
 passing p x rest xid later true is e = ap p (sym (same_value x xid e)) ∙ is
 passing p x rest xid later false is e = later e
 
@@ -69,7 +70,8 @@ known_owned session None e = absurd (true≢false (sym e))
 known_owned session (Some branch) e = refl
 
 -- a branch that the session alone of all branches could own, and owns, is the one that is found
-pub own_found : (state : State) (session : ℕ) (xid : Xid) → owns state session xid ≡ true → ((other : Xid) → owns state session other ≡ true → xid ≡ other) → own_xid state session ≡ Some xid
+pub own_found : (state : State) (session : ℕ) (xid : Xid) → owns state session xid ≡ true → ((other : Xid) → owns state session other ≡ true → xid ≡ other)
+    → own_xid state session ≡ Some xid
 unfolding own_xid is_owned
 own_found state session xid e only = find_one (owns state session) (map.keys state.branches) xid
     (sym (contains_key-keys state.branches xid) ∙ known_owned session (map.get state.branches xid) e) e only
@@ -90,13 +92,15 @@ none_found state session none = find_none (owns state session) (map.keys state.b
 
 -- ---- whose branch an accepted statement changes
 
-pub accepted_end_own : (state : State) (session : ℕ) (seat : Seat) (xid : Xid) → IsOwn state session seat → is_refused (table state seat (End xid)) ≡ false → owns state session xid ≡ true
+pub accepted_end_own : (state : State) (session : ℕ) (seat : Seat) (xid : Xid) → IsOwn state session seat → is_refused (table state seat (End xid)) ≡ false
+    → owns state session xid ≡ true
 unfolding table
 accepted_end_own state session Free xid own e = absurd (true≢false e)
 accepted_end_own state session (Active seated) xid own e = ap (owns state session) (own_is xid seated _ e) ∙ own
 accepted_end_own state session (Idle seated) xid own e = absurd (true≢false e)
 
-pub accepted_prepare_own : (state : State) (session : ℕ) (seat : Seat) (xid : Xid) → IsOwn state session seat → is_refused (table state seat (Prepare xid)) ≡ false → owns state session xid ≡ true
+pub accepted_prepare_own : (state : State) (session : ℕ) (seat : Seat) (xid : Xid) → IsOwn state session seat
+    → is_refused (table state seat (Prepare xid)) ≡ false → owns state session xid ≡ true
 unfolding table
 accepted_prepare_own state session Free xid own e = absurd (true≢false e)
 accepted_prepare_own state session (Active seated) xid own e = absurd (true≢false e)
@@ -110,7 +114,8 @@ never_done false e = absurd (true≢false e)
 abbrev pub IsFinishable : State → ℕ → Xid → Type 0
 IsFinishable state session xid = (owns state session xid ≡ true) ⊎ (is_prepared state xid ≡ true)
 
-pub accepted_commit_own : (state : State) (session : ℕ) (seat : Seat) (xid : Xid) (one_phase : Bool) → IsOwn state session seat → is_refused (table state seat (Commit xid one_phase)) ≡ false → IsFinishable state session xid
+pub accepted_commit_own : (state : State) (session : ℕ) (seat : Seat) (xid : Xid) (one_phase : Bool) → IsOwn state session seat
+    → is_refused (table state seat (Commit xid one_phase)) ≡ false → IsFinishable state session xid
 unfolding table
 accepted_commit_own state session Free xid false own e = inr (passes (is_prepared state xid) _ e)
 accepted_commit_own state session Free xid true own e = never_done (is_prepared state xid) e
@@ -119,7 +124,8 @@ accepted_commit_own state session (Active seated) xid true own e = absurd (true�
 accepted_commit_own state session (Idle seated) xid false own e = absurd (true≢false e)
 accepted_commit_own state session (Idle seated) xid true own e = inl (ap (owns state session) (own_is xid seated _ e) ∙ own)
 
-pub accepted_rollback_own : (state : State) (session : ℕ) (seat : Seat) (xid : Xid) → IsOwn state session seat → is_refused (table state seat (Rollback xid)) ≡ false → IsFinishable state session xid
+pub accepted_rollback_own : (state : State) (session : ℕ) (seat : Seat) (xid : Xid) → IsOwn state session seat
+    → is_refused (table state seat (Rollback xid)) ≡ false → IsFinishable state session xid
 unfolding table
 accepted_rollback_own state session Free xid own e = inr (passes (is_prepared state xid) _ e)
 accepted_rollback_own state session (Active seated) xid own e = absurd (true≢false e)
@@ -127,7 +133,8 @@ accepted_rollback_own state session (Idle seated) xid own e = inl (ap (owns stat
 
 -- ---- such a branch isn't another session's
 
-one_owner : (session other : ℕ) (owner : Option ℕ) → session ≢ other → option_map_or (λ o. o == session) owner false ≡ true → option_map_or (λ o. o == other) owner false ≡ false
+one_owner : (session other : ℕ) (owner : Option ℕ) → session ≢ other → option_map_or (λ o. o == session) owner false ≡ true
+    → option_map_or (λ o. o == other) owner false ≡ false
 one_owner session other owner apart e = by (option_map_or (λ o. o == other) owner false) refl
   where
     by : (b : Bool) → option_map_or (λ o. o == other) owner false ≡ b → b ≡ false
@@ -151,42 +158,56 @@ unknown_owned other (Some branch) e = absurd (true≢false e)
 
 -- ---- another session's branch stays as it is
 
-spared : (state : State) (other : ℕ) (touched at : Xid) (new : Option Branch) → owns state other touched ≡ false → owns state other at ≡ true → cond (same_xid at touched) new (map.get state.branches at) ≡ map.get state.branches at
+spared : (state : State) (other : ℕ) (touched at : Xid) (new : Option Branch) → owns state other touched ≡ false → owns state other at ≡ true
+    → cond (same_xid at touched) new (map.get state.branches at) ≡ map.get state.branches at
 spared state other touched at new no_owner e = elim (same_or_apart xids_total exact_xids at touched) [
   | inl is ↦ absurd (true≢false (sym e ∙ ap (owns state other) is ∙ no_owner))
   | inr apart ↦ ap (λ b. cond b new (map.get state.branches at)) apart
 ]
 
-kept : (state : State) (session other : ℕ) → LockLaw state → session ≢ other → (seat : Seat) → IsOwn state session seat → (statement : Statement) → is_refused (table state seat statement) ≡ false →
+kept : (state : State) (session other : ℕ) → LockLaw state → session ≢ other → (seat : Seat) → IsOwn state session seat → (statement : Statement)
+    → is_refused (table state seat statement) ≡ false →
     (at : Xid) → owns state other at ≡ true → branch_after session seat statement at (map.get state.branches at) ≡ map.get state.branches at
 unfolding branch_after is_owned
-kept state session other law apart seat own (Start xid) accepted at e = spared state other xid at _ (unknown_owned other (map.get state.branches xid) (accepted_start state seat xid accepted).1) e
-kept state session other law apart seat own (End xid) accepted at e = spared state other xid at _ (not_others state session other xid apart (accepted_end_own state session seat xid own accepted)) e
-kept state session other law apart seat own (Prepare xid) accepted at e = spared state other xid at _ (not_others state session other xid apart (accepted_prepare_own state session seat xid own accepted)) e
-kept state session other law apart seat own (Commit xid one_phase) accepted at e = spared state other xid at _ (not_anothers state session other xid law apart (accepted_commit_own state session seat xid one_phase own accepted)) e
-kept state session other law apart seat own (Rollback xid) accepted at e = spared state other xid at _ (not_anothers state session other xid law apart (accepted_rollback_own state session seat xid own accepted)) e
+kept state session other law apart seat own (Start xid) accepted at e =
+    spared state other xid at _ (unknown_owned other (map.get state.branches xid) (accepted_start state seat xid accepted).1) e
+kept state session other law apart seat own (End xid) accepted at e =
+    spared state other xid at _ (not_others state session other xid apart (accepted_end_own state session seat xid own accepted)) e
+kept state session other law apart seat own (Prepare xid) accepted at e =
+    spared state other xid at _ (not_others state session other xid apart (accepted_prepare_own state session seat xid own accepted)) e
+kept state session other law apart seat own (Commit xid one_phase) accepted at e =
+    spared state other xid at _ (not_anothers state session other xid law apart (accepted_commit_own state session seat xid one_phase own accepted)) e
+kept state session other law apart seat own (Rollback xid) accepted at e =
+    spared state other xid at _ (not_anothers state session other xid law apart (accepted_rollback_own state session seat xid own accepted)) e
 kept state session other law apart seat own (Recover convert) accepted at e = refl
 kept state session other law apart seat own Unsupported accepted at e = refl
 kept state session other law apart Free own (Get key) accepted at e = refl
-kept state session other law apart (Active seated) own (Get key) accepted at e = spared state other seated at _ (not_others state session other seated apart own) e
+kept state session other law apart (Active seated) own (Get key) accepted at e =
+    spared state other seated at _ (not_others state session other seated apart own) e
 kept state session other law apart (Idle seated) own (Get key) accepted at e = refl
 kept state session other law apart Free own (Put key value) accepted at e = refl
-kept state session other law apart (Active seated) own (Put key value) accepted at e = spared state other seated at _ (not_others state session other seated apart own) e
+kept state session other law apart (Active seated) own (Put key value) accepted at e =
+    spared state other seated at _ (not_others state session other seated apart own) e
 kept state session other law apart (Idle seated) own (Put key value) accepted at e = refl
 kept state session other law apart Free own (Del key) accepted at e = refl
-kept state session other law apart (Active seated) own (Del key) accepted at e = spared state other seated at _ (not_others state session other seated apart own) e
+kept state session other law apart (Active seated) own (Del key) accepted at e =
+    spared state other seated at _ (not_others state session other seated apart own) e
 kept state session other law apart (Idle seated) own (Del key) accepted at e = refl
 kept state session other law apart Free own Disconnect accepted at e = refl
-kept state session other law apart (Active seated) own Disconnect accepted at e = spared state other seated at _ (not_others state session other seated apart own) e
-kept state session other law apart (Idle seated) own Disconnect accepted at e = spared state other seated at _ (not_others state session other seated apart own) e
+kept state session other law apart (Active seated) own Disconnect accepted at e =
+    spared state other seated at _ (not_others state session other seated apart own) e
+kept state session other law apart (Idle seated) own Disconnect accepted at e =
+    spared state other seated at _ (not_others state session other seated apart own) e
 
 -- ---- another session gets no branch
 
-either : (other : ℕ) (b : Bool) (new found : Option Branch) → (is_owned other new ≡ true → is_owned other found ≡ true) → is_owned other (cond b new found) ≡ true → is_owned other found ≡ true
+either : (other : ℕ) (b : Bool) (new found : Option Branch) → (is_owned other new ≡ true → is_owned other found ≡ true)
+    → is_owned other (cond b new found) ≡ true → is_owned other found ≡ true
 either other true new found from e = from e
 either other false new found from e = e
 
-same_owner : (other : ℕ) (change : Branch → Branch) → ((branch : Branch) → (change branch).owner ≡ branch.owner) → (found : Option Branch) → is_owned other (option_map change found) ≡ true → is_owned other found ≡ true
+same_owner : (other : ℕ) (change : Branch → Branch) → ((branch : Branch) → (change branch).owner ≡ branch.owner) → (found : Option Branch)
+    → is_owned other (option_map change found) ≡ true → is_owned other found ≡ true
 unfolding is_owned
 same_owner other change same None e = e
 same_owner other change same (Some branch) e = ap (λ owner. option_map_or (λ o. o == other) owner false) (sym (same branch)) ∙ e
@@ -205,11 +226,16 @@ abbrev pub IsStarted : ℕ → ℕ → Statement → Xid → Type 0
 IsStarted session who statement at = (statement ≡ Start at) × (session ≡ who)
 
 -- a branch that a session owns after a statement, it owned before, or has just started
-pub owned_before : (session who : ℕ) (seat : Seat) (statement : Statement) (at : Xid) (found : Option Branch) → is_owned who (branch_after session seat statement at found) ≡ true →
+pub owned_before : (session who : ℕ) (seat : Seat) (statement : Statement) (at : Xid) (found : Option Branch)
+    → is_owned who (branch_after session seat statement at found) ≡ true →
     (is_owned who found ≡ true) ⊎ IsStarted session who statement at
 unfolding branch_after idle is_owned
 owned_before session who seat (Start xid) at found e = elim (same_or_apart xids_total exact_xids at xid) [
-  | inl is ↦ inr (ap Start (sym is), same_value session who (owned_is (Some session) who (ap (λ b. is_owned who (cond b (Some (started_by session)) found)) (sym (ap (λ x. same_xid x xid) is ∙ same_itself xids_total exact_xids xid)) ∙ e)))
+  | inl is ↦ inr (
+    ap Start (sym is),
+    same_value session who (owned_is (Some session) who
+        (ap (λ b. is_owned who (cond b (Some (started_by session)) found)) (sym (ap (λ x. same_xid x xid) is ∙ same_itself xids_total exact_xids xid)) ∙ e)),
+  )
   | inr apart ↦ inl (ap (λ b. is_owned who (cond b (Some (started_by session)) found)) (sym apart) ∙ e)
 ]
 owned_before session who seat (End xid) at found e = inl (either who (same_xid at xid) _ found (same_owner who idle (λ b. refl) found) e)
@@ -222,17 +248,20 @@ owned_before session who Free (Get key) at found e = inl e
 owned_before session who (Active own) (Get key) at found e = inl (either who (same_xid at own) _ found (same_owner who (with_lock key) (λ b. refl) found) e)
 owned_before session who (Idle own) (Get key) at found e = inl e
 owned_before session who Free (Put key value) at found e = inl e
-owned_before session who (Active own) (Put key value) at found e = inl (either who (same_xid at own) _ found (same_owner who (with_own_write key (Some value)) (λ b. refl) found) e)
+owned_before session who (Active own) (Put key value) at found e =
+    inl (either who (same_xid at own) _ found (same_owner who (with_own_write key (Some value)) (λ b. refl) found) e)
 owned_before session who (Idle own) (Put key value) at found e = inl e
 owned_before session who Free (Del key) at found e = inl e
-owned_before session who (Active own) (Del key) at found e = inl (either who (same_xid at own) _ found (same_owner who (with_own_write key None) (λ b. refl) found) e)
+owned_before session who (Active own) (Del key) at found e =
+    inl (either who (same_xid at own) _ found (same_owner who (with_own_write key None) (λ b. refl) found) e)
 owned_before session who (Idle own) (Del key) at found e = inl e
 owned_before session who Free Disconnect at found e = inl e
 owned_before session who (Active own) Disconnect at found e = inl (either who (same_xid at own) _ found (removed who found) e)
 owned_before session who (Idle own) Disconnect at found e = inl (either who (same_xid at own) _ found (removed who found) e)
 
 -- so another session gets none
-gained : (session other : ℕ) → session ≢ other → (seat : Seat) (statement : Statement) (at : Xid) (found : Option Branch) → is_owned other (branch_after session seat statement at found) ≡ true → is_owned other found ≡ true
+gained : (session other : ℕ) → session ≢ other → (seat : Seat) (statement : Statement) (at : Xid) (found : Option Branch)
+    → is_owned other (branch_after session seat statement at found) ≡ true → is_owned other found ≡ true
 gained session other apart seat statement at found e = elim (owned_before session other seat statement at found e) [
   | inl before ↦ before
   | inr started ↦ absurd (apart started.1)
@@ -241,7 +270,8 @@ gained session other apart seat statement at found e = elim (owned_before sessio
 -- ---- the law
 
 -- states in which the session owns the same branches, which are as they were
-same_session : (old new : State) (session : ℕ) → LockLaw old → ((xid : Xid) → owns old session xid ≡ true → map.get new.branches xid ≡ map.get old.branches xid) →
+same_session : (old new : State) (session : ℕ) → LockLaw old
+    → ((xid : Xid) → owns old session xid ≡ true → map.get new.branches xid ≡ map.get old.branches xid) →
     ((xid : Xid) → owns new session xid ≡ true → owns old session xid ≡ true) → LeavesSession old new session
 unfolding is_owned seat_of
 same_session old new session law same back = record { own = own; seat = seat (own_xid old session) refl; phase = phase; branch = same }
@@ -254,19 +284,24 @@ same_session old new session law same back = record { own = own; seat = seat (ow
 
     by : (was : Option Xid) → own_xid old session ≡ was → own_xid new session ≡ was
     by (Some xid) is = found xid (find_owned old session xid is)
-    by None is = none_found new session (λ xid e. not_none xid (sym is ∙ own_found old session xid (back xid e) (λ other f. law.one_branch session xid other (back xid e) f)))
+    by None is =
+        none_found new session (λ xid e. not_none xid
+        (sym is ∙ own_found old session xid (back xid e) (λ other f. law.one_branch session xid other (back xid e) f)))
 
     own : own_xid new session ≡ own_xid old session
     own = by (own_xid old session) refl
 
     seat : (was : Option Xid) → own_xid old session ≡ was → seat_of new session ≡ seat_of old session
-    seat None is = ap (λ own. option_map_or (λ xid. seat_in (phase_at new xid) xid) own Free) (own ∙ is) ∙ sym (ap (λ own. option_map_or (λ xid. seat_in (phase_at old xid) xid) own Free) is)
+    seat None is =
+        ap (λ own. option_map_or (λ xid. seat_in (phase_at new xid) xid) own Free) (own ∙ is)
+        ∙ sym (ap (λ own. option_map_or (λ xid. seat_in (phase_at old xid) xid) own Free) is)
     seat (Some xid) is =
         ap (λ own. option_map_or (λ xid. seat_in (phase_at new xid) xid) own Free) (own ∙ is)
         ∙ ap (λ p. seat_in p xid) (phase xid (find_owned old session xid is))
         ∙ sym (ap (λ own. option_map_or (λ xid. seat_in (phase_at old xid) xid) own Free) is)
 
-pub others_left : (state : State) → LockLaw state → (session other : ℕ) (statement : Statement) → session ≢ other → LeavesSession state (after state session statement) other
+pub others_left : (state : State) → LockLaw state → (session other : ℕ) (statement : Statement) → session ≢ other
+    → LeavesSession state (after state session statement) other
 unfolding is_owned
 others_left state law session other statement apart = elim (outcome state session statement) [
   | inl (refused, same) ↦ same_session state (after state session statement) other law

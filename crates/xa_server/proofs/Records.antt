@@ -32,10 +32,14 @@ changed_in old new xid change = by (tree.get xid_cmp old xid) refl
         (found : Option BranchRecord) → tree.get xid_cmp old xid ≡ found →
         MatchOption found (new ≡ old) (λ branch. Updates xid_cmp old new xid (Some (change branch))) →
         branches_in new ≡ with_record (branches_in old) xid change
-    by None e same = ap branches_in same ∙ sym (ap (λ found. option_map_or (λ branch. map.insert (branches_in old) xid (change branch)) found (branches_in old)) (get_view xids_total exact_xids old xid ∙ e))
+    by None e same =
+        ap branches_in same ∙ sym
+        (ap (λ found. option_map_or (λ branch. map.insert (branches_in old) xid (change branch)) found (branches_in old))
+        (get_view xids_total exact_xids old xid ∙ e))
     by (Some branch) e updates =
         one_set xids_total exact_xids old new xid (change branch) updates
-        ∙ sym (ap (λ found. option_map_or (λ branch. map.insert (branches_in old) xid (change branch)) found (branches_in old)) (get_view xids_total exact_xids old xid ∙ e))
+        ∙ sym (ap (λ found. option_map_or (λ branch. map.insert (branches_in old) xid (change branch)) found (branches_in old))
+        (get_view xids_total exact_xids old xid ∙ e))
 
 -- a record that is put back as it was changes nothing
 pub with_record-same : (branches : BranchMap) (xid : Xid) → with_record branches xid (λ branch. branch) ≡ branches
@@ -53,5 +57,6 @@ pub removed_in : (old new : BTreeMap Xid BranchRecord) (xid : Xid) → Updates x
 removed_in old new xid updates = one_gone xids_total exact_xids old new xid updates
 
 -- a record that a look-up in the tree found stands in the map
-pub found_in : (table : BTreeMap Xid BranchRecord) (xid : Xid) (found : Option BranchRecord) → found ≡ tree.get xid_cmp table xid → map.get (branches_in table) xid ≡ found
+pub found_in : (table : BTreeMap Xid BranchRecord) (xid : Xid) (found : Option BranchRecord) → found ≡ tree.get xid_cmp table xid
+    → map.get (branches_in table) xid ≡ found
 found_in table xid found is = get_view xids_total exact_xids table xid ∙ sym is

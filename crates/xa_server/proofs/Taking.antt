@@ -77,16 +77,19 @@ IsLocking state seat at key = (seat ≡ Active at) × ((other : Xid) → holds s
 unfoldable pub Before : (Option LockMode → Bool) → Type 0 → List ℕ → Option Branch → Option Branch → Type 0
 Before passes taking key new found = passes (mode_in key new) ≡ true → (passes (mode_in key found) ≡ true) ⊎ taking
 
-before_none : (passes : Option LockMode → Bool) (taking : Type 0) → passes None ≡ false → (key : List ℕ) (found : Option Branch) → Before passes taking key None found
+before_none : (passes : Option LockMode → Bool) (taking : Type 0) → passes None ≡ false → (key : List ℕ) (found : Option Branch)
+    → Before passes taking key None found
 unfolding Before mode_in
 before_none passes taking nothing key found e = absurd (true≢false (sym e ∙ nothing))
 
-before_started : (passes : Option LockMode → Bool) (taking : Type 0) → passes None ≡ false → (key : List ℕ) (session : ℕ) (found : Option Branch) → Before passes taking key (Some (started_by session)) found
+before_started : (passes : Option LockMode → Bool) (taking : Type 0) → passes None ≡ false → (key : List ℕ) (session : ℕ) (found : Option Branch)
+    → Before passes taking key (Some (started_by session)) found
 unfolding Before mode_in
 before_started passes taking nothing key session found e = absurd (true≢false (sym e ∙ ap passes (get-empty bytes_cmp key) ∙ nothing))
 
 -- a change that leaves what the branch holds
-before_same : (passes : Option LockMode → Bool) (taking : Type 0) (key : List ℕ) (change : Branch → Branch) → ((branch : Branch) → (change branch).locks ≡ branch.locks) → (found : Option Branch) → Before passes taking key (option_map change found) found
+before_same : (passes : Option LockMode → Bool) (taking : Type 0) (key : List ℕ) (change : Branch → Branch)
+    → ((branch : Branch) → (change branch).locks ≡ branch.locks) → (found : Option Branch) → Before passes taking key (option_map change found) found
 unfolding Before mode_in
 before_same passes taking key change same None e = inl e
 before_same passes taking key change same (Some branch) e = inl (sym (ap (λ locks. passes (map.get locks key)) (same branch)) ∙ e)
@@ -95,13 +98,15 @@ before_still : (passes : Option LockMode → Bool) (taking : Type 0) (key : List
 unfolding Before
 before_still passes taking key found e = inl e
 
-before_if : (passes : Option LockMode → Bool) (taking : Type 0) (key : List ℕ) (b : Bool) (new found : Option Branch) → (b ≡ true → Before passes taking key new found) → Before passes taking key (cond b new found) found
+before_if : (passes : Option LockMode → Bool) (taking : Type 0) (key : List ℕ) (b : Bool) (new found : Option Branch)
+    → (b ≡ true → Before passes taking key new found) → Before passes taking key (cond b new found) found
 unfolding Before
 before_if passes taking key true new found from e = from refl e
 before_if passes taking key false new found from e = inl e
 
 -- a GET
-read_held : (taking : Type 0) (key other : List ℕ) (found : Option Branch) → (other ≡ key → taking) → Before is_some taking other (option_map (with_lock key) found) found
+read_held : (taking : Type 0) (key other : List ℕ) (found : Option Branch) → (other ≡ key → taking)
+    → Before is_some taking other (option_map (with_lock key) found) found
 unfolding Before mode_in
 read_held taking key other None take e = inl e
 read_held taking key other (Some branch) take e = elim (same_or_apart bytes_total exact_texts other key) [
@@ -115,7 +120,8 @@ read_exclusive taking key other None e = inl e
 read_exclusive taking key other (Some branch) e = inl (sym (share_exclusive branch.locks key other) ∙ e)
 
 -- a PUT or a DEL
-written_held : (passes : Option LockMode → Bool) (taking : Type 0) (key other : List ℕ) (write : Write) (found : Option Branch) → (other ≡ key → taking) → Before passes taking other (option_map (with_own_write key write) found) found
+written_held : (passes : Option LockMode → Bool) (taking : Type 0) (key other : List ℕ) (write : Write) (found : Option Branch) → (other ≡ key → taking)
+    → Before passes taking other (option_map (with_own_write key write) found) found
 unfolding Before mode_in
 written_held passes taking key other write None take e = inl e
 written_held passes taking key other write (Some branch) take e = elim (same_or_apart bytes_total exact_texts other key) [
@@ -125,13 +131,15 @@ written_held passes taking key other write (Some branch) take e = elim (same_or_
 
 -- ---- who holds a row against a session
 
-known_holder : (passes : Option LockMode → Bool) → passes None ≡ false → (key : List ℕ) (found : Option Branch) → passes (mode_in key found) ≡ true → is_some found ≡ true
+known_holder : (passes : Option LockMode → Bool) → passes None ≡ false → (key : List ℕ) (found : Option Branch) → passes (mode_in key found) ≡ true
+    → is_some found ≡ true
 unfolding mode_in
 known_holder passes nothing key None e = absurd (true≢false (sym e ∙ nothing))
 known_holder passes nothing key (Some branch) e = refl
 
 against : (passes : Option LockMode → Bool) → passes None ≡ false → (state : State) (own : Xid) (key : List ℕ) →
-    list_any (λ other. is_another (Active own) other && passes (lock_at state other key)) (map.keys state.branches) ≡ false → (xid : Xid) → passes (lock_at state xid key) ≡ true → xid ≡ own
+    list_any (λ other. is_another (Active own) other && passes (lock_at state other key)) (map.keys state.branches) ≡ false → (xid : Xid)
+    → passes (lock_at state xid key) ≡ true → xid ≡ own
 unfolding mode_in
 against passes nothing state own key none xid e = elim (same_or_apart xids_total exact_xids xid own) [
   | inl is ↦ is
@@ -140,7 +148,8 @@ against passes nothing state own key none xid e = elim (same_or_apart xids_total
       (ap (λ b. not b && passes (lock_at state xid key)) apart ∙ e)) ∙ none))
 ]
 
-unlocked : (state : State) (own : Xid) (key : List ℕ) → is_locked_against state (Active own) key ≡ false → (xid : Xid) → holds_exclusively state xid key ≡ true → xid ≡ own
+unlocked : (state : State) (own : Xid) (key : List ℕ) → is_locked_against state (Active own) key ≡ false → (xid : Xid) → holds_exclusively state xid key ≡ true
+    → xid ≡ own
 unfolding is_locked_against
 unlocked state own key none = against is_exclusive refl state own key none
 
@@ -151,13 +160,15 @@ unheld state own key none = against is_some refl state own key none
 -- ---- the session's own branch takes a row
 
 -- by a GET
-takes : (state : State) (own at : Xid) (key other : List ℕ) → is_locked_against state (Active own) key ≡ false → same_xid at own ≡ true → other ≡ key → IsTaking state (Active own) at other
+takes : (state : State) (own at : Xid) (key other : List ℕ) → is_locked_against state (Active own) key ≡ false → same_xid at own ≡ true → other ≡ key
+    → IsTaking state (Active own) at other
 takes state own at key other none same is =
     let here : at ≡ own = one_xid at own same in
     (ap Active (sym here), λ xid e. unlocked state own key none xid (ap (holds_exclusively state xid) (sym is) ∙ e) ∙ sym here)
 
 -- by a PUT or a DEL
-locks : (state : State) (own at : Xid) (key other : List ℕ) → is_held_against state (Active own) key ≡ false → same_xid at own ≡ true → other ≡ key → IsLocking state (Active own) at other
+locks : (state : State) (own at : Xid) (key other : List ℕ) → is_held_against state (Active own) key ≡ false → same_xid at own ≡ true → other ≡ key
+    → IsLocking state (Active own) at other
 locks state own at key other none same is =
     let here : at ≡ own = one_xid at own same in
     (ap Active (sym here), λ xid e. unheld state own key none xid (ap (holds state xid) (sym is) ∙ e) ∙ sym here)
@@ -166,14 +177,20 @@ locks state own at key other none same is =
 locking_takes : (state : State) (seat : Seat) (at : Xid) (key : List ℕ) → IsLocking state seat at key → IsTaking state seat at key
 locking_takes state seat at key locking = (locking.0, λ xid e. locking.1 xid (exclusive_some (lock_at state xid key) e))
 
-pub held_before : (state : State) (session : ℕ) (seat : Seat) (statement : Statement) → is_refused (table state seat statement) ≡ false → (at : Xid) (key : List ℕ) →
+pub held_before : (state : State) (session : ℕ) (seat : Seat) (statement : Statement) → is_refused (table state seat statement) ≡ false
+    → (at : Xid) (key : List ℕ) →
     Before is_some (IsTaking state seat at key) key (branch_after session seat statement at (map.get state.branches at)) (map.get state.branches at)
 unfolding branch_after idle detached
-held_before state session seat (Start xid) accepted at key = before_if is_some _ key (same_xid at xid) _ (map.get state.branches at) (λ same. before_started is_some _ refl key session (map.get state.branches at))
-held_before state session seat (End xid) accepted at key = before_if is_some _ key (same_xid at xid) _ (map.get state.branches at) (λ same. before_same is_some _ key idle (λ b. refl) (map.get state.branches at))
-held_before state session seat (Prepare xid) accepted at key = before_if is_some _ key (same_xid at xid) _ (map.get state.branches at) (λ same. before_same is_some _ key detached (λ b. refl) (map.get state.branches at))
-held_before state session seat (Commit xid one_phase) accepted at key = before_if is_some _ key (same_xid at xid) _ (map.get state.branches at) (λ same. before_none is_some _ refl key (map.get state.branches at))
-held_before state session seat (Rollback xid) accepted at key = before_if is_some _ key (same_xid at xid) _ (map.get state.branches at) (λ same. before_none is_some _ refl key (map.get state.branches at))
+held_before state session seat (Start xid) accepted at key =
+    before_if is_some _ key (same_xid at xid) _ (map.get state.branches at) (λ same. before_started is_some _ refl key session (map.get state.branches at))
+held_before state session seat (End xid) accepted at key =
+    before_if is_some _ key (same_xid at xid) _ (map.get state.branches at) (λ same. before_same is_some _ key idle (λ b. refl) (map.get state.branches at))
+held_before state session seat (Prepare xid) accepted at key =
+    before_if is_some _ key (same_xid at xid) _ (map.get state.branches at) (λ same. before_same is_some _ key detached (λ b. refl) (map.get state.branches at))
+held_before state session seat (Commit xid one_phase) accepted at key =
+    before_if is_some _ key (same_xid at xid) _ (map.get state.branches at) (λ same. before_none is_some _ refl key (map.get state.branches at))
+held_before state session seat (Rollback xid) accepted at key =
+    before_if is_some _ key (same_xid at xid) _ (map.get state.branches at) (λ same. before_none is_some _ refl key (map.get state.branches at))
 held_before state session seat (Recover convert) accepted at key = before_still is_some _ key (map.get state.branches at)
 held_before state session seat Unsupported accepted at key = before_still is_some _ key (map.get state.branches at)
 held_before state session Free (Get row) accepted at key = before_still is_some _ key (map.get state.branches at)
@@ -182,45 +199,63 @@ held_before state session (Active own) (Get row) accepted at key = before_if is_
 held_before state session (Idle own) (Get row) accepted at key = before_still is_some _ key (map.get state.branches at)
 held_before state session Free (Put row value) accepted at key = before_still is_some _ key (map.get state.branches at)
 held_before state session (Active own) (Put row value) accepted at key = before_if is_some _ key (same_xid at own) _ (map.get state.branches at)
-    (λ same. written_held is_some _ row key (Some value) (map.get state.branches at) (λ is. locking_takes state (Active own) at key (locks state own at row key (accepted_put state own row value accepted) same is)))
+    (λ same. written_held is_some _ row key (Some value) (map.get state.branches at)
+    (λ is. locking_takes state (Active own) at key (locks state own at row key (accepted_put state own row value accepted) same is)))
 held_before state session (Idle own) (Put row value) accepted at key = before_still is_some _ key (map.get state.branches at)
 held_before state session Free (Del row) accepted at key = before_still is_some _ key (map.get state.branches at)
 held_before state session (Active own) (Del row) accepted at key = before_if is_some _ key (same_xid at own) _ (map.get state.branches at)
-    (λ same. written_held is_some _ row key None (map.get state.branches at) (λ is. locking_takes state (Active own) at key (locks state own at row key (accepted_del state own row accepted) same is)))
+    (λ same. written_held is_some _ row key None (map.get state.branches at)
+    (λ is. locking_takes state (Active own) at key (locks state own at row key (accepted_del state own row accepted) same is)))
 held_before state session (Idle own) (Del row) accepted at key = before_still is_some _ key (map.get state.branches at)
 held_before state session Free Disconnect accepted at key = before_still is_some _ key (map.get state.branches at)
-held_before state session (Active own) Disconnect accepted at key = before_if is_some _ key (same_xid at own) _ (map.get state.branches at) (λ same. before_none is_some _ refl key (map.get state.branches at))
-held_before state session (Idle own) Disconnect accepted at key = before_if is_some _ key (same_xid at own) _ (map.get state.branches at) (λ same. before_none is_some _ refl key (map.get state.branches at))
+held_before state session (Active own) Disconnect accepted at key =
+    before_if is_some _ key (same_xid at own) _ (map.get state.branches at) (λ same. before_none is_some _ refl key (map.get state.branches at))
+held_before state session (Idle own) Disconnect accepted at key =
+    before_if is_some _ key (same_xid at own) _ (map.get state.branches at) (λ same. before_none is_some _ refl key (map.get state.branches at))
 
-pub exclusive_before : (state : State) (session : ℕ) (seat : Seat) (statement : Statement) → is_refused (table state seat statement) ≡ false → (at : Xid) (key : List ℕ) →
+pub exclusive_before : (state : State) (session : ℕ) (seat : Seat) (statement : Statement) → is_refused (table state seat statement) ≡ false
+    → (at : Xid) (key : List ℕ) →
     Before is_exclusive (IsLocking state seat at key) key (branch_after session seat statement at (map.get state.branches at)) (map.get state.branches at)
 unfolding branch_after idle detached
-exclusive_before state session seat (Start xid) accepted at key = before_if is_exclusive _ key (same_xid at xid) _ (map.get state.branches at) (λ same. before_started is_exclusive _ refl key session (map.get state.branches at))
-exclusive_before state session seat (End xid) accepted at key = before_if is_exclusive _ key (same_xid at xid) _ (map.get state.branches at) (λ same. before_same is_exclusive _ key idle (λ b. refl) (map.get state.branches at))
-exclusive_before state session seat (Prepare xid) accepted at key = before_if is_exclusive _ key (same_xid at xid) _ (map.get state.branches at) (λ same. before_same is_exclusive _ key detached (λ b. refl) (map.get state.branches at))
-exclusive_before state session seat (Commit xid one_phase) accepted at key = before_if is_exclusive _ key (same_xid at xid) _ (map.get state.branches at) (λ same. before_none is_exclusive _ refl key (map.get state.branches at))
-exclusive_before state session seat (Rollback xid) accepted at key = before_if is_exclusive _ key (same_xid at xid) _ (map.get state.branches at) (λ same. before_none is_exclusive _ refl key (map.get state.branches at))
+exclusive_before state session seat (Start xid) accepted at key =
+    before_if is_exclusive _ key (same_xid at xid) _ (map.get state.branches at)
+    (λ same. before_started is_exclusive _ refl key session (map.get state.branches at))
+exclusive_before state session seat (End xid) accepted at key =
+    before_if is_exclusive _ key (same_xid at xid) _ (map.get state.branches at)
+    (λ same. before_same is_exclusive _ key idle (λ b. refl) (map.get state.branches at))
+exclusive_before state session seat (Prepare xid) accepted at key =
+    before_if is_exclusive _ key (same_xid at xid) _ (map.get state.branches at)
+    (λ same. before_same is_exclusive _ key detached (λ b. refl) (map.get state.branches at))
+exclusive_before state session seat (Commit xid one_phase) accepted at key =
+    before_if is_exclusive _ key (same_xid at xid) _ (map.get state.branches at) (λ same. before_none is_exclusive _ refl key (map.get state.branches at))
+exclusive_before state session seat (Rollback xid) accepted at key =
+    before_if is_exclusive _ key (same_xid at xid) _ (map.get state.branches at) (λ same. before_none is_exclusive _ refl key (map.get state.branches at))
 exclusive_before state session seat (Recover convert) accepted at key = before_still is_exclusive _ key (map.get state.branches at)
 exclusive_before state session seat Unsupported accepted at key = before_still is_exclusive _ key (map.get state.branches at)
 exclusive_before state session Free (Get row) accepted at key = before_still is_exclusive _ key (map.get state.branches at)
-exclusive_before state session (Active own) (Get row) accepted at key = before_if is_exclusive _ key (same_xid at own) _ (map.get state.branches at) (λ same. read_exclusive _ row key (map.get state.branches at))
+exclusive_before state session (Active own) (Get row) accepted at key =
+    before_if is_exclusive _ key (same_xid at own) _ (map.get state.branches at) (λ same. read_exclusive _ row key (map.get state.branches at))
 exclusive_before state session (Idle own) (Get row) accepted at key = before_still is_exclusive _ key (map.get state.branches at)
 exclusive_before state session Free (Put row value) accepted at key = before_still is_exclusive _ key (map.get state.branches at)
 exclusive_before state session (Active own) (Put row value) accepted at key = before_if is_exclusive _ key (same_xid at own) _ (map.get state.branches at)
-    (λ same. written_held is_exclusive _ row key (Some value) (map.get state.branches at) (locks state own at row key (accepted_put state own row value accepted) same))
+    (λ same. written_held is_exclusive _ row key (Some value) (map.get state.branches at)
+    (locks state own at row key (accepted_put state own row value accepted) same))
 exclusive_before state session (Idle own) (Put row value) accepted at key = before_still is_exclusive _ key (map.get state.branches at)
 exclusive_before state session Free (Del row) accepted at key = before_still is_exclusive _ key (map.get state.branches at)
 exclusive_before state session (Active own) (Del row) accepted at key = before_if is_exclusive _ key (same_xid at own) _ (map.get state.branches at)
     (λ same. written_held is_exclusive _ row key None (map.get state.branches at) (locks state own at row key (accepted_del state own row accepted) same))
 exclusive_before state session (Idle own) (Del row) accepted at key = before_still is_exclusive _ key (map.get state.branches at)
 exclusive_before state session Free Disconnect accepted at key = before_still is_exclusive _ key (map.get state.branches at)
-exclusive_before state session (Active own) Disconnect accepted at key = before_if is_exclusive _ key (same_xid at own) _ (map.get state.branches at) (λ same. before_none is_exclusive _ refl key (map.get state.branches at))
-exclusive_before state session (Idle own) Disconnect accepted at key = before_if is_exclusive _ key (same_xid at own) _ (map.get state.branches at) (λ same. before_none is_exclusive _ refl key (map.get state.branches at))
+exclusive_before state session (Active own) Disconnect accepted at key =
+    before_if is_exclusive _ key (same_xid at own) _ (map.get state.branches at) (λ same. before_none is_exclusive _ refl key (map.get state.branches at))
+exclusive_before state session (Idle own) Disconnect accepted at key =
+    before_if is_exclusive _ key (same_xid at own) _ (map.get state.branches at) (λ same. before_none is_exclusive _ refl key (map.get state.branches at))
 
 active_of : (xid other : Xid) → Active xid ≡ Active other → xid ≡ other
 active_of xid other e = cc
 
-pub one_holder : (state : State) (seat : Seat) → LockLaw state → (xid other : Xid) (key : List ℕ) → (holds_exclusively state xid key ≡ true) ⊎ IsLocking state seat xid key → (holds state other key ≡ true) ⊎ IsTaking state seat other key → xid ≡ other
+pub one_holder : (state : State) (seat : Seat) → LockLaw state → (xid other : Xid) (key : List ℕ)
+    → (holds_exclusively state xid key ≡ true) ⊎ IsLocking state seat xid key → (holds state other key ≡ true) ⊎ IsTaking state seat other key → xid ≡ other
 one_holder state seat law xid other key (inl e) (inl f) = law.one_holder xid other key e f
 one_holder state seat law xid other key (inl e) (inr f) = f.1 xid e
 one_holder state seat law xid other key (inr e) (inl f) = sym (e.1 other f)

@@ -48,7 +48,8 @@ times_more key other [] = by (eq_by_cmp bytes_cmp key other)
     by false = refl
 times_more key other (x ∷ keys) = by (eq_by_cmp bytes_cmp key x) (times_more key other keys)
   where
-    by : (b : Bool) → times_in key (keys ++ other ∷ []) ≡ times_in key keys + cond (eq_by_cmp bytes_cmp key other) 1 0 → length (cond b (x ∷ filter (eq_by_cmp bytes_cmp key) (keys ++ other ∷ [])) (filter (eq_by_cmp bytes_cmp key) (keys ++ other ∷ [])))
+    by : (b : Bool) → times_in key (keys ++ other ∷ []) ≡ times_in key keys + cond (eq_by_cmp bytes_cmp key other) 1 0
+        → length (cond b (x ∷ filter (eq_by_cmp bytes_cmp key) (keys ++ other ∷ [])) (filter (eq_by_cmp bytes_cmp key) (keys ++ other ∷ [])))
         ≡ length (cond b (x ∷ filter (eq_by_cmp bytes_cmp key) keys) (filter (eq_by_cmp bytes_cmp key) keys)) + cond (eq_by_cmp bytes_cmp key other) 1 0
     by true rest = one_more _ _ _ rest
     by false rest = rest
@@ -57,7 +58,8 @@ times_none : (key : List ℕ) (keys : List (List ℕ)) → list_any (eq_by_cmp b
 times_none key [] e = refl
 times_none key (x ∷ keys) e = by (eq_by_cmp bytes_cmp key x) e (times_none key keys)
   where
-    by : (b : Bool) → (b || list_any (eq_by_cmp bytes_cmp key) keys) ≡ false → (list_any (eq_by_cmp bytes_cmp key) keys ≡ false → times_in key keys ≡ 0) → length (cond b (x ∷ filter (eq_by_cmp bytes_cmp key) keys) (filter (eq_by_cmp bytes_cmp key) keys)) ≡ 0
+    by : (b : Bool) → (b || list_any (eq_by_cmp bytes_cmp key) keys) ≡ false → (list_any (eq_by_cmp bytes_cmp key) keys ≡ false → times_in key keys ≡ 0)
+        → length (cond b (x ∷ filter (eq_by_cmp bytes_cmp key) keys) (filter (eq_by_cmp bytes_cmp key) keys)) ≡ 0
     by true e rest = absurd (true≢false e)
     by false e rest = rest e
 
@@ -89,18 +91,22 @@ whole_empty = record {
 
 -- a branch that starts with no rows, whose session owned none
 pub whole_started : (branches : BranchMap) (rows : RowMap) (xid : Xid) (branch : BranchRecord) (session : ℕ) →
-    map.get branches xid ≡ None → branch.owner ≡ Some session → is_prepared_phase branch.phase ≡ false → branch.held ≡ [] → ((other : Xid) → owner_of branches other ≢ Some session) →
+    map.get branches xid ≡ None → branch.owner ≡ Some session → is_prepared_phase branch.phase ≡ false → branch.held ≡ []
+    → ((other : Xid) → owner_of branches other ≢ Some session) →
     IsWhole branches rows → IsWhole (map.insert branches xid branch) rows
 unfolding times once owner
 whole_started branches rows xid branch session unknown owner_is phase none free whole = record {
   attached = λ other found e. elim (same_or_apart xids_total exact_xids other xid) [
-    | inl is ↦ let same : branch ≡ found = same_value branch found (sym (ap (map.get (map.insert branches xid branch)) is ∙ get_inserted xids_total exact_xids branches xid branch) ∙ e) in
+    | inl is ↦
+        let same : branch ≡ found =
+        same_value branch found (sym (ap (map.get (map.insert branches xid branch)) is ∙ get_inserted xids_total exact_xids branches xid branch) ∙ e) in
         rw (← same) (ap is_none owner_is ∙ sym phase)
     | inr apart ↦ whole.attached other found (sym (get_inserted_apart xids_total exact_xids branches xid branch other apart) ∙ e)
   ];
   one_owned = λ at left right e f. one at left right e f (same_or_apart xids_total exact_xids left xid) (same_or_apart xids_total exact_xids right xid);
   listed_once = λ other key. elim (same_or_apart xids_total exact_xids other xid) [
-    | inl is ↦ ap (times key) (ap (map.get (map.insert branches xid branch)) is ∙ get_inserted xids_total exact_xids branches xid branch) ∙ ap (times_in key) none
+    | inl is ↦ ap (times key) (ap (map.get (map.insert branches xid branch)) is ∙ get_inserted xids_total exact_xids branches xid branch)
+        ∙ ap (times_in key) none
         ∙ sym (ap (times key) (ap (map.get branches) is ∙ unknown)) ∙ whole.listed_once other key
     | inr apart ↦ ap (times key) (get_inserted_apart xids_total exact_xids branches xid branch other apart) ∙ whole.listed_once other key
   ];
@@ -110,7 +116,9 @@ whole_started branches rows xid branch session unknown owner_is phase none free 
     before other apart = ap owner (get_inserted_apart xids_total exact_xids branches xid branch other apart)
 
     own : (other : Xid) → other ≡ xid → (at : ℕ) → owner_of (map.insert branches xid branch) other ≡ Some at → at ≡ session
-    own other is at e = same_value at session (sym e ∙ ap owner (ap (map.get (map.insert branches xid branch)) is ∙ get_inserted xids_total exact_xids branches xid branch) ∙ owner_is)
+    own other is at e =
+        same_value at session (sym e ∙ ap owner (ap (map.get (map.insert branches xid branch)) is ∙ get_inserted xids_total exact_xids branches xid branch)
+        ∙ owner_is)
 
     one : (at : ℕ) (left right : Xid) → owner_of (map.insert branches xid branch) left ≡ Some at → owner_of (map.insert branches xid branch) right ≡ Some at →
         (left ≡ xid) ⊎ (same_xid left xid ≡ false) → (right ≡ xid) ⊎ (same_xid right xid ≡ false) → left ≡ right
@@ -128,11 +136,15 @@ unfolding owner
 owners_changed branches xid change attached owners all one = by (map.get branches xid) refl
   where
     by : (found : Option BranchRecord) → map.get branches xid ≡ found →
-        AreAttached (option_map_or (λ branch. map.insert branches xid (change branch)) found branches) × OwnOne (option_map_or (λ branch. map.insert branches xid (change branch)) found branches)
+        AreAttached (option_map_or (λ branch. map.insert branches xid (change branch)) found branches)
+        × OwnOne (option_map_or (λ branch. map.insert branches xid (change branch)) found branches)
     by None is = (all, one)
     by (Some branch) is = (
       λ other found e. elim (same_or_apart xids_total exact_xids other xid) [
-        | inl o ↦ let same : change branch ≡ found = same_value (change branch) found (sym (ap (map.get (map.insert branches xid (change branch))) o ∙ get_inserted xids_total exact_xids branches xid (change branch)) ∙ e) in
+        | inl o ↦
+            let same : change branch ≡ found =
+            same_value (change branch) found
+            (sym (ap (map.get (map.insert branches xid (change branch))) o ∙ get_inserted xids_total exact_xids branches xid (change branch)) ∙ e) in
             rw (← same) (attached branch is)
         | inr apart ↦ all other found (sym (get_inserted_apart xids_total exact_xids branches xid (change branch) other apart) ∙ e)
       ],
@@ -141,23 +153,29 @@ owners_changed branches xid change attached owners all one = by (map.get branche
       where
         owned : (other : Xid) (at : ℕ) → owner_of (map.insert branches xid (change branch)) other ≡ Some at → owner_of branches other ≡ Some at
         owned other at e = elim (same_or_apart xids_total exact_xids other xid) [
-          | inl o ↦ ap owner (ap (map.get branches) o ∙ is) ∙ owners branch at (sym (ap owner (ap (map.get (map.insert branches xid (change branch))) o ∙ get_inserted xids_total exact_xids branches xid (change branch))) ∙ e)
+          | inl o ↦ ap owner (ap (map.get branches) o ∙ is)
+              ∙ owners branch at (sym (ap owner
+              (ap (map.get (map.insert branches xid (change branch))) o ∙ get_inserted xids_total exact_xids branches xid (change branch))) ∙ e)
           | inr apart ↦ sym (ap owner (get_inserted_apart xids_total exact_xids branches xid (change branch) other apart)) ∙ e
         ]
 
 -- the record, after the change
-pub changed_at : (branches : BranchMap) (xid : Xid) (change : BranchRecord → BranchRecord) → map.get (with_record branches xid change) xid ≡ option_map change (map.get branches xid)
+pub changed_at : (branches : BranchMap) (xid : Xid) (change : BranchRecord → BranchRecord)
+    → map.get (with_record branches xid change) xid ≡ option_map change (map.get branches xid)
 changed_at branches xid change = by (map.get branches xid) refl
   where
-    by : (found : Option BranchRecord) → map.get branches xid ≡ found → map.get (option_map_or (λ branch. map.insert branches xid (change branch)) found branches) xid ≡ option_map change found
+    by : (found : Option BranchRecord) → map.get branches xid ≡ found
+        → map.get (option_map_or (λ branch. map.insert branches xid (change branch)) found branches) xid ≡ option_map change found
     by None is = is
     by (Some branch) is = get_inserted xids_total exact_xids branches xid (change branch)
 
 -- the other records
-changed_beside : (branches : BranchMap) (xid : Xid) (change : BranchRecord → BranchRecord) (other : Xid) → same_xid other xid ≡ false → map.get (with_record branches xid change) other ≡ map.get branches other
+changed_beside : (branches : BranchMap) (xid : Xid) (change : BranchRecord → BranchRecord) (other : Xid) → same_xid other xid ≡ false
+    → map.get (with_record branches xid change) other ≡ map.get branches other
 changed_beside branches xid change other apart = by (map.get branches xid)
   where
-    by : (found : Option BranchRecord) → map.get (option_map_or (λ branch. map.insert branches xid (change branch)) found branches) other ≡ map.get branches other
+    by : (found : Option BranchRecord)
+        → map.get (option_map_or (λ branch. map.insert branches xid (change branch)) found branches) other ≡ map.get branches other
     by None = refl
     by (Some branch) = get_inserted_apart xids_total exact_xids branches xid (change branch) other apart
 
@@ -174,7 +192,8 @@ whole_changed branches rows xid change attached owners held whole =
       attached = parts.0;
       one_owned = parts.1;
       listed_once = λ other key. elim (same_or_apart xids_total exact_xids other xid) [
-        | inl is ↦ ap (λ x. times key (map.get (with_record branches xid change) x)) is ∙ ap (times key) (changed_at branches xid change) ∙ same key (map.get branches xid)
+        | inl is ↦ ap (λ x. times key (map.get (with_record branches xid change) x)) is ∙ ap (times key) (changed_at branches xid change)
+            ∙ same key (map.get branches xid)
             ∙ sym (ap (λ x. times key (map.get branches x)) is) ∙ whole.listed_once other key
         | inr apart ↦ ap (times key) (changed_beside branches xid change other apart) ∙ whole.listed_once other key
       ];
@@ -187,7 +206,9 @@ whole_changed branches rows xid change attached owners held whole =
 -- ---- records of rows
 
 -- rows that the same branches hold
-pub whole_rows : (branches : BranchMap) (old new : RowMap) → ((xid : Xid) (key : List ℕ) → is_some (mode_of xid (map.get new key)) ≡ is_some (mode_of xid (map.get old key))) → IsWhole branches old → IsWhole branches new
+pub whole_rows : (branches : BranchMap) (old new : RowMap)
+    → ((xid : Xid) (key : List ℕ) → is_some (mode_of xid (map.get new key)) ≡ is_some (mode_of xid (map.get old key))) → IsWhole branches old
+    → IsWhole branches new
 whole_rows branches old new same whole = record {
   attached = whole.attached;
   one_owned = whole.one_owned;
@@ -195,18 +216,21 @@ whole_rows branches old new same whole = record {
 }
 
 -- a new record of a row that the same branches hold
-pub whole_row : (branches : BranchMap) (rows : RowMap) (key : List ℕ) (row : RowRecord) → ((xid : Xid) → is_some (lock_by xid row) ≡ is_some (mode_of xid (map.get rows key))) → IsWhole branches rows → IsWhole branches (map.insert rows key row)
+pub whole_row : (branches : BranchMap) (rows : RowMap) (key : List ℕ) (row : RowRecord)
+    → ((xid : Xid) → is_some (lock_by xid row) ≡ is_some (mode_of xid (map.get rows key))) → IsWhole branches rows → IsWhole branches (map.insert rows key row)
 whole_row branches rows key row same whole = whole_rows branches rows _ (λ xid other. elim (same_or_apart bytes_total exact_texts other key) [
   | inl is ↦ rw is (ap (λ found. is_some (mode_of xid found)) (get_inserted bytes_total exact_texts rows key row) ∙ same xid)
   | inr apart ↦ ap (λ found. is_some (mode_of xid found)) (get_inserted_apart bytes_total exact_texts rows key row other apart)
 ]) whole
 
 -- a row that nobody holds, before and after
-pub whole_put : (branches : BranchMap) (rows : RowMap) (key : List ℕ) (row : RowRecord) → ((xid : Xid) → lock_by xid row ≡ None) → ((xid : Xid) → mode_of xid (map.get rows key) ≡ None) →
+pub whole_put : (branches : BranchMap) (rows : RowMap) (key : List ℕ) (row : RowRecord) → ((xid : Xid) → lock_by xid row ≡ None)
+    → ((xid : Xid) → mode_of xid (map.get rows key) ≡ None) →
     IsWhole branches rows → IsWhole branches (map.insert rows key row)
 whole_put branches rows key row after before whole = whole_row branches rows key row (λ xid. ap is_some (after xid) ∙ sym (ap is_some (before xid))) whole
 
-pub whole_deleted : (branches : BranchMap) (rows : RowMap) (key : List ℕ) → ((xid : Xid) → mode_of xid (map.get rows key) ≡ None) → IsWhole branches rows → IsWhole branches (map.remove rows key)
+pub whole_deleted : (branches : BranchMap) (rows : RowMap) (key : List ℕ) → ((xid : Xid) → mode_of xid (map.get rows key) ≡ None) → IsWhole branches rows
+    → IsWhole branches (map.remove rows key)
 whole_deleted branches rows key free whole = whole_rows branches rows _ (λ xid other. elim (same_or_apart bytes_total exact_texts other key) [
   | inl is ↦ rw is (ap (λ found. is_some (mode_of xid found)) (get_removed bytes_total exact_texts rows key) ∙ sym (ap is_some (free xid)))
   | inr apart ↦ ap (λ found. is_some (mode_of xid found)) (get_removed_apart bytes_total exact_texts rows key other apart)
@@ -231,26 +255,35 @@ whole_more branches rows xid key row known none there others whole =
       listed_once = λ other at. elim (same_or_apart xids_total exact_xids other xid) [
         | inl is ↦ ap (λ x. times at (map.get (with_record branches xid (longer key)) x)) is ∙ own at (same_or_apart bytes_total exact_texts at key)
             ∙ sym (ap (λ x. once (is_some (mode_of x (map.get (map.insert rows key row) at)))) is)
-        | inr apart ↦ ap (times at) (changed_beside branches xid (longer key) other apart) ∙ whole.listed_once other at ∙ ap once (sym (beside other apart at (same_or_apart bytes_total exact_texts at key)))
+        | inr apart ↦ ap (times at) (changed_beside branches xid (longer key) other apart) ∙ whole.listed_once other at
+            ∙ ap once (sym (beside other apart at (same_or_apart bytes_total exact_texts at key)))
       ];
     }
   where
     here : map.get (map.insert rows key row) key ≡ Some row
     here = get_inserted bytes_total exact_texts rows key row
 
-    beside : (other : Xid) → same_xid other xid ≡ false → (at : List ℕ) → (at ≡ key) ⊎ (eq_by_cmp bytes_cmp at key ≡ false) → is_some (mode_of other (map.get (map.insert rows key row) at)) ≡ is_some (mode_of other (map.get rows at))
+    beside : (other : Xid) → same_xid other xid ≡ false → (at : List ℕ) → (at ≡ key) ⊎ (eq_by_cmp bytes_cmp at key ≡ false)
+        → is_some (mode_of other (map.get (map.insert rows key row) at)) ≡ is_some (mode_of other (map.get rows at))
     beside other apart at (inl is) = rw is (ap (λ found. is_some (mode_of other found)) here ∙ others other apart)
     beside other apart at (inr not) = ap (λ found. is_some (mode_of other found)) (get_inserted_apart bytes_total exact_texts rows key row at not)
 
-    more : (at : List ℕ) (found : Option BranchRecord) → is_some found ≡ true → times at (option_map (longer key) found) ≡ times at found + cond (eq_by_cmp bytes_cmp at key) 1 0
+    more : (at : List ℕ) (found : Option BranchRecord) → is_some found ≡ true
+        → times at (option_map (longer key) found) ≡ times at found + cond (eq_by_cmp bytes_cmp at key) 1 0
     more at None e = absurd (true≢false (sym e))
     more at (Some branch) e = times_more at key branch.held
 
-    listed : (at : List ℕ) → times at (map.get (with_record branches xid (longer key)) xid) ≡ once (is_some (mode_of xid (map.get rows at))) + cond (eq_by_cmp bytes_cmp at key) 1 0
-    listed at = ap (times at) (changed_at branches xid (longer key)) ∙ more at (map.get branches xid) known ∙ ap (λ n. n + cond (eq_by_cmp bytes_cmp at key) 1 0) (whole.listed_once xid at)
+    listed : (at : List ℕ) → times at (map.get (with_record branches xid (longer key)) xid)
+        ≡ once (is_some (mode_of xid (map.get rows at))) + cond (eq_by_cmp bytes_cmp at key) 1 0
+    listed at =
+        ap (times at) (changed_at branches xid (longer key)) ∙ more at (map.get branches xid) known
+        ∙ ap (λ n. n + cond (eq_by_cmp bytes_cmp at key) 1 0) (whole.listed_once xid at)
 
-    own : (at : List ℕ) → (at ≡ key) ⊎ (eq_by_cmp bytes_cmp at key ≡ false) → times at (map.get (with_record branches xid (longer key)) xid) ≡ once (is_some (mode_of xid (map.get (map.insert rows key row) at)))
-    own at (inl is) = rw is (listed key ∙ ap (λ held. once held + cond (eq_by_cmp bytes_cmp key key) 1 0) none ∙ ap (λ b. 0 + cond b 1 0) (same_itself bytes_total exact_texts key)
+    own : (at : List ℕ) → (at ≡ key) ⊎ (eq_by_cmp bytes_cmp at key ≡ false)
+        → times at (map.get (with_record branches xid (longer key)) xid) ≡ once (is_some (mode_of xid (map.get (map.insert rows key row) at)))
+    own at (inl is) =
+        rw is (listed key ∙ ap (λ held. once held + cond (eq_by_cmp bytes_cmp key key) 1 0) none
+        ∙ ap (λ b. 0 + cond b 1 0) (same_itself bytes_total exact_texts key)
         ∙ sym (ap (λ found. once (is_some (mode_of xid found))) here ∙ ap once there))
     own at (inr not) = listed at ∙ ap (λ b. once (is_some (mode_of xid (map.get rows at))) + cond b 1 0) not ∙ plus_none _
         ∙ sym (ap (λ found. once (is_some (mode_of xid found))) (get_inserted_apart bytes_total exact_texts rows key row at not))
@@ -258,11 +291,13 @@ whole_more branches rows xid key row known none there others whole =
 -- ---- a branch that ends
 
 -- the branch lists the rows that it holds
-pub listed_rows : (branches : BranchMap) (rows : RowMap) (xid : Xid) (branch : BranchRecord) → IsWhole branches rows → map.get branches xid ≡ Some branch → IsListedIn xid branch.held rows
+pub listed_rows : (branches : BranchMap) (rows : RowMap) (xid : Xid) (branch : BranchRecord) → IsWhole branches rows → map.get branches xid ≡ Some branch
+    → IsListedIn xid branch.held rows
 unfolding times once
 listed_rows branches rows xid branch whole is key e = listed_of_times key branch.held (sym (ap (times key) is) ∙ whole.listed_once xid key ∙ ap once e)
 
-pub whole_ended : (branches : BranchMap) (commits : Bool) (xid : Xid) (keys : List (List ℕ)) (old new : RowMap) → Frees commits xid keys old new → IsListedIn xid keys old →
+pub whole_ended : (branches : BranchMap) (commits : Bool) (xid : Xid) (keys : List (List ℕ)) (old new : RowMap) → Frees commits xid keys old new
+    → IsListedIn xid keys old →
     IsWhole branches old → IsWhole (map.remove branches xid) new
 unfolding times once owner
 whole_ended branches commits xid keys old new frees listed whole = record {

@@ -1,5 +1,6 @@
 -- What a look, a reply and an add make of an answer or a fault, and what tries one after another come to.
-use Rattle.std.proofs.Common.{◌≡◌, ◌+◌, ℕ, Bool, true, false, List, [], ◌∷◌, ◌++◌, length, take, refl, ap, sym, ◌∙◌, subst, ⊎_elim, inl, inr, Some, Ok, Err, arith, length-append}
+use Rattle.std.proofs.Common.{◌≡◌, ◌+◌, ℕ, Bool, true, false, List, [], ◌∷◌, ◌++◌, length, take, refl, ap, sym, ◌∙◌, subst, ⊎_elim, inl, inr, Some, Ok, Err}
+use Rattle.std.proofs.Common.{arith, length-append}
 use Rattle.std.specs.Prelude.{slice_get, ◌⊎◌, Result, OnOk, OnErr}
 use Rattle.xa_words.specs.Entry.{Entry}
 use Rattle.xa_xid.specs.declared.statement.Statement.{Statement}
@@ -55,7 +56,8 @@ advances_through old mid new first second = record {
 }
 
 -- a statement that doesn't enter
-pub answered_outside : (base : State) (statement : Statement) (answer : Answer) (old new : Known) → Looked old new → IsReply base statement answer false new → IsAnswered base statement answer old new
+pub answered_outside : (base : State) (statement : Statement) (answer : Answer) (old new : Known) → Looked old new → IsReply base statement answer false new
+    → IsAnswered base statement answer old new
 answered_outside base statement answer old new looked is =
     let state : ℕ → State = state_at base new.seen in
     let number : new.number ≡ old.number = looked.number in
@@ -67,7 +69,9 @@ answered_outside base statement answer old new looked is =
       not_before = omega (arith, length_begins old.seen new.seen looked.seen, is.place);
       at = record {
         within = omega (arith, is.place);
-        reply_is = is.reply_is ∙ ap (λ n. reply_to (state (length new.seen)) n statement) number ∙ ap (λ place. reply_to (state place) old.number statement) (sym is.place);
+        reply_is =
+            is.reply_is ∙ ap (λ n. reply_to (state (length new.seen)) n statement) number
+            ∙ ap (λ place. reply_to (state place) old.number statement) (sym is.place);
         next = λ entering. absurd (cc (not_entering, entering));
       };
       entered = λ entering. absurd (cc (not_entering, entering));
@@ -75,12 +79,14 @@ answered_outside base statement answer old new looked is =
     }
 
 -- a statement that enters, and was added
-pub answered_entered : (base : State) (statement : Statement) (answer : Answer) (old mid new : Known) → Looked old mid → IsReply base statement answer true mid → IsAdded (entry_of mid.number statement) mid new → IsAnswered base statement answer old new
+pub answered_entered : (base : State) (statement : Statement) (answer : Answer) (old mid new : Known) → Looked old mid → IsReply base statement answer true mid
+    → IsAdded (entry_of mid.number statement) mid new → IsAnswered base statement answer old new
 answered_entered base statement answer old mid new looked is added =
     let number : mid.number ≡ old.number = looked.number in
     let entry : Entry = entry_of old.number statement in
     let seen : new.seen ≡ mid.seen ++ entry ∷ [] = added.seen ∙ ap (λ n. mid.seen ++ entry_of n statement ∷ []) number in
-    let mine : new.mine ≡ old.mine ++ entry ∷ [] = added.mine ∙ ap (λ n. mid.mine ++ entry_of n statement ∷ []) number ∙ ap (λ list. list ++ entry ∷ []) looked.mine in
+    let mine : new.mine ≡ old.mine ++ entry ∷ [] =
+    added.mine ∙ ap (λ n. mid.mine ++ entry_of n statement ∷ []) number ∙ ap (λ list. list ++ entry ∷ []) looked.mine in
     let begins : Begins mid.seen new.seen = subst (λ list. Begins mid.seen list) (sym seen) (begins_append mid.seen (entry ∷ [])) in
     let state : state_at base new.seen answer.place ≡ state_at base mid.seen (length mid.seen) =
     ap (state_at base new.seen) is.place ∙ state_at-begins base mid.seen new.seen (length mid.seen) begins (omega arith) in
@@ -98,7 +104,9 @@ answered_entered base statement answer old mid new looked is added =
       not_before = omega (arith, length_begins old.seen mid.seen looked.seen, is.place);
       at = record {
         within = omega (arith, is.place, longer);
-        reply_is = is.reply_is ∙ ap (λ n. reply_to (state_at base mid.seen (length mid.seen)) n statement) number ∙ ap (λ s. reply_to s old.number statement) (sym state);
+        reply_is =
+            is.reply_is ∙ ap (λ n. reply_to (state_at base mid.seen (length mid.seen)) n statement) number
+            ∙ ap (λ s. reply_to s old.number statement) (sym state);
         next = λ _. ap (λ place. slice_get new.seen place) is.place ∙ ap (λ list. slice_get list (length mid.seen)) seen ∙ slice_get-last mid.seen entry;
       };
       entered = λ _. record {
@@ -109,24 +117,31 @@ answered_entered base statement answer old mid new looked is added =
     }
 
 -- the entry that was added stands behind all that was seen
-pub next_added : (entry : Entry) (old new : Known) (replayed : ℕ) → IsAdded entry old new → replayed ≡ length old.seen → slice_get new.seen replayed ≡ Some entry
-next_added entry old new replayed added whole = ap (slice_get new.seen) whole ∙ ap (λ list. slice_get list (length old.seen)) added.seen ∙ slice_get-last old.seen entry
+pub next_added : (entry : Entry) (old new : Known) (replayed : ℕ) → IsAdded entry old new → replayed ≡ length old.seen
+    → slice_get new.seen replayed ≡ Some entry
+next_added entry old new replayed added whole =
+    ap (slice_get new.seen) whole ∙ ap (λ list. slice_get list (length old.seen)) added.seen ∙ slice_get-last old.seen entry
 
 -- a replica that has replayed all goes on by that entry, or there was no memory
-pub kept_by : {E M : Type 0} (result : Result (Unit {0}) E) (entry : Entry) (old new : Known) (replayed grown : ℕ) → IsAdded entry old new → replayed ≡ length old.seen
+pub kept_by : {E M : Type 0} (result : Result (Unit {0}) E) (entry : Entry) (old new : Known) (replayed grown : ℕ) → IsAdded entry old new
+    → replayed ≡ length old.seen
     → OnOk result (grown ≡ replayed + 1) → OnErr result M → (grown ≡ length new.seen) ⊎ M
-kept_by (Ok _) entry old new replayed grown added whole next memory = let longer = ap length added.seen ∙ length-append old.seen (entry ∷ []) in inl (omega arith)
+kept_by (Ok _) entry old new replayed grown added whole next memory =
+    let longer = ap length added.seen ∙ length-append old.seen (entry ∷ []) in inl (omega arith)
 kept_by (Err _) entry old new replayed grown added whole next memory = inr memory
 
 -- the same, as the answer's place has it
-pub kept_entered : (base : State) (statement : Statement) (answer : Answer) (entry : Entry) (mid new : Known) (replica : Replica) (server : State) (session replayed : ℕ)
+pub kept_entered : (base : State) (statement : Statement) (answer : Answer) (entry : Entry) (mid new : Known) (replica : Replica) (server : State)
+    (session replayed : ℕ)
     → answer.place ≡ length mid.seen → server ≡ state_at base mid.seen replayed → replayed ≡ length mid.seen → session ≡ mid.number → IsAdded entry mid new
     → (replica.replayed ≡ length new.seen) ⊎ (may_take_memory server session statement ≡ true) → IsKept base statement answer replica new
 kept_entered base statement answer entry mid new replica server session replayed place state whole number added kept =
     let begins : Begins mid.seen new.seen = subst (λ list. Begins mid.seen list) (sym added.seen) (begins_append mid.seen (entry ∷ [])) in
     let there : state_at base new.seen answer.place ≡ server =
-    ap (state_at base new.seen) place ∙ state_at-begins base mid.seen new.seen (length mid.seen) begins (omega arith) ∙ ap (state_at base mid.seen) (sym whole) ∙ sym state in
-    ⊎_elim (λ e. inl e) (λ m. inr (ap (λ s. may_take_memory s new.number statement) there ∙ ap (λ n. may_take_memory server n statement) (added.number ∙ sym number) ∙ m)) kept
+    ap (state_at base new.seen) place ∙ state_at-begins base mid.seen new.seen (length mid.seen) begins (omega arith) ∙ ap (state_at base mid.seen) (sym whole)
+    ∙ sym state in
+    ⊎_elim (λ e. inl e) (λ m. inr
+    (ap (λ s. may_take_memory s new.number statement) there ∙ ap (λ n. may_take_memory server n statement) (added.number ∙ sym number) ∙ m)) kept
 
 pub unanswered_looked : (old new : Known) → Looked old new → IsUnanswered old new
 unanswered_looked old new looked = record { advances = advances_looked old new looked; mine = looked.mine }
@@ -146,10 +161,13 @@ fails_overtaken front old mid new looked lost = record {
   tries = omega arith;
 }
 
-pub fails_full : (base : State) (capacity : ℕ) (statement : Statement) (answer : Answer) (old new : Known) → Looked old new → IsReply base statement answer true new → length new.seen ≡ capacity → IsFull base capacity statement old new
+pub fails_full : (base : State) (capacity : ℕ) (statement : Statement) (answer : Answer) (old new : Known) → Looked old new
+    → IsReply base statement answer true new → length new.seen ≡ capacity → IsFull base capacity statement old new
 fails_full base capacity statement answer old new looked is full = record {
   unanswered = unanswered_looked old new looked;
-  enters = ap (λ s. enters s old.number statement) (sym (state_at-whole base new.seen)) ∙ ap (λ n. enters (state_at base new.seen (length new.seen)) n statement) (sym looked.number) ∙ sym is.enters_is;
+  enters =
+      ap (λ s. enters s old.number statement) (sym (state_at-whole base new.seen))
+      ∙ ap (λ n. enters (state_at base new.seen (length new.seen)) n statement) (sym looked.number) ∙ sym is.enters_is;
   full = full;
 }
 
@@ -166,7 +184,8 @@ fails_busy old mid new looked busy = record {
 
 -- tries one after another
 
-pub fails_unanswered : (turns : Bool) (capacity : ℕ) (base : State) (statement : Statement) (fault : Fault) (old new : Known) → Fails turns capacity base statement fault old new → IsUnanswered old new
+pub fails_unanswered : (turns : Bool) (capacity : ℕ) (base : State) (statement : Statement) (fault : Fault) (old new : Known)
+    → Fails turns capacity base statement fault old new → IsUnanswered old new
 fails_unanswered turns capacity base statement (Overtaken front) old new fails = record {
   advances = record { number = fails.number; seen = fails.seen; looks = fails.looks; tries = omega arith };
   mine = fails.mine;
@@ -178,7 +197,8 @@ fails_unanswered turns capacity base statement Busy old new fails = fails.1
 pub unanswered_itself : (known : Known) → IsUnanswered known known
 unanswered_itself known = record { advances = record { number = refl; seen = begins_itself known.seen; looks = omega arith; tries = omega arith }; mine = refl }
 
-pub then_answered : (base : State) (statement : Statement) (answer : Answer) (old mid new : Known) → IsUnanswered old mid → IsAnswered base statement answer mid new → IsAnswered base statement answer old new
+pub then_answered : (base : State) (statement : Statement) (answer : Answer) (old mid new : Known) → IsUnanswered old mid
+    → IsAnswered base statement answer mid new → IsAnswered base statement answer old new
 then_answered base statement answer old mid new first is =
     let number : mid.number ≡ old.number = first.advances.number in
     let Enters : ℕ → Bool → Type 0 = λ n b. enters (state_at base new.seen answer.place) n statement ≡ b in
@@ -198,7 +218,8 @@ then_answered base statement answer old mid new first is =
           record { whole = stays.whole; mine = stays.mine ∙ first.mine };
     }
 
-pub then_full : (base : State) (capacity : ℕ) (statement : Statement) (old mid new : Known) → IsUnanswered old mid → IsFull base capacity statement mid new → IsFull base capacity statement old new
+pub then_full : (base : State) (capacity : ℕ) (statement : Statement) (old mid new : Known) → IsUnanswered old mid → IsFull base capacity statement mid new
+    → IsFull base capacity statement old new
 then_full base capacity statement old mid new first is = record {
   unanswered = unanswered_through old mid new first is.unanswered;
   enters = subst (λ n. enters (state_after base new.seen) n statement ≡ true) first.advances.number is.enters;
@@ -206,7 +227,8 @@ then_full base capacity statement old mid new first is = record {
 }
 
 -- DISCONNECT is answered Ok
-pub disconnected : (base : State) (answer : Answer) (old new : Known) → IsAnswered base Disconnect answer old new → IsAnswered base Disconnect (record { place = answer.place; reply = Accepted }) old new
+pub disconnected : (base : State) (answer : Answer) (old new : Known) → IsAnswered base Disconnect answer old new
+    → IsAnswered base Disconnect (record { place = answer.place; reply = Accepted }) old new
 disconnected base answer old new is = record {
   advances = is.advances;
   looked = is.looked;

@@ -31,7 +31,8 @@ entering_makes_entry state session (Del key) is = refl
 entering_makes_entry state session Disconnect is = refl
 
 -- a statement that enters is accepted
-pub entering_accepted : (state : State) (session : ℕ) (statement : Statement) → enters state session statement ≡ true → is_refused (reply_to state session statement) ≡ false
+pub entering_accepted : (state : State) (session : ℕ) (statement : Statement) → enters state session statement ≡ true
+    → is_refused (reply_to state session statement) ≡ false
 unfolding enters
 entering_accepted state session statement is = by (is_refused (reply_to state session statement)) (may_enter state (seat_of state session) statement) is
   where

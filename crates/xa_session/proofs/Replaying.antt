@@ -25,7 +25,8 @@ pub state_after-nil : (base : State) → state_after base [] ≡ base
 unfolding state_after
 state_after-nil base = refl
 
-pub state_after-last : (base : State) (xs : List Entry) (entry : Entry) → state_after base (xs ++ entry ∷ []) ≡ after (state_after base xs) entry.session entry.statement
+pub state_after-last : (base : State) (xs : List Entry) (entry : Entry)
+    → state_after base (xs ++ entry ∷ []) ≡ after (state_after base xs) entry.session entry.statement
 unfolding state_after
 state_after-last base [] entry = refl
 state_after-last base (x ∷ xs) entry = state_after-last (after base x.session x.statement) xs entry
@@ -36,7 +37,8 @@ state_at-next base seen place entry is =
     ap (state_at base seen) (add-one place) ∙ ap (state_after base) (take-next seen place entry is) ∙ state_after-last base (take place seen) entry
 
 -- a longer history has the same states where the shorter one reaches
-pub state_at-begins : (base : State) (seen longer : List Entry) (place : ℕ) → Begins seen longer → place ≤ length seen → state_at base longer place ≡ state_at base seen place
+pub state_at-begins : (base : State) (seen longer : List Entry) (place : ℕ) → Begins seen longer → place ≤ length seen
+    → state_at base longer place ≡ state_at base seen place
 state_at-begins base seen longer place begins within =
     ap (state_after base)
     (ap (take place) (sym (behind seen longer begins)) ∙ take-append-le place seen _ within)
@@ -56,7 +58,9 @@ stands_next base seen old new entry stands is server next =
     let below = place_below seen old.replayed entry is in
     record {
       within = omega arith;
-      state = server ∙ ap (λ s. after s entry.session entry.statement) stands.state ∙ sym (state_at-next base seen old.replayed entry is) ∙ ap (state_at base seen) (sym next);
+      state =
+          server ∙ ap (λ s. after s entry.session entry.statement) stands.state ∙ sym (state_at-next base seen old.replayed entry is)
+          ∙ ap (state_at base seen) (sym next);
     }
 
 pub stands_longer : (base : State) (seen longer : List Entry) (replica : Replica) → Begins seen longer → Stands base seen replica → Stands base longer replica

@@ -101,7 +101,8 @@ RepliesAfter (Err Busy) replica known = Unit {0}
 
 -- all that is seen has been replayed, an added statement too, but for one that may take memory there
 abbrev pub IsKept : State → Statement → Answer → Replica → Known → Type 0
-IsKept base statement answer replica known = (replica.replayed ≡ length known.seen) ⊎ (may_take_memory (state_at base known.seen answer.place) known.number statement ≡ true)
+IsKept base statement answer replica known =
+    (replica.replayed ≡ length known.seen) ⊎ (may_take_memory (state_at base known.seen answer.place) known.number statement ≡ true)
 
 -- there is no memory only for the list of an XA RECOVER, or for a replica that hasn't replayed all that is seen
 abbrev pub WantsMemory : Statement → Fault → Replica → Known → Type 0

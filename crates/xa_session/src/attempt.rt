@@ -14,7 +14,7 @@ impl<'a, L: DecisionLog> Session<'a, L> {
     fn replay_next(&mut self) -> Result<(), NoMemory>
         requires seen { self.old.replica.replayed < length (L.known self.old.pass).seen }
         requires fits { length (L.known self.old.pass).seen < 2 ^ 64 }
-        ensures home { L.home self.new.pass ≡ L.home self.old.pass }
+        ensures belongs { L.belongs_to self.new.pass ≡ L.belongs_to self.old.pass }
         ensures base { self.new.base.now ≡ self.old.base.now }
         ensures known { L.known self.new.pass ≡ L.known self.old.pass }
         ensures next { OnOk result (self.new.replica.replayed ≡ self.old.replica.replayed + 1) }
@@ -26,7 +26,7 @@ impl<'a, L: DecisionLog> Session<'a, L> {
 
     /// Has the replica stand for all that is seen: it replays the entries that it hasn't replayed.
     fn catch_up(&mut self) -> Result<(), NoMemory>
-        ensures home { L.home self.new.pass ≡ L.home self.old.pass }
+        ensures belongs { L.belongs_to self.new.pass ≡ L.belongs_to self.old.pass }
         ensures base { self.new.base.now ≡ self.old.base.now }
         ensures known { L.known self.new.pass ≡ L.known self.old.pass }
         ensures folds { self.old.replica.replayed ≤ self.new.replica.replayed }
@@ -41,7 +41,7 @@ impl<'a, L: DecisionLog> Session<'a, L> {
 
     /// Looks, and has the replica stand for all that is seen then. The answer is how many entries that is.
     fn observe(&mut self) -> Result<u64, NoMemory>
-        ensures home { L.home self.new.pass ≡ L.home self.old.pass }
+        ensures belongs { L.belongs_to self.new.pass ≡ L.belongs_to self.old.pass }
         ensures base { self.new.base.now ≡ self.old.base.now }
         ensures looked { Looked (L.known self.old.pass) (L.known self.new.pass) }
         ensures length { IfOk result (λ count. count ≡ length (L.known self.new.pass).seen) }
@@ -58,7 +58,7 @@ impl<'a, L: DecisionLog> Session<'a, L> {
     fn keep(&mut self, session: SessionNo, statement: &Statement) -> Result<(), NoMemory>
         requires enters { enters self.old.replica.server session statement.now ≡ true }
         requires next { slice_get (L.known self.old.pass).seen self.old.replica.replayed ≡ Some (entry_of session statement.now) }
-        ensures home { L.home self.new.pass ≡ L.home self.old.pass }
+        ensures belongs { L.belongs_to self.new.pass ≡ L.belongs_to self.old.pass }
         ensures base { self.new.base.now ≡ self.old.base.now }
         ensures known { L.known self.new.pass ≡ L.known self.old.pass }
         ensures next { OnOk result (self.new.replica.replayed ≡ self.old.replica.replayed + 1) }
@@ -76,9 +76,9 @@ impl<'a, L: DecisionLog> Session<'a, L> {
         requires own { session ≡ (L.known self.old.pass).number }
         requires whole { self.old.replica.replayed ≡ length (L.known self.old.pass).seen }
         requires enters { enters self.old.replica.server session statement.now ≡ true }
-        ensures home { L.home self.new.pass ≡ L.home self.old.pass }
+        ensures belongs { L.belongs_to self.new.pass ≡ L.belongs_to self.old.pass }
         ensures base { self.new.base.now ≡ self.old.base.now }
-        ensures added { Adds L.TURNS (L.home self.old.pass).capacity (entry_of session statement.now) result (L.known self.old.pass) (L.known self.new.pass) }
+        ensures added { Adds L.TURNS (L.belongs_to self.old.pass).capacity (entry_of session statement.now) result (L.known self.old.pass) (L.known self.new.pass) }
         ensures folds { self.old.replica.replayed ≤ self.new.replica.replayed }
         ensures kept { OnOk result ((self.new.replica.replayed ≡ length (L.known self.new.pass).seen) ⊎ (may_take_memory self.old.replica.server session statement.now ≡ true)) }
         ensures err { OnErr result (self.new.replica ≡ self.old.replica) }
@@ -99,10 +99,10 @@ impl<'a, L: DecisionLog> Session<'a, L> {
     /// May answer `NoMemory`, and never after an add. Doesn't wait.
     /// Own rule: docs/BEHAVIOR.md, 'Sessions'.
     pub fn attempt(&mut self, statement: &Statement) -> Result<Answer, Fault>
-        ensures home { L.home self.new.pass ≡ L.home self.old.pass }
+        ensures belongs { L.belongs_to self.new.pass ≡ L.belongs_to self.old.pass }
         ensures base { self.new.base.now ≡ self.old.base.now }
         ensures answered { IfOk result (λ answer. IsAnswered self.old.base.now statement.now answer (L.known self.old.pass) (L.known self.new.pass)) }
-        ensures fails { IfErr result (λ fault. Fails L.TURNS (L.home self.old.pass).capacity self.old.base.now statement.now fault (L.known self.old.pass) (L.known self.new.pass)) }
+        ensures fails { IfErr result (λ fault. Fails L.TURNS (L.belongs_to self.old.pass).capacity self.old.base.now statement.now fault (L.known self.old.pass) (L.known self.new.pass)) }
         ensures looked { (L.known self.old.pass).looks < (L.known self.new.pass).looks }
         ensures tries { (L.known self.new.pass).tries ≤ (L.known self.old.pass).tries + 1 }
         ensures tried { IfErr result (λ fault. Tries fault (L.known self.old.pass) (L.known self.new.pass)) }

@@ -18,10 +18,10 @@ impl<'a, L: DecisionLog> Session<'a, L> {
     /// May answer `NoMemory`, and never after an add. May wait: no number of tries is promised.
     /// Own rule: docs/BEHAVIOR.md, 'Sessions'.
     pub fn execute<R: Wait>(&mut self, rt: &R, statement: &Statement) -> Result<Answer, Fault>
-        ensures home { L.home self.new.pass ≡ L.home self.old.pass }
+        ensures belongs { L.belongs_to self.new.pass ≡ L.belongs_to self.old.pass }
         ensures base { self.new.base.now ≡ self.old.base.now }
         ensures answered { IfOk result (λ answer. IsAnswered self.old.base.now statement.now answer (L.known self.old.pass) (L.known self.new.pass)) }
-        ensures fails { IfErr result (λ fault. Fails L.TURNS (L.home self.old.pass).capacity self.old.base.now statement.now fault (L.known self.old.pass) (L.known self.new.pass)) }
+        ensures fails { IfErr result (λ fault. Fails L.TURNS (L.belongs_to self.old.pass).capacity self.old.base.now statement.now fault (L.known self.old.pass) (L.known self.new.pass)) }
         ensures lasts { IfErr result IsFinal }
         ensures replayed { RepliesAfter result self.new.replica (L.known self.new.pass) }
         ensures folds { self.old.replica.replayed ≤ self.new.replica.replayed }
@@ -47,10 +47,10 @@ impl<'a, L: DecisionLog> Session<'a, L> {
     /// May answer `NoMemory`. May wait: no number of tries is promised.
     /// Own rule: docs/BEHAVIOR.md, 'Sessions'.
     pub fn disconnect<R: Wait>(mut self, rt: &R) -> Result<L::Pass, (Session<'a, L>, Fault)>
-        ensures home { IfOk result (λ pass. L.home pass ≡ L.home self.entry.pass) }
+        ensures belongs { IfOk result (λ pass. L.belongs_to pass ≡ L.belongs_to self.entry.pass) }
         ensures answered { IfOk result (λ pass. (place : ℕ) × IsAnswered self.entry.base.now Disconnect (record { place = place; reply = Accepted }) (L.known self.entry.pass) (L.known pass)) }
-        ensures stays { IfErr result (λ refused. (L.home refused.0.pass ≡ L.home self.entry.pass) × (refused.0.base.now ≡ self.entry.base.now)) }
-        ensures fails { IfErr result (λ refused. Fails L.TURNS (L.home self.entry.pass).capacity self.entry.base.now Disconnect refused.1 (L.known self.entry.pass) (L.known refused.0.pass)) }
+        ensures stays { IfErr result (λ refused. (L.belongs_to refused.0.pass ≡ L.belongs_to self.entry.pass) × (refused.0.base.now ≡ self.entry.base.now)) }
+        ensures fails { IfErr result (λ refused. Fails L.TURNS (L.belongs_to self.entry.pass).capacity self.entry.base.now Disconnect refused.1 (L.known self.entry.pass) (L.known refused.0.pass)) }
         ensures lasts { IfErr result (λ refused. IsFinal refused.1) }
         ensures replayed { IfErr result (λ refused. RepliesAfter (Err refused.1) refused.0.replica (L.known refused.0.pass)) }
         ensures folds { IfErr result (λ refused. self.entry.replica.replayed ≤ refused.0.replica.replayed) }

@@ -21,7 +21,7 @@ pub struct Session<'a, L: DecisionLog> {
     pub(crate) pass: L::Pass,
     pub(crate) base: &'a Server,
     pub(crate) replica: Replica,
-    ghost home: { L.home pass ≡ L.place log.now },
+    ghost belongs: { L.belongs_to pass ≡ L.identity log.now },
     ghost stands: { Stands base.now (L.known pass).seen replica },
     ghost lawful: { LockLaw base.now },
 }
@@ -38,7 +38,7 @@ impl<'a, L: DecisionLog> Session<'a, L> {
         pass: L::Pass,
         base: &'a Server,
     ) -> Result<Session<'a, L>, (L::Pass, NoMemory)>
-        requires { L.home pass ≡ L.place log.now }
+        requires { L.belongs_to pass ≡ L.identity log.now }
         ensures pass { IfOk result (λ session. session.pass ≡ pass) }
         ensures base { IfOk result (λ session. session.base.now ≡ base.now) }
         ensures err { IfErr result (λ refused. refused.0 ≡ pass) }
@@ -103,7 +103,7 @@ impl<'a, L: DecisionLog> Session<'a, L> {
     /// Takes no memory. Doesn't wait.
     /// Own rule: docs/BEHAVIOR.md, 'Sessions'.
     pub fn look(&mut self) -> u64
-        ensures home { L.home self.new.pass ≡ L.home self.old.pass }
+        ensures belongs { L.belongs_to self.new.pass ≡ L.belongs_to self.old.pass }
         ensures base { self.new.base.now ≡ self.old.base.now }
         ensures replica { self.new.replica ≡ self.old.replica }
         ensures looked { Looked (L.known self.old.pass) (L.known self.new.pass) }
@@ -118,7 +118,7 @@ impl<'a, L: DecisionLog> Session<'a, L> {
     /// Own rule: docs/BEHAVIOR.md, 'Sessions'.
     pub fn entry(&mut self, at: u64) -> Entry
         requires { at < length (L.known self.old.pass).seen }
-        ensures home { L.home self.new.pass ≡ L.home self.old.pass }
+        ensures belongs { L.belongs_to self.new.pass ≡ L.belongs_to self.old.pass }
         ensures base { self.new.base.now ≡ self.old.base.now }
         ensures replica { self.new.replica ≡ self.old.replica }
         ensures same { L.known self.new.pass ≡ L.known self.old.pass }
@@ -132,8 +132,8 @@ impl<'a, L: DecisionLog> Session<'a, L> {
     /// Takes no memory. Doesn't wait.
     /// Own rule: docs/BEHAVIOR.md, 'Sessions'.
     pub fn meet(&mut self, other: &mut Session<'_, L>)
-        requires { L.home self.old.pass ≡ L.home other.old.pass }
-        ensures homes { (L.home self.new.pass ≡ L.home self.old.pass) × (L.home other.new.pass ≡ L.home other.old.pass) }
+        requires { L.belongs_to self.old.pass ≡ L.belongs_to other.old.pass }
+        ensures belongs { (L.belongs_to self.new.pass ≡ L.belongs_to self.old.pass) × (L.belongs_to other.new.pass ≡ L.belongs_to other.old.pass) }
         ensures bases { (self.new.base.now ≡ self.old.base.now) × (other.new.base.now ≡ other.old.base.now) }
         ensures replicas { (self.new.replica ≡ self.old.replica) × (other.new.replica ≡ other.old.replica) }
         ensures first { MeetsFirst (L.known self.old.pass) (L.known self.new.pass) }

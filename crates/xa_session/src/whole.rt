@@ -18,8 +18,8 @@ pub fn replayed<L: DecisionLog>(
     base: &Server,
     pass: &mut L::Pass,
 ) -> Result<Server, NoMemory>
-    requires { L.home pass.old ≡ L.place log.now }
-    ensures home { L.home pass.new ≡ L.home pass.old }
+    requires { L.belongs_to pass.old ≡ L.identity log.now }
+    ensures belongs { L.belongs_to pass.new ≡ L.belongs_to pass.old }
     ensures same { L.known pass.new ≡ L.known pass.old }
     ensures state { IfOk result (λ server. server ≡ state_after base.now (L.known pass.old).seen) }
 {

@@ -15,8 +15,8 @@ fn connected<'a, L: DecisionLog>(
 ) -> Option<(Session<'a, L>, Session<'a, L>)>
 where
     L::Pass: Drop,
-    requires { All (λ pass. L.home pass ≡ L.place log.now) passes.items }
-    ensures { IfSome result (λ sessions. L.home sessions.0.pass ≡ L.home sessions.1.pass) }
+    requires { All (λ pass. L.belongs_to pass ≡ L.identity log.now) passes.items }
+    ensures { IfSome result (λ sessions. L.belongs_to sessions.0.pass ≡ L.belongs_to sessions.1.pass) }
 {
     let (Some(second), Some(first)) = (passes.pop(), passes.pop()) else {
         return None;

@@ -8,7 +8,8 @@ use Rattle.xa_serve.specs.Statements.{said, IsAnswer}
 use Rattle.xa_show.specs.Listing.{listing}
 use Rattle.xa_show.specs.Shown.{is_blank, is_remark, keys_asked, listing_after, IsAnswerShown, IsRemarkShown, IsShown, remark_text}
 
-listing-behind : (old new : State) (line : Line) (keys : List (List ℕ)) → is_blank line ≡ false → keys ≡ keys_asked old line → listing new keys ≡ listing_after old line new
+listing-behind : (old new : State) (line : Line) (keys : List (List ℕ)) → is_blank line ≡ false → keys ≡ keys_asked old line
+    → listing new keys ≡ listing_after old line new
 unfolding keys_asked listing_after
 listing-behind old new Blank keys filled is = absurd (true≢false filled)
 listing-behind old new Bad keys filled is = ap (listing new) is
@@ -20,7 +21,8 @@ behind old line answer text rest new is same (inl shown) = record { answer = ans
 behind old line answer text rest new is same (inr alone) = record { answer = answer; is = is; shown = inr alone }
 
 -- the listing stands behind the answer, or nothing does
-pub shown_behind : (old : State) (line answer text : List ℕ) (keys : List (List ℕ)) (new : State) → false ≡ is_blank (line_of line) → keys ≡ keys_asked old (line_of line) →
+pub shown_behind : (old : State) (line answer text : List ℕ) (keys : List (List ℕ)) (new : State) → false ≡ is_blank (line_of line)
+    → keys ≡ keys_asked old (line_of line) →
     IsAnswer old (Whole line) answer new → (text ≡ answer ++ listing new keys) ⊎ (text ≡ answer) → IsAnswerShown old (Whole line) text new
 shown_behind old line answer text keys new filled keys_are is shown =
     behind old (Whole line) answer text (listing new keys) new is (listing-behind old new (line_of line) keys (sym filled) keys_are) shown
@@ -35,10 +37,12 @@ pub shown_long : (old : State) (answer text : List ℕ) (keys : List (List ℕ))
 unfolding IsShown listing_after
 shown_long old answer text keys new none is shown = behind old TooLong answer text (listing new keys) new is (ap (listing new) none) shown
 
-pub remark_shown : (old : State) (line text : List ℕ) (new : State) → true ≡ is_remark line → (text ≡ remark_text line) ⊎ (text ≡ []) → new ≡ old → IsShown old (Whole line) text new
+pub remark_shown : (old : State) (line text : List ℕ) (new : State) → true ≡ is_remark line → (text ≡ remark_text line) ⊎ (text ≡ []) → new ≡ old
+    → IsShown old (Whole line) text new
 unfolding IsShown
 remark_shown old line text new is shown same = rw (sym is) (shown, same)
 
-pub line_shown : (old : State) (line text : List ℕ) (new : State) → false ≡ is_remark line → IsAnswerShown old (Whole line) text new → IsShown old (Whole line) text new
+pub line_shown : (old : State) (line text : List ℕ) (new : State) → false ≡ is_remark line → IsAnswerShown old (Whole line) text new
+    → IsShown old (Whole line) text new
 unfolding IsShown
 line_shown old line text new is shown = rw (sym is) shown

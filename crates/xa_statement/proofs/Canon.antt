@@ -1,5 +1,6 @@
 -- The canonical text of a statement spells that statement.
-use Rattle.std.proofs.Common.{◌≡◌, ℕ, ◌^◌, ◌<◌, ◌≤◌, Bool, true, false, ◌||◌, nat_lt, List, [], ◌∷◌, ◌++◌, length, codes, decimal, is_none, Option, Some, None, Ok, refl, sym, ◌∙◌, ap, arith}
+use Rattle.std.proofs.Common.{◌≡◌, ℕ, ◌^◌, ◌<◌, ◌≤◌, Bool, true, false, ◌||◌, nat_lt, List, [], ◌∷◌, ◌++◌, length, codes, decimal, is_none, Option, Some, None}
+use Rattle.std.proofs.Common.{Ok, refl, sym, ◌∙◌, ap, arith}
 use Rattle.std.proofs.lemmas.Bool.{agree_below_at, ne_eqb, le-ltb, true≢false}
 use Rattle.std.proofs.lemmas.List.{append-nil}
 use Rattle.std.proofs.lemmas.Fmt.{decimal_is_IsNumeral}
@@ -13,14 +14,19 @@ use Rattle.xa_xid.specs.XidText.{IsWritable, part_text, xid_text}
 use Rattle.xa_xid.specs.declared.byte_class.ByteClass.TheVariants.{Word as word_byte}
 use Rattle.xa_xid.specs.declared.xid.Xid.{Xid}
 use Rattle.xa_xid.specs.declared.statement.Statement.TheVariants.{Start, End, Prepare, Commit, Rollback, Recover, Get, Put, Del, Disconnect}
-use Rattle.xa_xid.proofs.Written.{Passes, front-append, behind-append, part_back, part_word, number_back, decimal_word, part_unblank, number_unblank, xid_text-append, comma_no_word, decimal_byte}
+use Rattle.xa_xid.proofs.Written.{Passes, front-append, behind-append, part_back, part_word, number_back, decimal_word, part_unblank, number_unblank}
+use Rattle.xa_xid.proofs.Written.{xid_text-append, comma_no_word, decimal_byte}
 use Rattle.xa_statement.specs.declared.token.Keyword.{Keyword}
-use Rattle.xa_statement.specs.declared.token.Keyword.TheVariants.{Xa as XA, Start as START, End as END, Prepare as PREPARE, Commit as COMMIT, Rollback as ROLLBACK, Recover as RECOVER, One as ONE, Phase as PHASE, Convert as CONVERT, Xid as XID, Get as GET, Put as PUT, Del as DEL, Disconnect as DISCONNECT}
+use Rattle.xa_statement.specs.declared.token.Keyword.TheVariants.{Xa as XA, Start as START, End as END, Prepare as PREPARE, Commit as COMMIT}
+use Rattle.xa_statement.specs.declared.token.Keyword.TheVariants.{Rollback as ROLLBACK, Recover as RECOVER, One as ONE, Phase as PHASE, Convert as CONVERT}
+use Rattle.xa_statement.specs.declared.token.Keyword.TheVariants.{Xid as XID, Get as GET, Put as PUT, Del as DEL, Disconnect as DISCONNECT}
 use Rattle.xa_statement.specs.declared.token.Token.{Token}
 use Rattle.xa_statement.specs.declared.token.Token.TheVariants.{Word, Comma, Value}
 use Rattle.xa_statement.specs.Canonical.{statement_text, IsKey}
-use Rattle.xa_statement.specs.Grammar.{XidTokens, gtrid_bqual_format, is_start, start, end, prepare, commit, commit_one, rollback, recover, recover_convert, get, put, del, disconnect, bare_row, Spells}
-use Rattle.xa_statement.specs.Token.{is_word, statement_word, clause_word, keyword_of, part_of, run_token, run_at, quoted_at, opens_quoted, token_at, pieces, tokens_of, bare}
+use Rattle.xa_statement.specs.Grammar.{XidTokens, gtrid_bqual_format, is_start, start, end, prepare, commit, commit_one, rollback, recover, recover_convert}
+use Rattle.xa_statement.specs.Grammar.{get, put, del, disconnect, bare_row, Spells}
+use Rattle.xa_statement.specs.Token.{is_word, statement_word, clause_word, keyword_of, part_of, run_token, run_at, quoted_at, opens_quoted, token_at, pieces}
+use Rattle.xa_statement.specs.Token.{tokens_of, bare}
 use Rattle.xa_statement.proofs.Pieces.{IsUnblank, first_token, tokens-unblank, pieces-nil}
 
 -- one token, and those behind it
@@ -277,13 +283,16 @@ unfolding statement_text
 del_spelled key is =
     rw (del_word (part_text key) ∙ ap (λ ts. Word DEL ∷ ts) (part_last key is.all is.fits)) (bare_row (del (record { items = key }) _ is.some))
 
-pub put_spelled : (key : List ℕ) (value : Text) → IsKey key → IsBytes value.items → length value.items ≤ 64 → Spells (statement_text (Put key value)) (Put key value)
+pub put_spelled : (key : List ℕ) (value : Text) → IsKey key → IsBytes value.items → length value.items ≤ 64
+    → Spells (statement_text (Put key value)) (Put key value)
 unfolding statement_text
 put_spelled key value is all fits =
     let rest = 44 ∷ part_text value.items in
     let k = part_token key rest is.all is.fits (comma_no_word (part_text value.items)) in
     let token : Token = Value (Some (record { items = key })) k.number in
-    rw (put_word (part_text key ++ rest) ∙ ap (λ ts. Word PUT ∷ ts) (k.tokens ∙ ap (λ ts. token ∷ ts) (comma_next (part_text value.items) ∙ ap (λ ts. Comma ∷ ts) (part_last value.items all fits))))
+    rw (put_word (part_text key ++ rest)
+    ∙ ap (λ ts. Word PUT ∷ ts)
+    (k.tokens ∙ ap (λ ts. token ∷ ts) (comma_next (part_text value.items) ∙ ap (λ ts. Comma ∷ ts) (part_last value.items all fits))))
     (bare_row (put (record { items = key }) value _ _ is.some))
 
 pub disconnect_spelled : Spells (statement_text Disconnect) Disconnect

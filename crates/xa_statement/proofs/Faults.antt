@@ -1,5 +1,6 @@
 -- The reading against the grammar, both ways. It knows the grammar by what the machine's states lead to alone.
-use Rattle.std.proofs.Common.{◌≡◌, ℕ, ◌+◌, ◌-◌, ◌≤◌, zero, suc, List, [], ◌∷◌, ◌++◌, length, Option, Some, None, Result, Ok, Err, IfOk, IfErr, ◌⊎◌, inl, inr, refl, sym, ◌∙◌, ap, arith}
+use Rattle.std.proofs.Common.{◌≡◌, ℕ, ◌+◌, ◌-◌, ◌≤◌, zero, suc, List, [], ◌∷◌, ◌++◌, length, Option, Some, None, Result, Ok, Err, IfOk, IfErr, ◌⊎◌, inl, inr}
+use Rattle.std.proofs.Common.{refl, sym, ◌∙◌, ap, arith}
 use Rattle.std.proofs.Math.Nat.{le_refl}
 use Rattle.std.proofs.lemmas.List.{append-nil}
 use Rattle.xa_xid.specs.Bytes.{belongs, unblank}
@@ -152,7 +153,8 @@ ok_next : (reached : Option State) (left : ℕ) (more : List Piece) (statement :
 ok_next None left more statement e each = absurd (ok_is_err statement left (sym e))
 ok_next (Some s) left more statement e each = each s e
 
-ok_led : (text : List Piece) (state : State) (statement : Statement) → read_from state text ≡ Ok statement → (last : State) × (walk state (bare text) ≡ Some last)
+ok_led : (text : List Piece) (state : State) (statement : Statement) → read_from state text ≡ Ok statement
+    → (last : State) × (walk state (bare text) ≡ Some last)
 ok_led [] state statement e = (state, walk-nil state)
 ok_led (piece ∷ more) state statement e =
     let led = ok_next (step state piece.0) piece.1 more statement (sym (read_from-cons state piece more) ∙ e) (λ s r. ok_led more s statement r) in
@@ -232,7 +234,8 @@ end_read text never may =
     (0, (read, omega arith))
 
 -- and only there
-pub err_complete : (text : List ℕ) (place : ℕ) → FaultAt text place → (found : ℕ) × ((read_from AtFirst (tokens_of text) ≡ Err found) × (place ≡ length text - found))
+pub err_complete : (text : List ℕ) (place : ℕ) → FaultAt text place
+    → (found : ℕ) × ((read_from AtFirst (tokens_of text) ≡ Err found) × (place ≡ length text - found))
 err_complete text _ (at_token place left front back token cut may never sum) = fault_read text place left front back token cut may never sum
 err_complete text _ (at_end never may) = end_read text never may
 
@@ -245,7 +248,8 @@ placed_ok : (text : List ℕ) (found : Result Statement ℕ) (statement : Statem
 placed_ok text (Ok other) statement e = e
 placed_ok text (Err left) statement e = absurd (ok_is_err statement (length text - left) (sym e))
 
-placed_err : (text : List ℕ) (found : Result Statement ℕ) (place : ℕ) → placed_in text found ≡ Err place → (left : ℕ) × ((found ≡ Err left) × (length text - left ≡ place))
+placed_err : (text : List ℕ) (found : Result Statement ℕ) (place : ℕ) → placed_in text found ≡ Err place
+    → (left : ℕ) × ((found ≡ Err left) × (length text - left ≡ place))
 placed_err text (Ok statement) place e = absurd (ok_is_err statement place e)
 placed_err text (Err left) place e = let same : length text - left ≡ place = cc in (left, (refl, same))
 
@@ -253,7 +257,8 @@ found_of : (text : List ℕ) → read_of text ≡ placed_in text (read_from AtFi
 found_of text = read_as text (read_from AtFirst (tokens_of text)) refl
 
 -- a statement is read exactly where it is spelled
-pub reads_spelled : (text : List ℕ) (statement : Statement) → (read_of text ≡ Ok statement → Spells text statement) × (Spells text statement → read_of text ≡ Ok statement)
+pub reads_spelled : (text : List ℕ) (statement : Statement)
+    → (read_of text ≡ Ok statement → Spells text statement) × (Spells text statement → read_of text ≡ Ok statement)
 reads_spelled text statement = (
   λ e. ok_sound text statement (placed_ok text (read_from AtFirst (tokens_of text)) statement (sym (found_of text) ∙ e)),
   λ s. read_as text (Ok statement) (ok_complete text statement s),
@@ -292,8 +297,10 @@ seen_spelled text seen e = rw e (seen_ok text (read_of text) refl)
 pub seen_fault : (text : List ℕ) (seen : Result Statement SyntaxFault) → seen ≡ seen_of (read_of text) → IfErr seen (λ fault. FaultAt text fault.at)
 seen_fault text seen e = rw e (seen_err text (read_of text) refl)
 
-pub spelled_seen : (text : List ℕ) (seen : Result Statement SyntaxFault) → seen ≡ seen_of (read_of text) → (statement : Statement) → Spells text statement → seen ≡ Ok statement
+pub spelled_seen : (text : List ℕ) (seen : Result Statement SyntaxFault) → seen ≡ seen_of (read_of text) → (statement : Statement) → Spells text statement
+    → seen ≡ Ok statement
 spelled_seen text seen e statement s = e ∙ ap seen_of ((reads_spelled text statement).1 s)
 
-pub fault_seen : (text : List ℕ) (seen : Result Statement SyntaxFault) → seen ≡ seen_of (read_of text) → (place : ℕ) → FaultAt text place → seen ≡ Err (record { at = place })
+pub fault_seen : (text : List ℕ) (seen : Result Statement SyntaxFault) → seen ≡ seen_of (read_of text) → (place : ℕ) → FaultAt text place
+    → seen ≡ Err (record { at = place })
 fault_seen text seen e place f = e ∙ ap seen_of ((reads_fault text place).1 f)

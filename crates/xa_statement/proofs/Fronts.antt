@@ -6,7 +6,10 @@ use Rattle.xa_xid.specs.declared.xid.Xid.{Xid}
 use Rattle.xa_xid.specs.declared.statement.Statement.{Statement}
 use Rattle.xa_xid.specs.declared.statement.Statement.TheVariants.{Put}
 use Rattle.xa_statement.specs.declared.token.Keyword.{Keyword}
-use Rattle.xa_statement.specs.declared.token.Keyword.TheVariants.{Xa as XA, Start as START, Begin as BEGIN, End as END, Prepare as PREPARE, Commit as COMMIT, Rollback as ROLLBACK, Recover as RECOVER, Join as JOIN, Resume as RESUME, Suspend as SUSPEND, For as FOR, Migrate as MIGRATE, One as ONE, Phase as PHASE, Convert as CONVERT, Xid as XID, Get as GET, Put as PUT, Del as DEL, Disconnect as DISCONNECT}
+use Rattle.xa_statement.specs.declared.token.Keyword.TheVariants.{Xa as XA, Start as START, Begin as BEGIN, End as END, Prepare as PREPARE, Commit as COMMIT}
+use Rattle.xa_statement.specs.declared.token.Keyword.TheVariants.{Rollback as ROLLBACK, Recover as RECOVER, Join as JOIN, Resume as RESUME, Suspend as SUSPEND}
+use Rattle.xa_statement.specs.declared.token.Keyword.TheVariants.{For as FOR, Migrate as MIGRATE, One as ONE, Phase as PHASE, Convert as CONVERT, Xid as XID}
+use Rattle.xa_statement.specs.declared.token.Keyword.TheVariants.{Get as GET, Put as PUT, Del as DEL, Disconnect as DISCONNECT}
 use Rattle.xa_statement.specs.declared.token.Token.{Token}
 use Rattle.xa_statement.specs.declared.token.Token.TheVariants.{Word, Comma, Semicolon, Value}
 use Rattle.xa_statement.specs.declared.state.Verb.{Verb}
@@ -14,8 +17,12 @@ use Rattle.xa_statement.specs.declared.state.Verb.TheVariants.{Starts, Ends, Pre
 use Rattle.xa_statement.specs.declared.state.RowVerb.{RowVerb}
 use Rattle.xa_statement.specs.declared.state.RowVerb.TheVariants.{Gets, Puts, Deletes}
 use Rattle.xa_statement.specs.declared.state.State.{State}
-use Rattle.xa_statement.specs.declared.state.State.TheVariants.{AtFirst, AfterXa, WantsGtrid, AfterGtrid, WantsBqual, AfterBqual, WantsFormatId, AfterXid, AfterSuspend, AfterFor, AfterOne, AfterRecover, AfterConvert, WantsKey, AfterKey, WantsValue, Whole, Ended}
-use Rattle.xa_statement.specs.Grammar.{XidTokens, gtrid, gtrid_bqual, gtrid_bqual_format, StartWord, is_start, is_begin, is_join, is_resume, Row, start, start_clause, end, end_suspend, end_suspend_for, prepare, commit, commit_one, rollback, recover, recover_convert, get, put, del, disconnect, Says, ended_row}
+use Rattle.xa_statement.specs.declared.state.State.TheVariants.{AtFirst, AfterXa, WantsGtrid, AfterGtrid, WantsBqual, AfterBqual, WantsFormatId, AfterXid}
+use Rattle.xa_statement.specs.declared.state.State.TheVariants.{AfterSuspend, AfterFor, AfterOne, AfterRecover, AfterConvert, WantsKey, AfterKey, WantsValue}
+use Rattle.xa_statement.specs.declared.state.State.TheVariants.{Whole, Ended}
+use Rattle.xa_statement.specs.Grammar.{XidTokens, gtrid, gtrid_bqual, gtrid_bqual_format, StartWord, is_start, is_begin, is_join, is_resume, Row, start}
+use Rattle.xa_statement.specs.Grammar.{start_clause, end, end_suspend, end_suspend_for, prepare, commit, commit_one, rollback, recover, recover_convert, get}
+use Rattle.xa_statement.specs.Grammar.{put, del, disconnect, Says, ended_row}
 use Rattle.xa_statement.specs.Machine.{step, unended, ended, statement_of, xid_word, key_state, after_word, after_comma, after_value}
 
 -- the words that lead to a verb
@@ -97,7 +104,8 @@ FrontOf (Some state) tokens = Front state tokens
 opened_more : (verb : Verb) (tail tokens : List Token) (token : Token) → Opened verb tail tokens → Opened verb (tail ++ token ∷ []) (tokens ++ token ∷ [])
 opened_more verb tail tokens token o = record { word = o.word; is = o.is; same = ap (λ ts. ts ++ token ∷ []) o.same }
 
-clause_more : (word : Keyword) (tail tokens : List Token) (token : Token) → ClauseOf word tail tokens → ClauseOf word (tail ++ token ∷ []) (tokens ++ token ∷ [])
+clause_more : (word : Keyword) (tail tokens : List Token) (token : Token) → ClauseOf word tail tokens
+    → ClauseOf word (tail ++ token ∷ []) (tokens ++ token ∷ [])
 clause_more word tail tokens token c = record {
   x = c.x;
   xid = c.xid;
@@ -115,7 +123,8 @@ key_more key tail tokens token k = record {
 }
 
 -- a word behind an xid
-xid_next : (verb : Verb) (xid : Xid) (word : Keyword) (tokens : List Token) → XidOf verb xid tokens → FrontOf (xid_word verb xid word) (tokens ++ Word word ∷ [])
+xid_next : (verb : Verb) (xid : Xid) (word : Keyword) (tokens : List Token) → XidOf verb xid tokens
+    → FrontOf (xid_word verb xid word) (tokens ++ Word word ∷ [])
 xid_next Starts xid JOIN tokens f = rw f.before.same (start_clause f.before.is f.form is_join)
 xid_next Starts xid RESUME tokens f = rw f.before.same (start_clause f.before.is f.form is_resume)
 xid_next Ends xid SUSPEND tokens f = record {
@@ -155,7 +164,8 @@ word_next (AfterGtrid verb g) word tokens f = xid_next verb (xid_of g no_text 1)
 word_next (AfterBqual verb g b) word tokens f = xid_next verb (xid_of g b 1) word tokens (bqual_xid verb g b tokens f)
 word_next (AfterXid verb xid) word tokens f = xid_next verb xid word tokens f
 word_next AfterSuspend FOR tokens f = clause_more END (Word SUSPEND ∷ []) tokens (Word FOR) f
-word_next AfterFor MIGRATE tokens f = let more = clause_more END (Word SUSPEND ∷ Word FOR ∷ []) tokens (Word MIGRATE) f in rw more.same (end_suspend_for more.form)
+word_next AfterFor MIGRATE tokens f =
+    let more = clause_more END (Word SUSPEND ∷ Word FOR ∷ []) tokens (Word MIGRATE) f in rw more.same (end_suspend_for more.form)
 word_next (AfterOne xid) PHASE tokens f =
     let e : tokens ++ Word PHASE ∷ [] ≡ Word XA ∷ Word COMMIT ∷ (f.x ++ Word ONE ∷ Word PHASE ∷ []) =
     ap (λ ts. ts ++ Word PHASE ∷ []) f.same ∙ ap (λ ts. Word XA ∷ Word COMMIT ∷ ts) (append_assoc f.x (Word ONE ∷ []) (Word PHASE ∷ [])) in

@@ -1,5 +1,6 @@
 -- The tokens of a text, one after another.
-use Rattle.std.proofs.Common.{◌≡◌, ℕ, ◌≤◌, ◌<◌, zero, suc, Bool, true, false, ◌==◌, if◌then◌else◌, List, [], ◌∷◌, length, Option, Some, None, Ok, Err, refl, sym, ◌∙◌, ap, arith}
+use Rattle.std.proofs.Common.{◌≡◌, ℕ, ◌≤◌, ◌<◌, zero, suc, Bool, true, false, ◌==◌, if◌then◌else◌, List, [], ◌∷◌, length, Option, Some, None, Ok, Err, refl}
+use Rattle.std.proofs.Common.{sym, ◌∙◌, ap, arith}
 use Rattle.std.proofs.Math.Nat.{le_refl}
 use Rattle.std.proofs.lemmas.Bool.{cond_both}
 use Rattle.xa_xid.specs.Bytes.{belongs, behind, unblank}
@@ -116,4 +117,5 @@ same_start zero text = refl
 same_start (suc most) text = ap (λ t. go_on most (first_piece t)) (behind-behind (belongs blank_byte) text)
 
 pub tokens-unblank : (text : List ℕ) → tokens_of (unblank text) ≡ tokens_of text
-tokens-unblank text = stable (length (unblank text)) (length text) (unblank text) (le_refl _) (behind-short (belongs blank_byte) text) ∙ same_start (length text) text
+tokens-unblank text =
+    stable (length (unblank text)) (length text) (unblank text) (le_refl _) (behind-short (belongs blank_byte) text) ∙ same_start (length text) text

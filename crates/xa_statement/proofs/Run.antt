@@ -1,5 +1,6 @@
 -- A statement read token by token, while the rest of the text gets shorter.
-use Rattle.std.proofs.Common.{◌≡◌, ℕ, ◌≤◌, ◌<◌, ◌-◌, List, [], ◌∷◌, length, Option, Some, None, Result, Err, ok_or, true, false, ◌==◌, refl, sym, ◌∙◌, ap, arith}
+use Rattle.std.proofs.Common.{◌≡◌, ℕ, ◌≤◌, ◌<◌, ◌-◌, List, [], ◌∷◌, length, Option, Some, None, Result, Err, ok_or, true, false, ◌==◌, refl, sym, ◌∙◌, ap}
+use Rattle.std.proofs.Common.{arith}
 use Rattle.std.proofs.lemmas.Bool.{eqb-true, eqb-false}
 use Rattle.xa_xid.specs.Bytes.{belongs, unblank}
 use Rattle.xa_xid.specs.declared.byte_class.ByteClass.TheVariants.{Blank as blank_byte}
@@ -21,7 +22,8 @@ pub read_from-stop : (state : State) (piece : Piece) (more : List Piece) → ste
 unfolding read_from
 read_from-stop state piece more e = rw (e, read_from) refl
 
-pub read_from-go : (state next : State) (piece : Piece) (more : List Piece) → step state piece.0 ≡ Some next → read_from state (piece ∷ more) ≡ read_from next more
+pub read_from-go : (state next : State) (piece : Piece) (more : List Piece) → step state piece.0 ≡ Some next
+    → read_from state (piece ∷ more) ≡ read_from next more
 unfolding read_from
 read_from-go state next piece more e = rw (e, read_from) refl
 
@@ -83,7 +85,8 @@ seen text found e = ap (λ r. seen_of (placed_in text r)) e
 pub read_stop : (text rest : List ℕ) (state : State) → 0 < length rest → step state (token_at rest).0 ≡ None → ReadBefore text state rest
     → Err (record { at = length text - length rest }) ≡ seen_of (read_of text)
 read_stop text rest state some stops before =
-    sym (seen text (Err (length rest)) (sym before.same ∙ step_of state rest some before.front ∙ ap (λ o. from_next o (length rest) (tokens_of (token_at rest).1)) stops))
+    sym (seen text (Err (length rest))
+    (sym before.same ∙ step_of state rest some before.front ∙ ap (λ o. from_next o (length rest) (tokens_of (token_at rest).1)) stops))
 
 ended_as : (text : List ℕ) (found : Option Statement) → seen_of (placed_in text (read_end found)) ≡ ok_or found (record { at = length text })
 ended_as text (Some statement) = refl

@@ -10,7 +10,9 @@ use Rattle.xa_statement.specs.declared.token.Token.{Token}
 use Rattle.xa_statement.specs.declared.token.Token.TheVariants.{Word, Comma, Value}
 use Rattle.xa_statement.specs.declared.state.RowVerb.TheVariants.{Gets, Puts, Deletes}
 use Rattle.xa_statement.specs.declared.state.State.{State}
-use Rattle.xa_statement.specs.declared.state.State.TheVariants.{AtFirst, AfterXa, WantsGtrid, AfterGtrid, WantsBqual, AfterBqual, WantsFormatId, AfterXid, AfterSuspend, AfterFor, AfterOne, AfterRecover, AfterConvert, WantsKey, AfterKey, WantsValue, Whole, Ended}
+use Rattle.xa_statement.specs.declared.state.State.TheVariants.{AtFirst, AfterXa, WantsGtrid, AfterGtrid, WantsBqual, AfterBqual, WantsFormatId, AfterXid}
+use Rattle.xa_statement.specs.declared.state.State.TheVariants.{AfterSuspend, AfterFor, AfterOne, AfterRecover, AfterConvert, WantsKey, AfterKey, WantsValue}
+use Rattle.xa_statement.specs.declared.state.State.TheVariants.{Whole, Ended}
 use Rattle.xa_statement.specs.Grammar.{Says, bare_row, MayGoOn}
 use Rattle.xa_statement.specs.Machine.{step, finish, unended, statement_of}
 use Rattle.xa_statement.proofs.Walk.{walk, walk_on, walk-nil, walk-cons, walk_then, walk-append, walk-stop, answer, said_read}
@@ -105,7 +107,8 @@ some_reached (Some s) more statement e = (s, refl)
 -- the machine has a state wherever a statement's tokens begin so
 pub viable : (tokens : List Token) → MayGoOn tokens → (s : State) × (walk AtFirst tokens ≡ Some s)
 viable tokens m =
-    some_reached (walk AtFirst tokens) m.more m.statement (ap answer (sym (walk-append tokens m.more AtFirst)) ∙ said_read (tokens ++ m.more) m.statement m.says)
+    some_reached (walk AtFirst tokens) m.more m.statement
+    (ap answer (sym (walk-append tokens m.more AtFirst)) ∙ said_read (tokens ++ m.more) m.statement m.says)
 
 -- and none where it has no next one
 pub stuck : (tokens : List Token) (token : Token) (s : State) → walk AtFirst tokens ≡ Some s → step s token ≡ None → MayGoOn (tokens ++ token ∷ []) → ⊥

@@ -13,8 +13,11 @@ use Rattle.xa_statement.specs.declared.state.Verb.TheVariants.{Starts, Ends, Pre
 use Rattle.xa_statement.specs.declared.state.RowVerb.{RowVerb}
 use Rattle.xa_statement.specs.declared.state.RowVerb.TheVariants.{Gets, Puts, Deletes}
 use Rattle.xa_statement.specs.declared.state.State.{State}
-use Rattle.xa_statement.specs.declared.state.State.TheVariants.{AtFirst, WantsGtrid, AfterGtrid, AfterBqual, AfterXid, AfterSuspend, AfterOne, AfterRecover, Whole, Ended}
-use Rattle.xa_statement.specs.Grammar.{XidTokens, gtrid, gtrid_bqual, gtrid_bqual_format, StartWord, is_start, is_begin, JoinWord, is_join, is_resume, Row, start, start_clause, end, end_suspend, end_suspend_for, prepare, commit, commit_one, rollback, recover, recover_convert, get, put, del, disconnect, Says, bare_row, ended_row}
+use Rattle.xa_statement.specs.declared.state.State.TheVariants.{AtFirst, WantsGtrid, AfterGtrid, AfterBqual, AfterXid, AfterSuspend, AfterOne, AfterRecover}
+use Rattle.xa_statement.specs.declared.state.State.TheVariants.{Whole, Ended}
+use Rattle.xa_statement.specs.Grammar.{XidTokens, gtrid, gtrid_bqual, gtrid_bqual_format, StartWord, is_start, is_begin, JoinWord, is_join, is_resume, Row}
+use Rattle.xa_statement.specs.Grammar.{start, start_clause, end, end_suspend, end_suspend_for, prepare, commit, commit_one, rollback, recover, recover_convert}
+use Rattle.xa_statement.specs.Grammar.{get, put, del, disconnect, Says, bare_row, ended_row}
 use Rattle.xa_statement.specs.Machine.{step, finish, unended, ended, statement_of, xid_word, key_state, after_key}
 
 -- the state after tokens
@@ -78,7 +81,8 @@ xid_read : (verb : Verb) (tokens : List Token) (xid : Xid) → XidTokens tokens 
 unfolding walk step finish
 xid_read verb _ _ (gtrid g m) = record { state = AfterGtrid verb g; reached = refl; open_end = refl; closed_end = refl; goes = λ word. refl }
 xid_read verb _ _ (gtrid_bqual g b m n) = record { state = AfterBqual verb g b; reached = refl; open_end = refl; closed_end = refl; goes = λ word. refl }
-xid_read verb _ _ (gtrid_bqual_format g b m n l f) = record { state = AfterXid verb (xid_of g b f); reached = refl; open_end = refl; closed_end = refl; goes = λ word. refl }
+xid_read verb _ _ (gtrid_bqual_format g b m n l f) =
+    record { state = AfterXid verb (xid_of g b f); reached = refl; open_end = refl; closed_end = refl; goes = λ word. refl }
 
 -- where a row leads
 pub record RowRead (tokens : List Token) (statement : Statement) : Type 0 where
@@ -129,7 +133,8 @@ pub row_read : (tokens : List Token) (statement : Statement) → Row tokens stat
 unfolding walk step finish
 row_read _ _ (start {word} {parts = x} {xid} is form) = plain_row Starts _ x xid (start_read word x is) form
 row_read _ _ (start_clause {word} {clause} {parts = x} {xid} is form join) =
-    whole_row _ Unsupported (start_read word (x ++ Word clause ∷ []) is ∙ clause_step Starts x [] xid clause (Whole Unsupported) form (join_next clause xid join))
+    whole_row _ Unsupported (start_read word (x ++ Word clause ∷ []) is
+    ∙ clause_step Starts x [] xid clause (Whole Unsupported) form (join_next clause xid join))
 row_read _ _ (end {parts = x} {xid} form) = plain_row Ends _ x xid refl form
 row_read _ _ (end_suspend {parts = x} {xid} form) = suspend_row _ (clause_step Ends x [] xid SUSPEND AfterSuspend form refl)
 row_read _ _ (end_suspend_for {parts = x} {xid} form) =

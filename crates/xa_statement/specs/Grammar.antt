@@ -11,7 +11,10 @@ use Rattle.xa_xid.specs.declared.xid.Xid.{Xid}
 use Rattle.xa_xid.specs.declared.statement.Statement.{Statement}
 use Rattle.xa_xid.specs.declared.statement.Statement.TheVariants.{Start, End, Prepare, Commit, Rollback, Recover, Unsupported, Get, Put, Del, Disconnect}
 use Rattle.xa_statement.specs.declared.token.Keyword.{Keyword}
-use Rattle.xa_statement.specs.declared.token.Keyword.TheVariants.{Xa as XA, Start as START, Begin as BEGIN, End as END, Prepare as PREPARE, Commit as COMMIT, Rollback as ROLLBACK, Recover as RECOVER, Join as JOIN, Resume as RESUME, Suspend as SUSPEND, For as FOR, Migrate as MIGRATE, One as ONE, Phase as PHASE, Convert as CONVERT, Xid as XID, Get as GET, Put as PUT, Del as DEL, Disconnect as DISCONNECT}
+use Rattle.xa_statement.specs.declared.token.Keyword.TheVariants.{Xa as XA, Start as START, Begin as BEGIN, End as END, Prepare as PREPARE, Commit as COMMIT}
+use Rattle.xa_statement.specs.declared.token.Keyword.TheVariants.{Rollback as ROLLBACK, Recover as RECOVER, Join as JOIN, Resume as RESUME, Suspend as SUSPEND}
+use Rattle.xa_statement.specs.declared.token.Keyword.TheVariants.{For as FOR, Migrate as MIGRATE, One as ONE, Phase as PHASE, Convert as CONVERT, Xid as XID}
+use Rattle.xa_statement.specs.declared.token.Keyword.TheVariants.{Get as GET, Put as PUT, Del as DEL, Disconnect as DISCONNECT}
 use Rattle.xa_statement.specs.declared.token.Token.{Token}
 use Rattle.xa_statement.specs.declared.token.Token.TheVariants.{Word, Comma, Semicolon, Value}
 use Rattle.xa_statement.specs.Token.{tokens_of, bare}

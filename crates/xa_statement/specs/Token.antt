@@ -12,7 +12,10 @@ use Rattle.xa_xid.specs.Number.{number_at}
 use Rattle.xa_xid.specs.Xid.{Text}
 use Rattle.xa_xid.specs.declared.byte_class.ByteClass.TheVariants.{Word as word_byte}
 use Rattle.xa_statement.specs.declared.token.Keyword.{Keyword}
-use Rattle.xa_statement.specs.declared.token.Keyword.TheVariants.{Xa as XA, Start as START, Begin as BEGIN, End as END, Prepare as PREPARE, Commit as COMMIT, Rollback as ROLLBACK, Recover as RECOVER, Join as JOIN, Resume as RESUME, Suspend as SUSPEND, For as FOR, Migrate as MIGRATE, One as ONE, Phase as PHASE, Convert as CONVERT, Xid as XID, Get as GET, Put as PUT, Del as DEL, Disconnect as DISCONNECT}
+use Rattle.xa_statement.specs.declared.token.Keyword.TheVariants.{Xa as XA, Start as START, Begin as BEGIN, End as END, Prepare as PREPARE, Commit as COMMIT}
+use Rattle.xa_statement.specs.declared.token.Keyword.TheVariants.{Rollback as ROLLBACK, Recover as RECOVER, Join as JOIN, Resume as RESUME, Suspend as SUSPEND}
+use Rattle.xa_statement.specs.declared.token.Keyword.TheVariants.{For as FOR, Migrate as MIGRATE, One as ONE, Phase as PHASE, Convert as CONVERT, Xid as XID}
+use Rattle.xa_statement.specs.declared.token.Keyword.TheVariants.{Get as GET, Put as PUT, Del as DEL, Disconnect as DISCONNECT}
 use Rattle.xa_statement.specs.declared.token.Token.{Token}
 use Rattle.xa_statement.specs.declared.token.Token.TheVariants.{Word, Comma, Semicolon, Value}
 

@@ -21,7 +21,13 @@ keeps_itself known = record { number = refl; seen = begins_itself known.seen; mi
 
 pub keeps_again : (old now new : Known) → Keeps old now → Keeps now new → Keeps old new
 keeps_again old now new k l =
-    record { number = l.number ∙ k.number; seen = begins_through old.seen now.seen new.seen k.seen l.seen; mine = l.mine ∙ k.mine; looks = omega (arith, k.looks, l.looks); tries = l.tries ∙ k.tries }
+    record {
+      number = l.number ∙ k.number;
+      seen = begins_through old.seen now.seen new.seen k.seen l.seen;
+      mine = l.mine ∙ k.mine;
+      looks = omega (arith, k.looks, l.looks);
+      tries = l.tries ∙ k.tries;
+    }
 
 -- the last of two that meet
 met_keeps : (first old new : Known) → MeetsSecond first old new → Keeps old new
@@ -32,14 +38,16 @@ zip_itself R itself [] = tt
 zip_itself R itself (s ∷ list) = (itself s, zip_itself R itself list)
 
 -- one element more has changed
-zip_set : {S : Type 0} (R : S → S → Type 0) → ((a b c : S) → R a b → R b c → R a c) → (before now : List S) (index : ℕ) (new d : S) → index < length now → AllZip R before now → R (get_or now index d) new → AllZip R before (set now index new)
+zip_set : {S : Type 0} (R : S → S → Type 0) → ((a b c : S) → R a b → R b c → R a c) → (before now : List S) (index : ℕ) (new d : S) → index < length now
+    → AllZip R before now → R (get_or now index d) new → AllZip R before (set now index new)
 zip_set R through [] [] index new d below zip step = absurd (omega arith)
 zip_set R through [] (t ∷ now) index new d below zip step = absurd zip
 zip_set R through (s ∷ before) [] index new d below zip step = absurd zip
 zip_set R through (s ∷ before) (t ∷ now) zero new d below zip step = (through s t new zip.0 step, zip.1)
 zip_set R through (s ∷ before) (t ∷ now) (suc index) new d below zip step = (zip.0, zip_set R through before now index new d (omega (arith, below)) zip.1 step)
 
-pub zip_through : {S : Type 0} (R : S → S → Type 0) → ((a b c : S) → R a b → R b c → R a c) → (before now after : List S) → AllZip R before now → AllZip R now after → AllZip R before after
+pub zip_through : {S : Type 0} (R : S → S → Type 0) → ((a b c : S) → R a b → R b c → R a c) → (before now after : List S) → AllZip R before now
+    → AllZip R now after → AllZip R before after
 zip_through R through [] [] [] zip zip' = tt
 zip_through R through [] [] (c ∷ after) zip zip' = absurd zip'
 zip_through R through [] (b ∷ now) after zip zip' = absurd zip
@@ -48,10 +56,12 @@ zip_through R through (a ∷ before) (b ∷ now) [] zip zip' = absurd zip'
 zip_through R through (a ∷ before) (b ∷ now) (c ∷ after) zip zip' = (through a b c zip.0 zip'.0, zip_through R through before now after zip.1 zip'.1)
 
 -- what is true of each element stays so where its change keeps it
-pub all_kept : {S : Type 0} (R : S → S → Type 0) (P Q : S → Type 0) → ((a b : S) → R a b → P a → Q b) → (before now : List S) → AllZip R before now → All P before → All Q now
+pub all_kept : {S : Type 0} (R : S → S → Type 0) (P Q : S → Type 0) → ((a b : S) → R a b → P a → Q b) → (before now : List S) → AllZip R before now
+    → All P before → All Q now
 all_kept R P Q keep before now zip all k d below =
     let long = length_all_zip R before now zip in
-    keep (get_or before k d) (get_or now k d) (AllZip-get_or R before now k d d zip (omega (arith, below, long))) (All-get_or P before k d (omega (arith, below, long)) all)
+    keep (get_or before k d) (get_or now k d) (AllZip-get_or R before now k d d zip (omega (arith, below, long)))
+    (All-get_or P before k d (omega (arith, below, long)) all)
 
 pub zip_weaker : {S : Type 0} (R Q : S → S → Type 0) → ((a b : S) → R a b → Q a b) → (before now : List S) → AllZip R before now → AllZip Q before now
 zip_weaker R Q weaker [] [] zip = tt
@@ -62,7 +72,13 @@ zip_weaker R Q weaker (a ∷ before) (b ∷ now) zip = (weaker a b zip.0, zip_we
 -- a pass that another met keeps all that it had
 pub meets_keeps : (old new : Known) → MeetsFirst old new → Keeps old new
 meets_keeps old new m =
-    record { number = m.number; seen = subst (λ list. Begins old.seen list) (sym m.seen) (begins_itself old.seen); mine = m.mine; looks = m.looks; tries = m.tries }
+    record {
+      number = m.number;
+      seen = subst (λ list. Begins old.seen list) (sym m.seen) (begins_itself old.seen);
+      mine = m.mine;
+      looks = m.looks;
+      tries = m.tries;
+    }
 
 pub last_known_of : {S : Type 0} (known : S → Known) (others : List S) (last : S) → last_known (map known (others ++ last ∷ [])) ≡ known last
 last_known_of known [] last = refl
@@ -75,7 +91,8 @@ module _ {S : Type 0} (known : S → Known) (R : S → S → Type 0) where
     pub kept : AllZip R before now
     pub last : Keeps old new
     pub seen : AllWithin (λ s. Begins (known s).seen new.seen) now 0 index
-    pub whole : All (λ s. Begins (known s).seen old.seen) before → (new.seen ≡ old.seen) × AllWithin (λ s. entries_of (known s).number new.seen ≡ (known s).mine) now 0 index
+    pub whole : All (λ s. Begins (known s).seen old.seen) before
+        → (new.seen ≡ old.seen) × AllWithin (λ s. entries_of (known s).number new.seen ≡ (known s).mine) now 0 index
 
   module _ (itself : (s : S) → R s s) (through : (a b c : S) → R a b → R b c → R a c) (meets : (a b : S) → R a b → MeetsFirst (known a) (known b)) where
     pub no_round : (before : List S) (last : Known) → Round before before last last 0
@@ -86,7 +103,8 @@ module _ {S : Type 0} (known : S → Known) (R : S → S → Type 0) where
       whole = λ all. (refl, AllWithin-none (λ s. entries_of (known s).number last.seen ≡ (known s).mine) before 0);
     }
 
-    pub next_round : (before now : List S) (first last last' : Known) (index : ℕ) (d new : S) → index < length now → Round before now first last index → R (get_or now index d) new
+    pub next_round : (before now : List S) (first last last' : Known) (index : ℕ) (d new : S) → index < length now → Round before now first last index
+        → R (get_or now index d) new
         → MeetsSecond (known (get_or now index d)) last last' → Round before (set now index new) first last' (index + 1)
     next_round before now first last last' index d new below r step m =
         let met = meets (get_or now index d) new step in
@@ -100,11 +118,17 @@ module _ {S : Type 0} (known : S → Known) (R : S → S → Type 0) where
           whole =
               λ all.
               let w = r.whole all in
-              let from : R (get_or before index d) (get_or now index d) = AllZip-get_or R before now index d d r.kept (omega (arith, below, length_all_zip R before now r.kept)) in
+              let from : R (get_or before index d) (get_or now index d) =
+              AllZip-get_or R before now index d d r.kept (omega (arith, below, length_all_zip R before now r.kept)) in
               let begun : Begins (known (get_or before index d)).seen first.seen =
               All-get_or (λ s. Begins (known s).seen first.seen) before index d (omega (arith, below, length_all_zip R before now r.kept)) all in
               let short : length (known (get_or now index d)).seen ≤ length last.seen =
-              omega (arith, length_begins (known (get_or before index d)).seen first.seen begun, ap length (meets (get_or before index d) (get_or now index d) from).seen, ap length w.0) in
+              omega (
+                arith,
+                length_begins (known (get_or before index d)).seen first.seen begun,
+                ap length (meets (get_or before index d) (get_or now index d) from).seen,
+                ap length w.0,
+              ) in
               let stays = m.stays short in (
                 stays ∙ w.0,
                 AllWithin-more_set now index new below (λ s. entries_of (known s).number last'.seen ≡ (known s).mine)

@@ -1,5 +1,6 @@
 -- Sessions side by side, from round to round.
-use Rattle.std.proofs.Common.{◌≡◌, ℕ, Bool, suc, ◌+◌, ◌<◌, ◌≤◌, List, [], ◌∷◌, ◌++◌, length, map, take, drop, refl, ap, sym, ◌∙◌, subst, Some, arith, length-append, take_all, take-add, zero-add}
+use Rattle.std.proofs.Common.{◌≡◌, ℕ, Bool, suc, ◌+◌, ◌<◌, ◌≤◌, List, [], ◌∷◌, ◌++◌, length, map, take, drop, refl, ap, sym, ◌∙◌, subst, Some, arith}
+use Rattle.std.proofs.Common.{length-append, take_all, take-add, zero-add}
 use Rattle.std.specs.Prelude.{slice_get}
 use Rattle.std.specs.List.{All, AllZip, AllByRecursion}
 use Rattle.std.proofs.lemmas.List.Elements.{All-nil, All-append, recursion_from_All}
@@ -7,12 +8,12 @@ use Rattle.std.proofs.lemmas.List.{length-map}
 use Rattle.xa_xid.specs.declared.statement.Statement.{Statement}
 use Rattle.xa_words.specs.Entry.{Entry}
 use Rattle.xa_server.specs.State.{State}
-use Rattle.decision_log.specs.Known.{Place, newcomer, AllOf}
+use Rattle.decision_log.specs.Known.{LogIdentity, newcomer, AllOf}
 use Rattle.decision_log.specs.declared.known.Known.{Known}
 use Rattle.decision_log.specs.History.{entries_of}
 use Rattle.xa_session.specs.Replay.{state_after}
 use Rattle.xa_session.specs.declared.answer.Answer.{Answer}
-use Rattle.xa_store.specs.Passes.{Pass, home_of, known_of}
+use Rattle.xa_store.specs.Passes.{Pass, log_of, known_of}
 use Rattle.xa_store.specs.Gathered.{IsTakenIn, Keeps, last_known}
 use Rattle.xa_store.specs.Spread.{AllThree}
 use Rattle.xa_store.specs.Legal.{IsLegal}
@@ -26,7 +27,8 @@ use Rattle.xa_store.proofs.Races.{taken_before}
 use Rattle.xa_store.proofs.Later.{state_over, legal_over}
 
 module _ (base : State) (first second : List Entry) where
-  legal_one : (session : ℕ) (statements : List Statement) (old new : Progress) → old.lines.items ≡ statements → IsLegal base first (newcomer session) (take (length old.answers.items) statements) old.answers.items
+  legal_one : (session : ℕ) (statements : List Statement) (old new : Progress) → old.lines.items ≡ statements
+      → IsLegal base first (newcomer session) (take (length old.answers.items) statements) old.answers.items
       → Gains (state_after base first) (length first) second (newcomer session) old new
       → IsLegal base (first ++ second) (newcomer session) (take (length new.answers.items) statements) new.answers.items
   legal_one session statements old new lines legal gains =
@@ -38,13 +40,15 @@ module _ (base : State) (first second : List Entry) where
       let taken : take (length new.answers.items) statements ≡ done ++ more =
       ap (λ n. take n statements) count ∙ take-add (length old.answers.items) (length gains.answers) statements in
       let round : IsLegal (state_after base first) second (newcomer session) more gains.answers =
-      subst (λ list. IsLegal (state_after base first) second (newcomer session) (take (length gains.answers) (drop (length old.answers.items) list)) gains.answers) lines gains.legal in
+      subst (λ list. IsLegal (state_after base first) second (newcomer session)
+      (take (length gains.answers) (drop (length old.answers.items) list)) gains.answers) lines gains.legal in
       subst (λ answers. IsLegal base (first ++ second) (newcomer session) (take (length new.answers.items) statements) answers) (sym gains.more)
       (subst (λ list. IsLegal base (first ++ second) (newcomer session) list (old.answers.items ++ news)) (sym taken)
       (legal_over base first second session done more old.answers.items gains.answers legal round))
 
   -- one round more
-  pub legal_more : (session : ℕ) (lines : List (List Statement)) (olds news : List Progress) → AllLegalSoFar base first session lines olds → AllGain (state_after base first) (length first) second session olds news
+  pub legal_more : (session : ℕ) (lines : List (List Statement)) (olds news : List Progress) → AllLegalSoFar base first session lines olds
+      → AllGain (state_after base first) (length first) second session olds news
       → AllLegalSoFar base (first ++ second) session lines news
   legal_more session [] [] [] far gain = tt
   legal_more session [] [] (new ∷ news) far gain = absurd gain
@@ -58,22 +62,26 @@ module _ (base : State) (first second : List Entry) where
   )
 
 -- before the first round
-pub legal_nothing : (base : State) (session : ℕ) (far : List Progress) → AllByRecursion (λ one. one.answers.items ≡ []) far → AllLegalSoFar base [] session (map (λ one. one.lines.items) far) far
+pub legal_nothing : (base : State) (session : ℕ) (far : List Progress) → AllByRecursion (λ one. one.answers.items ≡ []) far
+    → AllLegalSoFar base [] session (map (λ one. one.lines.items) far) far
 legal_nothing base session [] none = tt
 legal_nothing base session (one ∷ far) none = (
   refl,
-  subst (λ answers. IsLegal base [] (newcomer session) (take (length answers) one.lines.items) answers) (sym none.0) (record { seen = refl; answered = tt; mine = refl }),
+  subst (λ answers. IsLegal base [] (newcomer session) (take (length answers) one.lines.items) answers) (sym none.0)
+      (record { seen = refl; answered = tt; mine = refl }),
   legal_nothing base (session + 1) far none.1,
 )
 
 -- as many sessions as before
-pub legal_count : (base : State) (history : List Entry) (session : ℕ) (lines : List (List Statement)) (far : List Progress) → AllLegalSoFar base history session lines far → length far ≡ length lines
+pub legal_count : (base : State) (history : List Entry) (session : ℕ) (lines : List (List Statement)) (far : List Progress)
+    → AllLegalSoFar base history session lines far → length far ≡ length lines
 legal_count base history session [] [] all = refl
 legal_count base history session [] (one ∷ far) all = absurd all
 legal_count base history session (statements ∷ lines) [] all = absurd all
 legal_count base history session (statements ∷ lines) (one ∷ far) all = ap suc (legal_count base history (session + 1) lines far all.2)
 
-pub legal_lines : (base : State) (history : List Entry) (session : ℕ) (lines : List (List Statement)) (far : List Progress) → AllLegalSoFar base history session lines far → map (λ one. one.lines.items) far ≡ lines
+pub legal_lines : (base : State) (history : List Entry) (session : ℕ) (lines : List (List Statement)) (far : List Progress)
+    → AllLegalSoFar base history session lines far → map (λ one. one.lines.items) far ≡ lines
 legal_lines base history session [] [] all = refl
 legal_lines base history session [] (one ∷ far) all = absurd all
 legal_lines base history session (statements ∷ lines) [] all = absurd all
@@ -81,19 +89,24 @@ legal_lines base history session (statements ∷ lines) (one ∷ far) all =
     ap (λ list. list ∷ map (λ one. one.lines.items) far) all.0 ∙ ap (λ rest. statements ∷ rest) (legal_lines base history (session + 1) lines far all.2)
 
 -- once no statement is left
-pub legal_all : (base : State) (history : List Entry) (session : ℕ) (lines : List (List Statement)) (far : List Progress) → AllLegalSoFar base history session lines far
-    → AllByRecursion (λ one. length one.lines.items ≤ length one.answers.items) far → AllAnswered base history session lines (map (λ one. one.answers.items) far)
+pub legal_all : (base : State) (history : List Entry) (session : ℕ) (lines : List (List Statement)) (far : List Progress)
+    → AllLegalSoFar base history session lines far
+    → AllByRecursion (λ one. length one.lines.items ≤ length one.answers.items) far
+    → AllAnswered base history session lines (map (λ one. one.answers.items) far)
 legal_all base history session [] [] all done = tt
 legal_all base history session [] (one ∷ far) all done = absurd all
 legal_all base history session (statements ∷ lines) [] all done = absurd all
 legal_all base history session (statements ∷ lines) (one ∷ far) all done = (
-  subst (λ list. IsLegal base history (newcomer session) list one.answers.items) (take_all (length one.answers.items) statements (omega (arith, done.0, ap length all.0))) all.1,
+  subst (λ list. IsLegal base history (newcomer session) list one.answers.items)
+      (take_all (length one.answers.items) statements (omega (arith, done.0, ap length all.0))) all.1,
   legal_all base history (session + 1) lines far all.2 done.1,
 )
 
 -- the runs of the sessions 1 to the last
-pub legal_runs : (base : State) (history : List Entry) (from : ℕ) (runs : List Run) (answers : List (List Answer)) → ((index : ℕ) (pass : Pass) → slice_get (map (λ run. run.pass) runs) index ≡ Some pass → known_of pass ≡ newcomer (index + from))
-    → AllAnswered base history from (map (λ run. run.lines.items) runs) answers → AllZip (λ run. IsLegal base history (known_of run.pass) run.lines.items) runs answers
+pub legal_runs : (base : State) (history : List Entry) (from : ℕ) (runs : List Run) (answers : List (List Answer))
+    → ((index : ℕ) (pass : Pass) → slice_get (map (λ run. run.pass) runs) index ≡ Some pass → known_of pass ≡ newcomer (index + from))
+    → AllAnswered base history from (map (λ run. run.lines.items) runs) answers
+    → AllZip (λ run. IsLegal base history (known_of run.pass) run.lines.items) runs answers
 legal_runs base history from [] [] fresh all = tt
 legal_runs base history from [] (a ∷ answers) fresh all = absurd all
 legal_runs base history from (run ∷ runs) [] fresh all = absurd all
@@ -104,7 +117,8 @@ legal_runs base history from (run ∷ runs) (a ∷ answers) fresh all = (
 )
 
 -- a session that the gate can shut is one of them
-pub blamed : (gate : ℕ → ℕ → Bool → Type 0) (lines : List (List Statement)) (index : ℕ) (statements : List Statement) (session : ℕ) (fault : RaceFault) → slice_get lines index ≡ Some statements → session ≡ index + 1
+pub blamed : (gate : ℕ → ℕ → Bool → Type 0) (lines : List (List Statement)) (index : ℕ) (statements : List Statement) (session : ℕ) (fault : RaceFault)
+    → slice_get lines index ≡ Some statements → session ≡ index + 1
     → StopsInRound gate session (length statements) fault → BlamesRounds gate lines fault
 blamed gate lines index statements session (GateShut named line) found number stops = record {
   index = index;
@@ -117,32 +131,38 @@ blamed gate lines index statements session NoMemory found number stops = tt
 blamed gate lines index statements session ThreadRefused found number stops = tt
 
 -- the last of some passes has seen entries of its log's sessions alone
-pub last_among : (place : Place) (passes : List Pass) → AllByRecursion (λ pass. home_of pass ≡ place) passes → AllOf place.sessions (last_known (map known_of passes)).seen
-last_among place [] homes = All-nil (λ entry. (1 ≤ entry.session) × (entry.session ≤ place.sessions))
-last_among place (pass ∷ []) homes = let P : Place → Type 0 = λ p. AllOf p.sessions (known_of pass).seen in subst P homes.0 pass.state.among
-last_among place (pass ∷ other ∷ passes) homes = last_among place (other ∷ passes) homes.1
+pub last_among : (identity : LogIdentity) (passes : List Pass) → AllByRecursion (λ pass. log_of pass ≡ identity) passes
+    → AllOf identity.sessions (last_known (map known_of passes)).seen
+last_among identity [] belong = All-nil (λ entry. (1 ≤ entry.session) × (entry.session ≤ identity.sessions))
+last_among identity (pass ∷ []) belong = let P : LogIdentity → Type 0 = λ p. AllOf p.sessions (known_of pass).seen in subst P belong.0 pass.state.among
+last_among identity (pass ∷ other ∷ passes) belong = last_among identity (other ∷ passes) belong.1
 
 -- fresh passes of a log are no more than its sessions
-fresh_from : (place : Place) (from : ℕ) (passes : List Pass) → AllByRecursion (λ pass. home_of pass ≡ place) passes → ((index : ℕ) (pass : Pass) → slice_get passes index ≡ Some pass → known_of pass ≡ newcomer (index + (from + 1)))
-    → from ≤ place.sessions → length passes + from ≤ place.sessions
-fresh_from place from [] homes fresh below = omega (arith, below)
-fresh_from place from (pass ∷ passes) homes fresh below =
-    let Numbered : Place → Type 0 = λ p. (known_of pass).number ≤ p.sessions in
-    let fits : (known_of pass).number ≤ place.sessions = subst Numbered homes.0 pass.state.last in
+fresh_from : (identity : LogIdentity) (from : ℕ) (passes : List Pass) → AllByRecursion (λ pass. log_of pass ≡ identity) passes
+    → ((index : ℕ) (pass : Pass) → slice_get passes index ≡ Some pass → known_of pass ≡ newcomer (index + (from + 1)))
+    → from ≤ identity.sessions → length passes + from ≤ identity.sessions
+fresh_from identity from [] belong fresh below = omega (arith, below)
+fresh_from identity from (pass ∷ passes) belong fresh below =
+    let Numbered : LogIdentity → Type 0 = λ p. (known_of pass).number ≤ p.sessions in
+    let fits : (known_of pass).number ≤ identity.sessions = subst Numbered belong.0 pass.state.last in
     let number : (known_of pass).number ≡ 0 + (from + 1) = ap (λ known. known.number) (fresh 0 pass refl) in
-    let more : length passes + (from + 1) ≤ place.sessions =
-    fresh_from place (from + 1) passes homes.1
-    (λ index one is. fresh (suc index) one is ∙ ap newcomer (let e : suc index + (from + 1) ≡ index + (from + 1 + 1) = omega arith in e)) (omega (arith, fits, number)) in
+    let more : length passes + (from + 1) ≤ identity.sessions =
+    fresh_from identity (from + 1) passes belong.1
+    (λ index one is. fresh (suc index) one is ∙ ap newcomer (let e : suc index + (from + 1) ≡ index + (from + 1 + 1) = omega arith in e))
+    (omega (arith, fits, number)) in
     omega (arith, more)
 
-pub fresh_few : (place : Place) (passes : List Pass) → All (λ pass. home_of pass ≡ place) passes → AreFresh passes → length passes ≤ place.sessions
-fresh_few place passes homes fresh =
-    let few : length passes + 0 ≤ place.sessions =
-    fresh_from place 0 passes (recursion_from_All (λ pass. home_of pass ≡ place) passes homes) (λ index pass is. fresh index pass is ∙ ap newcomer (let e : index + 1 ≡ index + (0 + 1) = omega arith in e)) (omega arith) in
+pub fresh_few : (identity : LogIdentity) (passes : List Pass) → All (λ pass. log_of pass ≡ identity) passes → AreFresh passes
+    → length passes ≤ identity.sessions
+fresh_few identity passes belong fresh =
+    let few : length passes + 0 ≤ identity.sessions =
+    fresh_from identity 0 passes (recursion_from_All (λ pass. log_of pass ≡ identity) passes belong)
+    (λ index pass is. fresh index pass is ∙ ap newcomer (let e : index + 1 ≡ index + (0 + 1) = omega arith in e)) (omega arith) in
     omega (arith, few)
 
 -- a session of a round, by its pass: the sessions from this number on
-pub all_gain : (base : State) (before : ℕ) (history : List Entry) (from : ℕ) (passes : List Pass) (olds news : List Progress) → ((index : ℕ) (pass : Pass) → slice_get passes index ≡ Some pass → known_of pass ≡ newcomer (index + from))
+pub all_gain : (base : State) (before : ℕ) (history : List Entry) (from : ℕ) (passes : List Pass) (olds news : List Progress)
+    → ((index : ℕ) (pass : Pass) → slice_get passes index ≡ Some pass → known_of pass ≡ newcomer (index + from))
     → AllThree (λ pass old new. Gains base before history (known_of pass) old new) passes olds news → AllGain base before history from olds news
 all_gain base before history from [] [] [] fresh all = tt
 all_gain base before history from [] [] (new ∷ news) fresh all = absurd all
@@ -156,7 +176,8 @@ all_gain base before history from (pass ∷ passes) (old ∷ olds) (new ∷ news
 )
 
 -- what a session was answered in a round, in the history that all have seen in the end
-pub gains_in : (base : State) (before : ℕ) (history : List Entry) (known after last : Known) (old new : Progress) → entries_of after.number after.seen ≡ after.mine → GoesOn base before known after old new → Keeps after last → IsTakenIn history last
+pub gains_in : (base : State) (before : ℕ) (history : List Entry) (known after last : Known) (old new : Progress)
+    → entries_of after.number after.seen ≡ after.mine → GoesOn base before known after old new → Keeps after last → IsTakenIn history last
     → Gains base before history known old new
 gains_in base before history known after last old new part goes keeps taken =
     let gains = goes.gains in
@@ -165,43 +186,56 @@ gains_in base before history known after last old new part goes keeps taken =
       answers = gains.answers;
       more = gains.more;
       legal =
-          legal_longer base history known after (take (length gains.answers) (drop (length old.answers.items) old.lines.items)) gains.answers goes.number part (taken_before history after last keeps taken) gains.legal;
+          legal_longer base history known after (take (length gains.answers) (drop (length old.answers.items) old.lines.items)) gains.answers goes.number part
+          (taken_before history after last keeps taken) gains.legal;
     }
 
 -- all rounds so far: what the sessions were answered in them, and the store and the passes of the next
-pub record IsHeld (base : State) (sessions : ℕ) (lines : List (List Statement)) (history : List Entry) (now : State) (place : Place) (passes : List Pass) (far : List Progress) : Type 0 where
+pub record IsHeld (base : State) (sessions : ℕ) (lines : List (List Statement)) (history : List Entry) (now : State) (identity : LogIdentity)
+    (passes : List Pass)
+    (far : List Progress) : Type 0 where
   pub legal : AllLegalSoFar base history 1 lines far
   pub base_is : now ≡ state_after base history
-  pub sessions_are : place.sessions ≡ sessions
-  pub homes : All (λ pass. home_of pass ≡ place) passes
+  pub sessions_are : identity.sessions ≡ sessions
+  pub belongs : All (λ pass. log_of pass ≡ identity) passes
   pub fresh : AreFresh passes
   pub own : AllOf sessions history
   pub none : length far ≡ 0 → history ≡ []
 
 -- a round more: what it gives with all before it
-module _ (base : State) (sessions : ℕ) (lines : List (List Statement)) (history : List Entry) (now : State) (place : Place) (passes : List Pass) (far : List Progress) (held : IsHeld base sessions lines history now place passes far) where
-  pub round_legal : (round : List Entry) (news : List Progress) → AllGain now (length history) round 1 far news → AllLegalSoFar base (history ++ round) 1 lines news
-  round_legal round news gains = legal_more base history round 1 lines far news held.legal (let P : State → Type 0 = λ s. AllGain s (length history) round 1 far news in subst P held.base_is gains)
+module _ (base : State) (sessions : ℕ) (lines : List (List Statement)) (history : List Entry) (now : State) (identity : LogIdentity) (passes : List Pass)
+    (far : List Progress) (held : IsHeld base sessions lines history now identity passes far) where
+  pub round_legal : (round : List Entry) (news : List Progress) → AllGain now (length history) round 1 far news
+      → AllLegalSoFar base (history ++ round) 1 lines news
+  round_legal round news gains =
+      legal_more base history round 1 lines far news held.legal
+      (let P : State → Type 0 = λ s. AllGain s (length history) round 1 far news in subst P held.base_is gains)
 
-  pub round_own : (round : List Entry) → AllOf place.sessions round → AllOf sessions (history ++ round)
-  round_own round own = let P : ℕ → Type 0 = λ n. AllOf n round in All-append (λ entry. (1 ≤ entry.session) × (entry.session ≤ sessions)) history round held.own (subst P held.sessions_are own)
+  pub round_own : (round : List Entry) → AllOf identity.sessions round → AllOf sessions (history ++ round)
+  round_own round own =
+      let P : ℕ → Type 0 =
+      λ n. AllOf n round in All-append (λ entry. (1 ≤ entry.session) × (entry.session ≤ sessions)) history round held.own (subst P held.sessions_are own)
 
-  pub round_state : (round : List Entry) (left : List Pass) → round ≡ (last_known (map known_of left)).seen → state_after now (last_known (map known_of left)).seen ≡ state_after base (history ++ round)
+  pub round_state : (round : List Entry) (left : List Pass) → round ≡ (last_known (map known_of left)).seen
+      → state_after now (last_known (map known_of left)).seen ≡ state_after base (history ++ round)
   round_state round left last = ap (state_after now) (sym last) ∙ ap (λ s. state_after s round) held.base_is ∙ sym (state_over base history round)
 
   -- no session comes or goes
   pub round_count : (round : List Entry) (news : List Progress) → AllGain now (length history) round 1 far news → length news ≡ length far
-  round_count round news gains = omega (arith, legal_count base (history ++ round) 1 lines news (round_legal round news gains), legal_count base history 1 lines far held.legal)
+  round_count round news gains =
+      omega (arith, legal_count base (history ++ round) 1 lines news (round_legal round news gains), legal_count base history 1 lines far held.legal)
 
   -- the next round begins with all of it
-  pub round_held : (round : List Entry) (left : List Pass) (news : List Progress) (now' : State) (place' : Place) (passes' : List Pass) → AllGain now (length history) round 1 far news → AllOf place.sessions round
-      → round ≡ (last_known (map known_of left)).seen → 0 < length news → now' ≡ state_after now (last_known (map known_of left)).seen → place'.sessions ≡ place.sessions → All (λ pass. home_of pass ≡ place') passes' → AreFresh passes'
-      → IsHeld base sessions lines (history ++ round) now' place' passes' news
-  round_held round left news now' place' passes' gains own last some carried same homes fresh = record {
+  pub round_held : (round : List Entry) (left : List Pass) (news : List Progress) (now' : State) (identity' : LogIdentity) (passes' : List Pass)
+      → AllGain now (length history) round 1 far news → AllOf identity.sessions round
+      → round ≡ (last_known (map known_of left)).seen → 0 < length news → now' ≡ state_after now (last_known (map known_of left)).seen
+      → identity'.sessions ≡ identity.sessions → All (λ pass. log_of pass ≡ identity') passes' → AreFresh passes'
+      → IsHeld base sessions lines (history ++ round) now' identity' passes' news
+  round_held round left news now' identity' passes' gains own last some carried same belong fresh = record {
     legal = round_legal round news gains;
     base_is = carried ∙ round_state round left last;
     sessions_are = same ∙ held.sessions_are;
-    homes = homes;
+    belongs = belong;
     fresh = fresh;
     own = round_own round own;
     none = λ empty. absurd (omega (arith, some, empty));

@@ -1,5 +1,6 @@
 -- Answers of several rounds, in one history.
-use Rattle.std.proofs.Common.{◌≡◌, ◌⊎◌, ℕ, Bool, true, false, cond, zero, suc, ◌+◌, ◌<◌, ◌≤◌, List, [], ◌∷◌, ◌++◌, length, map, take, refl, ap, sym, ◌∙◌, subst, inl, inr, Some, arith, length-append}
+use Rattle.std.proofs.Common.{◌≡◌, ◌⊎◌, ℕ, Bool, true, false, cond, zero, suc, ◌+◌, ◌<◌, ◌≤◌, List, [], ◌∷◌, ◌++◌, length, map, take, refl, ap, sym, ◌∙◌, subst}
+use Rattle.std.proofs.Common.{inl, inr, Some, arith, length-append}
 use Rattle.std.specs.Prelude.{slice_get}
 use Rattle.std.proofs.lemmas.List.Elements.{filter-append}
 use Rattle.xa_xid.specs.declared.statement.Statement.{Statement}
@@ -58,7 +59,8 @@ module _ (base : State) (first second : List Entry) (session : ℕ) where
       }
 
   next_over : (statement : Statement) (answer : Answer) →
-      next_place base (first ++ second) session statement (later (length first) answer) ≡ next_place (state_after base first) second session statement answer + length first
+      next_place base (first ++ second) session statement (later (length first) answer)
+      ≡ next_place (state_after base first) second session statement answer + length first
   next_over statement answer =
       ap (λ s. cond (enters s session statement) ((answer.place + length first) + 1) (answer.place + length first)) (state_at_over answer.place)
       ∙ shift (enters (state_at (state_after base first) second answer.place) session statement)
@@ -81,26 +83,31 @@ module _ (base : State) (first second : List Entry) (session : ℕ) where
   )
 
   entered_over : (from : ℕ) (statements : List Statement) (answers : List Answer) → Answered (state_after base first) second session from statements answers
-      → entered base (first ++ second) session statements (map (later (length first)) answers) ≡ entered (state_after base first) second session statements answers
+      → entered base (first ++ second) session statements (map (later (length first)) answers)
+      ≡ entered (state_after base first) second session statements answers
   entered_over from [] [] before = refl
   entered_over from [] (a ∷ answers) before = absurd before
   entered_over from (s ∷ statements) [] before = absurd before
   entered_over from (s ∷ statements) (a ∷ answers) before =
       let rest = entered_over (next_place (state_after base first) second session s a) statements answers before.2 in
       ap (λ list. cond (enters (state_at base (first ++ second) (a.place + length first)) session s) (entry_of session s ∷ list) list) rest
-      ∙ ap (λ t. cond (enters t session s) (entry_of session s ∷ entered (state_after base first) second session statements answers) (entered (state_after base first) second session statements answers)) (state_at_over a.place)
+      ∙ ap (λ t. cond (enters t session s) (entry_of session s ∷ entered (state_after base first) second session statements answers)
+      (entered (state_after base first) second session statements answers)) (state_at_over a.place)
 
 module _ (base : State) (history : List Entry) (session : ℕ) where
   -- what may stand from one place on may stand from any before it
-  answered_from : (from low : ℕ) (statements : List Statement) (answers : List Answer) → low ≤ from → Answered base history session from statements answers → Answered base history session low statements answers
+  answered_from : (from low : ℕ) (statements : List Statement) (answers : List Answer) → low ≤ from → Answered base history session from statements answers
+      → Answered base history session low statements answers
   answered_from from low [] [] le before = tt
   answered_from from low [] (a ∷ answers) le before = absurd before
   answered_from from low (s ∷ statements) [] le before = absurd before
   answered_from from low (s ∷ statements) (a ∷ answers) le before = (omega (arith, le, before.0), before.1, before.2)
 
   -- answers behind others
-  answered_then : (from : ℕ) (statements : List Statement) (answers : List Answer) (statements' : List Statement) (answers' : List Answer) → Answered base history session from statements answers
-      → Answered base history session (reached base history session from statements answers) statements' answers' → Answered base history session from (statements ++ statements') (answers ++ answers')
+  answered_then : (from : ℕ) (statements : List Statement) (answers : List Answer) (statements' : List Statement) (answers' : List Answer)
+      → Answered base history session from statements answers
+      → Answered base history session (reached base history session from statements answers) statements' answers'
+      → Answered base history session from (statements ++ statements') (answers ++ answers')
   unfolding reached
   answered_then from [] [] statements' answers' before behind = behind
   answered_then from [] (a ∷ answers) statements' answers' before behind = absurd before
@@ -112,8 +119,10 @@ module _ (base : State) (history : List Entry) (session : ℕ) where
   cond_both true x xs ys = refl
   cond_both false x xs ys = refl
 
-  entered_then : (from : ℕ) (statements : List Statement) (answers : List Answer) (statements' : List Statement) (answers' : List Answer) → Answered base history session from statements answers
-      → entered base history session (statements ++ statements') (answers ++ answers') ≡ entered base history session statements answers ++ entered base history session statements' answers'
+  entered_then : (from : ℕ) (statements : List Statement) (answers : List Answer) (statements' : List Statement) (answers' : List Answer)
+      → Answered base history session from statements answers
+      → entered base history session (statements ++ statements') (answers ++ answers')
+      ≡ entered base history session statements answers ++ entered base history session statements' answers'
   entered_then from [] [] statements' answers' before = refl
   entered_then from [] (a ∷ answers) statements' answers' before = absurd before
   entered_then from (s ∷ statements) [] statements' answers' before = absurd before
@@ -124,7 +133,8 @@ module _ (base : State) (history : List Entry) (session : ℕ) where
       ∙ cond_both there (entry_of session s) (entered base history session statements answers) (entered base history session statements' answers')
 
   -- no answer stands behind the history
-  reached_within : (from : ℕ) (statements : List Statement) (answers : List Answer) → from ≤ length history → Answered base history session from statements answers
+  reached_within : (from : ℕ) (statements : List Statement) (answers : List Answer) → from ≤ length history
+      → Answered base history session from statements answers
       → reached base history session from statements answers ≤ length history
   unfolding reached
   reached_within from [] answers within before = within
@@ -132,7 +142,8 @@ module _ (base : State) (history : List Entry) (session : ℕ) where
   reached_within from (s ∷ statements) (a ∷ answers) within before =
       reached_within (next_place base history session s a) statements answers (next_within s a before.1) before.2
     where
-      there : (s : Statement) (a : Answer) → AnswersAt base history session s a.place a.reply → (b : Bool) → enters (state_at base history a.place) session s ≡ b → cond b (a.place + 1) a.place ≤ length history
+      there : (s : Statement) (a : Answer) → AnswersAt base history session s a.place a.reply → (b : Bool)
+          → enters (state_at base history a.place) session s ≡ b → cond b (a.place + 1) a.place ≤ length history
       there s a at true is = let below = get_below history a.place (entry_of session s) (at.next is) in omega (arith, below)
         where
           get_below : (xs : List Entry) (place : ℕ) (x : Entry) → slice_get xs place ≡ Some x → place < length xs
@@ -164,6 +175,7 @@ module _ (base : State) (first second : List Entry) (session : ℕ) (done more :
         mine =
             entries_over session first second
             ∙ ap (λ list. list ++ entries_of session second) (before.mine ∙ sym (entered_longer base first whole session begins 0 done answers before.answered))
-            ∙ ap (λ list. entered base whole session done answers ++ list) (round.mine ∙ sym (entered_over base first second session 0 more news round.answered))
+            ∙ ap (λ list. entered base whole session done answers ++ list)
+            (round.mine ∙ sym (entered_over base first second session 0 more news round.answered))
             ∙ sym (entered_then base whole session 0 done answers more (map (later (length first)) news) old);
       }

@@ -1,5 +1,6 @@
 -- Answers in order: one more of them, and in a longer history.
-use Rattle.std.proofs.Common.{◌≡◌, ◌⊎◌, ℕ, Bool, true, false, cond, ◌+◌, ◌<◌, ◌≤◌, List, [], ◌∷◌, ◌++◌, length, take, refl, ap, sym, ◌∙◌, subst, inl, inr, ⊎_elim, Some, arith, length-append, append-nil}
+use Rattle.std.proofs.Common.{◌≡◌, ◌⊎◌, ℕ, Bool, true, false, cond, ◌+◌, ◌<◌, ◌≤◌, List, [], ◌∷◌, ◌++◌, length, take, refl, ap, sym, ◌∙◌, subst, inl, inr}
+use Rattle.std.proofs.Common.{⊎_elim, Some, arith, length-append, append-nil}
 use Rattle.std.specs.Prelude.{slice_get}
 use borrow.Author.Count.{below_more}
 use Rattle.std.proofs.lemmas.List.{length-take-le, append_assoc}
@@ -28,10 +29,12 @@ either_way false = inr refl
 unfoldable pub reached : State → List Entry → ℕ → ℕ → List Statement → List Answer → ℕ
 reached base history session from [] answers = from
 reached base history session from (statement ∷ statements) [] = from
-reached base history session from (statement ∷ statements) (answer ∷ answers) = reached base history session (next_place base history session statement answer) statements answers
+reached base history session from (statement ∷ statements) (answer ∷ answers) =
+    reached base history session (next_place base history session statement answer) statements answers
 
 module _ (base : State) (history : List Entry) (session : ℕ) where
-  pub answered_more : (from : ℕ) (statements : List Statement) (answers : List Answer) (statement : Statement) (answer : Answer) → Answered base history session from statements answers
+  pub answered_more : (from : ℕ) (statements : List Statement) (answers : List Answer) (statement : Statement) (answer : Answer)
+      → Answered base history session from statements answers
       → reached base history session from statements answers ≤ answer.place → AnswersAt base history session statement answer.place answer.reply
       → Answered base history session from (statements ++ statement ∷ []) (answers ++ answer ∷ [])
   unfolding reached
@@ -41,13 +44,15 @@ module _ (base : State) (history : List Entry) (session : ℕ) where
   answered_more from (s ∷ statements) (a ∷ answers) statement answer before behind at =
       (before.0, before.1, answered_more (next_place base history session s a) statements answers statement answer before.2 behind at)
 
-  pub reached_more : (from : ℕ) (statements : List Statement) (answers : List Answer) (statement : Statement) (answer : Answer) → Answered base history session from statements answers
+  pub reached_more : (from : ℕ) (statements : List Statement) (answers : List Answer) (statement : Statement) (answer : Answer)
+      → Answered base history session from statements answers
       → reached base history session from (statements ++ statement ∷ []) (answers ++ answer ∷ []) ≡ next_place base history session statement answer
   unfolding reached
   reached_more from [] [] statement answer before = refl
   reached_more from [] (a ∷ answers) statement answer before = absurd before
   reached_more from (s ∷ statements) [] statement answer before = absurd before
-  reached_more from (s ∷ statements) (a ∷ answers) statement answer before = reached_more (next_place base history session s a) statements answers statement answer before.2
+  reached_more from (s ∷ statements) (a ∷ answers) statement answer before =
+      reached_more (next_place base history session s a) statements answers statement answer before.2
 
   -- what one statement adds, where it enters
   added : Statement → Answer → List Entry
@@ -57,8 +62,10 @@ module _ (base : State) (history : List Entry) (session : ℕ) where
   cond_front true x xs ys = refl
   cond_front false x xs ys = refl
 
-  entered_more : (from : ℕ) (statements : List Statement) (answers : List Answer) (statement : Statement) (answer : Answer) → Answered base history session from statements answers
-      → entered base history session (statements ++ statement ∷ []) (answers ++ answer ∷ []) ≡ entered base history session statements answers ++ added statement answer
+  entered_more : (from : ℕ) (statements : List Statement) (answers : List Answer) (statement : Statement) (answer : Answer)
+      → Answered base history session from statements answers
+      → entered base history session (statements ++ statement ∷ []) (answers ++ answer ∷ [])
+      ≡ entered base history session statements answers ++ added statement answer
   unfolding added
   entered_more from [] [] statement answer before = refl
   entered_more from [] (a ∷ answers) statement answer before = absurd before
@@ -72,27 +79,33 @@ module _ (base : State) (history : List Entry) (session : ℕ) where
 -- in a longer history
 
 module _ (base : State) (history longer : List Entry) (session : ℕ) (begins : Begins history longer) where
-  answers_longer : (statement : Statement) (answer : Answer) → AnswersAt base history session statement answer.place answer.reply → AnswersAt base longer session statement answer.place answer.reply
+  answers_longer : (statement : Statement) (answer : Answer) → AnswersAt base history session statement answer.place answer.reply
+      → AnswersAt base longer session statement answer.place answer.reply
   answers_longer statement answer at =
       let same = state_at-begins base history longer answer.place begins at.within in
       record {
         within = omega (arith, length_begins history longer begins, at.within);
         reply_is = at.reply_is ∙ ap (λ s. reply_to s session statement) (sym same);
-        next = λ entering. get_begins history longer answer.place (entry_of session statement) begins (at.next (ap (λ s. enters s session statement) (sym same) ∙ entering));
+        next =
+            λ entering. get_begins history longer answer.place (entry_of session statement) begins
+            (at.next (ap (λ s. enters s session statement) (sym same) ∙ entering));
       }
 
-  next_longer : (statement : Statement) (answer : Answer) → AnswersAt base history session statement answer.place answer.reply → next_place base longer session statement answer ≡ next_place base history session statement answer
+  next_longer : (statement : Statement) (answer : Answer) → AnswersAt base history session statement answer.place answer.reply
+      → next_place base longer session statement answer ≡ next_place base history session statement answer
   next_longer statement answer at =
       ap (λ s. cond (enters s session statement) (answer.place + 1) answer.place) (state_at-begins base history longer answer.place begins at.within)
 
-  pub answered_longer : (from : ℕ) (statements : List Statement) (answers : List Answer) → Answered base history session from statements answers → Answered base longer session from statements answers
+  pub answered_longer : (from : ℕ) (statements : List Statement) (answers : List Answer) → Answered base history session from statements answers
+      → Answered base longer session from statements answers
   answered_longer from [] [] before = tt
   answered_longer from [] (a ∷ answers) before = absurd before
   answered_longer from (s ∷ statements) [] before = absurd before
   answered_longer from (s ∷ statements) (a ∷ answers) before = (
     before.0,
     answers_longer s a before.1,
-    subst (λ n. Answered base longer session n statements answers) (sym (next_longer s a before.1)) (answered_longer (next_place base history session s a) statements answers before.2),
+    subst (λ n. Answered base longer session n statements answers) (sym (next_longer s a before.1))
+        (answered_longer (next_place base history session s a) statements answers before.2),
   )
 
   pub reached_longer : (from : ℕ) (statements : List Statement) (answers : List Answer) → Answered base history session from statements answers
@@ -102,7 +115,8 @@ module _ (base : State) (history longer : List Entry) (session : ℕ) (begins : 
   reached_longer from [] (a ∷ answers) before = absurd before
   reached_longer from (s ∷ statements) [] before = absurd before
   reached_longer from (s ∷ statements) (a ∷ answers) before =
-      ap (λ n. reached base longer session n statements answers) (next_longer s a before.1) ∙ reached_longer (next_place base history session s a) statements answers before.2
+      ap (λ n. reached base longer session n statements answers) (next_longer s a before.1)
+      ∙ reached_longer (next_place base history session s a) statements answers before.2
 
   pub entered_longer : (from : ℕ) (statements : List Statement) (answers : List Answer) → Answered base history session from statements answers
       → entered base longer session statements answers ≡ entered base history session statements answers
@@ -113,7 +127,8 @@ module _ (base : State) (history longer : List Entry) (session : ℕ) (begins : 
       let same = state_at-begins base history longer a.place begins before.1.within in
       let rest = entered_longer (next_place base history session s a) statements answers before.2 in
       ap (λ list. cond (enters (state_at base longer a.place) session s) (entry_of session s ∷ list) list) rest
-      ∙ ap (λ t. cond (enters t session s) (entry_of session s ∷ entered base history session statements answers) (entered base history session statements answers)) same
+      ∙ ap (λ t. cond (enters t session s) (entry_of session s ∷ entered base history session statements answers)
+      (entered base history session statements answers)) same
 
 -- one session's answers up to now: legal in what it has seen, and none stands behind that
 pub record IsOnTheWay (base : State) (old now : Known) (statements : List Statement) (answers : List Answer) : Type 0 where
@@ -131,7 +146,8 @@ sets_out base old part = record {
 
 module _ (base : State) (old now new : Known) (statements : List Statement) (answers : List Answer) (statement : Statement) (answer : Answer) where
   -- what the session has added so far
-  mine_more : entries_of now.number now.seen ≡ now.mine → entries_of new.number new.seen ≡ new.mine → IsOnTheWay base old now statements answers → IsAnswered base statement answer now new
+  mine_more : entries_of now.number now.seen ≡ now.mine → entries_of new.number new.seen ≡ new.mine → IsOnTheWay base old now statements answers
+      → IsAnswered base statement answer now new
       → entries_of old.number new.seen ≡ old.mine ++ entered base new.seen old.number (statements ++ statement ∷ []) (answers ++ answer ∷ [])
   unfolding added
   mine_more part part' way is =
@@ -146,7 +162,8 @@ module _ (base : State) (old now new : Known) (statements : List Statement) (ans
       sym part ∙ ap (λ n. entries_of n now.seen) number ∙ legal.mine ∙ ap (λ list. old.mine ++ list) (sym same) in
       let Gets : List Entry → Type 0 = λ list. new.mine ≡ now.mine ++ list in
       let enters_there = enters (state_at base new.seen answer.place) now.number statement in
-      let there : enters_there ≡ enters (state_at base new.seen answer.place) old.number statement = ap (λ n. enters (state_at base new.seen answer.place) n statement) number in
+      let there : enters_there ≡ enters (state_at base new.seen answer.place) old.number statement =
+      ap (λ n. enters (state_at base new.seen answer.place) n statement) number in
       let gets : Gets (added base new.seen old.number statement answer) =
       ⊎_elim
       (λ entering. subst (λ b. Gets (cond b (entry_of old.number statement ∷ []) [])) (sym entering ∙ there)
@@ -161,15 +178,22 @@ module _ (base : State) (old now new : Known) (statements : List Statement) (ans
   within_more : IsAnswered base statement answer now new → now.number ≡ old.number → next_place base new.seen old.number statement answer ≤ length new.seen
   within_more is number =
       let enters_there = enters (state_at base new.seen answer.place) now.number statement in
-      let there : enters_there ≡ enters (state_at base new.seen answer.place) old.number statement = ap (λ n. enters (state_at base new.seen answer.place) n statement) number in
+      let there : enters_there ≡ enters (state_at base new.seen answer.place) old.number statement =
+      ap (λ n. enters (state_at base new.seen answer.place) n statement) number in
       ⊎_elim
       (λ entering. subst (λ b. cond b (answer.place + 1) answer.place ≤ length new.seen) (sym entering ∙ there)
       (let e = is.entered entering in
-      omega (arith, ap length e.seen, length-append (take answer.place new.seen) (entry_of now.number statement ∷ []), length-take-le answer.place new.seen is.at.within)))
+      omega (
+        arith,
+        ap length e.seen,
+        length-append (take answer.place new.seen) (entry_of now.number statement ∷ []),
+        length-take-le answer.place new.seen is.at.within,
+      )))
       (λ other. subst (λ b. cond b (answer.place + 1) answer.place ≤ length new.seen) (sym other ∙ there) is.at.within)
       (either_way enters_there)
 
-  pub goes_on : entries_of now.number now.seen ≡ now.mine → entries_of new.number new.seen ≡ new.mine → IsOnTheWay base old now statements answers → IsAnswered base statement answer now new
+  pub goes_on : entries_of now.number now.seen ≡ now.mine → entries_of new.number new.seen ≡ new.mine → IsOnTheWay base old now statements answers
+      → IsAnswered base statement answer now new
       → IsOnTheWay base old new (statements ++ statement ∷ []) (answers ++ answer ∷ [])
   goes_on part part' way is =
       let begins = is.advances.seen in
@@ -181,16 +205,19 @@ module _ (base : State) (old now new : Known) (statements : List Statement) (ans
         legal = record {
           seen = begins_through old.seen now.seen new.seen legal.seen begins;
           answered =
-              answered_more base new.seen old.number (length old.seen) statements answers statement answer answered' (omega (arith, reached', way.within, is.not_before))
+              answered_more base new.seen old.number (length old.seen) statements answers statement answer answered'
+              (omega (arith, reached', way.within, is.not_before))
               (subst (λ n. AnswersAt base new.seen n statement answer.place answer.reply) way.number is.at);
           mine = mine_more part part' way is;
         };
         within =
-            subst (λ n. n ≤ length new.seen) (sym (reached_more base new.seen old.number (length old.seen) statements answers statement answer answered')) (within_more is way.number);
+            subst (λ n. n ≤ length new.seen) (sym (reached_more base new.seen old.number (length old.seen) statements answers statement answer answered'))
+            (within_more is way.number);
       }
 
 -- what is legal in what the session has seen is so in every history that has all that it knows
-pub legal_longer : (base : State) (history : List Entry) (old new : Known) (statements : List Statement) (answers : List Answer) → new.number ≡ old.number → entries_of new.number new.seen ≡ new.mine → IsTakenIn history new
+pub legal_longer : (base : State) (history : List Entry) (old new : Known) (statements : List Statement) (answers : List Answer) → new.number ≡ old.number
+    → entries_of new.number new.seen ≡ new.mine → IsTakenIn history new
     → IsLegal base new.seen old statements answers → IsLegal base history old statements answers
 legal_longer base history old new statements answers number part taken legal = record {
   seen = begins_through old.seen new.seen history legal.seen taken.seen;
@@ -205,9 +232,12 @@ pub lets_in_more : (gate : ℕ → ℕ → Bool → Type 0) (session count : ℕ
 lets_in_more gate session count before here = below_more (λ line. gate session line true) count before here
 
 -- a fault at one statement is a fault of the run
-module _ (gate : ℕ → ℕ → Bool → Type 0) (base : State) (capacity : ℕ) (before now new : Known) (statements : List Statement) (answers : List Answer) (place : ℕ) (statement : Statement) where
-  pub stops : (fault : RaceFault) → place < length statements → slice_get statements place ≡ Some statement → entries_of now.number now.seen ≡ now.mine → entries_of new.number new.seen ≡ new.mine
-      → IsOnTheWay base before now (take place statements) answers → Halts gate base capacity statement place fault now new → Stops gate base capacity before statements fault
+module _ (gate : ℕ → ℕ → Bool → Type 0) (base : State) (capacity : ℕ) (before now new : Known) (statements : List Statement) (answers : List Answer) (place : ℕ)
+    (statement : Statement) where
+  pub stops : (fault : RaceFault) → place < length statements → slice_get statements place ≡ Some statement → entries_of now.number now.seen ≡ now.mine
+      → entries_of new.number new.seen ≡ new.mine
+      → IsOnTheWay base before now (take place statements) answers → Halts gate base capacity statement place fault now new
+      → Stops gate base capacity before statements fault
   stops (GateShut session line) below given part part' way is = record {
     history = now.seen;
     reached = record {

@@ -1,5 +1,6 @@
 -- One session in a round: an answer more, and no room for more.
-use Rattle.std.proofs.Common.{◌≡◌, ℕ, zero, suc, ◌+◌, List, [], ◌∷◌, ◌++◌, length, map, take, drop, refl, ap, sym, ◌∙◌, subst, Some, arith, length-append, append-nil}
+use Rattle.std.proofs.Common.{◌≡◌, ℕ, zero, suc, ◌+◌, List, [], ◌∷◌, ◌++◌, length, map, take, drop, refl, ap, sym, ◌∙◌, subst, Some, arith, length-append}
+use Rattle.std.proofs.Common.{append-nil}
 use Rattle.std.specs.Prelude.{slice_get}
 use Rattle.std.proofs.lemmas.List.{length-map, append_assoc}
 use Rattle.xa_xid.specs.declared.statement.Statement.{Statement}
@@ -35,11 +36,14 @@ pub record IsOnTheRound (base : State) (count : ℕ) (old now : Known) (statemen
   pub more : after ≡ before ++ map (later count) answers
   pub way : IsOnTheWay base old now (take (length answers) (drop (length before) statements)) answers
 
-pub round_begins : (base : State) (count : ℕ) (old : Known) (statements : List Statement) (before : List Answer) → entries_of old.number old.seen ≡ old.mine → IsOnTheRound base count old old statements before before
+pub round_begins : (base : State) (count : ℕ) (old : Known) (statements : List Statement) (before : List Answer) → entries_of old.number old.seen ≡ old.mine
+    → IsOnTheRound base count old old statements before before
 round_begins base count old statements before part = record { answers = []; more = sym (append-nil before); way = sets_out base old part }
 
-pub round_goes_on : (base : State) (count : ℕ) (old now new : Known) (statements : List Statement) (before after : List Answer) (statement : Statement) (answer : Answer) → entries_of now.number now.seen ≡ now.mine
-    → entries_of new.number new.seen ≡ new.mine → IsOnTheRound base count old now statements before after → slice_get statements (length after) ≡ Some statement → IsAnswered base statement answer now new
+pub round_goes_on : (base : State) (count : ℕ) (old now new : Known) (statements : List Statement) (before after : List Answer) (statement : Statement)
+    (answer : Answer) → entries_of now.number now.seen ≡ now.mine
+    → entries_of new.number new.seen ≡ new.mine → IsOnTheRound base count old now statements before after → slice_get statements (length after) ≡ Some statement
+    → IsAnswered base statement answer now new
     → IsOnTheRound base count old new statements before (after ++ later count answer ∷ [])
 round_goes_on base count old now new statements before after statement answer part part' round given is =
     let rest = drop (length before) statements in
@@ -58,7 +62,8 @@ round_goes_on base count old now new statements before after statement answer pa
           (goes_on base old now new (take place rest) round.answers statement answer part part' round.way is);
     }
 
-pub round_ends : (base : State) (count : ℕ) (old now : Known) (told told' : Progress) → told'.lines.items ≡ told.lines.items → IsOnTheRound base count old now told.lines.items told.answers.items told'.answers.items
+pub round_ends : (base : State) (count : ℕ) (old now : Known) (told told' : Progress) → told'.lines.items ≡ told.lines.items
+    → IsOnTheRound base count old now told.lines.items told.answers.items told'.answers.items
     → GoesOn base count old now told told'
 round_ends base count old now told told' lines round = record {
   number = round.way.number;
@@ -66,7 +71,8 @@ round_ends base count old now told told' lines round = record {
 }
 
 -- a statement for which there was no room has added nothing
-pub round_stays : (base : State) (count : ℕ) (old now new : Known) (told told' : Progress) → told'.lines.items ≡ told.lines.items → entries_of now.number now.seen ≡ now.mine → entries_of new.number new.seen ≡ new.mine
+pub round_stays : (base : State) (count : ℕ) (old now new : Known) (told told' : Progress) → told'.lines.items ≡ told.lines.items
+    → entries_of now.number now.seen ≡ now.mine → entries_of new.number new.seen ≡ new.mine
     → IsOnTheRound base count old now told.lines.items told.answers.items told'.answers.items → IsUnanswered now new → GoesOn base count old new told told'
 round_stays base count old now new told told' lines part part' round unanswered =
     let taken : IsTakenIn new.seen now = record {
@@ -80,6 +86,7 @@ round_stays base count old now new told told' lines part part' round unanswered 
         answers = round.answers;
         more = round.more;
         legal =
-            legal_longer base new.seen old now (take (length round.answers) (drop (length told.answers.items) told.lines.items)) round.answers round.way.number part taken round.way.legal;
+            legal_longer base new.seen old now
+            (take (length round.answers) (drop (length told.answers.items) told.lines.items)) round.answers round.way.number part taken round.way.legal;
       };
     }

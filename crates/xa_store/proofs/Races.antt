@@ -7,7 +7,7 @@ use Rattle.xa_server.specs.State.{State}
 use Rattle.decision_log.specs.declared.known.Known.{Known}
 use Rattle.decision_log.specs.History.{entries_of}
 use Rattle.decision_log.proofs.Histories.{begins_through}
-use Rattle.xa_store.specs.Passes.{home_of, known_of}
+use Rattle.xa_store.specs.Passes.{log_of, known_of}
 use Rattle.xa_session.specs.declared.answer.Answer.{Answer}
 use Rattle.xa_store.specs.Gathered.{IsTakenIn, Keeps}
 use Rattle.xa_store.specs.Legal.{IsLegal, Stops, Blames}
@@ -25,13 +25,14 @@ taken_before history old new keeps taken = record {
 }
 
 -- a run's answers are legal in a history that has all that its pass knows in the end
-pub legal_in : (gate : ℕ → ℕ → Bool → Type 0) (base : State) (history : List Entry) (old new last : Known) (statements : List Statement) (answers : List Answer) → entries_of new.number new.seen ≡ new.mine → HasAnswered gate base old new statements answers
+pub legal_in : (gate : ℕ → ℕ → Bool → Type 0) (base : State) (history : List Entry) (old new last : Known) (statements : List Statement) (answers : List Answer)
+    → entries_of new.number new.seen ≡ new.mine → HasAnswered gate base old new statements answers
     → Keeps new last → IsTakenIn history last → IsLegal base history old statements answers
 legal_in gate base history old new last statements answers part answered keeps taken =
     legal_longer base history old new statements answers answered.number part (taken_before history new last keeps taken) answered.legal
 
 pub blames : (gate : ℕ → ℕ → Bool → Type 0) (base : State) (runs : List Run) (index : ℕ) (run : Run) (fault : RaceFault) → slice_get runs index ≡ Some run
-    → Stops gate base (home_of run.pass).capacity (known_of run.pass) run.lines.items fault → Blames gate base runs fault
+    → Stops gate base (log_of run.pass).capacity (known_of run.pass) run.lines.items fault → Blames gate base runs fault
 blames gate base runs index run (GateShut session line) found is = record { index = index; run = run; found = found; stops = is }
 blames gate base runs index run (Full session line) found is = record { index = index; run = run; found = found; stops = is }
 blames gate base runs index run NoMemory found is = tt

@@ -7,7 +7,8 @@ use Rattle.xa_store.specs.Spread.{AllThree}
 use Rattle.xa_store.proofs.Spreading.{three_all}
 
 -- what holds of each first holds of each third
-pub three_last : {A B C : Type 0} (R : A → B → C → Type 0) (P : A → Type 0) (Q : C → Type 0) → ((a : A) (b : B) (c : C) → R a b c → P a → Q c) → (xs : List A) (ys : List B) (zs : List C) → AllThree R xs ys zs → AllByRecursion P xs → AllByRecursion Q zs
+pub three_last : {A B C : Type 0} (R : A → B → C → Type 0) (P : A → Type 0) (Q : C → Type 0) → ((a : A) (b : B) (c : C) → R a b c → P a → Q c)
+    → (xs : List A) (ys : List B) (zs : List C) → AllThree R xs ys zs → AllByRecursion P xs → AllByRecursion Q zs
 three_last R P Q keep [] [] [] all is = tt
 three_last R P Q keep [] [] (c ∷ zs) all is = absurd all
 three_last R P Q keep [] (b ∷ ys) zs all is = absurd all
@@ -16,8 +17,10 @@ three_last R P Q keep (a ∷ xs) (b ∷ ys) [] all is = absurd all
 three_last R P Q keep (a ∷ xs) (b ∷ ys) (c ∷ zs) all is = (keep a b c all.0 is.0, three_last R P Q keep xs ys zs all.1 is.1)
 
 -- what holds of each first holds of what its third becomes
-pub three_become : {A B C D F : Type 0} (R : A → B → C → Type 0) (H : C → D → F → Type 0) (P : A → Type 0) (P' : C → Type 0) (Q : D → Type 0) → ((a : A) (b : B) (c : C) → R a b c → P a → P' c) → ((c : C) (d : D) (f : F) → H c d f → P' c → Q d)
-    → (xs : List A) (ys : List B) (zs : List C) (ws : List D) (us : List F) → AllThree R xs ys zs → AllThree H zs ws us → AllByRecursion P xs → AllByRecursion Q ws
+pub three_become : {A B C D F : Type 0} (R : A → B → C → Type 0) (H : C → D → F → Type 0) (P : A → Type 0) (P' : C → Type 0) (Q : D → Type 0)
+    → ((a : A) (b : B) (c : C) → R a b c → P a → P' c) → ((c : C) (d : D) (f : F) → H c d f → P' c → Q d)
+    → (xs : List A) (ys : List B) (zs : List C) (ws : List D) (us : List F) → AllThree R xs ys zs → AllThree H zs ws us → AllByRecursion P xs
+    → AllByRecursion Q ws
 three_become R H P P' Q keep keep' xs ys zs ws us three went is = three_all H P' Q keep' zs ws us went (three_last R P P' keep xs ys zs three is)
 
 -- the lists have one length
@@ -44,15 +47,18 @@ zip_lengths K (a ∷ xs) [] zip = absurd zip
 zip_lengths K (a ∷ xs) (b ∷ ys) zip = ap suc (zip_lengths K xs ys zip.1)
 
 -- what holds of each first holds of each second
-pub zip_all : {A B : Type 0} (K : A → B → Type 0) (P : A → Type 0) (Q : B → Type 0) → ((a : A) (b : B) → K a b → P a → Q b) → (xs : List A) (ys : List B) → AllZip K xs ys → AllByRecursion P xs → AllByRecursion Q ys
+pub zip_all : {A B : Type 0} (K : A → B → Type 0) (P : A → Type 0) (Q : B → Type 0) → ((a : A) (b : B) → K a b → P a → Q b) → (xs : List A) (ys : List B)
+    → AllZip K xs ys → AllByRecursion P xs → AllByRecursion Q ys
 zip_all K P Q keep [] [] zip is = tt
 zip_all K P Q keep [] (b ∷ ys) zip is = absurd zip
 zip_all K P Q keep (a ∷ xs) [] zip is = absurd zip
 zip_all K P Q keep (a ∷ xs) (b ∷ ys) zip is = (keep a b zip.0 is.0, zip_all K P Q keep xs ys zip.1 is.1)
 
 -- what a place's third becomes, and what that leaves
-pub three_ended : {A B C D E F : Type 0} (R : A → B → C → Type 0) (H : C → D → F → Type 0) (W : D → E → Type 0) (Q : A → B → F → Type 0) → ((a : A) (b : B) (c : C) (d : D) (e : E) (f : F) → R a b c → H c d f → W d e → Q a b f)
-    → (xs : List A) (ys : List B) (zs : List C) (ws : List D) (vs : List E) (us : List F) → AllThree R xs ys zs → AllThree H zs ws us → AllZip W ws vs → AllThree Q xs ys us
+pub three_ended : {A B C D E F : Type 0} (R : A → B → C → Type 0) (H : C → D → F → Type 0) (W : D → E → Type 0) (Q : A → B → F → Type 0)
+    → ((a : A) (b : B) (c : C) (d : D) (e : E) (f : F) → R a b c → H c d f → W d e → Q a b f)
+    → (xs : List A) (ys : List B) (zs : List C) (ws : List D) (vs : List E) (us : List F) → AllThree R xs ys zs → AllThree H zs ws us → AllZip W ws vs
+    → AllThree Q xs ys us
 three_ended R H W Q keep [] [] [] [] vs [] three went wound = tt
 three_ended R H W Q keep [] [] [] [] vs (f ∷ us) three went wound = absurd went
 three_ended R H W Q keep [] [] [] (d ∷ ws) vs us three went wound = absurd went
@@ -77,7 +83,8 @@ pub record IsBeside {A B C : Type 0} (R : A → B → C → Type 0) (xs : List A
 never : {A : Type 0} (x : A) → None ≡ Some x → ⊥
 never x is = cc
 
-pub three_get : {A B C : Type 0} (R : A → B → C → Type 0) (xs : List A) (ys : List B) (zs : List C) (place : ℕ) (z : C) → AllThree R xs ys zs → slice_get zs place ≡ Some z → IsBeside R xs ys place z
+pub three_get : {A B C : Type 0} (R : A → B → C → Type 0) (xs : List A) (ys : List B) (zs : List C) (place : ℕ) (z : C) → AllThree R xs ys zs
+    → slice_get zs place ≡ Some z → IsBeside R xs ys place z
 three_get R [] [] [] place z all is = absurd (never z is)
 three_get R [] [] (c ∷ zs) place z all is = absurd all
 three_get R [] (b ∷ ys) zs place z all is = absurd all

@@ -24,7 +24,7 @@ use Rattle.decision_log.specs.History.{Begins, entries_of}
 use Rattle.xa_session.specs.Replay.{state_after, state_at}
 use Rattle.xa_session.specs.Answer.{entry_of, AnswersAt, IsFull}
 use Rattle.xa_session.specs.declared.answer.Answer.{Answer}
-use Rattle.xa_store.specs.Passes.{Pass, home_of, known_of}
+use Rattle.xa_store.specs.Passes.{Pass, log_of, known_of}
 use Rattle.xa_store.specs.Gathered.{IsTakenIn, last_known}
 use Rattle.xa_store.specs.declared.run.Run.{Run}
 use Rattle.xa_store.specs.declared.outcome.Outcome.{Outcome}
@@ -49,7 +49,8 @@ module _ (base : State) (history : List Entry) (session : ℕ) where
   entered [] answers = []
   entered (statement ∷ statements) [] = []
   entered (statement ∷ statements) (answer ∷ answers) =
-      cond (enters (state_at base history answer.place) session statement) (entry_of session statement ∷ entered statements answers) (entered statements answers)
+      cond (enters (state_at base history answer.place) session statement) (entry_of session statement ∷ entered statements answers)
+      (entered statements answers)
 
 -- the history begins with what the session had seen, explains its answers, and has of its number what it had and what has entered, in order
 pub record IsLegal (base : State) (history : List Entry) (before : Known) (statements : List Statement) (answers : List Answer) : Type 0 where
@@ -63,7 +64,7 @@ Legal base history runs answers = AllZip (λ run. IsLegal base history (known_of
 
 -- the pass has the run's number and log, and the history has all that it knows
 pub record IsReturned (history : List Entry) (run : Run) (pass : Pass) : Type 0 where
-  pub home : home_of pass ≡ home_of run.pass
+  pub belongs : log_of pass ≡ log_of run.pass
   pub number : (known_of pass).number ≡ (known_of run.pass).number
   pub taken_in : IsTakenIn history (known_of pass)
 
@@ -123,7 +124,7 @@ pub record IsBlamed (gate : ℕ → ℕ → Bool → Type 0) (base : State) (run
   pub index : ℕ
   pub run : Run
   pub found : slice_get runs index ≡ Some run
-  pub stops : Stops gate base (home_of run.pass).capacity (known_of run.pass) run.lines.items fault
+  pub stops : Stops gate base (log_of run.pass).capacity (known_of run.pass) run.lines.items fault
 
 -- a gate that shut, and a full history, are those of a run
 abbrev pub Blames : (ℕ → ℕ → Bool → Type 0) → State → List Run → RaceFault → Type 0

@@ -1,7 +1,7 @@
 -- What a contract sees of a store's passes, in the words of the store's log. With another log this file changes, and no clause does.
 --     Pass            a pass of the log
---     place_of        which log it is
---     home_of         of which log a pass is
+--     identity_of     which log it is
+--     log_of          of which log a pass is
 --     known_of        what a pass knows
 pub use Rattle.chain_log.specs.declared.pass.ChainPass.{ChainPass as Pass}
-pub use Rattle.chain_log.specs.ChainPass.{place_of, home_of, known_of}
+pub use Rattle.chain_log.specs.ChainPass.{identity_of, log_of, known_of}

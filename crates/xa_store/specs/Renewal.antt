@@ -9,8 +9,8 @@ use Rattle.xa_xid.specs.declared.statement.Statement.TheVariants.{Disconnect}
 use Rattle.xa_server.specs.State.{State}
 use Rattle.xa_server.specs.Step.{after}
 use Rattle.xa_session.specs.Replay.{state_after}
-use Rattle.decision_log.specs.Known.{Place}
-use Rattle.xa_store.specs.Passes.{Pass, home_of, known_of}
+use Rattle.decision_log.specs.Known.{LogIdentity}
+use Rattle.xa_store.specs.Passes.{Pass, log_of, known_of}
 use Rattle.xa_store.specs.Gathered.{IsTakenIn, last_known}
 
 -- the state once sessions 1 to the last have disconnected, in order
@@ -23,7 +23,7 @@ abbrev pub renewed : State → List Entry → ℕ → State
 renewed base history sessions = disconnected sessions (state_after base history)
 
 -- passes of this log, at least one, of which the last has seen what each has, and has just the entries of each one's number that this one knows as its own
-pub record AreGathered (place : Place) (passes : List Pass) : Type 0 where
+pub record AreGathered (identity : LogIdentity) (passes : List Pass) : Type 0 where
   pub some : 0 < length passes
-  pub homes : All (λ pass. home_of pass ≡ place) passes
+  pub belongs : All (λ pass. log_of pass ≡ identity) passes
   pub whole : All (λ pass. IsTakenIn (last_known (map known_of passes)).seen (known_of pass)) passes

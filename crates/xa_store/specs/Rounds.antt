@@ -15,7 +15,7 @@ use Rattle.std.specs.Prelude.{◌≡◌, ◌<◌, ◌+◌, ℕ, Bool, false, Lis
 use Rattle.xa_xid.specs.declared.statement.Statement.{Statement}
 use Rattle.xa_words.specs.Entry.{Entry}
 use Rattle.xa_server.specs.State.{State}
-use Rattle.decision_log.specs.Known.{Place, newcomer}
+use Rattle.decision_log.specs.Known.{LogIdentity, newcomer}
 use Rattle.decision_log.specs.declared.known.Known.{Known}
 use Rattle.xa_session.specs.declared.answer.Answer.{Answer}
 use Rattle.xa_store.specs.Passes.{Pass, known_of}
@@ -41,9 +41,11 @@ pub record GoesOn (base : State) (before : ℕ) (known after : Known) (old new :
   pub gains : Gains base before after.seen known old new
 
 -- a session's base, its pass and how far it has come, before a round and after it
-pub record HasGoneOn {Pass : Type 0} (home : Pass → Place) (known : Pass → Known) (base : State) (pass : Pass) (before : ℕ) (old : Progress) (base' : State) (pass' : Pass) (new : Progress) : Type 0 where
+pub record HasGoneOn {Pass : Type 0} (belongs_to : Pass → LogIdentity) (known : Pass → Known) (base : State) (pass : Pass) (before : ℕ) (old : Progress)
+    (base' : State)
+    (pass' : Pass) (new : Progress) : Type 0 where
   pub same_base : base' ≡ base
-  pub same_log : home pass' ≡ home pass
+  pub same_log : belongs_to pass' ≡ belongs_to pass
   pub goes_on : GoesOn base before (known pass) (known pass') old new
 
 -- the sessions from this number on
@@ -51,7 +53,8 @@ abbrev pub AllGain : State → ℕ → List Entry → ℕ → List Progress → 
 AllGain base before history session [] [] = Unit {0}
 AllGain base before history session [] (new ∷ news) = ⊥
 AllGain base before history session (old ∷ olds) [] = ⊥
-AllGain base before history session (old ∷ olds) (new ∷ news) = Gains base before history (newcomer session) old new × AllGain base before history (session + 1) olds news
+AllGain base before history session (old ∷ olds) (new ∷ news) =
+    Gains base before history (newcomer session) old new × AllGain base before history (session + 1) olds news
 
 -- the statements of the sessions from this number on, of which the first were answered, legally in the history of all rounds
 abbrev pub AllLegalSoFar : State → List Entry → ℕ → List (List Statement) → List Progress → Type 0
@@ -59,14 +62,16 @@ AllLegalSoFar base history session [] [] = Unit {0}
 AllLegalSoFar base history session [] (one ∷ others) = ⊥
 AllLegalSoFar base history session (statements ∷ rest) [] = ⊥
 AllLegalSoFar base history session (statements ∷ rest) (one ∷ others) =
-    (one.lines.items ≡ statements) × IsLegal base history (newcomer session) (take (length one.answers.items) statements) one.answers.items × AllLegalSoFar base history (session + 1) rest others
+    (one.lines.items ≡ statements) × IsLegal base history (newcomer session) (take (length one.answers.items) statements) one.answers.items
+    × AllLegalSoFar base history (session + 1) rest others
 
 -- all statements of the sessions from this number on were answered, legally in the history
 abbrev pub AllAnswered : State → List Entry → ℕ → List (List Statement) → List (List Answer) → Type 0
 AllAnswered base history session [] [] = Unit {0}
 AllAnswered base history session [] (answers ∷ others) = ⊥
 AllAnswered base history session (statements ∷ rest) [] = ⊥
-AllAnswered base history session (statements ∷ rest) (answers ∷ others) = IsLegal base history (newcomer session) statements answers × AllAnswered base history (session + 1) rest others
+AllAnswered base history session (statements ∷ rest) (answers ∷ others) =
+    IsLegal base history (newcomer session) statements answers × AllAnswered base history (session + 1) rest others
 
 -- sessions 1 to the last, none of which has seen or added anything
 abbrev pub AreFresh : List Pass → Type 0

@@ -7,7 +7,7 @@
 use Rattle.std.specs.Prelude.{◌≡◌, ◌⊎◌, ℕ, Bool, List, [], ◌∷◌, length, slice_get, Some}
 use Rattle.xa_xid.specs.declared.statement.Statement.{Statement}
 use Rattle.xa_server.specs.State.{State}
-use Rattle.decision_log.specs.Known.{Place}
+use Rattle.decision_log.specs.Known.{LogIdentity}
 use Rattle.decision_log.specs.declared.known.Known.{Known}
 use Rattle.xa_session.specs.declared.answer.Answer.{Answer}
 use Rattle.xa_store.specs.Legal.{IsLegal, LetsIn}
@@ -21,9 +21,10 @@ pub record HasAnswered (gate : ℕ → ℕ → Bool → Type 0) (base : State) (
   pub opened : LetsIn gate old.number (length statements)
 
 -- a session's base and pass, before its run and after it
-pub record HasRun {Pass : Type 0} (home : Pass → Place) (known : Pass → Known) (gate : ℕ → ℕ → Bool → Type 0) (base : State) (pass : Pass) (statements : List Statement) (base' : State) (pass' : Pass) (answers : List Answer) : Type 0 where
+pub record HasRun {Pass : Type 0} (belongs_to : Pass → LogIdentity) (known : Pass → Known) (gate : ℕ → ℕ → Bool → Type 0) (base : State) (pass : Pass)
+    (statements : List Statement) (base' : State) (pass' : Pass) (answers : List Answer) : Type 0 where
   pub same_base : base' ≡ base
-  pub same_log : home pass' ≡ home pass
+  pub same_log : belongs_to pass' ≡ belongs_to pass
   pub answered : HasAnswered gate base (known pass) (known pass') statements answers
 
 -- one of the runs stops with this fault

@@ -2,7 +2,7 @@
 ghost use Rattle.std.specs.Prelude.{◌≡◌, ◌<◌, length, map, IfOk, IfErr, vec_len};
 ghost use Rattle.std.specs.List.{All, AllZip};
 ghost use Rattle.decision_log.specs.Known.{AllOf};
-ghost use Rattle.xa_store.specs.Passes.{place_of, home_of, known_of};
+ghost use Rattle.xa_store.specs.Passes.{identity_of, log_of, known_of};
 ghost use Rattle.xa_store.specs.Gathered.{IsTakenIn, Keeps, last_known};
 ghost use Rattle.xa_store.specs.Renewal.{AreGathered};
 ghost use Rattle.xa_store.specs.Spread.{AllThree};
@@ -27,7 +27,7 @@ fn connect_all<'a>(
     before: u64,
 ) -> Result<Vec<Resumed<'a, Log>>, NoMemory>
     requires count { vec_len passes ≡ vec_len progress }
-    requires homes { All (λ pass. home_of pass ≡ place_of store.now.log) passes.items }
+    requires belongs { All (λ pass. log_of pass ≡ identity_of store.now.log) passes.items }
     ensures { IfOk result (λ all. AllThree (λ pass one resumed. (resumed.session.pass ≡ pass) × (resumed.session.base.now ≡ store.entry.now.base) × (resumed.progress ≡ one) × (resumed.before ≡ before)) passes.items progress.items all.items) }
 {
     if passes.is_empty() {
@@ -53,12 +53,12 @@ fn wind_up_round(
     store: &Store,
     returned: Returned<'_, Log>,
 ) -> Result<Ended, NoMemory>
-    requires { All (λ session. home_of session.pass ≡ place_of store.now.log) returned.sessions.items }
-    ensures passes { IfOk result (λ ended. AllZip (λ session pass. (home_of pass ≡ home_of session.pass) × Keeps (known_of session.pass) (known_of pass)) returned.entry.sessions.items ended.passes.items) }
+    requires { All (λ session. log_of session.pass ≡ identity_of store.now.log) returned.sessions.items }
+    ensures passes { IfOk result (λ ended. AllZip (λ session pass. (log_of pass ≡ log_of session.pass) × Keeps (known_of session.pass) (known_of pass)) returned.entry.sessions.items ended.passes.items) }
     ensures progress { IfOk result (λ ended. ended.progress ≡ returned.entry.progress) }
     ensures last { IfOk result (λ ended. ended.history.items ≡ (last_known (map known_of ended.passes.items)).seen) }
     ensures whole { IfOk result (λ ended. All (λ pass. IsTakenIn ended.history.items (known_of pass)) ended.passes.items) }
-    ensures gathered { IfOk result (λ ended. 0 < length returned.entry.sessions.items → AreGathered (place_of store.now.log) ended.passes.items) }
+    ensures gathered { IfOk result (λ ended. 0 < length returned.entry.sessions.items → AreGathered (identity_of store.now.log) ended.passes.items) }
 {
     let Returned { sessions, progress } = returned;
     match store.wind_up(alloc, sessions) {
@@ -85,12 +85,12 @@ pub(crate) fn hold_round<G: Gate + Sync, R: Threads + Wait + Sync>(
     gate: &G,
 ) -> Result<Ended, RaceFault>
     requires count { vec_len passes ≡ vec_len progress }
-    requires homes { All (λ pass. home_of pass ≡ place_of store.now.log) passes.items }
+    requires belongs { All (λ pass. log_of pass ≡ identity_of store.now.log) passes.items }
     requires fresh { AreFresh passes.items }
     ensures gains { IfOk result (λ ended. AllGain store.now.base before ended.history.items 1 progress.items ended.progress.items) }
     ensures last { IfOk result (λ ended. ended.history.items ≡ (last_known (map known_of ended.passes.items)).seen) }
-    ensures own { IfOk result (λ ended. AllOf (place_of store.now.log).sessions ended.history.items) }
-    ensures gathered { IfOk result (λ ended. 0 < vec_len progress → AreGathered (place_of store.now.log) ended.passes.items) }
+    ensures own { IfOk result (λ ended. AllOf (identity_of store.now.log).sessions ended.history.items) }
+    ensures gathered { IfOk result (λ ended. 0 < vec_len progress → AreGathered (identity_of store.now.log) ended.passes.items) }
     ensures passes { IfOk result (λ ended. vec_len ended.passes ≡ vec_len progress) }
     ensures fault { IfErr result (BlamesRounds (G.may_answer gate.now) (map (λ one. one.lines.items) progress.items)) }
 {
@@ -99,7 +99,7 @@ pub(crate) fn hold_round<G: Gate + Sync, R: Threads + Wait + Sync>(
     };
     let returned = match run_round(rt, alloc, resumed, gate) {
         Ok(returned) => returned,
-        Err(blame) => return Err(blame.fault),
+        Err(first_fault) => return Err(first_fault.fault),
     };
     let Ok(ended) = wind_up_round(alloc, store, returned) else {
         return Err(RaceFault::NoMemory);

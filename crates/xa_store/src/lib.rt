@@ -2,14 +2,14 @@
 #![tactic(auto)]
 
 mod answering;
-mod blame;
 mod carrying;
 mod ended;
+mod first_fault;
 mod gate;
-mod gather;
 mod history;
 mod holding;
 mod leaving;
+mod meeting;
 mod outcome;
 mod progress;
 mod race_fault;

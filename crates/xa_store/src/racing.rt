@@ -1,7 +1,7 @@
 //! Runs of sessions side by side.
 ghost use Rattle.std.specs.Prelude.{◌≡◌, length, map, IfOk, IfErr, OnOk};
 ghost use Rattle.std.specs.List.{All, AllZip};
-ghost use Rattle.xa_store.specs.Passes.{place_of, home_of, known_of};
+ghost use Rattle.xa_store.specs.Passes.{identity_of, log_of, known_of};
 ghost use Rattle.xa_store.specs.Gathered.{IsTakenIn, Keeps, last_known};
 ghost use Rattle.xa_store.specs.Legal.{IsOutcome, LetsIn, Blames};
 
@@ -19,7 +19,7 @@ fn start_all<'a>(
     store: &'a Store,
     runs: Vec<Run>,
 ) -> Result<Vec<Started<'a, Log>>, NoMemory>
-    requires { All (λ run. home_of run.pass ≡ place_of store.now.log) runs.items }
+    requires { All (λ run. log_of run.pass ≡ identity_of store.now.log) runs.items }
     ensures { IfOk result (λ all. AllZip (λ run started. (started.session.base.now ≡ store.entry.now.base) × (started.session.pass ≡ run.pass) × (started.lines.items ≡ run.lines.items)) runs.items all.items) }
 {
     let mut all = Vec::with_capacity(alloc, runs.len())?;
@@ -45,10 +45,10 @@ pub(crate) fn count_speakers(runs: &[Run]) -> u64 {
 }
 
 /// All that a race gives, once its runs have ended: the sessions meet, and leave.
-fn conclude(alloc: Global, store: &Store, ended: AllEnded<'_, Log>) -> Result<Outcome, NoMemory>
-    requires { All (λ session. home_of session.pass ≡ place_of store.now.log) ended.sessions.items }
+fn outcome_of(alloc: Global, store: &Store, ended: AllEnded<'_, Log>) -> Result<Outcome, NoMemory>
+    requires { All (λ session. log_of session.pass ≡ identity_of store.now.log) ended.sessions.items }
     ensures answers { IfOk result (λ outcome. outcome.answers ≡ ended.entry.answers) }
-    ensures passes { IfOk result (λ outcome. AllZip (λ session pass. (home_of pass ≡ home_of session.pass) × Keeps (known_of session.pass) (known_of pass)) ended.entry.sessions.items outcome.passes.items) }
+    ensures passes { IfOk result (λ outcome. AllZip (λ session pass. (log_of pass ≡ log_of session.pass) × Keeps (known_of session.pass) (known_of pass)) ended.entry.sessions.items outcome.passes.items) }
     ensures last { IfOk result (λ outcome. outcome.history.items ≡ (last_known (map known_of outcome.passes.items)).seen) }
     ensures whole { IfOk result (λ outcome. All (λ pass. IsTakenIn outcome.history.items (known_of pass)) outcome.passes.items) }
 {
@@ -81,7 +81,7 @@ pub fn race<G: Gate + Sync, R: Threads + Wait + Sync>(
     runs: Vec<Run>,
     gate: &G,
 ) -> Result<Outcome, RaceFault>
-    requires { All (λ run. home_of run.pass ≡ place_of store.now.log) runs.items }
+    requires { All (λ run. log_of run.pass ≡ identity_of store.now.log) runs.items }
     ensures legal { IfOk result (λ outcome. IsOutcome store.now.base runs.items outcome) }
     ensures opened { OnOk result (All (λ run. LetsIn (G.may_answer gate.now) (known_of run.pass).number (length run.lines.items)) runs.items) }
     ensures fault { IfErr result (λ fault. Blames (G.may_answer gate.now) store.now.base runs.items fault) }
@@ -92,9 +92,9 @@ pub fn race<G: Gate + Sync, R: Threads + Wait + Sync>(
     };
     let ended = match run_all(rt, alloc, started, gate) {
         Ok(ended) => ended,
-        Err(blame) => return Err(blame.fault),
+        Err(first_fault) => return Err(first_fault.fault),
     };
-    let Ok(outcome) = conclude(alloc, store, ended) else {
+    let Ok(outcome) = outcome_of(alloc, store, ended) else {
         return Err(RaceFault::NoMemory);
     };
     Ok(outcome)

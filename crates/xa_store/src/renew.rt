@@ -2,7 +2,7 @@
 ghost use Rattle.std.specs.Prelude.{◌≡◌, ◌≤◌, IfOk, IfErr, map};
 ghost use Rattle.std.specs.List.{AllZip};
 ghost use Rattle.decision_log.specs.Opens.{Opens};
-ghost use Rattle.xa_store.specs.Passes.{place_of, home_of, known_of};
+ghost use Rattle.xa_store.specs.Passes.{identity_of, log_of, known_of};
 ghost use Rattle.xa_store.specs.Gathered.{last_known};
 ghost use Rattle.xa_store.specs.Renewal.{AreGathered, disconnected, renewed};
 
@@ -33,7 +33,7 @@ impl Store {
         base: Server,
     ) -> Result<(Store, Vec<Pass>), NoMemory>
         ensures base { IfOk result (λ opened. opened.0.base ≡ base) }
-        ensures ok { IfOk result (λ opened. Opens home_of known_of (place_of self.now.log).capacity (place_of self.now.log).sessions (place_of opened.0.log) opened.1.items) }
+        ensures ok { IfOk result (λ opened. Opens log_of known_of (identity_of self.now.log).capacity (identity_of self.now.log).sessions (identity_of opened.0.log) opened.1.items) }
     {
         let Ok((log, passes)) = Log::open(alloc, self.log.capacity(), self.log.sessions()) else {
             return Err(AllocError);
@@ -43,11 +43,11 @@ impl Store {
 
     /// The server that the last pass's history leaves once all sessions have ended, and an empty log with its passes.
     fn anew(&self, alloc: Global, last: &mut Pass) -> Result<(Store, Vec<Pass>), NoMemory>
-        requires { home_of last.old ≡ place_of self.now.log }
-        ensures home { home_of last.new ≡ home_of last.old }
+        requires { log_of last.old ≡ identity_of self.now.log }
+        ensures belongs { log_of last.new ≡ log_of last.old }
         ensures same { known_of last.new ≡ known_of last.old }
-        ensures base { IfOk result (λ opened. opened.0.base ≡ renewed self.now.base (known_of last.old).seen (place_of self.now.log).sessions) }
-        ensures ok { IfOk result (λ opened. Opens home_of known_of (place_of self.now.log).capacity (place_of self.now.log).sessions (place_of opened.0.log) opened.1.items) }
+        ensures base { IfOk result (λ opened. opened.0.base ≡ renewed self.now.base (known_of last.old).seen (identity_of self.now.log).sessions) }
+        ensures ok { IfOk result (λ opened. Opens log_of known_of (identity_of self.now.log).capacity (identity_of self.now.log).sessions (identity_of opened.0.log) opened.1.items) }
     {
         let server = replayed(&self.log, &self.base, last)?;
         let base = disconnect_all(server, self.log.sessions());
@@ -67,11 +67,11 @@ impl Store {
         alloc: Global,
         mut passes: Vec<Pass>,
     ) -> Result<(Store, Vec<Pass>), (Store, Vec<Pass>, NoMemory)>
-        requires { AreGathered (place_of self.log) passes.items }
-        ensures base { IfOk result (λ opened. opened.0.base ≡ renewed self.base (last_known (map known_of passes.items)).seen (place_of self.log).sessions) }
-        ensures ok { IfOk result (λ opened. Opens home_of known_of (place_of self.log).capacity (place_of self.log).sessions (place_of opened.0.log) opened.1.items) }
-        ensures store { IfErr result (λ kept. (kept.0.base ≡ self.base) × (place_of kept.0.log ≡ place_of self.log)) }
-        ensures passes { IfErr result (λ kept. AllZip (λ old new. (home_of new ≡ home_of old) × (known_of new ≡ known_of old)) passes.items kept.1.items) }
+        requires { AreGathered (identity_of self.log) passes.items }
+        ensures base { IfOk result (λ opened. opened.0.base ≡ renewed self.base (last_known (map known_of passes.items)).seen (identity_of self.log).sessions) }
+        ensures ok { IfOk result (λ opened. Opens log_of known_of (identity_of self.log).capacity (identity_of self.log).sessions (identity_of opened.0.log) opened.1.items) }
+        ensures store { IfErr result (λ kept. (kept.0.base ≡ self.base) × (identity_of kept.0.log ≡ identity_of self.log)) }
+        ensures passes { IfErr result (λ kept. AllZip (λ old new. (log_of new ≡ log_of old) × (known_of new ≡ known_of old)) passes.items kept.1.items) }
     {
         let mut last = passes.take_last();
         match self.anew(alloc, &mut last) {

@@ -2,7 +2,7 @@
 ghost use Rattle.std.specs.Prelude.{◌≡◌, ◌<◌, ◌≤◌, ◌++◌, [], length, map, true, false, IfOk, IfErr, OnOk, vec_len};
 ghost use Rattle.std.specs.List.{All};
 ghost use Rattle.xa_session.specs.Replay.{state_after};
-ghost use Rattle.xa_store.specs.Passes.{place_of, home_of, known_of};
+ghost use Rattle.xa_store.specs.Passes.{identity_of, log_of, known_of};
 ghost use Rattle.xa_store.specs.Gathered.{last_known};
 ghost use Rattle.xa_store.specs.Renewal.{AreGathered};
 ghost use Rattle.xa_store.specs.Rounds.{AreFresh};
@@ -75,11 +75,11 @@ pub(crate) fn carried(
     store: Store,
     passes: Vec<Pass>,
 ) -> Result<(Store, Vec<Pass>), RaceFault>
-    requires gathered { AreGathered (place_of store.log) passes.items }
-    requires few { vec_len passes ≤ (place_of store.log).sessions }
+    requires gathered { AreGathered (identity_of store.log) passes.items }
+    requires few { vec_len passes ≤ (identity_of store.log).sessions }
     ensures base { IfOk result (λ opened. opened.0.base ≡ state_after store.base (last_known (map known_of passes.items)).seen) }
-    ensures sessions { IfOk result (λ opened. (place_of opened.0.log).sessions ≡ (place_of store.log).sessions) }
-    ensures homes { IfOk result (λ opened. All (λ pass. home_of pass ≡ place_of opened.0.log) opened.1.items) }
+    ensures sessions { IfOk result (λ opened. (identity_of opened.0.log).sessions ≡ (identity_of store.log).sessions) }
+    ensures belongs { IfOk result (λ opened. All (λ pass. log_of pass ≡ identity_of opened.0.log) opened.1.items) }
     ensures fresh { IfOk result (λ opened. AreFresh opened.1.items) }
     ensures count { IfOk result (λ opened. vec_len opened.1 ≡ vec_len passes) }
     ensures fault { IfErr result (λ fault. fault ≡ RaceFault.NoMemory) }

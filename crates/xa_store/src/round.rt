@@ -45,7 +45,7 @@ pub(crate) fn answer_while_room<'a, L: DecisionLog, G: Gate, R: Wait>(
 ) -> Result<(Session<'a, L>, Progress), RaceFault>
 where
     L::Pass: Drop,
-    ensures ok { IfOk result (λ gone. HasGoneOn L.home L.known resumed.entry.session.base.now resumed.entry.session.pass resumed.entry.before resumed.entry.progress gone.0.base.now gone.0.pass gone.1) }
+    ensures ok { IfOk result (λ gone. HasGoneOn L.belongs_to L.known resumed.entry.session.base.now resumed.entry.session.pass resumed.entry.before resumed.entry.progress gone.0.base.now gone.0.pass gone.1) }
     ensures fault { IfErr result (λ fault. StopsInRound (G.may_answer gate.now) (L.known resumed.entry.session.pass).number (length resumed.entry.progress.lines.items) fault) }
 {
     let Resumed {

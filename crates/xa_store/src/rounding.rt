@@ -3,7 +3,7 @@ ghost use Rattle.std.specs.Prelude.{◌≡◌, ◌⊎◌, ◌++◌, [], ◌∷�
 ghost use Rattle.xa_store.specs.Rounds.{HasGoneOn, StopsInRound};
 ghost use Rattle.xa_store.specs.Spread.{StopsSome, AllThree};
 
-use crate::blame::Blame;
+use crate::first_fault::FirstFault;
 use crate::progress::Progress;
 use crate::round::{Resumed, answer_while_room};
 use crate::{Gate, RaceFault};
@@ -45,28 +45,28 @@ type RunReturned<'a, L> = Result<(Session<'a, L>, Progress), RaceFault>;
 struct GoesOnFor<'a, L: DecisionLog, G: Gate>(Snapshot<Resumed<'a, L>>, Snapshot<G>);
 
 impl<'a, L: DecisionLog, G: Gate> Promise<RunReturned<'a, L>> for GoesOnFor<'a, L, G> {
-    ghost kept_by = { λ promise ended. let run = promise.0.value in IfOk ended (λ gone. HasGoneOn L.home L.known run.session.base.now run.session.pass run.before run.progress gone.0.base.now gone.0.pass gone.1) × IfErr ended (λ fault. StopsInRound (G.may_answer promise.1.value) (L.known run.session.pass).number (length run.progress.lines.items) fault) };
+    ghost kept_by = { λ promise ended. let run = promise.0.value in IfOk ended (λ gone. HasGoneOn L.belongs_to L.known run.session.base.now run.session.pass run.before run.progress gone.0.base.now gone.0.pass gone.1) × IfErr ended (λ fault. StopsInRound (G.may_answer promise.1.value) (L.known run.session.pass).number (length run.progress.lines.items) fault) };
 }
 
 /// Puts one more run behind all others.
 fn take_back<'a, L: DecisionLog>(
-    others: Result<Returned<'a, L>, Blame>,
+    others: Result<Returned<'a, L>, FirstFault>,
     number: SessionNo,
     ended: RunReturned<'a, L>,
-) -> Result<Returned<'a, L>, Blame>
+) -> Result<Returned<'a, L>, FirstFault>
 where
     L::Pass: Drop,
     ensures ok { IfOk result (λ all. (before : _) × (gone : _) × (others.entry ≡ Ok before) × (ended.entry ≡ Ok gone) × (all.sessions.items ≡ before.sessions.items ++ gone.0 ∷ []) × (all.progress.items ≡ before.progress.items ++ gone.1 ∷ [])) }
-    ensures err { IfErr result (λ blame. (others.entry ≡ Err blame) ⊎ (ended.entry ≡ Err blame.fault) ⊎ (blame.fault ≡ RaceFault.NoMemory)) }
+    ensures err { IfErr result (λ first_fault. (others.entry ≡ Err first_fault) ⊎ (ended.entry ≡ Err first_fault.fault) ⊎ (first_fault.fault ≡ RaceFault.NoMemory)) }
 {
     match (others, ended) {
         (Ok(mut all), Ok((session, progress))) => match all.push(session, progress) {
             Ok(()) => Ok(all),
-            Err(_) => Err(Blame::outside()),
+            Err(_) => Err(FirstFault::outside()),
         },
-        (Ok(_), Err(fault)) => Err(Blame::of(number, fault)),
-        (Err(blame), Ok(_)) => Err(blame),
-        (Err(blame), Err(fault)) => Err(blame.or(Blame::of(number, fault))),
+        (Ok(_), Err(fault)) => Err(FirstFault::of(number, fault)),
+        (Err(first_fault), Ok(_)) => Err(first_fault),
+        (Err(first_fault), Err(fault)) => Err(first_fault.or(FirstFault::of(number, fault))),
     }
 }
 
@@ -79,11 +79,11 @@ fn spread_round<'s, 'a: 's, E, L: DecisionLog + Sync, G: Gate + Sync, R: Threads
     alloc: Global,
     mut runs: Vec<Resumed<'a, L>>,
     gate: &'s G,
-) -> Result<Returned<'a, L>, Blame>
+) -> Result<Returned<'a, L>, FirstFault>
 where
     L::Pass: Send + Drop,
-    ensures ok { IfOk result (λ all. AllThree (λ run session progress. HasGoneOn L.home L.known run.session.base.now run.session.pass run.before run.progress session.base.now session.pass progress) runs.entry.items all.sessions.items all.progress.items) }
-    ensures err { IfErr result (λ blame. StopsSome (λ run. StopsInRound (G.may_answer gate.now) (L.known run.session.pass).number (length run.progress.lines.items)) runs.entry.items blame.fault) }
+    ensures ok { IfOk result (λ all. AllThree (λ run session progress. HasGoneOn L.belongs_to L.known run.session.base.now run.session.pass run.before run.progress session.base.now session.pass progress) runs.entry.items all.sessions.items all.progress.items) }
+    ensures err { IfErr result (λ first_fault. StopsSome (λ run. StopsInRound (G.may_answer gate.now) (L.known run.session.pass).number (length run.progress.lines.items)) runs.entry.items first_fault.fault) }
 {
     let Some(resumed) = runs.pop() else {
         return Ok(Returned {
@@ -95,7 +95,7 @@ where
     let thread = scope.spawn_with(
         GoesOnFor(Snapshot::of(&resumed), Snapshot::of(gate)),
         move || -> RunReturned<'_, L>
-            ensures ok { IfOk result (λ gone. HasGoneOn L.home L.known resumed.entry.session.base.now resumed.entry.session.pass resumed.entry.before resumed.entry.progress gone.0.base.now gone.0.pass gone.1) }
+            ensures ok { IfOk result (λ gone. HasGoneOn L.belongs_to L.known resumed.entry.session.base.now resumed.entry.session.pass resumed.entry.before resumed.entry.progress gone.0.base.now gone.0.pass gone.1) }
             ensures fault { IfErr result (λ fault. StopsInRound (G.may_answer gate.entry.now) (L.known resumed.entry.session.pass).number (length resumed.entry.progress.lines.items) fault) }
         { answer_while_room(rt, resumed, gate) },
     );
@@ -114,18 +114,18 @@ pub(crate) fn run_round<'a, L: DecisionLog + Sync, G: Gate + Sync, R: Threads + 
     alloc: Global,
     runs: Vec<Resumed<'a, L>>,
     gate: &G,
-) -> Result<Returned<'a, L>, Blame>
+) -> Result<Returned<'a, L>, FirstFault>
 where
     L::Pass: Send + Drop,
-    ensures ok { IfOk result (λ all. AllThree (λ run session progress. HasGoneOn L.home L.known run.session.base.now run.session.pass run.before run.progress session.base.now session.pass progress) runs.entry.items all.sessions.items all.progress.items) }
-    ensures err { IfErr result (λ blame. StopsSome (λ run. StopsInRound (G.may_answer gate.now) (L.known run.session.pass).number (length run.progress.lines.items)) runs.entry.items blame.fault) }
+    ensures ok { IfOk result (λ all. AllThree (λ run session progress. HasGoneOn L.belongs_to L.known run.session.base.now run.session.pass run.before run.progress session.base.now session.pass progress) runs.entry.items all.sessions.items all.progress.items) }
+    ensures err { IfErr result (λ first_fault. StopsSome (λ run. StopsInRound (G.may_answer gate.now) (L.known run.session.pass).number (length run.progress.lines.items)) runs.entry.items first_fault.fault) }
 {
     thread::scope(
         thread::scope_env(),
         rt,
-        |scope| -> Result<Returned<'_, L>, Blame>
-            ensures ok { IfOk result (λ all. AllThree (λ run session progress. HasGoneOn L.home L.known run.session.base.now run.session.pass run.before run.progress session.base.now session.pass progress) runs.entry.items all.sessions.items all.progress.items) }
-            ensures err { IfErr result (λ blame. StopsSome (λ run. StopsInRound (G.may_answer gate.entry.now) (L.known run.session.pass).number (length run.progress.lines.items)) runs.entry.items blame.fault) }
+        |scope| -> Result<Returned<'_, L>, FirstFault>
+            ensures ok { IfOk result (λ all. AllThree (λ run session progress. HasGoneOn L.belongs_to L.known run.session.base.now run.session.pass run.before run.progress session.base.now session.pass progress) runs.entry.items all.sessions.items all.progress.items) }
+            ensures err { IfErr result (λ first_fault. StopsSome (λ run. StopsInRound (G.may_answer gate.entry.now) (L.known run.session.pass).number (length run.progress.lines.items)) runs.entry.items first_fault.fault) }
         { spread_round(scope, rt, alloc, runs, gate) },
     )
 }

@@ -3,7 +3,7 @@ ghost use Rattle.std.specs.Prelude.{◌≡◌, ◌<◌, ◌≤◌, [], length, m
 ghost use Rattle.std.specs.List.{All};
 ghost use Rattle.decision_log.specs.Known.{AllOf};
 ghost use Rattle.xa_session.specs.Replay.{state_after};
-ghost use Rattle.xa_store.specs.Passes.{place_of, home_of, known_of};
+ghost use Rattle.xa_store.specs.Passes.{identity_of, log_of, known_of};
 ghost use Rattle.xa_store.specs.Gathered.{last_known};
 ghost use Rattle.xa_store.specs.Renewal.{AreGathered};
 ghost use Rattle.xa_store.specs.Legal.{Legal};
@@ -29,14 +29,14 @@ fn hold_rounds<G: Gate + Sync, R: Threads + Wait + Sync>(
     gate: &G,
 ) -> Result<(Store, Ended), RaceFault>
     requires count { vec_len passes ≡ vec_len progress }
-    requires homes { All (λ pass. home_of pass ≡ place_of store.log) passes.items }
+    requires belongs { All (λ pass. log_of pass ≡ identity_of store.log) passes.items }
     requires fresh { AreFresh passes.items }
     requires none { All (λ one. one.answers.items ≡ []) progress.items }
     ensures legal { IfOk result (λ held. AllLegalSoFar store.base held.1.history.items 1 (map (λ one. one.lines.items) progress.items) held.1.progress.items) }
     ensures done { IfOk result (λ held. All (λ one. length one.lines.items ≤ length one.answers.items) held.1.progress.items) }
-    ensures own { IfOk result (λ held. AllOf (place_of store.log).sessions held.1.history.items) }
+    ensures own { IfOk result (λ held. AllOf (identity_of store.log).sessions held.1.history.items) }
     ensures none { vec_len progress ≡ 0 → IfOk result (λ held. held.1.history.items ≡ []) }
-    ensures gathered { IfOk result (λ held. 0 < vec_len progress → AreGathered (place_of held.0.log) held.1.passes.items) }
+    ensures gathered { IfOk result (λ held. 0 < vec_len progress → AreGathered (identity_of held.0.log) held.1.passes.items) }
     ensures state { IfOk result (λ held. state_after held.0.base (last_known (map known_of held.1.passes.items)).seen ≡ state_after store.base held.1.history.items) }
     ensures fault { IfErr result (BlamesRounds (G.may_answer gate.now) (map (λ one. one.lines.items) progress.items)) }
 {
@@ -85,12 +85,12 @@ pub fn race_in_rounds<G: Gate + Sync, R: Threads + Wait + Sync>(
     runs: Vec<Run>,
     gate: &G,
 ) -> Result<(Store, Outcome), RaceFault>
-    requires homes { All (λ run. home_of run.pass ≡ place_of store.log) runs.items }
+    requires belongs { All (λ run. log_of run.pass ≡ identity_of store.log) runs.items }
     requires fresh { AreFresh (map (λ run. run.pass) runs.items) }
     ensures legal { IfOk result (λ ended. Legal store.base ended.1.history.items runs.items (map (λ answers. answers.items) ended.1.answers.items)) }
-    ensures own { IfOk result (λ ended. AllOf (place_of store.log).sessions ended.1.history.items) }
+    ensures own { IfOk result (λ ended. AllOf (identity_of store.log).sessions ended.1.history.items) }
     ensures none { length runs.items ≡ 0 → IfOk result (λ ended. ended.1.history.items ≡ []) }
-    ensures gathered { IfOk result (λ ended. 0 < length runs.items → AreGathered (place_of ended.0.log) ended.1.passes.items) }
+    ensures gathered { IfOk result (λ ended. 0 < length runs.items → AreGathered (identity_of ended.0.log) ended.1.passes.items) }
     ensures state { IfOk result (λ ended. state_after ended.0.base (last_known (map known_of ended.1.passes.items)).seen ≡ state_after store.base ended.1.history.items) }
     ensures fault { IfErr result (BlamesRounds (G.may_answer gate.now) (map (λ run. run.lines.items) runs.items)) }
 {

@@ -4,7 +4,7 @@ ghost use Rattle.xa_store.specs.Legal.{Stops};
 ghost use Rattle.xa_store.specs.Spread.{HasRun, StopsSome, AllThree};
 
 use crate::answering::answer_all;
-use crate::blame::Blame;
+use crate::first_fault::FirstFault;
 use crate::{Gate, RaceFault};
 use decision_log::DecisionLog;
 use std::alloc::Global;
@@ -51,7 +51,7 @@ impl<'a, L: DecisionLog> AllEnded<'a, L> {
 struct AnswersAll<'a, L: DecisionLog, G: Gate>(Snapshot<Started<'a, L>>, Snapshot<G>);
 
 impl<'a, L: DecisionLog, G: Gate> Promise<RunEnded<'a, L>> for AnswersAll<'a, L, G> {
-    ghost kept_by = { λ promise ended. let run = promise.0.value in IfOk ended (λ done. HasRun L.home L.known (G.may_answer promise.1.value) run.session.base.now run.session.pass run.lines.items done.0.base.now done.0.pass done.1.items) × IfErr ended (λ fault. Stops (G.may_answer promise.1.value) run.session.base.now (L.home run.session.pass).capacity (L.known run.session.pass) run.lines.items fault) };
+    ghost kept_by = { λ promise ended. let run = promise.0.value in IfOk ended (λ done. HasRun L.belongs_to L.known (G.may_answer promise.1.value) run.session.base.now run.session.pass run.lines.items done.0.base.now done.0.pass done.1.items) × IfErr ended (λ fault. Stops (G.may_answer promise.1.value) run.session.base.now (L.belongs_to run.session.pass).capacity (L.known run.session.pass) run.lines.items fault) };
 }
 
 /// Answers all statements of a run.
@@ -63,32 +63,32 @@ fn answer_run<'a, L: DecisionLog, G: Gate, R: Wait>(
 ) -> RunEnded<'a, L>
 where
     L::Pass: Drop,
-    ensures ok { IfOk result (λ done. HasRun L.home L.known (G.may_answer gate.now) run.entry.session.base.now run.entry.session.pass run.entry.lines.items done.0.base.now done.0.pass done.1.items) }
-    ensures fault { IfErr result (λ fault. Stops (G.may_answer gate.now) run.entry.session.base.now (L.home run.entry.session.pass).capacity (L.known run.entry.session.pass) run.entry.lines.items fault) }
+    ensures ok { IfOk result (λ done. HasRun L.belongs_to L.known (G.may_answer gate.now) run.entry.session.base.now run.entry.session.pass run.entry.lines.items done.0.base.now done.0.pass done.1.items) }
+    ensures fault { IfErr result (λ fault. Stops (G.may_answer gate.now) run.entry.session.base.now (L.belongs_to run.entry.session.pass).capacity (L.known run.entry.session.pass) run.entry.lines.items fault) }
 {
     let Started { session, lines } = run;
     answer_all(rt, alloc, session, lines.as_slice(), gate)
 }
 
 /// Puts what one more run gave behind what all others gave.
-fn take_in<'a, L: DecisionLog>(
-    others: Result<AllEnded<'a, L>, Blame>,
+fn join_run<'a, L: DecisionLog>(
+    others: Result<AllEnded<'a, L>, FirstFault>,
     number: SessionNo,
     ended: RunEnded<'a, L>,
-) -> Result<AllEnded<'a, L>, Blame>
+) -> Result<AllEnded<'a, L>, FirstFault>
 where
     L::Pass: Drop,
     ensures ok { IfOk result (λ all. (before : _) × (done : _) × (others.entry ≡ Ok before) × (ended.entry ≡ Ok done) × (all.sessions.items ≡ before.sessions.items ++ done.0 ∷ []) × (map (λ answers. answers.items) all.answers.items ≡ map (λ answers. answers.items) before.answers.items ++ done.1.items ∷ [])) }
-    ensures err { IfErr result (λ blame. (others.entry ≡ Err blame) ⊎ (ended.entry ≡ Err blame.fault) ⊎ (blame.fault ≡ RaceFault.NoMemory)) }
+    ensures err { IfErr result (λ first_fault. (others.entry ≡ Err first_fault) ⊎ (ended.entry ≡ Err first_fault.fault) ⊎ (first_fault.fault ≡ RaceFault.NoMemory)) }
 {
     match (others, ended) {
         (Ok(mut all), Ok((session, answers))) => match all.push(session, answers) {
             Ok(()) => Ok(all),
-            Err(_) => Err(Blame::outside()),
+            Err(_) => Err(FirstFault::outside()),
         },
-        (Ok(_), Err(fault)) => Err(Blame::of(number, fault)),
-        (Err(blame), Ok(_)) => Err(blame),
-        (Err(blame), Err(fault)) => Err(blame.or(Blame::of(number, fault))),
+        (Ok(_), Err(fault)) => Err(FirstFault::of(number, fault)),
+        (Err(first_fault), Ok(_)) => Err(first_fault),
+        (Err(first_fault), Err(fault)) => Err(first_fault.or(FirstFault::of(number, fault))),
     }
 }
 
@@ -101,11 +101,11 @@ fn spread<'s, 'a: 's, E, L: DecisionLog + Sync, G: Gate + Sync, R: Threads + Wai
     alloc: Global,
     mut runs: Vec<Started<'a, L>>,
     gate: &'s G,
-) -> Result<AllEnded<'a, L>, Blame>
+) -> Result<AllEnded<'a, L>, FirstFault>
 where
     L::Pass: Send + Drop,
-    ensures ok { IfOk result (λ all. AllThree (λ run session answers. HasRun L.home L.known (G.may_answer gate.now) run.session.base.now run.session.pass run.lines.items session.base.now session.pass answers) runs.entry.items all.sessions.items (map (λ answers. answers.items) all.answers.items)) }
-    ensures err { IfErr result (λ blame. StopsSome (λ run. Stops (G.may_answer gate.now) run.session.base.now (L.home run.session.pass).capacity (L.known run.session.pass) run.lines.items) runs.entry.items blame.fault) }
+    ensures ok { IfOk result (λ all. AllThree (λ run session answers. HasRun L.belongs_to L.known (G.may_answer gate.now) run.session.base.now run.session.pass run.lines.items session.base.now session.pass answers) runs.entry.items all.sessions.items (map (λ answers. answers.items) all.answers.items)) }
+    ensures err { IfErr result (λ first_fault. StopsSome (λ run. Stops (G.may_answer gate.now) run.session.base.now (L.belongs_to run.session.pass).capacity (L.known run.session.pass) run.lines.items) runs.entry.items first_fault.fault) }
 {
     let Some(run) = runs.pop() else {
         return Ok(AllEnded {
@@ -120,8 +120,8 @@ where
     );
     let others = spread(scope, rt, alloc, runs, gate);
     match thread {
-        Ok(thread) => take_in(others, number, thread.join(rt)),
-        Err(_) => take_in(others, number, Err(RaceFault::ThreadRefused)),
+        Ok(thread) => join_run(others, number, thread.join(rt)),
+        Err(_) => join_run(others, number, Err(RaceFault::ThreadRefused)),
     }
 }
 
@@ -133,18 +133,18 @@ pub(crate) fn run_all<'a, L: DecisionLog + Sync, G: Gate + Sync, R: Threads + Wa
     alloc: Global,
     runs: Vec<Started<'a, L>>,
     gate: &G,
-) -> Result<AllEnded<'a, L>, Blame>
+) -> Result<AllEnded<'a, L>, FirstFault>
 where
     L::Pass: Send + Drop,
-    ensures ok { IfOk result (λ all. AllThree (λ run session answers. HasRun L.home L.known (G.may_answer gate.now) run.session.base.now run.session.pass run.lines.items session.base.now session.pass answers) runs.entry.items all.sessions.items (map (λ answers. answers.items) all.answers.items)) }
-    ensures err { IfErr result (λ blame. StopsSome (λ run. Stops (G.may_answer gate.now) run.session.base.now (L.home run.session.pass).capacity (L.known run.session.pass) run.lines.items) runs.entry.items blame.fault) }
+    ensures ok { IfOk result (λ all. AllThree (λ run session answers. HasRun L.belongs_to L.known (G.may_answer gate.now) run.session.base.now run.session.pass run.lines.items session.base.now session.pass answers) runs.entry.items all.sessions.items (map (λ answers. answers.items) all.answers.items)) }
+    ensures err { IfErr result (λ first_fault. StopsSome (λ run. Stops (G.may_answer gate.now) run.session.base.now (L.belongs_to run.session.pass).capacity (L.known run.session.pass) run.lines.items) runs.entry.items first_fault.fault) }
 {
     thread::scope(
         thread::scope_env(),
         rt,
-        |scope| -> Result<AllEnded<'_, L>, Blame>
-            ensures ok { IfOk result (λ all. AllThree (λ run session answers. HasRun L.home L.known (G.may_answer gate.entry.now) run.session.base.now run.session.pass run.lines.items session.base.now session.pass answers) runs.entry.items all.sessions.items (map (λ answers. answers.items) all.answers.items)) }
-            ensures err { IfErr result (λ blame. StopsSome (λ run. Stops (G.may_answer gate.entry.now) run.session.base.now (L.home run.session.pass).capacity (L.known run.session.pass) run.lines.items) runs.entry.items blame.fault) }
+        |scope| -> Result<AllEnded<'_, L>, FirstFault>
+            ensures ok { IfOk result (λ all. AllThree (λ run session answers. HasRun L.belongs_to L.known (G.may_answer gate.entry.now) run.session.base.now run.session.pass run.lines.items session.base.now session.pass answers) runs.entry.items all.sessions.items (map (λ answers. answers.items) all.answers.items)) }
+            ensures err { IfErr result (λ first_fault. StopsSome (λ run. Stops (G.may_answer gate.entry.now) run.session.base.now (L.belongs_to run.session.pass).capacity (L.known run.session.pass) run.lines.items) runs.entry.items first_fault.fault) }
         { spread(scope, rt, alloc, runs, gate) },
     )
 }

@@ -37,7 +37,7 @@ impl Store {
         sessions: u64,
     ) -> Result<(Store, Vec<Pass>), OpenFault>
         ensures base { IfOk result (λ opened. opened.0.base ≡ no_state) }
-        ensures ok { IfOk result (λ opened. Opens ⟦<Log as DecisionLog>⟧.home ⟦<Log as DecisionLog>⟧.known capacity sessions (⟦<Log as DecisionLog>⟧.place opened.0.log) opened.1.items) }
+        ensures ok { IfOk result (λ opened. Opens ⟦<Log as DecisionLog>⟧.belongs_to ⟦<Log as DecisionLog>⟧.known capacity sessions (⟦<Log as DecisionLog>⟧.identity opened.0.log) opened.1.items) }
         ensures err { IfErr result (λ fault. Refuses capacity sessions fault) }
     {
         let (log, passes) = Log::open(alloc, capacity, sessions)?;
@@ -52,7 +52,7 @@ impl Store {
     /// May answer `NoMemory`. Doesn't wait.
     /// Own rule: docs/BEHAVIOR.md, 'Stores'.
     pub fn connect(&self, pass: Pass) -> Result<Session<'_, Log>, (Pass, NoMemory)>
-        requires { ⟦<Log as DecisionLog>⟧.home pass ≡ ⟦<Log as DecisionLog>⟧.place self.now.log }
+        requires { ⟦<Log as DecisionLog>⟧.belongs_to pass ≡ ⟦<Log as DecisionLog>⟧.identity self.now.log }
         ensures pass { IfOk result (λ session. session.pass ≡ pass) }
         ensures base { IfOk result (λ session. session.base.now ≡ self.now.base) }
         ensures err { IfErr result (λ refused. refused.0 ≡ pass) }

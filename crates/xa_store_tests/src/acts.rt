@@ -1,7 +1,7 @@
 //! What the tests of renewals do with stores and their sessions.
 ghost use Rattle.std.specs.Prelude.{◌≡◌};
 ghost use Rattle.std.specs.List.{All};
-ghost use Rattle.xa_store.specs.Passes.{place_of, home_of};
+ghost use Rattle.xa_store.specs.Passes.{identity_of, log_of};
 ghost use Rattle.xa_store.specs.Renewal.{AreGathered};
 
 use std::alloc::Global;
@@ -73,7 +73,7 @@ pub(crate) fn gives(
     place: u64,
     wanted: Wanted,
 )
-    ensures { home_of session.new.pass ≡ home_of session.old.pass }
+    ensures { log_of session.new.pass ≡ log_of session.old.pass }
 {
     match session.attempt(&statement) {
         Ok(answer) => {
@@ -90,8 +90,8 @@ pub(crate) fn gives(
 
 /// A session of a pass.
 pub(crate) fn joined<'a>(rt: &impl Abort, store: &'a Store, pass: Pass) -> Session<'a, Log>
-    requires { home_of pass ≡ place_of store.now.log }
-    ensures { home_of result.pass ≡ place_of store.now.log }
+    requires { log_of pass ≡ identity_of store.now.log }
+    ensures { log_of result.pass ≡ identity_of store.now.log }
 {
     let Ok(session) = store.connect(pass) else {
         panic!(rt; "not connected")
@@ -107,9 +107,9 @@ pub(crate) fn gathered(
     first: Session<'_, Log>,
     second: Session<'_, Log>,
 ) -> Vec<Pass>
-    requires first { home_of first.pass ≡ place_of store.now.log }
-    requires second { home_of second.pass ≡ place_of store.now.log }
-    ensures { AreGathered (place_of store.now.log) result.items }
+    requires first { log_of first.pass ≡ identity_of store.now.log }
+    requires second { log_of second.pass ≡ identity_of store.now.log }
+    ensures { AreGathered (identity_of store.now.log) result.items }
 {
     let Ok(sessions) = vec![in alloc; first, second] else {
         panic!(rt; "out of memory")
@@ -122,7 +122,7 @@ pub(crate) fn gathered(
 
 /// A store of two sessions.
 pub(crate) fn opened(rt: &impl Abort, alloc: Global, capacity: u64) -> (Store, Vec<Pass>)
-    ensures { All (λ pass. home_of pass ≡ place_of result.0.log) result.1.items }
+    ensures { All (λ pass. log_of pass ≡ identity_of result.0.log) result.1.items }
 {
     let Ok(opened) = Store::open(alloc, capacity, 2) else {
         panic!(rt; "not opened")
@@ -137,8 +137,8 @@ pub(crate) fn renewed(
     store: Store,
     passes: Vec<Pass>,
 ) -> (Store, Vec<Pass>)
-    requires { AreGathered (place_of store.log) passes.items }
-    ensures { All (λ pass. home_of pass ≡ place_of result.0.log) result.1.items }
+    requires { AreGathered (identity_of store.log) passes.items }
+    ensures { All (λ pass. log_of pass ≡ identity_of result.0.log) result.1.items }
 {
     let Ok(opened) = store.renew(alloc, passes) else {
         panic!(rt; "out of memory")
@@ -152,8 +152,8 @@ pub(crate) fn both<'a>(
     store: &'a Store,
     mut passes: Vec<Pass>,
 ) -> (Session<'a, Log>, Session<'a, Log>)
-    requires { All (λ pass. home_of pass ≡ place_of store.now.log) passes.items }
-    ensures { (home_of result.0.pass ≡ place_of store.now.log) × (home_of result.1.pass ≡ place_of store.now.log) }
+    requires { All (λ pass. log_of pass ≡ identity_of store.now.log) passes.items }
+    ensures { (log_of result.0.pass ≡ identity_of store.now.log) × (log_of result.1.pass ≡ identity_of store.now.log) }
 {
     let (Some(second), Some(first)) = (passes.pop(), passes.pop()) else {
         panic!(rt; "two passes")

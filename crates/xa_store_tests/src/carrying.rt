@@ -1,7 +1,7 @@
 //! Stores that are carried over: each session goes on with its open branch.
 ghost use Rattle.std.specs.Prelude.{◌≡◌};
 ghost use Rattle.std.specs.List.{All};
-ghost use Rattle.xa_store.specs.Passes.{place_of, home_of};
+ghost use Rattle.xa_store.specs.Passes.{identity_of, log_of};
 ghost use Rattle.xa_store.specs.Renewal.{AreGathered};
 
 use crate::acts::{Wanted, both, gathered, gives, key, opened, text, xid};
@@ -18,8 +18,8 @@ fn fills_with_an_open_branch(
     store: &Store,
     passes: Vec<Pass>,
 ) -> Vec<Pass>
-    requires { All (λ pass. home_of pass ≡ place_of store.now.log) passes.items }
-    ensures { AreGathered (place_of store.now.log) result.items }
+    requires { All (λ pass. log_of pass ≡ identity_of store.now.log) passes.items }
+    ensures { AreGathered (identity_of store.now.log) result.items }
 {
     let (mut first, mut second) = both(rt, store, passes);
     let put = Statement::Put(key(rt, b'k'), text(b'v'));
@@ -32,8 +32,8 @@ fn fills_with_an_open_branch(
 
 /// The store with an empty history, in which the branch is still open.
 fn carried(rt: &impl Abort, alloc: Global, store: Store, passes: Vec<Pass>) -> (Store, Vec<Pass>)
-    requires { AreGathered (place_of store.log) passes.items }
-    ensures { All (λ pass. home_of pass ≡ place_of result.0.log) result.1.items }
+    requires { AreGathered (identity_of store.log) passes.items }
+    ensures { All (λ pass. log_of pass ≡ identity_of result.0.log) result.1.items }
 {
     let Ok(opened) = store.carry_over(alloc, passes) else {
         panic!(rt; "out of memory")
@@ -43,8 +43,8 @@ fn carried(rt: &impl Abort, alloc: Global, store: Store, passes: Vec<Pass>) -> (
 
 /// Session 1 ends and prepares its branch in the new history, which is then full.
 fn goes_on_with_it(rt: &impl Abort, alloc: Global, store: &Store, passes: Vec<Pass>) -> Vec<Pass>
-    requires { All (λ pass. home_of pass ≡ place_of store.now.log) passes.items }
-    ensures { AreGathered (place_of store.now.log) result.items }
+    requires { All (λ pass. log_of pass ≡ identity_of store.now.log) passes.items }
+    ensures { AreGathered (identity_of store.now.log) result.items }
 {
     let (mut first, mut second) = both(rt, store, passes);
     let held = Statement::Put(key(rt, b'k'), text(b'x'));

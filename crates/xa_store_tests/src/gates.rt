@@ -1,7 +1,7 @@
 //! Races by gates at which the runs meet.
 ghost use Rattle.std.specs.Prelude.{◌≡◌};
 ghost use Rattle.std.specs.List.{All};
-ghost use Rattle.xa_store.specs.Passes.{place_of, home_of};
+ghost use Rattle.xa_store.specs.Passes.{identity_of, log_of};
 
 use crate::acts::{key, opened, text};
 use std::alloc::Global;
@@ -28,9 +28,9 @@ fn writer(rt: &impl Abort, alloc: Global, pass: Pass) -> Run
 
 /// The runs of two sessions of a store.
 fn writers(rt: &impl Abort, alloc: Global, store: &Store, first: Pass, second: Pass) -> Vec<Run>
-    requires first { home_of first ≡ place_of store.now.log }
-    requires second { home_of second ≡ place_of store.now.log }
-    ensures { All (λ run. home_of run.pass ≡ place_of store.now.log) result.items }
+    requires first { log_of first ≡ identity_of store.now.log }
+    requires second { log_of second ≡ identity_of store.now.log }
+    ensures { All (λ run. log_of run.pass ≡ identity_of store.now.log) result.items }
 {
     let _log = store;
     let Ok(mut runs) = Vec::with_capacity(alloc, 2) else {

@@ -1,7 +1,7 @@
 //! Races of runs, and gates that let them pass.
 ghost use Rattle.std.specs.Prelude.{◌≡◌, IfSome};
 ghost use Rattle.std.specs.List.{All};
-ghost use Rattle.xa_store.specs.Passes.{place_of, home_of};
+ghost use Rattle.xa_store.specs.Passes.{identity_of, log_of};
 
 use crate::sessions::{is_listed_by, is_ok_at, xid};
 use std::alloc::{AllocError, Global};
@@ -13,17 +13,17 @@ use xa_xid::{SessionNo, Statement};
 
 /// One run.
 fn one_run(store: &Store, alloc: Global, pass: Pass, lines: Vec<Statement>) -> Option<Vec<Run>>
-    requires { home_of pass ≡ place_of store.now.log }
-    ensures { IfSome result (λ runs. All (λ run. home_of run.pass ≡ place_of store.now.log) runs.items) }
+    requires { log_of pass ≡ identity_of store.now.log }
+    ensures { IfSome result (λ runs. All (λ run. log_of run.pass ≡ identity_of store.now.log) runs.items) }
 {
     vec![in alloc; Run { pass, lines }].ok()
 }
 
 /// Two runs.
 fn two_runs(store: &Store, alloc: Global, first: Run, second: Run) -> Option<Vec<Run>>
-    requires first { home_of first.pass ≡ place_of store.now.log }
-    requires second { home_of second.pass ≡ place_of store.now.log }
-    ensures { IfSome result (λ runs. All (λ run. home_of run.pass ≡ place_of store.now.log) runs.items) }
+    requires first { log_of first.pass ≡ identity_of store.now.log }
+    requires second { log_of second.pass ≡ identity_of store.now.log }
+    ensures { IfSome result (λ runs. All (λ run. log_of run.pass ≡ identity_of store.now.log) runs.items) }
 {
     vec![in alloc; first, second].ok()
 }

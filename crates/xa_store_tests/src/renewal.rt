@@ -1,7 +1,7 @@
 //! Stores that go on once their history is full, or once a session was dropped.
 ghost use Rattle.std.specs.Prelude.{◌≡◌};
 ghost use Rattle.std.specs.List.{All};
-ghost use Rattle.xa_store.specs.Passes.{place_of, home_of};
+ghost use Rattle.xa_store.specs.Passes.{identity_of, log_of};
 ghost use Rattle.xa_store.specs.Renewal.{AreGathered};
 
 use crate::acts::{Wanted, both, gathered, gives, key, opened, renewed, text, xid};
@@ -13,8 +13,8 @@ use xa_xid::Statement;
 
 /// Session 1 fills the history with a branch that it prepares; nobody can commit it.
 fn fills(rt: &impl Abort, alloc: Global, store: &Store, passes: Vec<Pass>) -> Vec<Pass>
-    requires { All (λ pass. home_of pass ≡ place_of store.now.log) passes.items }
-    ensures { AreGathered (place_of store.now.log) result.items }
+    requires { All (λ pass. log_of pass ≡ identity_of store.now.log) passes.items }
+    ensures { AreGathered (identity_of store.now.log) result.items }
 {
     let (mut first, mut second) = both(rt, store, passes);
     let put = Statement::Put(key(rt, b'k'), text(b'v'));
@@ -38,8 +38,8 @@ fn fills(rt: &impl Abort, alloc: Global, store: &Store, passes: Vec<Pass>) -> Ve
 
 /// Session 2 commits it at the first place of the new history.
 fn commits(rt: &impl Abort, alloc: Global, store: &Store, passes: Vec<Pass>) -> Vec<Pass>
-    requires { All (λ pass. home_of pass ≡ place_of store.now.log) passes.items }
-    ensures { AreGathered (place_of store.now.log) result.items }
+    requires { All (λ pass. log_of pass ≡ identity_of store.now.log) passes.items }
+    ensures { AreGathered (identity_of store.now.log) result.items }
 {
     let (first, mut second) = both(rt, store, passes);
     let commit = Statement::Commit {
@@ -85,8 +85,8 @@ fn prepares_and_starts(
     store: &Store,
     passes: Vec<Pass>,
 ) -> Vec<Pass>
-    requires { All (λ pass. home_of pass ≡ place_of store.now.log) passes.items }
-    ensures { AreGathered (place_of store.now.log) result.items }
+    requires { All (λ pass. log_of pass ≡ identity_of store.now.log) passes.items }
+    ensures { AreGathered (identity_of store.now.log) result.items }
 {
     let (mut first, second) = both(rt, store, passes);
     let kept = Statement::Put(key(rt, b'k'), text(b'v'));
@@ -130,8 +130,8 @@ fn a_prepared_branch_stays_and_an_open_one_is_rolled_back(rt: HostRuntime) {
 
 /// Session 1 prepares a branch and is dropped; session 2 alone leaves.
 fn drops(rt: &impl Abort, alloc: Global, store: &Store, passes: Vec<Pass>) -> Vec<Pass>
-    requires { All (λ pass. home_of pass ≡ place_of store.now.log) passes.items }
-    ensures { AreGathered (place_of store.now.log) result.items }
+    requires { All (λ pass. log_of pass ≡ identity_of store.now.log) passes.items }
+    ensures { AreGathered (identity_of store.now.log) result.items }
 {
     let (mut first, second) = both(rt, store, passes);
     gives(rt, &mut first, Statement::Start(xid(b'a')), 0, Wanted::Done);

@@ -1,7 +1,7 @@
 //! Races in rounds: what a history with little room does to them.
 ghost use Rattle.std.specs.Prelude.{◌≡◌, map};
 ghost use Rattle.std.specs.List.{All};
-ghost use Rattle.xa_store.specs.Passes.{place_of, home_of};
+ghost use Rattle.xa_store.specs.Passes.{identity_of, log_of};
 ghost use Rattle.xa_store.specs.Rounds.{AreFresh};
 
 use crate::acts::{Wanted, both, gives, renewed, text, xid};
@@ -41,7 +41,7 @@ fn entered(
     capacity: u64,
     lines: Vec<Vec<Statement>>,
 ) -> (Store, Vec<Run>)
-    ensures homes { All (λ run. home_of run.pass ≡ place_of result.0.log) result.1.items }
+    ensures belongs { All (λ run. log_of run.pass ≡ identity_of result.0.log) result.1.items }
     ensures fresh { AreFresh (map (λ run. run.pass) result.1.items) }
 {
     let Ok((store, passes)) = Store::open(alloc, capacity, 2) else {

@@ -1,6 +1,6 @@
 //! Sessions of a store, how a store is opened, and what its history is.
 ghost use Rattle.std.specs.Prelude.{◌≡◌};
-ghost use Rattle.xa_store.specs.Passes.{place_of, home_of};
+ghost use Rattle.xa_store.specs.Passes.{identity_of, log_of};
 
 use decision_log::OpenFault;
 use log_conformance::sessions as scenes;
@@ -80,8 +80,8 @@ pub(crate) fn xid(letter: u8) -> Xid {
 
 /// The history of two sessions that have prepared a branch each, where each of them has all of it afterwards.
 fn history_of_both(store: &Store, alloc: Global, first: Pass, second: Pass) -> Option<Vec<Entry>>
-    requires first { home_of first ≡ place_of store.now.log }
-    requires second { home_of second ≡ place_of store.now.log }
+    requires first { log_of first ≡ identity_of store.now.log }
+    requires second { log_of second ≡ identity_of store.now.log }
 {
     let Ok(mut first) = store.connect(first) else {
         return None;
@@ -103,7 +103,7 @@ fn history_of_both(store: &Store, alloc: Global, first: Pass, second: Pass) -> O
 
 /// Whether the session starts, ends and prepares a branch.
 fn is_prepared(session: &mut Session<'_, Log>, letter: u8) -> bool
-    ensures { home_of session.new.pass ≡ home_of session.old.pass }
+    ensures { log_of session.new.pass ≡ log_of session.old.pass }
 {
     session.attempt(&Statement::Start(xid(letter))).is_ok()
         && session.attempt(&Statement::End(xid(letter))).is_ok()
@@ -112,7 +112,7 @@ fn is_prepared(session: &mut Session<'_, Log>, letter: u8) -> bool
 
 /// Whether a new session of this pass lists just the identifier of this letter, after so many entries.
 pub(crate) fn is_listed_by(store: &Store, pass: Pass, place: u64, letter: u8) -> bool
-    requires { home_of pass ≡ place_of store.now.log }
+    requires { log_of pass ≡ identity_of store.now.log }
 {
     let Ok(mut session) = store.connect(pass) else {
         return false;

@@ -18,8 +18,8 @@ pub(crate) fn connected<'a, L: DecisionLog>(
 ) -> Session<'a, L>
 where
     L::Pass: Drop,
-    requires { L.home pass ≡ L.place log.now }
-    ensures { L.home result.pass ≡ L.place log.now }
+    requires { L.belongs_to pass ≡ L.identity log.now }
+    ensures { L.belongs_to result.pass ≡ L.identity log.now }
 {
     match Session::connect(log, pass, base) {
         Ok(session) => session,
@@ -38,7 +38,7 @@ pub(crate) fn attempted<L: DecisionLog>(
     session: &mut Session<'_, L>,
     statement: &Statement,
 ) -> Result<Answer, Fault>
-    ensures { L.home session.new.pass ≡ L.home session.old.pass }
+    ensures { L.belongs_to session.new.pass ≡ L.belongs_to session.old.pass }
 {
     let before = session.look();
     match session.attempt(statement) {
@@ -58,7 +58,7 @@ pub(crate) fn gives<L: DecisionLog>(
     place: u64,
     wanted: Wanted,
 )
-    ensures { L.home session.new.pass ≡ L.home session.old.pass }
+    ensures { L.belongs_to session.new.pass ≡ L.belongs_to session.old.pass }
 {
     let statement = said(rt, text);
     match attempted(rt, session, &statement) {

@@ -1,6 +1,6 @@
 //! A coordinator of two stores, and a second one that recovers behind it.
 ghost use Rattle.std.specs.Prelude.{◌≡◌, vec_len};
-ghost use Rattle.chain_log.specs.ChainPass.{place_of, home_of};
+ghost use Rattle.chain_log.specs.ChainPass.{identity_of, log_of};
 
 use crate::courses::{Course, text};
 use crate::made::{Wanted, is_wanted, said};
@@ -86,7 +86,7 @@ fn runs<S: Speak + Drop, R: Abort + Wait>(rt: &R, alloc: Global, stores: Vec<S>,
 
 /// A store of one session, and its pass.
 fn alone(rt: &impl Abort, alloc: Global) -> (Store, Pass)
-    ensures { home_of result.1 ≡ place_of result.0.log }
+    ensures { log_of result.1 ≡ identity_of result.0.log }
 {
     let Ok((store, mut passes)) = opened(alloc, 16, 1) else {
         panic!(rt; "not opened")

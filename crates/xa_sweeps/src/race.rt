@@ -1,7 +1,7 @@
 //! A race of two sessions that start one branch.
 ghost use Rattle.std.specs.Prelude.{◌≡◌};
 ghost use Rattle.std.specs.List.{All};
-ghost use Rattle.chain_log.specs.ChainPass.{place_of, home_of};
+ghost use Rattle.chain_log.specs.ChainPass.{identity_of, log_of};
 
 use crate::acts::{gives, is_entry};
 use crate::made::{Wanted, is_wanted, said};
@@ -23,9 +23,9 @@ fn starting(rt: &impl Abort, alloc: Global, pass: Pass) -> Run
 
 /// The runs of two passes of a store.
 fn both(rt: &impl Abort, alloc: Global, store: &Store, first: Pass, second: Pass) -> Vec<Run>
-    requires first { home_of first ≡ place_of store.now.log }
-    requires second { home_of second ≡ place_of store.now.log }
-    ensures { All (λ run. home_of run.pass ≡ place_of store.now.log) result.items }
+    requires first { log_of first ≡ identity_of store.now.log }
+    requires second { log_of second ≡ identity_of store.now.log }
+    ensures { All (λ run. log_of run.pass ≡ identity_of store.now.log) result.items }
 {
     let _log = store;
     let mut runs = room(rt, alloc, 2);

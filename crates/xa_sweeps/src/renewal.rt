@@ -1,7 +1,7 @@
 //! A renewal: a full store goes on, and one for which there was no memory is as it was.
 ghost use Rattle.std.specs.Prelude.{◌≡◌, ◌<◌, ◌∷◌, [], length, IfOk, IfErr};
 ghost use Rattle.std.specs.List.{All};
-ghost use Rattle.xa_store.specs.Passes.{place_of, home_of};
+ghost use Rattle.xa_store.specs.Passes.{identity_of, log_of};
 ghost use Rattle.xa_store.specs.Renewal.{AreGathered};
 
 use crate::acts::{attempted, gives, is_entry};
@@ -28,10 +28,10 @@ fn leaving<'s>(
     sessions: Vec<Session<'s, Log>>,
 ) -> Result<(Vec<Entry>, Vec<Pass>), Vec<Session<'s, Log>>>
     requires some { 0 < length sessions.items }
-    requires homes { All (λ session. home_of session.pass ≡ place_of store.now.log) sessions.items }
-    ensures gathered { IfOk result (λ ended. AreGathered (place_of store.now.log) ended.1.items) }
+    requires belongs { All (λ session. log_of session.pass ≡ identity_of store.now.log) sessions.items }
+    ensures gathered { IfOk result (λ ended. AreGathered (identity_of store.now.log) ended.1.items) }
     ensures some { IfErr result (λ kept. 0 < length kept.items) }
-    ensures homes { IfErr result (λ kept. All (λ session. home_of session.pass ≡ place_of store.now.log) kept.items) }
+    ensures belongs { IfErr result (λ kept. All (λ session. log_of session.pass ≡ identity_of store.now.log) kept.items) }
 {
     match store.wind_up(alloc, sessions) {
         Ok(ended) => Ok(ended),
@@ -47,8 +47,8 @@ fn ended(
     sessions: Vec<Session<'_, Log>>,
 ) -> (Vec<Entry>, Vec<Pass>)
     requires some { 0 < length sessions.items }
-    requires homes { All (λ session. home_of session.pass ≡ place_of store.now.log) sessions.items }
-    ensures { AreGathered (place_of store.now.log) result.1.items }
+    requires belongs { All (λ session. log_of session.pass ≡ identity_of store.now.log) sessions.items }
+    ensures { AreGathered (identity_of store.now.log) result.1.items }
 {
     match leaving(alloc, store, sessions) {
         Ok(ended) => ended,
@@ -69,9 +69,9 @@ fn left(
     first: Session<'_, Log>,
     second: Session<'_, Log>,
 ) -> Vec<Pass>
-    requires first { home_of first.pass ≡ place_of store.now.log }
-    requires second { home_of second.pass ≡ place_of store.now.log }
-    ensures { AreGathered (place_of store.now.log) result.items }
+    requires first { log_of first.pass ≡ identity_of store.now.log }
+    requires second { log_of second.pass ≡ identity_of store.now.log }
+    ensures { AreGathered (identity_of store.now.log) result.items }
 {
     let mut sessions = room(rt, alloc, 2);
     sessions.push_reserved(first);
@@ -90,9 +90,9 @@ fn renewing(
     store: Store,
     passes: Vec<Pass>,
 ) -> Result<(Store, Vec<Pass>), (Store, Vec<Pass>)>
-    requires { AreGathered (place_of store.log) passes.items }
-    ensures opened { IfOk result (λ opened. All (λ pass. home_of pass ≡ place_of opened.0.log) opened.1.items) }
-    ensures kept { IfErr result (λ kept. All (λ pass. home_of pass ≡ place_of kept.0.log) kept.1.items) }
+    requires { AreGathered (identity_of store.log) passes.items }
+    ensures opened { IfOk result (λ opened. All (λ pass. log_of pass ≡ identity_of opened.0.log) opened.1.items) }
+    ensures kept { IfErr result (λ kept. All (λ pass. log_of pass ≡ identity_of kept.0.log) kept.1.items) }
 {
     match store.renew(alloc, passes) {
         Ok(opened) => Ok(opened),
@@ -107,9 +107,9 @@ fn both<'a>(
     mut passes: Vec<Pass>,
     seen: u64,
 ) -> (Session<'a, Log>, Session<'a, Log>)
-    requires { All (λ pass. home_of pass ≡ place_of store.now.log) passes.items }
-    ensures first { home_of result.0.pass ≡ place_of store.now.log }
-    ensures second { home_of result.1.pass ≡ place_of store.now.log }
+    requires { All (λ pass. log_of pass ≡ identity_of store.now.log) passes.items }
+    ensures first { log_of result.0.pass ≡ identity_of store.now.log }
+    ensures second { log_of result.1.pass ≡ identity_of store.now.log }
 {
     assert_eq!(rt; passes.len(), 2);
     let (Some(second), Some(first)) = (passes.pop(), passes.pop()) else {
@@ -124,8 +124,8 @@ fn both<'a>(
 
 /// The full store answers as it did, and its sessions leave again.
 fn is_full(rt: &impl Abort, alloc: Global, store: &Store, passes: Vec<Pass>) -> Vec<Pass>
-    requires { All (λ pass. home_of pass ≡ place_of store.now.log) passes.items }
-    ensures { AreGathered (place_of store.now.log) result.items }
+    requires { All (λ pass. log_of pass ≡ identity_of store.now.log) passes.items }
+    ensures { AreGathered (identity_of store.now.log) result.items }
 {
     let (mut first, mut second) = both(rt, store, passes, 4);
     let commit = said(rt, b"XA COMMIT 'a'");
@@ -137,8 +137,8 @@ fn is_full(rt: &impl Abort, alloc: Global, store: &Store, passes: Vec<Pass>) -> 
 
 /// Session 1 fills a new store, in which session 2 then has no room.
 fn filled(rt: &impl Abort, alloc: Global, store: &Store, passes: Vec<Pass>) -> Vec<Pass>
-    requires { All (λ pass. home_of pass ≡ place_of store.now.log) passes.items }
-    ensures { AreGathered (place_of store.now.log) result.items }
+    requires { All (λ pass. log_of pass ≡ identity_of store.now.log) passes.items }
+    ensures { AreGathered (identity_of store.now.log) result.items }
 {
     let (mut first, mut second) = both(rt, store, passes, 0);
     gives(rt, &mut first, ADDED[0].1, 0, Wanted::Done);
@@ -152,7 +152,7 @@ fn filled(rt: &impl Abort, alloc: Global, store: &Store, passes: Vec<Pass>) -> V
 
 /// The renewed store: it has what was prepared, and room.
 fn goes_on(rt: &impl Abort, store: &Store, passes: Vec<Pass>)
-    requires { All (λ pass. home_of pass ≡ place_of store.now.log) passes.items }
+    requires { All (λ pass. log_of pass ≡ identity_of store.now.log) passes.items }
 {
     let (mut first, mut second) = both(rt, store, passes, 0);
     gives(rt, &mut first, b"XA RECOVER", 0, Wanted::Listed(b"a"));
@@ -163,8 +163,8 @@ fn goes_on(rt: &impl Abort, store: &Store, passes: Vec<Pass>)
 
 /// The store once it is renewed, and its new passes: where that was refused at first, the store is still the full one.
 fn renewed(rt: &impl Abort, alloc: Global, store: Store, passes: Vec<Pass>) -> (Store, Vec<Pass>)
-    requires { AreGathered (place_of store.log) passes.items }
-    ensures { All (λ pass. home_of pass ≡ place_of result.0.log) result.1.items }
+    requires { AreGathered (identity_of store.log) passes.items }
+    ensures { All (λ pass. log_of pass ≡ identity_of result.0.log) result.1.items }
 {
     match renewing(alloc, store, passes) {
         Ok(opened) => opened,

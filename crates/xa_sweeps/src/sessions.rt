@@ -12,7 +12,7 @@ use xa_session::{Fault, Session};
 
 /// A log with a turn for two sessions, opened again where there was no memory.
 fn turn(alloc: Global, capacity: u64) -> Result<(TurnLog, Vec<TurnPass>), OpenFault>
-    ensures { IfOk result (λ opened. All (λ pass. ⟦<TurnLog as DecisionLog>⟧.home pass ≡ ⟦<TurnLog as DecisionLog>⟧.place opened.0) opened.1.items) }
+    ensures { IfOk result (λ opened. All (λ pass. ⟦<TurnLog as DecisionLog>⟧.belongs_to pass ≡ ⟦<TurnLog as DecisionLog>⟧.identity opened.0) opened.1.items) }
 {
     match TurnLog::open(alloc, capacity, 2) {
         Err(OpenFault::NoMemory) => { TurnLog::open(alloc, capacity, 2) }
@@ -22,7 +22,7 @@ fn turn(alloc: Global, capacity: u64) -> Result<(TurnLog, Vec<TurnPass>), OpenFa
 
 /// A chain for two sessions, opened again where there was no memory.
 fn chain(alloc: Global, capacity: u64) -> Result<(ChainLog, Vec<ChainPass>), OpenFault>
-    ensures { IfOk result (λ opened. All (λ pass. ⟦<ChainLog as DecisionLog>⟧.home pass ≡ ⟦<ChainLog as DecisionLog>⟧.place opened.0) opened.1.items) }
+    ensures { IfOk result (λ opened. All (λ pass. ⟦<ChainLog as DecisionLog>⟧.belongs_to pass ≡ ⟦<ChainLog as DecisionLog>⟧.identity opened.0) opened.1.items) }
 {
     match ChainLog::open(alloc, capacity, 2) {
         Err(OpenFault::NoMemory) => { ChainLog::open(alloc, capacity, 2) }

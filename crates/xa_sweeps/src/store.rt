@@ -1,7 +1,7 @@
 //! A store: how it is opened, how its sessions are connected, and its history.
 ghost use Rattle.std.specs.Prelude.{◌≡◌, [], ◌≤◌, IfOk, vec_capacity};
 ghost use Rattle.std.specs.List.{All};
-ghost use Rattle.chain_log.specs.ChainPass.{place_of, home_of};
+ghost use Rattle.chain_log.specs.ChainPass.{identity_of, log_of};
 
 use crate::acts::{gives, has_history, is_entry};
 use crate::made::Wanted;
@@ -19,7 +19,7 @@ pub(crate) fn opened(
     capacity: u64,
     sessions: u64,
 ) -> Result<(Store, Vec<Pass>), OpenFault>
-    ensures { IfOk result (λ opened. All (λ pass. home_of pass ≡ place_of opened.0.log) opened.1.items) }
+    ensures { IfOk result (λ opened. All (λ pass. log_of pass ≡ identity_of opened.0.log) opened.1.items) }
 {
     match Store::open(alloc, capacity, sessions) {
         Err(OpenFault::NoMemory) => { Store::open(alloc, capacity, sessions) }
@@ -29,8 +29,8 @@ pub(crate) fn opened(
 
 /// A session of a store, connected again by the pass that comes back where there was no memory.
 pub(crate) fn joined<'a>(rt: &impl Abort, store: &'a Store, pass: Pass) -> Session<'a, Log>
-    requires { home_of pass ≡ place_of store.now.log }
-    ensures { home_of result.pass ≡ place_of store.now.log }
+    requires { log_of pass ≡ identity_of store.now.log }
+    ensures { log_of result.pass ≡ identity_of store.now.log }
 {
     match store.connect(pass) {
         Ok(session) => session,
@@ -71,8 +71,8 @@ fn asked(
     store: &Store,
     sessions: &mut Vec<Session<'_, Log>>,
 ) -> Result<Vec<Entry>, NoMemory>
-    requires { All (λ session. home_of session.pass ≡ place_of store.now.log) sessions.old.items }
-    ensures { All (λ session. home_of session.pass ≡ place_of store.now.log) sessions.new.items }
+    requires { All (λ session. log_of session.pass ≡ identity_of store.now.log) sessions.old.items }
+    ensures { All (λ session. log_of session.pass ≡ identity_of store.now.log) sessions.new.items }
 {
     store.history(alloc, sessions)
 }
@@ -84,7 +84,7 @@ fn history_of(
     store: &Store,
     sessions: &mut Vec<Session<'_, Log>>,
 ) -> Vec<Entry>
-    requires { All (λ session. home_of session.pass ≡ place_of store.now.log) sessions.old.items }
+    requires { All (λ session. log_of session.pass ≡ identity_of store.now.log) sessions.old.items }
 {
     if let Ok(history) = asked(alloc, store, sessions) {
         return history;

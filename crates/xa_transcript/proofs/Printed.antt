@@ -11,10 +11,13 @@ rows_text-append convert (xid ∷ xids) more =
     ∙ sym (append_assoc (codes "\n" ++ row_text convert xid) (rows_text convert xids) (rows_text convert more))
 
 -- one row more
-pub rows_text-more : (convert : Bool) (xids : List Xid) (i : ℕ) (xid : Xid) (begin before now : List ℕ) → i < length xids → xid ≡ get_or xids i xid → before ≡ begin ++ rows_text convert (take i xids)
+pub rows_text-more : (convert : Bool) (xids : List Xid) (i : ℕ) (xid : Xid) (begin before now : List ℕ) → i < length xids → xid ≡ get_or xids i xid
+    → before ≡ begin ++ rows_text convert (take i xids)
     → now ≡ before ++ codes "\n" ++ row_text convert xid → now ≡ begin ++ rows_text convert (take (i + 1) xids)
 rows_text-more convert xids i xid begin before now within is was step =
     let one : take (i + 1) xids ≡ take i xids ++ xid ∷ [] = take_more xids i xid within ∙ ap (λ x. take i xids ++ x ∷ []) (sym is) in
     let parts : rows_text convert (take (i + 1) xids) ≡ rows_text convert (take i xids) ++ (codes "\n" ++ row_text convert xid) =
-    ap (rows_text convert) one ∙ rows_text-append convert (take i xids) (xid ∷ []) ∙ ap (λ text. rows_text convert (take i xids) ++ text) (append-nil (codes "\n" ++ row_text convert xid)) in
-    rw (parts, step, was) (append_assoc (begin ++ rows_text convert (take i xids)) (codes "\n") (row_text convert xid) ∙ append_assoc begin (rows_text convert (take i xids)) (codes "\n" ++ row_text convert xid))
+    ap (rows_text convert) one ∙ rows_text-append convert (take i xids) (xid ∷ [])
+    ∙ ap (λ text. rows_text convert (take i xids) ++ text) (append-nil (codes "\n" ++ row_text convert xid)) in
+    rw (parts, step, was) (append_assoc (begin ++ rows_text convert (take i xids)) (codes "\n") (row_text convert xid)
+    ∙ append_assoc begin (rows_text convert (take i xids)) (codes "\n" ++ row_text convert xid))

@@ -4,17 +4,19 @@ use Rattle.std.specs.List.{All, AllZip}
 use Rattle.std.proofs.lemmas.List.Elements.{All-head, All-tail, All-cons, All-nil, All-take}
 use Rattle.std.proofs.lemmas.List.{length-take}
 use Rattle.xa_words.specs.Entry.{Entry}
-use Rattle.decision_log.specs.Known.{Place, newcomer, AllOf}
+use Rattle.decision_log.specs.Known.{LogIdentity, newcomer, AllOf}
 use Rattle.decision_log.specs.declared.known.Known.{Known}
-use Rattle.xa_store.specs.Passes.{Pass, home_of, known_of}
+use Rattle.xa_store.specs.Passes.{Pass, log_of, known_of}
 use Rattle.xa_store.specs.Gathered.{last_known}
 use Rattle.xa_store.specs.Legal.{IsReturned}
 use Rattle.xa_store.specs.declared.run.Run.{Run}
 use Rattle.xa_transcript.specs.Race.{IsRun, AreRunsFrom}
 
 -- one run more
-pub runs_more : (session next : ℕ) (lines : List (List ℕ)) (runs : List Run) (run : Run) → AreRunsFrom session lines runs → next ≡ session + length runs → IsRun next lines run → AreRunsFrom session lines (runs ++ run ∷ [])
-runs_more session next lines [] run are number is = (let e : next ≡ session = omega (arith, number) in let P : ℕ → Type 0 = λ n. IsRun n lines run in subst P e is, tt)
+pub runs_more : (session next : ℕ) (lines : List (List ℕ)) (runs : List Run) (run : Run) → AreRunsFrom session lines runs → next ≡ session + length runs
+    → IsRun next lines run → AreRunsFrom session lines (runs ++ run ∷ [])
+runs_more session next lines [] run are number is =
+    (let e : next ≡ session = omega (arith, number) in let P : ℕ → Type 0 = λ n. IsRun n lines run in subst P e is, tt)
 runs_more session next lines (one ∷ runs) run are number is =
     let e : next ≡ session + 1 + length runs = omega (arith, number) in
     (are.0, runs_more (session + 1) next lines runs run are.1 e is)
@@ -32,58 +34,70 @@ all_of_mapped P f [] all = All-nil (λ x. P (f x))
 all_of_mapped P f (x ∷ xs) all = All-cons (λ y. P (f y)) x xs (All-head P (f x) (map f xs) all) (all_of_mapped P f xs (All-tail P (f x) (map f xs) all))
 
 -- the runs are of the log that the passes are of
-pub runs_home : (place : Place) (n : ℕ) (passes taken : List Pass) (runs : List Run) → All (λ pass. home_of pass ≡ place) passes → taken ≡ take n passes → map (λ run. run.pass) runs ≡ taken
-    → All (λ run. home_of run.pass ≡ place) runs
-runs_home place n passes taken runs homes cut are =
-    let Home : Pass → Type 0 = λ pass. home_of pass ≡ place in
-    let Homes : List Pass → Type 0 = λ list. All Home list in
-    all_of_mapped Home (λ run. run.pass) runs (subst Homes (sym (are ∙ cut)) (All-take Home n passes homes))
+pub runs_belong : (identity : LogIdentity) (n : ℕ) (passes taken : List Pass) (runs : List Run) → All (λ pass. log_of pass ≡ identity) passes
+    → taken ≡ take n passes
+    → map (λ run. run.pass) runs ≡ taken
+    → All (λ run. log_of run.pass ≡ identity) runs
+runs_belong identity n passes taken runs belong cut are =
+    let Belongs : Pass → Type 0 = λ pass. log_of pass ≡ identity in
+    let AllBelong : List Pass → Type 0 = λ list. All Belongs list in
+    all_of_mapped Belongs (λ run. run.pass) runs (subst AllBelong (sym (are ∙ cut)) (All-take Belongs n passes belong))
 
 -- as many runs as passes were kept
-pub runs_count : (n : ℕ) (passes taken : List Pass) (runs : List Run) → length passes ≡ max n 1 → taken ≡ take n passes → map (λ run. run.pass) runs ≡ taken → length runs ≡ n
+pub runs_count : (n : ℕ) (passes taken : List Pass) (runs : List Run) → length passes ≡ max n 1 → taken ≡ take n passes → map (λ run. run.pass) runs ≡ taken
+    → length runs ≡ n
 runs_count n passes taken runs count cut are =
     let all : length runs ≡ length (take n passes) = sym (length_mapped (λ run. run.pass) runs) ∙ ap length are ∙ ap length cut in
     omega (arith, all, length-take n passes, count)
 
 -- what each pass keeps of its log is true of what the last one knows
-module _ (P : Place → Known → Type 0) (kept : (pass : Pass) → P (home_of pass) (known_of pass)) where
-  last_keeps : (place : Place) (history : List Entry) (runs : List Run) (passes : List Pass) → P place (newcomer 0) → All (λ run. home_of run.pass ≡ place) runs → AllZip (IsReturned history) runs passes
-      → P place (last_known (map known_of passes))
-  last_keeps place history [] [] none homes zip = none
-  last_keeps place history [] (pass ∷ passes) none homes zip = absurd zip
-  last_keeps place history (run ∷ runs) [] none homes zip = absurd zip
-  last_keeps place history (run ∷ []) (pass ∷ []) none homes zip =
-      let Home : Run → Type 0 = λ r. home_of r.pass ≡ place in
-      let home : home_of pass ≡ place = zip.0.home ∙ All-head Home run [] homes in
-      let At : Place → Type 0 = λ p. P p (known_of pass) in
-      subst At home (kept pass)
-  last_keeps place history (run ∷ []) (pass ∷ other ∷ passes) none homes zip = absurd zip.1
-  last_keeps place history (run ∷ other ∷ runs) (pass ∷ []) none homes zip = absurd zip.1
-  last_keeps place history (run ∷ other ∷ runs) (pass ∷ other' ∷ passes) none homes zip =
-      let Home : Run → Type 0 = λ r. home_of r.pass ≡ place in
-      last_keeps place history (other ∷ runs) (other' ∷ passes) none (All-tail Home run (other ∷ runs) homes) zip.1
+module _ (P : LogIdentity → Known → Type 0) (kept : (pass : Pass) → P (log_of pass) (known_of pass)) where
+  last_keeps : (identity : LogIdentity) (history : List Entry) (runs : List Run) (passes : List Pass) → P identity (newcomer 0)
+      → All (λ run. log_of run.pass ≡ identity) runs
+      → AllZip (IsReturned history) runs passes
+      → P identity (last_known (map known_of passes))
+  last_keeps identity history [] [] none belong zip = none
+  last_keeps identity history [] (pass ∷ passes) none belong zip = absurd zip
+  last_keeps identity history (run ∷ runs) [] none belong zip = absurd zip
+  last_keeps identity history (run ∷ []) (pass ∷ []) none belong zip =
+      let Belongs : Run → Type 0 = λ r. log_of r.pass ≡ identity in
+      let belongs : log_of pass ≡ identity = zip.0.belongs ∙ All-head Belongs run [] belong in
+      let At : LogIdentity → Type 0 = λ p. P p (known_of pass) in
+      subst At belongs (kept pass)
+  last_keeps identity history (run ∷ []) (pass ∷ other ∷ passes) none belong zip = absurd zip.1
+  last_keeps identity history (run ∷ other ∷ runs) (pass ∷ []) none belong zip = absurd zip.1
+  last_keeps identity history (run ∷ other ∷ runs) (pass ∷ other' ∷ passes) none belong zip =
+      let Belongs : Run → Type 0 = λ r. log_of r.pass ≡ identity in
+      last_keeps identity history (other ∷ runs) (other' ∷ passes) none (All-tail Belongs run (other ∷ runs) belong) zip.1
 
 -- the history has entries of the runs' sessions alone
-pub own_sessions : (place : Place) (history : List Entry) (runs : List Run) (passes : List Pass) → place.sessions ≡ max (length runs) 1 → All (λ run. home_of run.pass ≡ place) runs
+pub own_sessions : (identity : LogIdentity) (history : List Entry) (runs : List Run) (passes : List Pass) → identity.sessions ≡ max (length runs) 1
+    → All (λ run. log_of run.pass ≡ identity) runs
     → AllZip (IsReturned history) runs passes → history ≡ (last_known (map known_of passes)).seen → AllOf (length runs) history
-own_sessions place history [] [] sessions homes zip is = let P : List Entry → Type 0 = λ list. AllOf 0 list in subst P (sym is) (All-nil (λ entry. (1 ≤ entry.session) × (entry.session ≤ 0)))
-own_sessions place history [] (pass ∷ passes) sessions homes zip is = absurd zip
-own_sessions place history (run ∷ runs) passes sessions homes zip is =
-    let count : place.sessions ≡ length (run ∷ runs) = omega (arith, sessions) in
+own_sessions identity history [] [] sessions belong zip is =
+    let P : List Entry → Type 0 = λ list. AllOf 0 list in subst P (sym is) (All-nil (λ entry. (1 ≤ entry.session) × (entry.session ≤ 0)))
+own_sessions identity history [] (pass ∷ passes) sessions belong zip is = absurd zip
+own_sessions identity history (run ∷ runs) passes sessions belong zip is =
+    let count : identity.sessions ≡ length (run ∷ runs) = omega (arith, sessions) in
     let P : List Entry → Type 0 = λ list. AllOf (length (run ∷ runs)) list in
     let Q : ℕ → Type 0 = λ n. AllOf n (last_known (map known_of passes)).seen in
-    subst P (sym is) (subst Q count (last_keeps (λ p k. AllOf p.sessions k.seen) (λ pass. pass.state.among) place history (run ∷ runs) passes (All-nil (λ entry. (1 ≤ entry.session) × (entry.session ≤ place.sessions))) homes zip))
+    subst P (sym is) (subst Q count
+    (last_keeps (λ p k. AllOf p.sessions k.seen) (λ pass. pass.state.among) identity history (run ∷ runs) passes
+    (All-nil (λ entry. (1 ≤ entry.session) × (entry.session ≤ identity.sessions))) belong zip))
 
 -- the history has no more entries than the log has room for
-pub own_room : (place : Place) (history : List Entry) (runs : List Run) (passes : List Pass) → All (λ run. home_of run.pass ≡ place) runs → AllZip (IsReturned history) runs passes
-    → history ≡ (last_known (map known_of passes)).seen → length history ≤ place.capacity
-own_room place history runs passes homes zip is =
-    let P : List Entry → Type 0 = λ list. length list ≤ place.capacity in
-    subst P (sym is) (last_keeps (λ p k. length k.seen ≤ p.capacity) (λ pass. pass.state.within) place history runs passes (omega arith) homes zip)
+pub own_room : (identity : LogIdentity) (history : List Entry) (runs : List Run) (passes : List Pass) → All (λ run. log_of run.pass ≡ identity) runs
+    → AllZip (IsReturned history) runs passes
+    → history ≡ (last_known (map known_of passes)).seen → length history ≤ identity.capacity
+own_room identity history runs passes belong zip is =
+    let P : List Entry → Type 0 = λ list. length list ≤ identity.capacity in
+    subst P (sym is) (last_keeps (λ p k. length k.seen ≤ p.capacity) (λ pass. pass.state.within) identity history runs passes (omega arith) belong zip)
 
 -- the same of a history of several rounds, which is empty where there is no run
-pub own_in_rounds : (sessions : ℕ) (history : List Entry) (runs : List Run) → sessions ≡ max (length runs) 1 → AllOf sessions history → (length runs ≡ 0 → history ≡ []) → AllOf (length runs) history
-own_in_rounds sessions history [] count own none = let P : List Entry → Type 0 = λ list. AllOf 0 list in subst P (sym (none refl)) (All-nil (λ entry. (1 ≤ entry.session) × (entry.session ≤ 0)))
+pub own_in_rounds : (sessions : ℕ) (history : List Entry) (runs : List Run) → sessions ≡ max (length runs) 1 → AllOf sessions history
+    → (length runs ≡ 0 → history ≡ []) → AllOf (length runs) history
+own_in_rounds sessions history [] count own none =
+    let P : List Entry → Type 0 = λ list. AllOf 0 list in subst P (sym (none refl)) (All-nil (λ entry. (1 ≤ entry.session) × (entry.session ≤ 0)))
 own_in_rounds sessions history (run ∷ runs) count own none =
     let same : sessions ≡ length (run ∷ runs) = omega (arith, count) in
     let P : ℕ → Type 0 = λ n. AllOf n history in

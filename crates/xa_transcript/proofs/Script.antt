@@ -1,26 +1,31 @@
 -- Cutting a script into lines, and reading a line.
-use Rattle.std.proofs.Common.{◌≡◌, ℕ, ◌+◌, ◌<◌, ◌==◌, Bool, true, false, not, cond, Some, None, List, [], ◌∷◌, length, take, drop, refl, ap, sym, ◌∙◌, arith, suc}
+use Rattle.std.proofs.Common.{◌≡◌, ℕ, ◌+◌, ◌<◌, ◌==◌, Bool, true, false, not, cond, Some, None, List, [], ◌∷◌, length, take, drop, refl, ap, sym, ◌∙◌, arith}
+use Rattle.std.proofs.Common.{suc}
 use Rattle.std.specs.List.{prefix_len}
 use Rattle.std.proofs.lemmas.List.{drop-drop}
 use Rattle.std.proofs.lemmas.Grind.{common_steps}
-use Rattle.xa_transcript.specs.Script.{Blank, Bad, Given, lines_of, with_first, line_of, line_given, filled_line, without_blanks, first_word, after_word, session_named, is_empty}
+use Rattle.xa_transcript.specs.Script.{Blank, Bad, Given, lines_of, with_first, line_of, line_given, filled_line, without_blanks, first_word, after_word}
+use Rattle.xa_transcript.specs.Script.{session_named, is_empty}
 
 -- how many bytes stand before the first line feed
 abbrev pub first_length : List ℕ → ℕ
 first_length text = prefix_len (λ byte. not (byte == 10)) text
 
-longer : (byte n : ℕ) (text : List ℕ) → (byte ∷ take n text) ∷ lines_of (drop (n + 1) text) ≡ take (1 + n) (byte ∷ text) ∷ lines_of (drop (1 + n + 1) (byte ∷ text))
+longer : (byte n : ℕ) (text : List ℕ)
+    → (byte ∷ take n text) ∷ lines_of (drop (n + 1) text) ≡ take (1 + n) (byte ∷ text) ∷ lines_of (drop (1 + n + 1) (byte ∷ text))
 longer byte n text =
     let one : 1 + n ≡ suc n = omega arith in
     let two : 1 + n + 1 ≡ suc (n + 1) = omega arith in
     rw (two, one) refl
 
 cut_at : (b : Bool) (byte n : ℕ) (text : List ℕ) → lines_of text ≡ take n text ∷ lines_of (drop (n + 1) text)
-    → cond b ([] ∷ lines_of text) (with_first byte (lines_of text)) ≡ take (cond (not b) (1 + n) 0) (byte ∷ text) ∷ lines_of (drop (cond (not b) (1 + n) 0 + 1) (byte ∷ text))
+    → cond b ([] ∷ lines_of text) (with_first byte (lines_of text))
+    ≡ take (cond (not b) (1 + n) 0) (byte ∷ text) ∷ lines_of (drop (cond (not b) (1 + n) 0 + 1) (byte ∷ text))
 cut_at true byte n text short = refl
 cut_at false byte n text short = rw short (longer byte n text)
 
-last_cut : (b : Bool) (byte : ℕ) → cond b ([] ∷ []) ((byte ∷ []) ∷ []) ≡ take (cond (not b) 1 0) (byte ∷ []) ∷ lines_of (drop (cond (not b) 1 0 + 1) (byte ∷ []))
+last_cut : (b : Bool) (byte : ℕ)
+    → cond b ([] ∷ []) ((byte ∷ []) ∷ []) ≡ take (cond (not b) 1 0) (byte ∷ []) ∷ lines_of (drop (cond (not b) 1 0 + 1) (byte ∷ []))
 unfolding lines_of
 last_cut true byte = refl
 last_cut false byte = refl
@@ -48,12 +53,15 @@ line_of-filled line text is filled =
 pub filled-bad : (line text word : List ℕ) → line_of line ≡ filled_line text → word ≡ first_word text → session_named word ≡ None → Bad ≡ line_of line
 filled-bad line text word is at none = sym (is ∙ ap (λ s. line_given s (without_blanks (after_word text))) (ap session_named (sym at) ∙ none))
 
-pub filled-given : (line text word rest : List ℕ) (session : ℕ) → line_of line ≡ filled_line text → word ≡ first_word text → rest ≡ after_word text → session_named word ≡ Some session
+pub filled-given : (line text word rest : List ℕ) (session : ℕ) → line_of line ≡ filled_line text → word ≡ first_word text → rest ≡ after_word text
+    → session_named word ≡ Some session
     → Given session (without_blanks rest) ≡ line_of line
-filled-given line text word rest session is at after some = rw after (sym (is ∙ ap (λ s. line_given s (without_blanks (after_word text))) (ap session_named (sym at) ∙ some)))
+filled-given line text word rest session is at after some =
+    rw after (sym (is ∙ ap (λ s. line_given s (without_blanks (after_word text))) (ap session_named (sym at) ∙ some)))
 
 -- the first line of a text that is split after it
-pub lines_of-split : (text line rest lines : List ℕ) → 0 < length text → line ≡ take (first_length text) text → rest ≡ drop (first_length text) text → lines ≡ drop 1 rest
+pub lines_of-split : (text line rest lines : List ℕ) → 0 < length text → line ≡ take (first_length text) text → rest ≡ drop (first_length text) text
+    → lines ≡ drop 1 rest
     → lines_of text ≡ line ∷ lines_of lines
 lines_of-split text line rest lines some is after next =
     let e : drop (first_length text + 1) text ≡ lines = sym (drop-drop 1 (first_length text) text) ∙ ap (drop 1) (sym after) ∙ sym next in

@@ -1,6 +1,7 @@
 -- Writing a transcript answer by answer.
 use Rattle.std.specs.Result.{OnErr}
-use Rattle.std.proofs.Common.{Result, Ok, Err, ◌≡◌, ℕ, ◌==◌, true, Option, List, [], ◌∷◌, ◌++◌, length, take, drop, refl, sym, ap, ◌∙◌, subst, append_assoc, append-nil, arith}
+use Rattle.std.proofs.Common.{Result, Ok, Err, ◌≡◌, ℕ, ◌==◌, true, Option, List, [], ◌∷◌, ◌++◌, length, take, drop, refl, sym, ap, ◌∙◌, subst, append_assoc}
+use Rattle.std.proofs.Common.{append-nil, arith}
 use Rattle.std.proofs.lemmas.List.{take_at, take-append-drop}
 use Rattle.std.proofs.lemmas.Grind.{common_steps}
 use Rattle.std.specs.Io.KnownBytes.{Appends}
@@ -20,15 +21,18 @@ pub prefix_written : (old new : Option (List ℕ)) (whole left : List ℕ) → I
 prefix_written old new whole left w = prefix_from old new whole w.written left w.appended w.parts
 
 -- a part of the next answer
-pub prefix_more : (old now new : Option (List ℕ)) (whole answer more : List ℕ) → IsWrittenUpTo old now whole (answer ++ more) → AppendsPrefix now new answer → AppendsPrefix old new whole
+pub prefix_more : (old now new : Option (List ℕ)) (whole answer more : List ℕ) → IsWrittenUpTo old now whole (answer ++ more) → AppendsPrefix now new answer
+    → AppendsPrefix old new whole
 prefix_more old now new whole answer more w p =
     let n = p.0 in
-    let split : answer ++ more ≡ take n answer ++ (drop n answer ++ more) = ap (λ xs. xs ++ more) (sym (take-append-drop n answer)) ∙ append_assoc (take n answer) (drop n answer) more in
+    let split : answer ++ more ≡ take n answer ++ (drop n answer ++ more) =
+    ap (λ xs. xs ++ more) (sym (take-append-drop n answer)) ∙ append_assoc (take n answer) (drop n answer) more in
     prefix_from old new whole (w.written ++ take n answer) (drop n answer ++ more) (Appends-trans old now new w.written (take n answer) w.appended p.1)
     (w.parts ∙ ap (λ xs. w.written ++ xs) split ∙ sym (append_assoc w.written (take n answer) (drop n answer ++ more)))
 
 -- the whole of the next answer
-pub written_more : (old now new : Option (List ℕ)) (whole answer more : List ℕ) → IsWrittenUpTo old now whole (answer ++ more) → Appends now new answer → IsWrittenUpTo old new whole more
+pub written_more : (old now new : Option (List ℕ)) (whole answer more : List ℕ) → IsWrittenUpTo old now whole (answer ++ more) → Appends now new answer
+    → IsWrittenUpTo old new whole more
 written_more old now new whole answer more w appended = record {
   written = w.written ++ answer;
   appended = Appends-trans old now new w.written answer w.appended appended;
@@ -39,7 +43,8 @@ pub written_none : (old : Option (List ℕ)) (whole : List ℕ) → IsWrittenUpT
 written_none old whole = record { written = []; appended = Appends-nil old; parts = refl }
 
 -- what is left of the transcript, when one more line was cut off, and answered
-pub run_text-line : (state next : State) (text line rest answer : List ℕ) → lines_of text ≡ line ∷ lines_of rest → answer ≡ answer_of state (line_of line) → next ≡ state_after state (line_of line)
+pub run_text-line : (state next : State) (text line rest answer : List ℕ) → lines_of text ≡ line ∷ lines_of rest → answer ≡ answer_of state (line_of line)
+    → next ≡ state_after state (line_of line)
     → run_text state (lines_of text) ≡ answer ++ run_text next (lines_of rest)
 unfolding run_text
 run_text-line state next text line rest answer cut is after = rw (cut, is, after) refl

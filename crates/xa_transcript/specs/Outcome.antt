@@ -41,7 +41,8 @@ history_text history = codes "HISTORY " ++ decimal (length history) ++ codes "\n
 
 -- session, place and reply of an answer
 abbrev pub placed_text : ℕ → Statement → Answer → List ℕ
-placed_text session statement answer = decimal session ++ codes " " ++ decimal answer.place ++ codes " " ++ reply_text (converts statement) answer.reply ++ codes "\n"
+placed_text session statement answer =
+    decimal session ++ codes " " ++ decimal answer.place ++ codes " " ++ reply_text (converts statement) answer.reply ++ codes "\n"
 
 -- a session's answers, each to its statement
 unfoldable pub session_text : ℕ → List Statement → List Answer → List ℕ

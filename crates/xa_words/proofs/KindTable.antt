@@ -55,15 +55,106 @@ pub record Within (p : Parts) : Type 0 where
   pub row : 6 < p.kind → RowParts p
 
 pub within : (st : Statement) → IsTrue (may_enter st) → KeepsLimits st → Within (parts_of st)
-within (Start xid) may k = record { low = omega arith; high = omega arith; format_id = k.format_id; first = k.gtrid; second = k.bqual; none = λ h. absurd (omega arith); row = λ h. absurd (omega arith) }
-within (End xid) may k = record { low = omega arith; high = omega arith; format_id = k.format_id; first = k.gtrid; second = k.bqual; none = λ h. absurd (omega arith); row = λ h. absurd (omega arith) }
-within (Prepare xid) may k = record { low = omega arith; high = omega arith; format_id = k.format_id; first = k.gtrid; second = k.bqual; none = λ h. absurd (omega arith); row = λ h. absurd (omega arith) }
-within (Commit xid false) may k = record { low = omega arith; high = omega arith; format_id = k.format_id; first = k.gtrid; second = k.bqual; none = λ h. absurd (omega arith); row = λ h. absurd (omega arith) }
-within (Commit xid true) may k = record { low = omega arith; high = omega arith; format_id = k.format_id; first = k.gtrid; second = k.bqual; none = λ h. absurd (omega arith); row = λ h. absurd (omega arith) }
-within (Rollback xid) may k = record { low = omega arith; high = omega arith; format_id = k.format_id; first = k.gtrid; second = k.bqual; none = λ h. absurd (omega arith); row = λ h. absurd (omega arith) }
+within (Start xid) may k =
+    record {
+      low = omega arith;
+      high = omega arith;
+      format_id = k.format_id;
+      first = k.gtrid;
+      second = k.bqual;
+      none = λ h. absurd (omega arith);
+      row = λ h. absurd (omega arith);
+    }
+within (End xid) may k =
+    record {
+      low = omega arith;
+      high = omega arith;
+      format_id = k.format_id;
+      first = k.gtrid;
+      second = k.bqual;
+      none = λ h. absurd (omega arith);
+      row = λ h. absurd (omega arith);
+    }
+within (Prepare xid) may k =
+    record {
+      low = omega arith;
+      high = omega arith;
+      format_id = k.format_id;
+      first = k.gtrid;
+      second = k.bqual;
+      none = λ h. absurd (omega arith);
+      row = λ h. absurd (omega arith);
+    }
+within (Commit xid false) may k =
+    record {
+      low = omega arith;
+      high = omega arith;
+      format_id = k.format_id;
+      first = k.gtrid;
+      second = k.bqual;
+      none = λ h. absurd (omega arith);
+      row = λ h. absurd (omega arith);
+    }
+within (Commit xid true) may k =
+    record {
+      low = omega arith;
+      high = omega arith;
+      format_id = k.format_id;
+      first = k.gtrid;
+      second = k.bqual;
+      none = λ h. absurd (omega arith);
+      row = λ h. absurd (omega arith);
+    }
+within (Rollback xid) may k =
+    record {
+      low = omega arith;
+      high = omega arith;
+      format_id = k.format_id;
+      first = k.gtrid;
+      second = k.bqual;
+      none = λ h. absurd (omega arith);
+      row = λ h. absurd (omega arith);
+    }
 within (Recover convert) may k = cc
 within Unsupported may k = cc
-within (Get key) may k = record { low = omega arith; high = omega arith; format_id = omega arith; first = k.text; second = empty; none = λ h. refl; row = λ h. record { low = omega arith; high = omega arith; key = λ b. k.not_empty; no_key = λ e. absurd (omega arith); no_value = λ n. refl } }
-within (Put key value) may k = record { low = omega arith; high = omega arith; format_id = omega arith; first = k.0.text; second = k.1; none = λ h. refl; row = λ h. record { low = omega arith; high = omega arith; key = λ b. k.0.not_empty; no_key = λ e. absurd (omega arith); no_value = λ n. absurd (n refl) } }
-within (Del key) may k = record { low = omega arith; high = omega arith; format_id = omega arith; first = k.text; second = empty; none = λ h. refl; row = λ h. record { low = omega arith; high = omega arith; key = λ b. k.not_empty; no_key = λ e. absurd (omega arith); no_value = λ n. refl } }
-within Disconnect may k = record { low = omega arith; high = omega arith; format_id = omega arith; first = empty; second = empty; none = λ h. refl; row = λ h. record { low = omega arith; high = omega arith; key = λ b. absurd (omega arith); no_key = λ e. refl; no_value = λ n. refl } }
+within (Get key) may k =
+    record {
+      low = omega arith;
+      high = omega arith;
+      format_id = omega arith;
+      first = k.text;
+      second = empty;
+      none = λ h. refl;
+      row = λ h. record { low = omega arith; high = omega arith; key = λ b. k.not_empty; no_key = λ e. absurd (omega arith); no_value = λ n. refl };
+    }
+within (Put key value) may k =
+    record {
+      low = omega arith;
+      high = omega arith;
+      format_id = omega arith;
+      first = k.0.text;
+      second = k.1;
+      none = λ h. refl;
+      row =
+          λ h. record { low = omega arith; high = omega arith; key = λ b. k.0.not_empty; no_key = λ e. absurd (omega arith); no_value = λ n. absurd (n refl) };
+    }
+within (Del key) may k =
+    record {
+      low = omega arith;
+      high = omega arith;
+      format_id = omega arith;
+      first = k.text;
+      second = empty;
+      none = λ h. refl;
+      row = λ h. record { low = omega arith; high = omega arith; key = λ b. k.not_empty; no_key = λ e. absurd (omega arith); no_value = λ n. refl };
+    }
+within Disconnect may k =
+    record {
+      low = omega arith;
+      high = omega arith;
+      format_id = omega arith;
+      first = empty;
+      second = empty;
+      none = λ h. refl;
+      row = λ h. record { low = omega arith; high = omega arith; key = λ b. absurd (omega arith); no_key = λ e. refl; no_value = λ n. refl };
+    }

@@ -37,7 +37,8 @@ parts_by p q k f a b i = record { kind = k i; format_id = f i; first = a i; seco
 pub entry_by : (left right : Entry) → left.session ≡ right.session → left.statement ≡ right.statement → left ≡ right
 entry_by left right s st i = record { session = s i; statement = st i }
 
-joined : (a b c d e : ℕ) (rest : List ℕ) (session : ℕ) (parts : Parts) → a ≡ session → b ≡ parts.kind → c ≡ length parts.first → d ≡ length parts.second → e ≡ parts.format_id → rest ≡ text_words parts.first ++ text_words parts.second → a ∷ b ∷ c ∷ d ∷ e ∷ rest ≡ lay_out session parts
+joined : (a b c d e : ℕ) (rest : List ℕ) (session : ℕ) (parts : Parts) → a ≡ session → b ≡ parts.kind → c ≡ length parts.first → d ≡ length parts.second
+    → e ≡ parts.format_id → rest ≡ text_words parts.first ++ text_words parts.second → a ∷ b ∷ c ∷ d ∷ e ∷ rest ≡ lay_out session parts
 joined a b c d e rest session parts ea eb ec ed ee er = cc
 
 all_eight : (xs : List ℕ) → length xs ≡ 8 → take 8 xs ≡ xs
@@ -107,7 +108,22 @@ words_of-fit entry is =
                             text_word-fits _ w.first 48,
                             (
                               text_word-fits _ w.first 56,
-                              (text_word-fits _ w.second 0, (text_word-fits _ w.second 8, (text_word-fits _ w.second 16, (text_word-fits _ w.second 24, (text_word-fits _ w.second 32, (text_word-fits _ w.second 40, (text_word-fits _ w.second 48, (text_word-fits _ w.second 56, tt)))))))),
+                              (
+                                text_word-fits _ w.second 0,
+                                (
+                                  text_word-fits _ w.second 8,
+                                  (
+                                    text_word-fits _ w.second 16,
+                                    (
+                                      text_word-fits _ w.second 24,
+                                      (
+                                        text_word-fits _ w.second 32,
+                                        (text_word-fits _ w.second 40, (text_word-fits _ w.second 48, (text_word-fits _ w.second 56, tt))),
+                                      ),
+                                    ),
+                                  ),
+                                ),
+                              ),
                             ),
                           ),
                         ),
@@ -137,6 +153,7 @@ pub parts_read : (words : List ℕ) (entry : Entry) → IsEntry entry → words 
 parts_read words entry is same first second f g lf wf lg wg =
     let p = pieces_of words entry same in
     let w = within entry.statement is.kind is.limits in
-    parts_by (parts_of entry.statement) (record { kind = get_or words 1 0; format_id = get_or words 4 0; first = first; second = second }) (sym p.kind) (sym p.format_id)
+    parts_by (parts_of entry.statement) (record { kind = get_or words 1 0; format_id = get_or words 4 0; first = first; second = second }) (sym p.kind)
+    (sym p.format_id)
     (one_text (parts_of entry.statement).first first w.first f (sym p.first_length ∙ sym lf) (sym p.first ∙ sym wf))
     (one_text (parts_of entry.statement).second second w.second g (sym p.second_length ∙ sym lg) (sym p.second ∙ sym wg))

@@ -25,7 +25,8 @@ word_at text = below_eight (λ n. get_or (text_words text) n 0 ≡ text_word tex
 
 byte_at : (text : List ℕ) (place index : ℕ) → index < 8 → get_or (eight_bytes text place) index 0 ≡ get_or text (place + index) 0
 byte_at text place =
-    below_eight (λ n. get_or (eight_bytes text place) n 0 ≡ get_or text (place + n) 0) (ap (λ n. get_or text n 0) (omega arith)) refl refl refl refl refl refl refl
+    below_eight (λ n. get_or (eight_bytes text place) n 0 ≡ get_or text (place + n) 0)
+    (ap (λ n. get_or text n 0) (omega arith)) refl refl refl refl refl refl refl
 
 Small : List ℕ → Type 0
 Small text = (i : ℕ) → get_or text i 0 < 256
@@ -61,7 +62,8 @@ one_text left right l r len same =
     (λ i below. sym (spread left l i (omega (arith, l.fits))) ∙ ap (λ ws. byte_of ws i) same ∙ spread right r i (omega (arith, l.fits)))
 
 -- eight numbers of 64 bits whose bytes are those of a text are its words
-pub gathered : (words text : List ℕ) → length words ≡ 8 → ((i : ℕ) → get_or words i 0 < 2 ^ 64) → ((place : ℕ) → place < 64 → byte_of words place ≡ get_or text place 0) → text_words text ≡ words
+pub gathered : (words text : List ℕ) → length words ≡ 8 → ((i : ℕ) → get_or words i 0 < 2 ^ 64)
+    → ((place : ℕ) → place < 64 → byte_of words place ≡ get_or text place 0) → text_words text ≡ words
 unfolding byte_of text_word
 gathered words text len small bytes =
     ext_get_or 0 (text_words text) words (sym len)
@@ -101,7 +103,8 @@ past_the_end text place past =
     ap (from_be_bytes w64) (ext_get_or 0 (eight_bytes text place) zeros refl (λ i below. byte_at text place i below ∙ zero_at i ∙ sym (none_else i below)))
 
 -- bytes of the first words, and those of the next one behind them
-pub one_word_more : (words text : List ℕ) (index : ℕ) → length text ≡ 8 * index → ((place : ℕ) → place < length text → get_or text place 0 ≡ byte_of words place)
+pub one_word_more : (words text : List ℕ) (index : ℕ) → length text ≡ 8 * index
+    → ((place : ℕ) → place < length text → get_or text place 0 ≡ byte_of words place)
     → (place : ℕ) → place < 8 * (index + 1) → get_or (text ++ to_be_bytes w64 (get_or words index 0)) place 0 ≡ byte_of words place
 unfolding byte_of
 one_word_more words text index size bytes place below =
@@ -115,7 +118,8 @@ one_word_more words text index size bytes place below =
     ∙ ap (λ n. get_or (to_be_bytes w64 (get_or words n 0)) (place % 8) 0) q)
 
 -- bytes that are those of the words of a text of the same length are that text
-pub only_text : (words text other : List ℕ) → IsText other → length text ≡ length other → ((place : ℕ) → place < length text → get_or text place 0 ≡ byte_of words place) → text_words other ≡ words → text ≡ other
+pub only_text : (words text other : List ℕ) → IsText other → length text ≡ length other
+    → ((place : ℕ) → place < length text → get_or text place 0 ≡ byte_of words place) → text_words other ≡ words → text ≡ other
 only_text words text other is len bytes same =
     ext_get_or 0 text other len
     (λ i below. bytes i below ∙ ap (λ ws. byte_of ws i) (sym same) ∙ spread other is i (omega (arith, is.fits, len)))

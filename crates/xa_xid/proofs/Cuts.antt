@@ -1,5 +1,6 @@
 -- How a text is cut where a kind of byte ends, place by place.
-use Rattle.std.proofs.Common.{◌≡◌, ℕ, ◌+◌, ◌<◌, ◌≤◌, Bool, true, false, List, [], ◌∷◌, ◌++◌, length, take, drop, get_or, refl, sym, ◌∙◌, add-one, append_assoc, drop-cons, suc}
+use Rattle.std.proofs.Common.{◌≡◌, ℕ, ◌+◌, ◌<◌, ◌≤◌, Bool, true, false, List, [], ◌∷◌, ◌++◌, length, take, drop, get_or, refl, sym, ◌∙◌, add-one, append_assoc}
+use Rattle.std.proofs.Common.{drop-cons, suc}
 use Rattle.std.proofs.Math.Nat.{le_refl}
 use Rattle.std.proofs.Math.Seq.{take-suc}
 use Rattle.std.proofs.lemmas.List.{drop_all, take_all, append-nil}
@@ -37,7 +38,9 @@ pub record Passed (p : ℕ → Bool) (text : List ℕ) (place : ℕ) : Type 0 wh
 pub passed_more : (p : ℕ → Bool) (text : List ℕ) (place : ℕ) → place < length text → p (get_or text place 0) ≡ true
     → Passed p text place → Passed p text (place + 1)
 passed_more p text place within passes so_far = record {
-  before = so_far.before ∙ rw (drop-cons text place 0 within, front-passes p _ _ passes, add-one, take-suc text place 0 within) (sym (append_assoc (take place text) (get_or text place 0 ∷ []) (front p (drop (suc place) text))));
+  before =
+      so_far.before ∙ rw (drop-cons text place 0 within, front-passes p _ _ passes, add-one, take-suc text place 0 within)
+      (sym (append_assoc (take place text) (get_or text place 0 ∷ []) (front p (drop (suc place) text))));
   left = so_far.left ∙ rw (drop-cons text place 0 within, behind-passes p _ _ passes, add-one) refl;
 }
 

@@ -6,7 +6,8 @@ use Rattle.xa_xid.specs.Literal.{Reading, TextAt, literal_at, sized}
 use Rattle.xa_xid.specs.Faults.{FaultyLiteral, FaultyXid, faulty_gtrid, faulty_bqual, faulty_format_id}
 use Rattle.xa_xid.specs.Number.{NumberAt, number_at}
 use Rattle.xa_xid.specs.Xid.{Text}
-use Rattle.xa_xid.specs.XidText.{XidAt, gtrid_alone, gtrid_bqual, gtrid_bqual_format, CommaAt, NoCommaAt, Parse, xid_at, xid_of, comma_next, after_gtrid, after_bqual}
+use Rattle.xa_xid.specs.XidText.{XidAt, gtrid_alone, gtrid_bqual, gtrid_bqual_format, CommaAt, NoCommaAt, Parse, xid_at, xid_of, comma_next, after_gtrid}
+use Rattle.xa_xid.specs.XidText.{after_bqual}
 use Rattle.xa_xid.specs.declared.literal_fault.LiteralFault.{LiteralFault}
 use Rattle.xa_xid.specs.declared.xid.Xid.{Xid}
 use Rattle.xa_xid.proofs.Numerals.{read_number_spelled, spelled_number_read, read_faulty_number, faulty_number_read}

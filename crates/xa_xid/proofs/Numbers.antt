@@ -28,7 +28,8 @@ reached_all base digits place value past so_far = sym (so_far.same ∙ rw (drop_
 grows : (base value : ℕ) (digits : List ℕ) → 1 ≤ base → value ≤ digits_value_after base value digits
 grows base value [] positive = le_refl value
 grows base value (digit ∷ digits) positive =
-    let later : value * base + digit_value digit ≤ digits_value_after base (value * base + digit_value digit) digits = grows base (value * base + digit_value digit) digits positive in
+    let later : value * base + digit_value digit ≤ digits_value_after base (value * base + digit_value digit) digits =
+    grows base (value * base + digit_value digit) digits positive in
     let more : value * 1 ≤ value * base = mul-le-mul_left value positive in
     omega (arith, later, more)
 

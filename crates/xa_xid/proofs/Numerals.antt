@@ -1,5 +1,6 @@
 -- What is read as a number is spelled as one, and the other way round; and each fault is a row of the table.
-use Rattle.std.proofs.Common.{◌≡◌, ℕ, ◌^◌, ◌<◌, ◌≤◌, true, false, ◌==◌, ◌&&◌, not, nat_lt, if◌then◌else◌, IsTrue, List, [], ◌∷◌, ◌++◌, length, Some, None, Result, Ok, Err, refl, sym, ◌∙◌, ap, subst, arith}
+use Rattle.std.proofs.Common.{◌≡◌, ℕ, ◌^◌, ◌<◌, ◌≤◌, true, false, ◌==◌, ◌&&◌, not, nat_lt, if◌then◌else◌, IsTrue, List, [], ◌∷◌, ◌++◌, length, Some, None}
+use Rattle.std.proofs.Common.{Result, Ok, Err, refl, sym, ◌∙◌, ap, subst, arith}
 use Rattle.std.proofs.lemmas.Bool.{cond_both, eqb-true, ne_eqb, and_parts, ltb-true, ltb-false}
 use Rattle.std.proofs.lemmas.Bool.Decides.{nat_tests}
 use Rattle.std.specs.Str.Parse.{digits_value}
@@ -30,7 +31,8 @@ value_spelled text rest value numeral form =
     cond_both (nat_lt value (2 ^ 64)) (Ok value) (Err NumberTooLarge) (λ found. NumberSpelled text (number_found rest found))
     (λ small. form (ltb-true value (2 ^ 64) small)) (λ large. (value, rest, numeral, omega (arith, ltb-false value (2 ^ 64) large)))
 
-hex_spelled : (written rest : List ℕ) → StartsNo (belongs Word) rest → NumberSpelled (written ++ rest) (number_found rest (hex_number_of (hex_digits_of written)))
+hex_spelled : (written rest : List ℕ) → StartsNo (belongs Word) rest
+    → NumberSpelled (written ++ rest) (number_found rest (hex_number_of (hex_digits_of written)))
 hex_spelled [] rest s = tt
 hex_spelled (a ∷ []) rest s = tt
 hex_spelled (a ∷ b ∷ []) rest s = tt
@@ -54,10 +56,12 @@ digits_spelled : (digit : ℕ) (digits rest : List ℕ) → StartsNo (belongs Wo
 digits_spelled digit digits rest s =
     let all = digit ∷ digits in
     let test = not (length all == 0) && only (belongs Decimal) all in
-    elim test as (λ t. test ≡ t → NumberSpelled (all ++ rest) (number_found rest (if t then fitting (digits_value 10 all) else hex_number_of (hex_digits_of all)))) [
+    elim test as (λ t. test ≡ t
+    → NumberSpelled (all ++ rest) (number_found rest (if t then fitting (digits_value 10 all) else hex_number_of (hex_digits_of all)))) [
       | true ↦ λ e.
           let decimal = (and_parts (not (length all == 0)) (only (belongs Decimal) all) e).1 in
-          value_spelled (all ++ rest) rest (digits_value 10 all) (decimal_numeral digit digits rest decimal s) (λ small. decimal_digits digit digits decimal refl small s)
+          value_spelled (all ++ rest) rest (digits_value 10 all) (decimal_numeral digit digits rest decimal s)
+          (λ small. decimal_digits digit digits decimal refl small s)
       | false ↦ λ _. hex_spelled all rest s
     ] refl
 
@@ -75,7 +79,8 @@ pub read_number_spelled : (text : List ℕ) (value : ℕ) (rest : List ℕ) → 
 read_number_spelled text value rest e = rw e at (number_spelled text)
 
 -- a run of a known value is read so
-written_read : (written rest : List ℕ) (found : Result ℕ LiteralFault) → Passes (belongs Word) written → StartsNo (belongs Word) rest → number_in written ≡ found
+written_read : (written rest : List ℕ) (found : Result ℕ LiteralFault) → Passes (belongs Word) written → StartsNo (belongs Word) rest
+    → number_in written ≡ found
     → number_at (written ++ rest) ≡ number_found rest found
 written_read written rest found word s e =
     let cut : run (written ++ rest) ≡ written = front-append (belongs Word) written rest word s in
@@ -114,7 +119,8 @@ hexadecimal_read digit digits rest all s =
     let word : Passes (belongs Word) written = (refl, (refl, words_hex (digit ∷ digits) (only_passes (belongs Hexadecimal) (digit ∷ digits) all))) in
     let hex : hex_digits_of written ≡ Some (digit ∷ digits) = rw all refl in
     let other : number_in written ≡ hex_number_of (hex_digits_of written) =
-    ap (λ t. if not (length written == 0) && t then fitting (digits_value 10 written) else hex_number_of (hex_digits_of written)) (prefixed_not_decimal (digit ∷ digits))
+    ap (λ t. if not (length written == 0) && t then fitting (digits_value 10 written) else hex_number_of (hex_digits_of written))
+    (prefixed_not_decimal (digit ∷ digits))
     ∙ rw (ne_eqb (length written) 0 (λ e. omega arith)) refl in
     written_read written rest (fitting (digits_value 16 (digit ∷ digits))) word s (other ∙ ap hex_number_of hex)
 
@@ -147,7 +153,8 @@ number_once reading found other e f = cc
 pub one_number : (text : List ℕ) (value other : ℕ) (rest behind : List ℕ) → NumberAt text value rest → NumberAt text other behind
     → (value ≡ other) × (rest ≡ behind)
 one_number text value other rest behind form again =
-    let same = number_once (number_at text) (value, rest) (other, behind) (spelled_number_read text value rest form) (spelled_number_read text other behind again) in
+    let same =
+    number_once (number_at text) (value, rest) (other, behind) (spelled_number_read text value rest form) (spelled_number_read text other behind again) in
     (ap (λ pair. pair.0) same, ap (λ pair. pair.1) same)
 
 -- each fault is a row of the table

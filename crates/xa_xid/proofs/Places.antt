@@ -1,5 +1,6 @@
 -- What a token leaves of a text is an end of it, so a place says it too.
-use Rattle.std.proofs.Common.{◌≡◌, ℕ, ◌-◌, ◌+◌, ◌≤◌, ◌↔◌, List, [], ◌∷◌, ◌++◌, length, take, drop, Result, Ok, Err, refl, sym, ◌∙◌, ap, arith, append_assoc, length-append}
+use Rattle.std.proofs.Common.{◌≡◌, ℕ, ◌-◌, ◌+◌, ◌≤◌, ◌↔◌, List, [], ◌∷◌, ◌++◌, length, take, drop, Result, Ok, Err, refl, sym, ◌∙◌, ap, arith, append_assoc}
+use Rattle.std.proofs.Common.{length-append}
 use Rattle.std.proofs.Math.Seq.{drop-append_seam}
 use Rattle.std.proofs.lemmas.List.{take-append-drop, length-drop}
 use Rattle.xa_xid.specs.Bytes.{belongs, front, unblank}
@@ -179,7 +180,8 @@ end_faulty _ _ _ (faulty_format_id text second third fourth fifth gtrid bqual fa
     end_of_end text fourth (unblank fifth) (end_second text second third fourth gtrid bqual first comma part)
     (end_of_end fourth fifth (unblank fifth) (end_comma fourth fifth last) (end_unblank fifth))
 
-pub xid_fault_between : (text tail : List ℕ) (at : ℕ) (fault : LiteralFault) (rest : List ℕ) → tail ≡ unblank (drop at text) → gtrid_next tail ≡ Err (fault, rest)
+pub xid_fault_between : (text tail : List ℕ) (at : ℕ) (fault : LiteralFault) (rest : List ℕ) → tail ≡ unblank (drop at text)
+    → gtrid_next tail ≡ Err (fault, rest)
     → Between FaultyXid text at fault (length text - length rest)
 xid_fault_between text tail at fault rest blank e =
     let row = read_faulty_xid (drop at text) fault rest (xid_at-unblank (drop at text) tail blank ∙ e) in

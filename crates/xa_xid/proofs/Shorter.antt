@@ -1,5 +1,6 @@
 -- What stands behind a token is shorter than the text.
-use Rattle.std.proofs.Common.{◌≡◌, ℕ, ◌≤◌, suc, Bool, true, false, not, nat_lt, ◌%◌, if◌then◌else◌, ◌||◌, ◌==◌, List, [], ◌∷◌, length, drop, Option, Some, None, Ok, Err, sym, ◌∙◌, arith}
+use Rattle.std.proofs.Common.{◌≡◌, ℕ, ◌≤◌, suc, Bool, true, false, not, nat_lt, ◌%◌, if◌then◌else◌, ◌||◌, ◌==◌, List, [], ◌∷◌, length, drop, Option, Some, None}
+use Rattle.std.proofs.Common.{Ok, Err, sym, ◌∙◌, arith}
 use Rattle.std.proofs.Math.Nat.{le_refl}
 use Rattle.std.proofs.lemmas.Bool.{cond_both, or_from, true≢false}
 use Rattle.hex.specs.Hex.{decode_of}

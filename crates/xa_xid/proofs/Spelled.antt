@@ -1,5 +1,6 @@
 -- What is read as a literal is spelled as one, and each fault is a row of the table.
-use Rattle.std.proofs.Common.{◌≡◌, ℕ, ◌+◌, ◌*◌, ◌%◌, ◌<◌, ◌≤◌, Bool, true, false, ◌==◌, ◌&&◌, not, nat_lt, if◌then◌else◌, IsTrue, List, [], ◌∷◌, ◌++◌, length, drop, slice_index, Option, Some, None, Result, Ok, Err, refl, sym, ◌∙◌, subst, arith, inl, inr}
+use Rattle.std.proofs.Common.{◌≡◌, ℕ, ◌+◌, ◌*◌, ◌%◌, ◌<◌, ◌≤◌, Bool, true, false, ◌==◌, ◌&&◌, not, nat_lt, if◌then◌else◌, IsTrue, List, [], ◌∷◌, ◌++◌, length}
+use Rattle.std.proofs.Common.{drop, slice_index, Option, Some, None, Result, Ok, Err, refl, sym, ◌∙◌, subst, arith, inl, inr}
 use Rattle.std.proofs.lemmas.Bool.{cond_both, eqb-true, eqb-false, ne_eqb, and_parts, cases_lt, lt-ltb, ltb-true, ltb-false, not-false, true≢false}
 use Rattle.std.proofs.lemmas.Bool.Decides.{nat_tests}
 use Rattle.std.proofs.lemmas.List.{append-nil}
@@ -9,8 +10,10 @@ use Rattle.hex.specs.Hex.{decode_of, is_hex_digit}
 use Rattle.hex.proofs.HexLemmas.{decode_of-digits}
 use Rattle.hex.specs.declared.error.FromHexError.{FromHexError}
 use Rattle.xa_xid.specs.Bytes.{belongs, front, behind, only, run, after_run, StartsNo}
-use Rattle.xa_xid.specs.Literal.{Reading, LiteralAt, text_literal, hex_in_quotes, hex_run, literal_at, opens_text, opens_hex, is_quote, is_x, text_literal_of, sized, kept, decoded, evened, hex_in_quotes_of, hex_run_of, hex_digits_of}
-use Rattle.xa_xid.specs.Faults.{AreHex, HexRunAt, hex_run_at, FaultyLiteral, no_closing_quote, too_many_bytes, digits_without_end, digits_and_another_byte, odd_digits, too_many_digits, too_long_run, no_form}
+use Rattle.xa_xid.specs.Literal.{Reading, LiteralAt, text_literal, hex_in_quotes, hex_run, literal_at, opens_text, opens_hex, is_quote, is_x, text_literal_of}
+use Rattle.xa_xid.specs.Literal.{sized, kept, decoded, evened, hex_in_quotes_of, hex_run_of, hex_digits_of}
+use Rattle.xa_xid.specs.Faults.{AreHex, HexRunAt, hex_run_at, FaultyLiteral, no_closing_quote, too_many_bytes, digits_without_end, digits_and_another_byte}
+use Rattle.xa_xid.specs.Faults.{odd_digits, too_many_digits, too_long_run, no_form}
 use Rattle.xa_xid.specs.Quoted.{QuotedAt, quoted}
 use Rattle.xa_xid.specs.Xid.{Text}
 use Rattle.xa_xid.specs.declared.byte_class.ByteClass.TheVariants.{Word, Hexadecimal}
@@ -19,7 +22,8 @@ use Rattle.xa_xid.specs.declared.literal_fault.LiteralFault.TheVariants.{NotALit
 use Rattle.xa_xid.specs.declared.quoted.Mode.TheVariants.{Plain}
 use Rattle.xa_xid.proofs.Texts.{kept-fits, kept-past}
 use Rattle.xa_xid.proofs.Written.{Passes, decoded_found}
-use Rattle.xa_xid.proofs.Spelling.{Spelled, read_quoted, quoted_found, opened_at, text_read, hex_quoted_at, quote_no_hex, hex_run_cut, literal_at-run, front_passes, front-behind, passes_only, only_passes, behind_starts, long_digits, evened_length}
+use Rattle.xa_xid.proofs.Spelling.{Spelled, read_quoted, quoted_found, opened_at, text_read, hex_quoted_at, quote_no_hex, hex_run_cut, literal_at-run}
+use Rattle.xa_xid.proofs.Spelling.{front_passes, front-behind, passes_only, only_passes, behind_starts, long_digits, evened_length}
 
 -- the reading is of a literal that the text begins with
 abbrev SpelledAs : List ℕ → Reading Text → Type 0
@@ -55,7 +59,8 @@ unless_fault : (text : List ℕ) (test : Bool) (fault : LiteralFault) (other : R
 unless_fault text true fault other row each = row refl
 unless_fault text false fault other row each = each refl
 
-decoded_spelled : (text digits rest : List ℕ) (found : Result (List ℕ) FromHexError) → decode_of digits ≡ found → (bytes : List ℕ) × (decode_of digits ≡ Ok bytes)
+decoded_spelled : (text digits rest : List ℕ) (found : Result (List ℕ) FromHexError) → decode_of digits ≡ found
+    → (bytes : List ℕ) × (decode_of digits ≡ Ok bytes)
     → ((bytes : List ℕ) → decode_of digits ≡ Ok bytes → LiteralAt text bytes rest × (length bytes ≤ 64)) → SpelledAs text (decoded_found rest found)
 decoded_spelled text digits rest (Ok bytes) e decodes each = each bytes e
 decoded_spelled text digits rest (Err fault) e decodes each = absurd (err_is_ok fault decodes.0 (decode_of digits) e decodes.1)
@@ -129,7 +134,8 @@ run_spelled (a ∷ b ∷ digit ∷ digits) rest s none =
     let hex = belongs Hexadecimal in
     let all = digit ∷ digits in
     let text = a ∷ b ∷ digit ∷ digits ++ rest in
-    elim (a == 48 && b == 120 && only hex all) as (λ t. (a == 48 && b == 120 && only hex all) ≡ t → SpelledAs text (hex_run_of (if t then Some all else None) rest)) [
+    elim (a == 48 && b == 120 && only hex all) as (λ t. (a == 48 && b == 120 && only hex all) ≡ t
+    → SpelledAs text (hex_run_of (if t then Some all else None) rest)) [
       | true ↦ λ e.
           let outer = and_parts (a == 48 && b == 120) (only hex all) e in
           let inner = and_parts (a == 48) (b == 120) outer.0 in
@@ -180,7 +186,8 @@ literal_spelled text =
     (λ no_text. cond_both (opens_hex text) as_hex as_run (SpelledAs text) (λ e. hex_opened_spelled text e) (λ no_hex. run_read_spelled text no_text no_hex))
 
 -- what is read is spelled, and is few enough bytes
-pub read_spelled : (text : List ℕ) (found : Text) (rest : List ℕ) → literal_at text ≡ Ok (found, rest) → LiteralAt text found.items rest × (length found.items ≤ 64)
+pub read_spelled : (text : List ℕ) (found : Text) (rest : List ℕ) → literal_at text ≡ Ok (found, rest)
+    → LiteralAt text found.items rest × (length found.items ≤ 64)
 read_spelled text found rest e = rw e at (literal_spelled text)
 
 -- and each fault is a row of the table
@@ -188,7 +195,8 @@ pub read_faulty : (text : List ℕ) (fault : LiteralFault) → literal_at text �
 read_faulty text fault e = rw e at (literal_spelled text)
 
 -- a text that holds no run of `0x` and digits
-run_none : (written rest : List ℕ) → StartsNo (belongs Word) rest → ((digits behind : List ℕ) → HexRunAt (written ++ rest) digits behind → ⊥) → hex_digits_of written ≡ None
+run_none : (written rest : List ℕ) → StartsNo (belongs Word) rest → ((digits behind : List ℕ) → HexRunAt (written ++ rest) digits behind → ⊥)
+    → hex_digits_of written ≡ None
 run_none [] rest s refused = refl
 run_none (a ∷ []) rest s refused = refl
 run_none (a ∷ b ∷ []) rest s refused = refl

@@ -1,11 +1,13 @@
 -- What is spelled as a literal is read as one; and what is read between quotes is spelled there.
-use Rattle.std.proofs.Common.{◌≡◌, ℕ, ◌+◌, ◌*◌, ◌%◌, ◌<◌, ◌≤◌, Bool, true, false, ◌==◌, nat_lt, if◌then◌else◌, IsTrue, List, [], ◌∷◌, ◌++◌, length, Option, Some, None, Ok, Err, refl, sym, ◌∙◌, ap, arith, ◌⊎◌, inl, inr}
+use Rattle.std.proofs.Common.{◌≡◌, ℕ, ◌+◌, ◌*◌, ◌%◌, ◌<◌, ◌≤◌, Bool, true, false, ◌==◌, nat_lt, if◌then◌else◌, IsTrue, List, [], ◌∷◌, ◌++◌, length, Option}
+use Rattle.std.proofs.Common.{Some, None, Ok, Err, refl, sym, ◌∙◌, ap, arith, ◌⊎◌, inl, inr}
 use Rattle.std.proofs.lemmas.Bool.{cond_both, eqb-true, eqb-false, or_cases, ltb-true, ltb-false}
 use Rattle.std.proofs.lemmas.Bool.Decides.{nat_tests}
 use Rattle.hex.specs.Hex.{decode_of}
 use Rattle.hex.proofs.HexLemmas.{decode_of-ok}
 use Rattle.xa_xid.specs.Bytes.{belongs, front, behind, only, run, after_run, StartsNo}
-use Rattle.xa_xid.specs.Literal.{LiteralAt, text_literal, hex_in_quotes, hex_run, literal_at, is_quote, is_x, text_literal_of, sized, kept, decoded, evened, hex_in_quotes_of, hex_run_of, hex_digits_of}
+use Rattle.xa_xid.specs.Literal.{LiteralAt, text_literal, hex_in_quotes, hex_run, literal_at, is_quote, is_x, text_literal_of, sized, kept, decoded, evened}
+use Rattle.xa_xid.specs.Literal.{hex_in_quotes_of, hex_run_of, hex_digits_of}
 use Rattle.xa_xid.specs.Quoted.{Quoted, close, doubled, escape, plain, QuotedAt, quoted, onto, escaped}
 use Rattle.xa_xid.specs.declared.byte_class.ByteClass.TheVariants.{Word, Hexadecimal}
 use Rattle.xa_xid.specs.declared.literal_fault.LiteralFault.TheVariants.{TooLong}
@@ -148,7 +150,8 @@ x_cases letter is =
     ]
 
 -- digits of few bytes are decoded, and of more are too long
-digits_sized : (digits bytes rest : List ℕ) → decode_of digits ≡ Ok bytes → (long : Bool) → (long ≡ true → 64 < length bytes) → (long ≡ false → length bytes ≤ 64)
+digits_sized : (digits bytes rest : List ℕ) → decode_of digits ≡ Ok bytes → (long : Bool) → (long ≡ true → 64 < length bytes)
+    → (long ≡ false → length bytes ≤ 64)
     → (if long then Err TooLong else decoded digits rest) ≡ sized (kept bytes) rest
 digits_sized digits bytes rest e true past fits = ap (λ k. sized k rest) (sym (kept-past bytes (past refl)))
 digits_sized digits bytes rest e false past fits =
@@ -163,7 +166,8 @@ quoted_sized digits bytes rest e =
     (λ long. omega (arith, ltb-true 128 (length digits) long)) (λ short. omega (arith, ltb-false 128 (length digits) short)))
 
 -- an odd number of digits has one more in front
-pub evened_length : (digits : List ℕ) → (odd : Bool) → (length digits % 2 == 1) ≡ odd → (length digits ≤ length (evened digits)) × (length (evened digits) ≤ length digits + 1)
+pub evened_length : (digits : List ℕ) → (odd : Bool) → (length digits % 2 == 1) ≡ odd
+    → (length digits ≤ length (evened digits)) × (length (evened digits) ≤ length digits + 1)
 evened_length digits true e = rw e (omega arith, omega arith)
 evened_length digits false e = rw e (omega arith, omega arith)
 

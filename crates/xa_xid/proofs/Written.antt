@@ -1,5 +1,6 @@
 -- What is written in canonical form is read back.
-use Rattle.std.proofs.Common.{◌≡◌, ℕ, ◌*◌, ◌/◌, ◌%◌, ◌^◌, ◌<◌, ◌≤◌, suc, Bool, true, false, ◌==◌, List, [], ◌∷◌, ◌++◌, length, Some, Result, Ok, Err, get_or, refl, sym, ◌∙◌, ap, arith, append_assoc, decimal}
+use Rattle.std.proofs.Common.{◌≡◌, ℕ, ◌*◌, ◌/◌, ◌%◌, ◌^◌, ◌<◌, ◌≤◌, suc, Bool, true, false, ◌==◌, List, [], ◌∷◌, ◌++◌, length, Some, Result, Ok, Err, get_or}
+use Rattle.std.proofs.Common.{refl, sym, ◌∙◌, ap, arith, append_assoc, decimal}
 use Rattle.std.proofs.lemmas.Bool.{agree_below_at, lt-ltb, le-ltb, ne_eqb}
 use Rattle.std.proofs.lemmas.Bool.Decides.{nat_tests}
 use Rattle.std.proofs.lemmas.Fmt.{decimal_is_IsNumeral}
@@ -12,7 +13,8 @@ use Rattle.xa_xid.specs.Bytes.{belongs, front, behind, run, after_run, unblank, 
 use Rattle.xa_xid.specs.Literal.{Reading, literal_at, hex_run_of, hex_digits_of, evened, decoded}
 use Rattle.xa_xid.specs.Number.{number_at, number_in}
 use Rattle.xa_xid.specs.Xid.{Text}
-use Rattle.xa_xid.specs.XidText.{Parse, xid_at, part_text, xid_text, xid_of, gtrid_next, bqual_next, format_id_next, after_gtrid, after_bqual, comma_next, IsWritable}
+use Rattle.xa_xid.specs.XidText.{Parse, xid_at, part_text, xid_text, xid_of, gtrid_next, bqual_next, format_id_next, after_gtrid, after_bqual, comma_next}
+use Rattle.xa_xid.specs.XidText.{IsWritable}
 use Rattle.xa_xid.specs.declared.byte_class.ByteClass.TheVariants.{Blank, Word, Decimal, Hexadecimal}
 use Rattle.xa_xid.specs.declared.literal_fault.LiteralFault.{LiteralFault}
 use Rattle.xa_xid.specs.declared.literal_fault.LiteralFault.TheVariants.{NotALiteral}

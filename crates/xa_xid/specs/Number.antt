@@ -3,7 +3,8 @@
 --     number_in run        the value of a run that is a number
 --     number_at text       the number that a text begins with, and what stands behind it, or its fault
 --     number_from text at  the same at a place, and the place behind it
-use Rattle.std.specs.Prelude.{◌≡◌, ℕ, ◌^◌, ◌<◌, ◌==◌, ◌&&◌, nat_lt, not, if◌then◌else◌, IsTrue, List, ◌∷◌, ◌++◌, length, drop, Option, Some, None, Result, Ok, Err}
+use Rattle.std.specs.Prelude.{◌≡◌, ℕ, ◌^◌, ◌<◌, ◌==◌, ◌&&◌, nat_lt, not, if◌then◌else◌, IsTrue, List, ◌∷◌, ◌++◌, length, drop, Option, Some, None, Result, Ok}
+use Rattle.std.specs.Prelude.{Err}
 use Rattle.std.specs.Str.Parse.{digits_value}
 use Rattle.xa_xid.specs.Bytes.{belongs, only, run, after_run, StartsNo}
 use Rattle.xa_xid.specs.Literal.{Reading, placed, hex_digits_of}

@@ -3,7 +3,8 @@
 --     xid_at text            the identifier that a text begins with and what stands behind it, or its fault and where it stands
 --     xid_from text at       the same at a place, with places
 --     part_text, xid_text    the canonical text of a gtrid or bqual, and of an identifier
-use Rattle.std.specs.Prelude.{◌≡◌, ℕ, ◌-◌, ◌≤◌, ◌<◌, ◌^◌, ◌==◌, if◌then◌else◌, List, [], ◌∷◌, ◌++◌, length, drop, codes, decimal, Option, Some, None, Result, Ok, Err}
+use Rattle.std.specs.Prelude.{◌≡◌, ℕ, ◌-◌, ◌≤◌, ◌<◌, ◌^◌, ◌==◌, if◌then◌else◌, List, [], ◌∷◌, ◌++◌, length, drop, codes, decimal, Option, Some, None, Result}
+use Rattle.std.specs.Prelude.{Ok, Err}
 use Rattle.hex.specs.Hex.{encode_lower, IsBytes}
 use Rattle.xa_xid.specs.Bytes.{unblank, StartsNo}
 use Rattle.xa_xid.specs.Literal.{TextAt, literal_at}

@@ -7,7 +7,7 @@ use xa_xid::SessionNo;
 
 impl DecisionLog for TurnLog {
     ghost use Rattle.std.specs.Prelude.{true};
-    ghost use Rattle.decision_log.specs.TurnPass.{place_of, home_of, known_of};
+    ghost use Rattle.decision_log.specs.TurnPass.{identity_of, log_of, known_of};
 
     type Pass = TurnPass;
 
@@ -15,9 +15,9 @@ impl DecisionLog for TurnLog {
 
     ghost TURNS = { true };
 
-    ghost place = { place_of };
+    ghost identity = { identity_of };
 
-    ghost home = { home_of };
+    ghost belongs_to = { log_of };
 
     ghost known = { known_of };
 

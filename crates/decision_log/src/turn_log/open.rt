@@ -2,7 +2,7 @@
 ghost use Rattle.std.specs.Prelude.{◌≡◌, ◌≤◌, IfOk, IfErr};
 ghost use Rattle.decision_log.specs.Opens.{Opens, Refuses};
 ghost use Rattle.decision_log.specs.Seats.{newcomer_hand, hand};
-ghost use Rattle.decision_log.specs.TurnPass.{place_of, home_of, known_of};
+ghost use Rattle.decision_log.specs.TurnPass.{identity_of, log_of, known_of};
 ghost use Rattle.decision_log.specs.TurnSeat.{IsRest};
 
 use super::layout::ROWS;
@@ -25,7 +25,7 @@ impl TurnLog {
         capacity: u64,
         sessions: u64,
     ) -> Result<(TurnLog, Vec<TurnPass>), OpenFault>
-        ensures ok { IfOk result (λ opened. Opens home_of known_of capacity sessions (place_of opened.0) opened.1.items) }
+        ensures ok { IfOk result (λ opened. Opens log_of known_of capacity sessions (identity_of opened.0) opened.1.items) }
         ensures err { IfErr result (λ fault. Refuses capacity sessions fault) }
     {
         if capacity < 1 || capacity > MOST_ENTRIES {
@@ -73,7 +73,7 @@ impl TurnLog {
     ) -> Result<Vec<TurnPass>, AllocError>
         requires rest { IsRest self.now rest }
         requires first { hand rest ≡ newcomer_hand self.now.sessions self.now.capacity 1 }
-        ensures { IfOk result (λ passes. Opens home_of known_of self.now.capacity self.now.sessions (place_of self.now) passes.items) }
+        ensures { IfOk result (λ passes. Opens log_of known_of self.now.capacity self.now.sessions (identity_of self.now) passes.items) }
     {
         let mut passes = Vec::with_capacity(alloc, self.sessions as usize)?;
         for index in 0..self.sessions {

@@ -3,8 +3,8 @@ use Rattle.log_conformance.proofs.logs.has_each.Given as goal
 
 abbrev pub invariant-loop-at : goal.invariant-loop-at
 invariant-loop-at g l = record {
-  home : g.L.DecisionLog.home l.pass ≡ g.L.DecisionLog.home l.fn.pass;
-  place : g.L.DecisionLog.home l.pass ≡ g.L.DecisionLog.place l.log;
+  belongs : g.L.DecisionLog.belongs_to l.pass ≡ g.L.DecisionLog.belongs_to l.fn.pass;
+  identity : g.L.DecisionLog.belongs_to l.pass ≡ g.L.DecisionLog.identity l.log;
   known : g.L.DecisionLog.known l.pass ≡ g.L.DecisionLog.known l.fn.pass;
   end : l.at-end ≡ length (g.L.DecisionLog.known l.fn.pass).seen;
 }

@@ -4,4 +4,5 @@ use Rattle.xa_bench.proofs.steady.mixers.Goals as goal
 
 pub loop-pass-preserved : goal.loop-pass-preserved
 loop-pass-preserved g c =
-    (All-pop (λ pass. g.L.DecisionLog.home pass ≡ g.L.DecisionLog.place c.args.log.now) c.loop-pass.passes.items c.pop.new.self.items c.pop.result c.pop.ensures.items c.loop-pass.invariant).0
+    (All-pop (λ pass. g.L.DecisionLog.belongs_to pass ≡ g.L.DecisionLog.identity c.args.log.now) c.loop-pass.passes.items c.pop.new.self.items c.pop.result
+    c.pop.ensures.items c.loop-pass.invariant).0

@@ -10,7 +10,8 @@ unreachable-requires g c = c.in_default.not-Recovered _ (c.in-Ok.ensures.answere
 
 pub returns-in-Recovered-clause-seat : goal.returns-in-Recovered-clause-seat
 returns-in-Recovered-clause-seat g c =
-    listed_still false c.execute.result _ _ (g.met.S.Speak.lawful c.execute.new.self) c.execute.ensures.stays (g.met.S.Speak.own_part _) (g.met.S.Speak.own_part c.execute.new.self)
+    listed_still false c.execute.result _ _ (g.met.S.Speak.lawful c.execute.new.self) c.execute.ensures.stays (g.met.S.Speak.own_part _)
+    (g.met.S.Speak.own_part c.execute.new.self)
     c.execute.ensures.answered c.execute.ensures.fails c.execute.ensures.lasts
 
 pub returns-in-Recovered-clause-listed : goal.returns-in-Recovered-clause-listed
@@ -18,8 +19,10 @@ returns-in-Recovered-clause-listed g c = listed_as false _ c.in-Recovered.xids _
 
 pub returns-in-Err-clause-seat : goal.returns-in-Err-clause-seat
 returns-in-Err-clause-seat g c =
-    listed_still false c.execute.result _ _ (g.met.S.Speak.lawful c.execute.new.self) c.execute.ensures.stays (g.met.S.Speak.own_part _) (g.met.S.Speak.own_part c.execute.new.self)
+    listed_still false c.execute.result _ _ (g.met.S.Speak.lawful c.execute.new.self) c.execute.ensures.stays (g.met.S.Speak.own_part _)
+    (g.met.S.Speak.own_part c.execute.new.self)
     c.execute.ensures.answered c.execute.ensures.fails c.execute.ensures.lasts
 
 pub returns-in-Err-clause-undone : goal.returns-in-Err-clause-undone
-returns-in-Err-clause-undone g c = is_undone (Recover false) (Session c.in-Err.fault) _ _ c.in-Err.ensures.stays (c.in-Err.ensures.fails, c.in-Err.ensures.lasts)
+returns-in-Err-clause-undone g c =
+    is_undone (Recover false) (Session c.in-Err.fault) _ _ c.in-Err.ensures.stays (c.in-Err.ensures.fails, c.in-Err.ensures.lasts)

@@ -11,6 +11,17 @@ loop-place-preserved c =
     let grows = c.in_ok-expand.ensures.grows in
     record {
       grows = grows_more c.args.known.now.items now new c.loop-place.invariant.grows grows;
-      closed = closed_more c.loop-place.place c.args.returning now new (omega (arith, c.loop-place-test.true, c.len.ensures, c.loop-place.known.ok.0)) c.loop-place.invariant.closed grows c.in_ok-expand.ensures.all;
-      within = omega (arith, c.loop-place-test.true, c.len.ensures, c.loop-place.known.ok.0, c.expand.new.known.ok.0, ap length grows.parts, length-append now grows.more);
+      closed =
+          closed_more c.loop-place.place c.args.returning now new
+          (omega (arith, c.loop-place-test.true, c.len.ensures, c.loop-place.known.ok.0)) c.loop-place.invariant.closed grows c.in_ok-expand.ensures.all;
+      within =
+          omega (
+            arith,
+            c.loop-place-test.true,
+            c.len.ensures,
+            c.loop-place.known.ok.0,
+            c.expand.new.known.ok.0,
+            ap length grows.parts,
+            length-append now grows.more,
+          );
     }

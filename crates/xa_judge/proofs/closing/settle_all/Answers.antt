@@ -12,8 +12,12 @@ loop-one-preserved c =
     let list = c.loop-one.list.items in
     let new = c.push.new.self.items in
     record {
-      has = settles_step c.args.session first known rest list new c.in-Some.one c.in_ok-settled.field-0 c.in-Some.ensures.items c.in_ok-push.ensures.items c.in_ok-settled.ensures.config c.loop-one.invariant.has;
-      reach = settles_reach c.args.session first known rest list new c.in-Some.one c.in_ok-settled.field-0 c.in-Some.ensures.items c.in_ok-push.ensures.items c.in_ok-settled.ensures.reach c.loop-one.invariant.reach;
+      has =
+          settles_step c.args.session first known rest list new c.in-Some.one c.in_ok-settled.field-0 c.in-Some.ensures.items c.in_ok-push.ensures.items
+          c.in_ok-settled.ensures.config c.loop-one.invariant.has;
+      reach =
+          settles_reach c.args.session first known rest list new c.in-Some.one c.in_ok-settled.field-0 c.in-Some.ensures.items c.in_ok-push.ensures.items
+          c.in_ok-settled.ensures.reach c.loop-one.invariant.reach;
     }
 
 pub returns-clause-has : goal.returns-clause-has

@@ -20,7 +20,8 @@ returns-in-Impossible c =
     let event = c.index-events-place.result in
     let known = c.loop-place.known.items in
     let none = subst (λ a. IsAdvance known event c.args.limit a) c.in-Impossible.is c.in_ok-next.ensures in
-    refuted c.args.base.now c.args.events.now c.loop-place.place event c.loop-place.trunk.items known (omega (arith, c.loop-place-test.true)) c.index-events-place.is c.loop-place.invariant.some
+    refuted c.args.base.now c.args.events.now c.loop-place.place event c.loop-place.trunk.items known
+    (omega (arith, c.loop-place-test.true)) c.index-events-place.is c.loop-place.invariant.some
     c.loop-place.invariant.reach c.loop-place.invariant.complete none
 
 pub returns-in-TooMany : goal.returns-in-TooMany
@@ -28,7 +29,8 @@ returns-in-TooMany c =
     let event = c.index-events-place.result in
     let known = c.loop-place.known.items in
     let many = subst (λ a. IsAdvance known event c.args.limit a) c.in-TooMany.is c.in_ok-next.ensures in
-    wide c.args.base.now c.args.events.now c.args.limit c.loop-place.place c.loop-place.trunk.items known many.0 (omega (arith, c.loop-place-test.true)) c.loop-place.invariant.reach many.1 many.2
+    wide c.args.base.now c.args.events.now c.args.limit c.loop-place.place c.loop-place.trunk.items known many.0
+    (omega (arith, c.loop-place-test.true)) c.loop-place.invariant.reach many.1 many.2
 
 pub loop-place-preserved : goal.loop-place-preserved
 loop-place-preserved c =
@@ -45,9 +47,12 @@ loop-place-preserved c =
     let leads = subst (λ a. IsAdvance known event c.args.limit a) c.in-Known.is c.in_ok-next.ensures in
     record {
       some = some_shortened trunk longer next new c.in_ok-shorten.ensures (omega (arith, leads.0, c.in-Known.next.ok.0));
-      reach = c.in_ok-shorten.ensures.reach base (take (place + 1) events) (reach_more base events place event trunk known next within c.index-events-place.is c.loop-place.invariant.reach leads.2);
+      reach =
+          c.in_ok-shorten.ensures.reach base (take (place + 1) events)
+          (reach_more base events place event trunk known next within c.index-events-place.is c.loop-place.invariant.reach leads.2);
       complete = λ more explained.
-          continues_shortened trunk longer next new more c.in_ok-shorten.ensures (complete_more base events place event known next within c.index-events-place.is c.loop-place.invariant.complete leads.1 more explained);
+          continues_shortened trunk longer next new more c.in_ok-shorten.ensures
+          (complete_more base events place event known next within c.index-events-place.is c.loop-place.invariant.complete leads.1 more explained);
     }
 
 pub returns : goal.returns

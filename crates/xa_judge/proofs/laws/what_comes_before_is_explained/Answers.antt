@@ -6,7 +6,8 @@ use Rattle.xa_judge.specs.Explained.{Config, opening, Runs}
 use Rattle.xa_judge.proofs.laws.what_comes_before_is_explained.Goals as goal
 
 -- the moves up to where the first events were seen
-cut : (old new : Config) (events : List Event) (count : ℕ) (moves : List Move) → Runs old events moves new → (fewer : List Move) × (end : Config) × Runs old (take count events) fewer end
+cut : (old new : Config) (events : List Event) (count : ℕ) (moves : List Move) → Runs old events moves new
+    → (fewer : List Move) × (end : Config) × Runs old (take count events) fewer end
 cut old new events count (Effect session act ∷ moves) runs =
     let rest = cut runs.0 new events count moves runs.3 in
     (Effect session act ∷ rest.0, rest.1, (runs.0, runs.1, runs.2, rest.2))

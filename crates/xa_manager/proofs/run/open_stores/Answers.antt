@@ -12,6 +12,10 @@ loop-alloc-preserved c =
     let counted = c.len.ensures in
     record {
       within = omega (arith, grown, below, counted);
-      first = rw (c.in_ok-push.ensures.items, c.in_ok-push-2.ensures.items) (all_zipped_more IsOwn stores c.loop-alloc.firsts.items c.in_ok-store.store c.in_ok-store.first c.loop-alloc.invariant.first opened.0);
-      second = rw (c.in_ok-push.ensures.items, c.in_ok-push-3.ensures.items) (all_zipped_more IsOwn stores c.loop-alloc.seconds.items c.in_ok-store.store c.in_ok-store.second c.loop-alloc.invariant.second opened.1);
+      first =
+          rw (c.in_ok-push.ensures.items, c.in_ok-push-2.ensures.items)
+          (all_zipped_more IsOwn stores c.loop-alloc.firsts.items c.in_ok-store.store c.in_ok-store.first c.loop-alloc.invariant.first opened.0);
+      second =
+          rw (c.in_ok-push.ensures.items, c.in_ok-push-3.ensures.items)
+          (all_zipped_more IsOwn stores c.loop-alloc.seconds.items c.in_ok-store.store c.in_ok-store.second c.loop-alloc.invariant.second opened.1);
     }

@@ -11,7 +11,8 @@ returns-in_ok-push_effect-in-Effect c = λ moves.
     let out = c.args.out.now.items in
     let calls = calls_kept c.args.calls.now in
     let left = drop c.args.place (map noted_kept c.args.noted.now) in
-    ap (λ (s : Move). out ++ order_text calls left (s ∷ moves)) c.in-Effect.is ∙ moved_effect out c.push_effect.new.out.items calls left c.in-Effect.session c.in-Effect.act moves c.in_ok-push_effect-in-Effect.ensures
+    ap (λ (s : Move). out ++ order_text calls left (s ∷ moves)) c.in-Effect.is
+    ∙ moved_effect out c.push_effect.new.out.items calls left c.in-Effect.session c.in-Effect.act moves c.in_ok-push_effect-in-Effect.ensures
 
 pub returns-then-place-noted : goal.returns-then-place-noted
 returns-then-place-noted c = λ moves.
@@ -19,7 +20,8 @@ returns-then-place-noted c = λ moves.
     let calls = calls_kept c.args.calls.now in
     let left = drop c.args.place (map noted_kept c.args.noted.now) in
     ap (λ (s : Move). out ++ order_text calls left (s ∷ moves)) c.in-Event.is
-    ∙ moved_event_at out calls (calls_kept c.follow.new.self) c.args.noted.now c.args.place c.index-noted-place.result moves (omega arith) c.index-noted-place.is
+    ∙ moved_event_at out calls (calls_kept c.follow.new.self) c.args.noted.now c.args.place c.index-noted-place.result moves
+    (omega arith) c.index-noted-place.is
     (c.follow.ensures ∙ ap (λ (n : Noted). with_call (told_kept n.happening) calls) (sym c.index-noted-place.is))
 
 pub returns-else-place-noted : goal.returns-else-place-noted

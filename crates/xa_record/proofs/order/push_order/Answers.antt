@@ -9,9 +9,12 @@ loop-step-preserved c =
     let calls = calls_kept c.loop-step.calls in
     let left = drop c.loop-step.place (map noted_kept c.args.noted.now) in
     c.loop-step.invariant
-    ∙ ap (λ m. c.loop-step.out.items ++ order_text calls left m) (dropped c.args.moves.now c.loop-step.step-index c.step-item.result c.loop-step-test.true c.step-item.is)
+    ∙ ap (λ m. c.loop-step.out.items ++ order_text calls left m)
+    (dropped c.args.moves.now c.loop-step.step-index c.step-item.result c.loop-step-test.true c.step-item.is)
     ∙ c.in_ok-place.ensures (drop (c.loop-step.step-index + 1) c.args.moves.now)
 
 pub returns : goal.returns
 returns c =
-    moved_whole _ c.loop-step.out.items (calls_kept c.loop-step.calls) (drop c.loop-step.place (map noted_kept c.args.noted.now)) c.args.moves.now c.loop-step.step-index (omega (arith, c.loop-step-test.false, c.loop-step.auto.step-index-end)) c.loop-step.invariant
+    moved_whole _ c.loop-step.out.items (calls_kept c.loop-step.calls)
+    (drop c.loop-step.place (map noted_kept c.args.noted.now)) c.args.moves.now c.loop-step.step-index
+    (omega (arith, c.loop-step-test.false, c.loop-step.auto.step-index-end)) c.loop-step.invariant

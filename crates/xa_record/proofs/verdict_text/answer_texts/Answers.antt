@@ -7,5 +7,6 @@ loop-answer-init c = texts-none (λ (t : Vec ℕ Global). t.items) c.new-texts.r
 
 pub loop-answer-preserved : goal.loop-answer-preserved
 loop-answer-preserved c =
-    texts-more (λ (t : Vec ℕ Global). t.items) c.loop-answer.texts.keys c.insert.new.self.keys c.in_ok-text.text c.args.answers.now c.loop-answer.answer-index c.answer-item.result c.loop-answer-test.true c.answer-item.is
+    texts-more (λ (t : Vec ℕ Global). t.items) c.loop-answer.texts.keys c.insert.new.self.keys c.in_ok-text.text c.args.answers.now c.loop-answer.answer-index
+    c.answer-item.result c.loop-answer-test.true c.answer-item.is
     c.loop-answer.invariant c.in_ok-text.ensures c.in_ok-insert.ensures.keys

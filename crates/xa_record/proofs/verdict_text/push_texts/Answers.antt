@@ -10,7 +10,8 @@ loop-text-preserved c =
     let left = c.loop-text.text-iterator in
     let rest = c.next.new.self in
     let more = rest_more deref left rest c.next.result c.in-Some.text c.in-Some.is c.next.ensures.steps in
-    written-text _ c.loop-text.out.items c.extend_from_slice.new.self.items c.extend_from_slice-in-loop-text.new.self.items c.extend_from_slice-in-loop-text-2.new.self.items c.in-Some.text.now.items
+    written-text _ c.loop-text.out.items c.extend_from_slice.new.self.items c.extend_from_slice-in-loop-text.new.self.items
+    c.extend_from_slice-in-loop-text-2.new.self.items c.in-Some.text.now.items
     (map (λ (t : Vec ℕ Global). t.items) rest)
     (c.loop-text.invariant ∙ ap (λ (l : List (Vec ℕ Global)). c.loop-text.out.items ++ answers_text (map (λ (t : Vec ℕ Global). t.items) l)) more)
     c.in_ok-extend_from_slice.ensures.items

@@ -6,7 +6,8 @@ use Rattle.xa_script.proofs.subcommands.coordinate_command.Goals as goal
 pub returns-clause-app : goal.returns-clause-app
 returns-clause-app c =
     let one = c.in_ok-arg.ensures.shape c.stores_option.ensures.global ∙ ap₂ with_rule c.plain_command.ensures.app c.stores_option.ensures.rule in
-    IfOk-weaker c.arg-2.result _ _ (λ command added. added.shape c.capacity_option.ensures.global ∙ ap₂ with_rule one c.capacity_option.ensures.rule) c.arg-2.ensures
+    IfOk-weaker c.arg-2.result _ _
+    (λ command added. added.shape c.capacity_option.ensures.global ∙ ap₂ with_rule one c.capacity_option.ensures.rule) c.arg-2.ensures
 
 pub returns-clause-local : goal.returns-clause-local
 returns-clause-local c = IfOk-weaker c.arg-2.result _ _ (λ command added. search rules) c.arg-2.ensures

@@ -4,7 +4,7 @@ use Rattle.xa_session.specs.Replay.{Stands}
 
 abbrev pub invariant-loop-at : goal.invariant-loop-at
 invariant-loop-at g l =
-    (g.L.DecisionLog.home l.pass ≡ g.L.DecisionLog.home l.fn.pass)
+    (g.L.DecisionLog.belongs_to l.pass ≡ g.L.DecisionLog.belongs_to l.fn.pass)
     × (g.L.DecisionLog.known l.pass ≡ g.L.DecisionLog.known l.fn.pass)
     × (l.replica.replayed ≡ l.at)
     × Stands l.base (g.L.DecisionLog.known l.fn.pass).seen l.replica

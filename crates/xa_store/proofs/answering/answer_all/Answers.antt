@@ -11,7 +11,8 @@ loop-index-init g c =
     let known = g.L.DecisionLog.known c.args.session.pass in (
       refl,
       refl,
-      subst (λ items. IsOnTheWay c.args.session.base.now known known [] items) (sym c.in-Ok.ensures.items) (sets_out c.args.session.base.now known (g.met.L.DecisionLog.own_part c.args.session.pass)),
+      subst (λ items. IsOnTheWay c.args.session.base.now known known [] items) (sym c.in-Ok.ensures.items)
+          (sets_out c.args.session.base.now known (g.met.L.DecisionLog.own_part c.args.session.pass)),
       search rules,
       search rules,
       λ line below. absurd (omega arith),
@@ -24,16 +25,22 @@ loop-index-preserved g c =
     let known = g.L.DecisionLog.known in
     let statement = c.index-lines-index.result in
     let below : c.loop-index.index < length c.args.lines.now = omega (arith, c.loop-index-test.true) in
-    let taken = take_more c.args.lines.now c.loop-index.index statement below ∙ ap (λ one. take c.loop-index.index c.args.lines.now ++ one ∷ []) (sym c.index-lines-index.is) in
+    let taken =
+    take_more c.args.lines.now c.loop-index.index statement below
+    ∙ ap (λ one. take c.loop-index.index c.args.lines.now ++ one ∷ []) (sym c.index-lines-index.is) in
     let told = c.in_ok-answer.ensures in
-    let way = goes_on base (known c.args.session.pass) (known c.loop-index.session.pass) (known c.answer_one.new.session.pass) (take c.loop-index.index c.args.lines.now) c.loop-index.answers.items
+    let way =
+    goes_on base (known c.args.session.pass) (known c.loop-index.session.pass) (known c.answer_one.new.session.pass)
+    (take c.loop-index.index c.args.lines.now) c.loop-index.answers.items
     statement c.in_ok-answer.answer
     (g.met.L.DecisionLog.own_part c.loop-index.session.pass) (g.met.L.DecisionLog.own_part c.answer_one.new.session.pass) inv.2
     (subst (λ b. IsAnswered b statement c.in_ok-answer.answer (known c.loop-index.session.pass) (known c.answer_one.new.session.pass)) inv.0 told.answered) in (
       told.base ∙ inv.0,
-      told.home ∙ inv.1,
-      subst (λ items. IsOnTheWay base (known c.args.session.pass) (known c.answer_one.new.session.pass) (take (c.loop-index.index + 1) c.args.lines.now) items) (sym c.push_reserved.ensures.items)
-          (subst (λ lines. IsOnTheWay base (known c.args.session.pass) (known c.answer_one.new.session.pass) lines (c.loop-index.answers.items ++ c.in_ok-answer.answer ∷ [])) (sym taken) way),
+      told.belongs ∙ inv.1,
+      subst (λ items. IsOnTheWay base (known c.args.session.pass) (known c.answer_one.new.session.pass) (take (c.loop-index.index + 1) c.args.lines.now) items)
+          (sym c.push_reserved.ensures.items)
+          (subst (λ lines. IsOnTheWay base (known c.args.session.pass) (known c.answer_one.new.session.pass) lines
+          (c.loop-index.answers.items ++ c.in_ok-answer.answer ∷ [])) (sym taken) way),
       omega (arith, c.push_reserved.ensures.len, inv.3),
       omega (arith, c.push_reserved.ensures.capacity, inv.4),
       lets_in_more (g.G.Gate.may_answer c.args.gate.now) (known c.args.session.pass).number c.loop-index.index inv.5
@@ -52,11 +59,12 @@ returns-in_err-answer-clause-fault g c =
     let now = known c.loop-index.session.pass in
     let new = known c.answer_one.new.session.pass in
     let below : place < length lines = omega (arith, c.loop-index-test.true) in
-    let halts : Halts may c.args.session.base.now (g.L.DecisionLog.home c.args.session.pass).capacity statement place fault now new =
-    subst (λ base. Halts may base (g.L.DecisionLog.home c.args.session.pass).capacity statement place fault now new) inv.0
-    (subst (λ home. Halts may c.loop-index.session.base.now home.capacity statement place fault now new) inv.1 c.in_err-answer.ensures.fault) in
-    let stopped : Stops may c.args.session.base.now (g.L.DecisionLog.home c.args.session.pass).capacity (known c.args.session.pass) lines fault =
-    stops may c.args.session.base.now (g.L.DecisionLog.home c.args.session.pass).capacity (known c.args.session.pass) now new lines c.loop-index.answers.items place statement fault below
+    let halts : Halts may c.args.session.base.now (g.L.DecisionLog.belongs_to c.args.session.pass).capacity statement place fault now new =
+    subst (λ base. Halts may base (g.L.DecisionLog.belongs_to c.args.session.pass).capacity statement place fault now new) inv.0
+    (subst (λ identity. Halts may c.loop-index.session.base.now identity.capacity statement place fault now new) inv.1 c.in_err-answer.ensures.fault) in
+    let stopped : Stops may c.args.session.base.now (g.L.DecisionLog.belongs_to c.args.session.pass).capacity (known c.args.session.pass) lines fault =
+    stops may c.args.session.base.now (g.L.DecisionLog.belongs_to c.args.session.pass).capacity
+    (known c.args.session.pass) now new lines c.loop-index.answers.items place statement fault below
     (slice_get_read lines (length lines) place statement refl below c.index-lines-index.is)
     (g.met.L.DecisionLog.own_part c.loop-index.session.pass) (g.met.L.DecisionLog.own_part c.answer_one.new.session.pass) inv.2 halts in
     search rules

@@ -6,7 +6,7 @@ use Rattle.xa_store.proofs.answering.answer_all.Given as goal
 abbrev pub invariant-loop-index : goal.invariant-loop-index
 invariant-loop-index g l =
     (l.session.base.now ≡ l.fn.session.base.now)
-    × (g.L.DecisionLog.home l.session.pass ≡ g.L.DecisionLog.home l.fn.session.pass)
+    × (g.L.DecisionLog.belongs_to l.session.pass ≡ g.L.DecisionLog.belongs_to l.fn.session.pass)
     × IsOnTheWay l.fn.session.base.now (g.L.DecisionLog.known l.fn.session.pass) (g.L.DecisionLog.known l.session.pass) (take l.index l.lines) l.answers.items
     × (vec_len l.answers ≡ l.index)
     × (length l.lines ≤ vec_capacity l.answers)

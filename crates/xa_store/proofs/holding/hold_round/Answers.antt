@@ -1,7 +1,7 @@
 use Rattle.std.proofs.Common.{◌≡◌, ◌+◌, length, map, ap, sym, subst, ◌∙◌, ⊎_elim, arith}
 use Rattle.std.specs.List.{AllZip}
 use Rattle.std.proofs.lemmas.List.Elements.{All-from_recursion, recursion_from_All}
-use Rattle.xa_store.specs.Passes.{place_of, home_of, known_of}
+use Rattle.xa_store.specs.Passes.{identity_of, log_of, known_of}
 use Rattle.xa_store.specs.Gathered.{IsTakenIn, Keeps}
 use Rattle.decision_log.specs.Known.{AllOf}
 use Rattle.xa_store.specs.Rounds.{Gains, GoesOn, AllGain, StopsInRound, BlamesRounds}
@@ -13,18 +13,20 @@ use Rattle.xa_store.proofs.holding.hold_round.Goals as goal
 
 pub wind_up_round-requires : goal.wind_up_round-requires
 wind_up_round-requires g c =
-    let place = place_of c.args.store.now.log in
+    let identity = identity_of c.args.store.now.log in
     let sessions = c.in-Ok-run_round.returned.sessions.items in
-    All-from_recursion (λ session. home_of session.pass ≡ place) sessions
-    (three_become _ _ (λ pass. home_of pass ≡ place) (λ resumed. home_of resumed.session.pass ≡ place) (λ session. home_of session.pass ≡ place) (λ pass one resumed is home. ap home_of is.0 ∙ home) (λ resumed session progress is home. is.same_log ∙ home)
-    c.args.passes.items c.args.progress.items c.in-Ok.resumed.items sessions c.in-Ok-run_round.returned.progress.items c.in-Ok.ensures c.in-Ok-run_round.ensures.ok
-    (recursion_from_All (λ pass. home_of pass ≡ place) c.args.passes.items c.requires.homes))
+    All-from_recursion (λ session. log_of session.pass ≡ identity) sessions
+    (three_become _ _ (λ pass. log_of pass ≡ identity) (λ resumed. log_of resumed.session.pass ≡ identity) (λ session. log_of session.pass ≡ identity)
+    (λ pass one resumed is belongs. ap log_of is.0 ∙ belongs) (λ resumed session progress is belongs. is.same_log ∙ belongs)
+    c.args.passes.items c.args.progress.items c.in-Ok.resumed.items sessions c.in-Ok-run_round.returned.progress.items c.in-Ok.ensures
+    c.in-Ok-run_round.ensures.ok
+    (recursion_from_All (λ pass. log_of pass ≡ identity) c.args.passes.items c.requires.belongs))
 
 pub returns-in-Err-clause-fault : goal.returns-in-Err-clause-fault
 returns-in-Err-clause-fault g c =
     let may = g.G.Gate.may_answer c.args.gate.now in
     let lines = map (λ one. one.lines.items) c.args.progress.items in
-    let fault = c.in-Err.blame.fault in
+    let fault = c.in-Err.first_fault.fault in
     ⊎_elim
     (λ memory. subst (λ one. BlamesRounds may lines one) (sym memory) tt)
     (λ rest. ⊎_elim (λ refused. subst (λ one. BlamesRounds may lines one) (sym refused) tt)
@@ -32,7 +34,8 @@ returns-in-Err-clause-fault g c =
     let there = three_get _ c.args.passes.items c.args.progress.items c.in-Ok.resumed.items at.index at.run c.in-Ok.ensures at.found in
     let number : (known_of at.run.session.pass).number ≡ at.index + 1 =
     ap (λ pass. (known_of pass).number) there.beside.0 ∙ ap (λ known. known.number) (c.requires.fresh at.index there.first there.at_first) in
-    blamed may lines at.index there.second.lines.items (known_of at.run.session.pass).number fault (get_mapped (λ one. one.lines.items) c.args.progress.items at.index there.second there.at_second) number
+    blamed may lines at.index there.second.lines.items (known_of at.run.session.pass).number fault
+    (get_mapped (λ one. one.lines.items) c.args.progress.items at.index there.second there.at_second) number
     (subst (λ one. StopsInRound may (known_of at.run.session.pass).number (length one.lines.items) fault) there.beside.2 at.cause))
     rest)
     c.in-Err.ensures.err
@@ -47,8 +50,10 @@ returns-clause-gains g c =
     let ended = c.in-Ok-wind_up_round.ended in
     let history = ended.history.items in
     let wound = c.in-Ok-wind_up_round.ensures in
-    let met : AllZip (λ session pass. ((home_of pass ≡ home_of session.pass) × Keeps (known_of session.pass) (known_of pass)) × IsTakenIn history (known_of pass)) returned.sessions.items ended.passes.items =
-    zip_and_all _ (λ pass. IsTakenIn history (known_of pass)) returned.sessions.items ended.passes.items wound.passes (recursion_from_All (λ pass. IsTakenIn history (known_of pass)) ended.passes.items wound.whole) in
+    let met : AllZip (λ session pass. ((log_of pass ≡ log_of session.pass) × Keeps (known_of session.pass) (known_of pass))
+    × IsTakenIn history (known_of pass)) returned.sessions.items ended.passes.items =
+    zip_and_all _ (λ pass. IsTakenIn history (known_of pass)) returned.sessions.items ended.passes.items wound.passes
+    (recursion_from_All (λ pass. IsTakenIn history (known_of pass)) ended.passes.items wound.whole) in
     let three : AllThree (λ pass old new. Gains base before history (known_of pass) old new) passes progress returned.progress.items =
     three_ended _ _ _ (λ pass old new. Gains base before history (known_of pass) old new)
     (λ pass old resumed session left new is went wound.
@@ -64,16 +69,20 @@ returns-clause-gains g c =
 
 pub returns-clause-own : goal.returns-clause-own
 returns-clause-own g c =
-    let place = place_of c.args.store.now.log in
+    let identity = identity_of c.args.store.now.log in
     let sessions = c.in-Ok-run_round.returned.sessions.items in
     let ended = c.in-Ok-wind_up_round.ended in
     let wound = c.in-Ok-wind_up_round.ensures in
     let before =
-    three_become _ _ (λ pass. home_of pass ≡ place) (λ resumed. home_of resumed.session.pass ≡ place) (λ session. home_of session.pass ≡ place) (λ pass one resumed is home. ap home_of is.0 ∙ home) (λ resumed session progress is home. is.same_log ∙ home)
-    c.args.passes.items c.args.progress.items c.in-Ok.resumed.items sessions c.in-Ok-run_round.returned.progress.items c.in-Ok.ensures c.in-Ok-run_round.ensures.ok
-    (recursion_from_All (λ pass. home_of pass ≡ place) c.args.passes.items c.requires.homes) in
-    let homes = zip_all _ (λ session. home_of session.pass ≡ place) (λ pass. home_of pass ≡ place) (λ session pass is home. is.0 ∙ home) sessions ended.passes.items wound.passes before in
-    subst (λ list. AllOf place.sessions list) (sym wound.last) (last_among place ended.passes.items homes)
+    three_become _ _ (λ pass. log_of pass ≡ identity) (λ resumed. log_of resumed.session.pass ≡ identity) (λ session. log_of session.pass ≡ identity)
+    (λ pass one resumed is belongs. ap log_of is.0 ∙ belongs) (λ resumed session progress is belongs. is.same_log ∙ belongs)
+    c.args.passes.items c.args.progress.items c.in-Ok.resumed.items sessions c.in-Ok-run_round.returned.progress.items c.in-Ok.ensures
+    c.in-Ok-run_round.ensures.ok
+    (recursion_from_All (λ pass. log_of pass ≡ identity) c.args.passes.items c.requires.belongs) in
+    let belong =
+    zip_all _ (λ session. log_of session.pass ≡ identity) (λ pass. log_of pass ≡ identity)
+    (λ session pass is belongs. is.0 ∙ belongs) sessions ended.passes.items wound.passes before in
+    subst (λ list. AllOf identity.sessions list) (sym wound.last) (last_among identity ended.passes.items belong)
 
 pub returns-clause-passes : goal.returns-clause-passes
 returns-clause-passes g c =

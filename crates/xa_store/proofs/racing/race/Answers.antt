@@ -1,7 +1,7 @@
 use Rattle.std.proofs.Common.{◌≡◌, length, map, ap, sym, subst, ◌∙◌, ⊎_elim}
 use Rattle.std.specs.List.{AllZip}
 use Rattle.std.proofs.lemmas.List.Elements.{All-from_recursion, recursion_from_All}
-use Rattle.xa_store.specs.Passes.{place_of, home_of, known_of}
+use Rattle.xa_store.specs.Passes.{identity_of, log_of, known_of}
 use Rattle.xa_store.specs.Gathered.{IsTakenIn, Keeps}
 use Rattle.xa_store.specs.Legal.{IsLegal, IsReturned, LetsIn, Stops, Blames}
 use Rattle.xa_store.specs.Spread.{HasAnswered, AllThree}
@@ -10,21 +10,22 @@ use Rattle.xa_store.proofs.Races.{legal_in, blames}
 use Rattle.xa_store.proofs.Spreading.{three_through, three_changed, three_second, three_all, three_first, zip_and_all, zip_get}
 use Rattle.xa_store.proofs.racing.race.Goals as goal
 
-pub conclude-requires : goal.conclude-requires
-conclude-requires g c =
-    let three = three_through _ _ (λ run session answers. home_of session.pass ≡ home_of run.pass)
-    (λ run started session answers is was. was.same_log ∙ ap home_of is.1)
-    c.args.runs.items c.in-Ok.started.items c.in-Ok-run_all.ended.sessions.items (map (λ answers. answers.items) c.in-Ok-run_all.ended.answers.items) c.in-Ok.ensures c.in-Ok-run_all.ensures.ok in
-    All-from_recursion (λ session. home_of session.pass ≡ place_of c.args.store.now.log) c.in-Ok-run_all.ended.sessions.items
-    (three_all _ (λ run. home_of run.pass ≡ place_of c.args.store.now.log) _ (λ run session answers is home. is ∙ home)
+pub outcome_of-requires : goal.outcome_of-requires
+outcome_of-requires g c =
+    let three = three_through _ _ (λ run session answers. log_of session.pass ≡ log_of run.pass)
+    (λ run started session answers is was. was.same_log ∙ ap log_of is.1)
+    c.args.runs.items c.in-Ok.started.items c.in-Ok-run_all.ended.sessions.items
+    (map (λ answers. answers.items) c.in-Ok-run_all.ended.answers.items) c.in-Ok.ensures c.in-Ok-run_all.ensures.ok in
+    All-from_recursion (λ session. log_of session.pass ≡ identity_of c.args.store.now.log) c.in-Ok-run_all.ended.sessions.items
+    (three_all _ (λ run. log_of run.pass ≡ identity_of c.args.store.now.log) _ (λ run session answers is belongs. is ∙ belongs)
     c.args.runs.items c.in-Ok-run_all.ended.sessions.items (map (λ answers. answers.items) c.in-Ok-run_all.ended.answers.items) three
-    (recursion_from_All (λ run. home_of run.pass ≡ place_of c.args.store.now.log) c.args.runs.items c.requires))
+    (recursion_from_All (λ run. log_of run.pass ≡ identity_of c.args.store.now.log) c.args.runs.items c.requires))
 
 pub returns-in-Err-clause-fault : goal.returns-in-Err-clause-fault
 returns-in-Err-clause-fault g c =
     let may = g.G.Gate.may_answer c.args.gate.now in
     let base = c.args.store.now.base in
-    let fault = c.in-Err.blame.fault in
+    let fault = c.in-Err.first_fault.fault in
     ⊎_elim
     (λ memory. subst (λ one. Blames may base c.args.runs.items one) (sym memory) tt)
     (λ rest. ⊎_elim (λ refused. subst (λ one. Blames may base c.args.runs.items one) (sym refused) tt)
@@ -32,9 +33,9 @@ returns-in-Err-clause-fault g c =
     let run = zip_get _ c.args.runs.items c.in-Ok.started.items at.index at.run c.in-Ok.ensures at.found in
     let pass = at.run.session.pass in
     blames may base c.args.runs.items at.index run.0 fault run.1
-    (subst (λ b. Stops may b (home_of run.0.pass).capacity (known_of run.0.pass) run.0.lines.items fault) run.2.0
-    (subst (λ p. Stops may at.run.session.base.now (home_of p).capacity (known_of p) run.0.lines.items fault) run.2.1
-    (subst (λ items. Stops may at.run.session.base.now (home_of pass).capacity (known_of pass) items fault) run.2.2 at.cause))))
+    (subst (λ b. Stops may b (log_of run.0.pass).capacity (known_of run.0.pass) run.0.lines.items fault) run.2.0
+    (subst (λ p. Stops may at.run.session.base.now (log_of p).capacity (known_of p) run.0.lines.items fault) run.2.1
+    (subst (λ items. Stops may at.run.session.base.now (log_of pass).capacity (known_of pass) items fault) run.2.2 at.cause))))
     rest)
     c.in-Err.ensures.err
 
@@ -44,31 +45,36 @@ returns-clause-legal g c =
     let runs = c.args.runs.items in
     let sessions = c.in-Ok-run_all.ended.sessions.items in
     let answers = map (λ answered. answered.items) c.in-Ok-run_all.ended.answers.items in
-    let outcome = c.in-Ok-conclude.outcome in
-    let told = c.in-Ok-conclude.ensures in
+    let outcome = c.in-Ok-outcome_of.outcome in
+    let told = c.in-Ok-outcome_of.ensures in
     let may = g.G.Gate.may_answer c.args.gate.now in
-    let three : AllThree (λ run session answered. (home_of session.pass ≡ home_of run.pass) × HasAnswered may base (known_of run.pass) (known_of session.pass) run.lines.items answered) runs sessions answers =
+    let three : AllThree (λ run session answered. (log_of session.pass ≡ log_of run.pass)
+    × HasAnswered may base (known_of run.pass) (known_of session.pass) run.lines.items answered) runs sessions answers =
     three_through _ _ _
     (λ run started session answered is was. (
-      was.same_log ∙ ap home_of is.1,
+      was.same_log ∙ ap log_of is.1,
       subst (λ lines. HasAnswered may base (known_of run.pass) (known_of session.pass) lines answered) is.2
           (subst (λ pass. HasAnswered may base (known_of pass) (known_of session.pass) started.lines.items answered) is.1
           (subst (λ b. HasAnswered may b (known_of started.session.pass) (known_of session.pass) started.lines.items answered) is.0 was.answered)),
     ))
     runs c.in-Ok.started.items sessions answers c.in-Ok.ensures c.in-Ok-run_all.ensures.ok in
-    let met : AllZip (λ session pass. ((home_of pass ≡ home_of session.pass) × Keeps (known_of session.pass) (known_of pass)) × IsTakenIn outcome.history.items (known_of pass)) sessions outcome.passes.items =
-    zip_and_all _ (λ pass. IsTakenIn outcome.history.items (known_of pass)) sessions outcome.passes.items told.passes (recursion_from_All (λ pass. IsTakenIn outcome.history.items (known_of pass)) outcome.passes.items told.whole) in
+    let met : AllZip (λ session pass. ((log_of pass ≡ log_of session.pass) × Keeps (known_of session.pass) (known_of pass))
+    × IsTakenIn outcome.history.items (known_of pass)) sessions outcome.passes.items =
+    zip_and_all _ (λ pass. IsTakenIn outcome.history.items (known_of pass)) sessions outcome.passes.items told.passes
+    (recursion_from_All (λ pass. IsTakenIn outcome.history.items (known_of pass)) outcome.passes.items told.whole) in
     record {
       legal =
-          subst (λ all. AllZip (λ run. IsLegal base outcome.history.items (known_of run.pass) run.lines.items) runs (map (λ answered. answered.items) all.items)) (sym told.answers)
+          subst (λ all. AllZip (λ run. IsLegal base outcome.history.items (known_of run.pass) run.lines.items) runs
+          (map (λ answered. answered.items) all.items)) (sym told.answers)
           (three_changed _ _ (λ run. IsLegal base outcome.history.items (known_of run.pass) run.lines.items)
           (λ run session pass answered is after.
-          legal_in may base outcome.history.items (known_of run.pass) (known_of session.pass) (known_of pass) run.lines.items answered session.pass.state.part is.1 after.0.1 after.1)
+          legal_in may base outcome.history.items (known_of run.pass) (known_of session.pass)
+          (known_of pass) run.lines.items answered session.pass.state.part is.1 after.0.1 after.1)
           runs sessions outcome.passes.items answers three met);
       passes =
           three_second _ _ (IsReturned outcome.history.items)
           (λ run session pass answered is after.
-          record { home = after.0.0 ∙ is.0; number = after.0.1.number ∙ is.1.number; taken_in = after.1 })
+          record { belongs = after.0.0 ∙ is.0; number = after.0.1.number ∙ is.1.number; taken_in = after.1 })
           runs sessions outcome.passes.items answers three met;
       history = told.last;
     }
@@ -81,6 +87,8 @@ returns-clause-opened g c =
     (λ run started session answers is was.
     subst (λ lines. LetsIn may (known_of run.pass).number (length lines)) is.2
     (subst (λ pass. LetsIn may (known_of pass).number (length started.lines.items)) is.1 was.answered.opened))
-    c.args.runs.items c.in-Ok.started.items c.in-Ok-run_all.ended.sessions.items (map (λ answers. answers.items) c.in-Ok-run_all.ended.answers.items) c.in-Ok.ensures c.in-Ok-run_all.ensures.ok in
+    c.args.runs.items c.in-Ok.started.items c.in-Ok-run_all.ended.sessions.items
+    (map (λ answers. answers.items) c.in-Ok-run_all.ended.answers.items) c.in-Ok.ensures c.in-Ok-run_all.ensures.ok in
     All-from_recursion lets_in c.args.runs.items
-    (three_first _ lets_in (λ run session answers is. is) c.args.runs.items c.in-Ok-run_all.ended.sessions.items (map (λ answers. answers.items) c.in-Ok-run_all.ended.answers.items) three)
+    (three_first _ lets_in (λ run session answers is. is) c.args.runs.items c.in-Ok-run_all.ended.sessions.items
+    (map (λ answers. answers.items) c.in-Ok-run_all.ended.answers.items) three)

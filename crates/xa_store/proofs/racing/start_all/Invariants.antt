@@ -5,4 +5,5 @@ use Rattle.xa_store.proofs.racing.start_all.Given as goal
 abbrev pub invariant-loop-run : goal.invariant-loop-run
 invariant-loop-run l =
     (l.store ≡ l.fn.store)
-    × AllZip (λ run started. (started.session.base.now ≡ l.fn.store.base) × (started.session.pass ≡ run.pass) × (started.lines.items ≡ run.lines.items)) l.yielded l.all.items
+    × AllZip (λ run started. (started.session.base.now ≡ l.fn.store.base) × (started.session.pass ≡ run.pass) × (started.lines.items ≡ run.lines.items))
+    l.yielded l.all.items

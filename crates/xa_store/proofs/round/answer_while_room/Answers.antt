@@ -12,7 +12,9 @@ loop-index-init g c =
     let resumed = c.args.resumed in (
       refl,
       refl,
-      round_begins resumed.session.base.now resumed.before (g.L.DecisionLog.known resumed.session.pass) resumed.progress.lines.items resumed.progress.answers.items (g.met.L.DecisionLog.own_part resumed.session.pass),
+      round_begins resumed.session.base.now resumed.before
+          (g.L.DecisionLog.known resumed.session.pass) resumed.progress.lines.items resumed.progress.answers.items
+          (g.met.L.DecisionLog.own_part resumed.session.pass),
       search rules,
     )
 
@@ -31,14 +33,17 @@ loop-index-preserved g c =
     let given : slice_get lines.items (length answers.items) ≡ Some statement =
     let P : _ = λ n. slice_get lines.items n ≡ Some statement in
     subst P (sym there) (slice_get_read lines.items (length lines.items) c.loop-index.index statement refl below c.index.ensures) in
-    let way = round_goes_on base resumed.before (known resumed.session.pass) (known c.loop-index.session.pass) (known c.answer_one.new.session.pass) lines.items resumed.progress.answers.items answers.items statement c.in-Ok.answer
+    let way =
+    round_goes_on base resumed.before (known resumed.session.pass) (known c.loop-index.session.pass)
+    (known c.answer_one.new.session.pass) lines.items resumed.progress.answers.items answers.items statement c.in-Ok.answer
     (g.met.L.DecisionLog.own_part c.loop-index.session.pass) (g.met.L.DecisionLog.own_part c.answer_one.new.session.pass) inv.2 given
     (subst (λ b. IsAnswered b statement c.in-Ok.answer (known c.loop-index.session.pass) (known c.answer_one.new.session.pass)) inv.0 said.answered) in
     let more : length c.push_later.new.answers.items ≡ length answers.items + 1 =
     ap length c.in_ok-push_later-in-Ok.ensures.ok ∙ length-append answers.items (later resumed.before c.in-Ok.answer ∷ []) in (
       said.base ∙ inv.0,
-      said.home ∙ inv.1,
-      subst (λ items. IsOnTheRound base resumed.before (known resumed.session.pass) (known c.answer_one.new.session.pass) lines.items resumed.progress.answers.items items) (sym c.in_ok-push_later-in-Ok.ensures.ok) way,
+      said.belongs ∙ inv.1,
+      subst (λ items. IsOnTheRound base resumed.before (known resumed.session.pass)
+          (known c.answer_one.new.session.pass) lines.items resumed.progress.answers.items items) (sym c.in_ok-push_later-in-Ok.ensures.ok) way,
       omega (arith, inv.3, more, answers.ok.0, c.push_later.new.answers.ok.0),
     )
 
@@ -52,8 +57,9 @@ returns-in-Err-Full-clause-ok g c =
     let full = rw c.in-Err-Full.field-0-is at c.in-Err-Full.ensures.fault in
     record {
       same_base = c.in-Err-Full.ensures.base ∙ inv.0;
-      same_log = c.in-Err-Full.ensures.home ∙ inv.1;
+      same_log = c.in-Err-Full.ensures.belongs ∙ inv.1;
       goes_on =
-          round_stays base resumed.before (known resumed.session.pass) (known c.loop-index.session.pass) (known c.answer_one.new.session.pass) resumed.progress now refl
+          round_stays base resumed.before (known resumed.session.pass) (known c.loop-index.session.pass)
+          (known c.answer_one.new.session.pass) resumed.progress now refl
           (g.met.L.DecisionLog.own_part c.loop-index.session.pass) (g.met.L.DecisionLog.own_part c.answer_one.new.session.pass) inv.2 full.2.unanswered;
     }

@@ -8,12 +8,15 @@ use Rattle.xa_store.proofs.rounding.+spread_round.Goals as goal
 pub returns-in-Ok-clause-ok : goal.returns-in-Ok-clause-ok
 returns-in-Ok-clause-ok g t c =
     let known = g.L.DecisionLog.known in
-    let home = g.L.DecisionLog.home in
+    let belongs_to = g.L.DecisionLog.belongs_to in
     let run = c.in-Some.resumed in
     let promise = c.in-Ok.thread.promise in
     let same : promise.0.value ≡ run = ap (λ p. p.0.value) c.in-Ok.ensures.ok ∙ c.of.ensures in
-    let kept : IfOk c.join.result (λ done. HasGoneOn home known run.session.base.now run.session.pass run.before run.progress done.0.base.now done.0.pass done.1) =
-    subst (λ one. IfOk c.join.result (λ done. HasGoneOn home known one.session.base.now one.session.pass one.before one.progress done.0.base.now done.0.pass done.1)) same c.join.ensures.0 in
+    let kept : IfOk c.join.result
+    (λ done. HasGoneOn belongs_to known run.session.base.now run.session.pass run.before run.progress done.0.base.now done.0.pass done.1) =
+    subst (λ one. IfOk c.join.result
+    (λ done. HasGoneOn belongs_to known one.session.base.now one.session.pass one.before one.progress done.0.base.now done.0.pass done.1)) same
+    c.join.ensures.0 in
     IfOk-weaker c.take_back.result _ _
     (λ all is.
     let rest = when_ok c.spread_round-others.result _ is.0 c.spread_round-others.ensures.ok is.2 in
@@ -31,19 +34,21 @@ returns-in-Ok-clause-err g t c =
     let asked : promise.1.value ≡ c.args.gate.now = ap (λ p. p.1.value) c.in-Ok.ensures.ok ∙ c.of-2.ensures in
     let kept : IfErr c.join.result (λ fault. StopsInRound (may c.args.gate.now) (known run.session.pass).number (length run.progress.lines.items) fault) =
     subst (λ gate. IfErr c.join.result (λ fault. StopsInRound (may gate) (known run.session.pass).number (length run.progress.lines.items) fault)) asked
-    (subst (λ one. IfErr c.join.result (λ fault. StopsInRound (may promise.1.value) (known one.session.pass).number (length one.progress.lines.items) fault)) same
+    (subst (λ one. IfErr c.join.result (λ fault. StopsInRound (may promise.1.value) (known one.session.pass).number (length one.progress.lines.items) fault))
+    same
     c.join.ensures.1) in
     IfErr-weaker c.take_back.result _ _
-    (λ blame is.
+    (λ first_fault is.
     ⊎_elim
     (λ others.
     ⊎_elim (λ memory. inl memory)
     (λ rest. ⊎_elim (λ refused. inr (inl refused))
-    (λ at. inr (inr (stopped_before c.pop.new.self.items run _ _ blame.fault (sym c.in-Some.ensures.items) at)))
+    (λ at. inr (inr (stopped_before c.pop.new.self.items run _ _ first_fault.fault (sym c.in-Some.ensures.items) at)))
     rest)
-    (when_err c.spread_round-others.result _ blame c.spread_round-others.ensures.err others))
+    (when_err c.spread_round-others.result _ first_fault c.spread_round-others.ensures.err others))
     (λ rest. ⊎_elim
-    (λ ended. inr (inr (stopped_last c.pop.new.self.items run _ _ blame.fault (sym c.in-Some.ensures.items) (when_err c.join.result _ blame.fault kept ended))))
+    (λ ended. inr (inr (stopped_last c.pop.new.self.items run _ _ first_fault.fault (sym c.in-Some.ensures.items)
+    (when_err c.join.result _ first_fault.fault kept ended))))
     (λ memory. inl memory) rest)
     is)
     c.take_back.ensures.err
@@ -52,14 +57,14 @@ pub returns-clause-err : goal.returns-clause-err
 returns-clause-err g t c =
     let run = c.in-Some.resumed in
     IfErr-weaker c.take_back-in-Err.result _ _
-    (λ blame is.
+    (λ first_fault is.
     ⊎_elim
     (λ others.
     ⊎_elim (λ memory. inl memory)
     (λ rest. ⊎_elim (λ refused. inr (inl refused))
-    (λ at. inr (inr (stopped_before c.pop.new.self.items run _ _ blame.fault (sym c.in-Some.ensures.items) at)))
+    (λ at. inr (inr (stopped_before c.pop.new.self.items run _ _ first_fault.fault (sym c.in-Some.ensures.items) at)))
     rest)
-    (when_err c.spread_round-others.result _ blame c.spread_round-others.ensures.err others))
+    (when_err c.spread_round-others.result _ first_fault c.spread_round-others.ensures.err others))
     (λ rest. ⊎_elim (λ refused. inr (inl (cc refused))) (λ memory. inl memory) rest)
     is)
     c.take_back-in-Err.ensures.err
@@ -67,10 +72,14 @@ returns-clause-err g t c =
 pub spawn_with-thread-requires-clause-keeps : goal.spawn_with-thread-requires-clause-keeps
 spawn_with-thread-requires-clause-keeps g t c κs within r ens =
     let known = g.L.DecisionLog.known in
-    let home = g.L.DecisionLog.home in
+    let belongs_to = g.L.DecisionLog.belongs_to in
     let may = g.G.Gate.may_answer in
     let one = c.of.result.value in (
-      subst (λ resumed. IfOk r (λ gone. HasGoneOn home known resumed.session.base.now resumed.session.pass resumed.before resumed.progress gone.0.base.now gone.0.pass gone.1)) (sym c.of.ensures) ens.0,
+      subst (λ resumed. IfOk r
+          (λ gone. HasGoneOn belongs_to known resumed.session.base.now resumed.session.pass resumed.before resumed.progress gone.0.base.now gone.0.pass gone.1))
+          (sym c.of.ensures) ens.0,
       subst (λ gate. IfErr r (λ fault. StopsInRound (may gate) (known one.session.pass).number (length one.progress.lines.items) fault)) (sym c.of-2.ensures)
-          (subst (λ resumed. IfErr r (λ fault. StopsInRound (may c.args.gate.now) (known resumed.session.pass).number (length resumed.progress.lines.items) fault)) (sym c.of.ensures) ens.1),
+          (subst (λ resumed. IfErr r
+          (λ fault. StopsInRound (may c.args.gate.now) (known resumed.session.pass).number (length resumed.progress.lines.items) fault))
+          (sym c.of.ensures) ens.1),
     )

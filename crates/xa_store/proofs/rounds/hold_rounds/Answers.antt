@@ -5,7 +5,7 @@ use Rattle.xa_words.specs.Entry.{Entry}
 use Rattle.decision_log.specs.Known.{AllOf}
 use Rattle.xa_session.specs.Replay.{state_after}
 use Rattle.xa_session.proofs.Replaying.{state_after-nil}
-use Rattle.xa_store.specs.Passes.{place_of}
+use Rattle.xa_store.specs.Passes.{identity_of}
 use Rattle.xa_store.specs.Rounds.{AllGain, AllLegalSoFar, BlamesRounds}
 use Rattle.xa_store.proofs.InRounds.{IsHeld, legal_nothing, legal_count, legal_lines, fresh_few, round_legal, round_own, round_state, round_count, round_held}
 use Rattle.xa_store.proofs.rounds.hold_rounds.Goals as goal
@@ -15,7 +15,9 @@ loop-init g c =
     let progress = c.args.progress.items in
     let lines = map (λ one. one.lines.items) progress in
     let none : c.new-history.result.items ≡ [] = c.new-history.ensures.items in
-    let Held : List Entry → Type 0 = λ history. IsHeld c.args.store.base (place_of c.args.store.log).sessions lines history c.args.store.base (place_of c.args.store.log) c.args.passes.items progress in
+    let Held : List Entry → Type 0 =
+    λ history. IsHeld c.args.store.base (identity_of c.args.store.log).sessions lines history c.args.store.base
+    (identity_of c.args.store.log) c.args.passes.items progress in
     record {
       can = search rules;
       finite = search rules;
@@ -26,9 +28,9 @@ loop-init g c =
             legal = legal_nothing c.args.store.base 1 progress (recursion_from_All (λ one. one.answers.items ≡ []) progress c.requires.none);
             base_is = sym (state_after-nil c.args.store.base);
             sessions_are = refl;
-            homes = c.requires.homes;
+            belongs = c.requires.belongs;
             fresh = c.requires.fresh;
-            own = All-nil (λ entry. (1 ≤ entry.session) × (entry.session ≤ (place_of c.args.store.log).sessions));
+            own = All-nil (λ entry. (1 ≤ entry.session) × (entry.session ≤ (identity_of c.args.store.log).sessions));
             none = λ empty. refl;
           });
     }
@@ -39,7 +41,8 @@ returns-in_err-ended-clause-fault g c =
     let may = g.G.Gate.may_answer c.args.gate.now in
     let lines = map (λ one. one.lines.items) c.args.progress.items in
     let same = legal_lines c.args.store.base c.loop.history.items 1 lines c.loop.progress.items held.legal in
-    let blamed : BlamesRounds may lines c.in_err-ended.field-0.0 = subst (λ list. BlamesRounds may list c.in_err-ended.field-0.0) same c.in_err-ended.ensures.fault in
+    let blamed : BlamesRounds may lines c.in_err-ended.field-0.0 =
+    subst (λ list. BlamesRounds may list c.in_err-ended.field-0.0) same c.in_err-ended.ensures.fault in
     search rules
 
 pub returns-then-are_done-clause-legal : goal.returns-then-are_done-clause-legal
@@ -50,14 +53,16 @@ returns-then-are_done-clause-legal g c =
     let gains : AllGain c.loop.store.base (length c.loop.history.items) ended.history.items 1 c.loop.progress.items ended.progress.items =
     subst (λ n. AllGain c.loop.store.base n ended.history.items 1 c.loop.progress.items ended.progress.items) count c.in_ok-ended.ensures.gains in
     subst (λ history. AllLegalSoFar c.args.store.base history 1 lines ended.progress.items) (sym c.in-Ok.ensures)
-    (round_legal c.args.store.base (place_of c.args.store.log).sessions lines c.loop.history.items c.loop.store.base (place_of c.loop.store.log) c.loop.passes.items c.loop.progress.items c.loop.invariant.held ended.history.items ended.progress.items gains)
+    (round_legal c.args.store.base (identity_of c.args.store.log).sessions lines c.loop.history.items c.loop.store.base
+    (identity_of c.loop.store.log) c.loop.passes.items c.loop.progress.items c.loop.invariant.held ended.history.items ended.progress.items gains)
 
 pub returns-then-are_done-clause-own : goal.returns-then-are_done-clause-own
 returns-then-are_done-clause-own g c =
     let lines = map (λ one. one.lines.items) c.args.progress.items in
     let ended = c.in_ok-ended.ended in
-    subst (λ history. AllOf (place_of c.args.store.log).sessions history) (sym c.in-Ok.ensures)
-    (round_own c.args.store.base (place_of c.args.store.log).sessions lines c.loop.history.items c.loop.store.base (place_of c.loop.store.log) c.loop.passes.items c.loop.progress.items c.loop.invariant.held ended.history.items c.in_ok-ended.ensures.own)
+    subst (λ history. AllOf (identity_of c.args.store.log).sessions history) (sym c.in-Ok.ensures)
+    (round_own c.args.store.base (identity_of c.args.store.log).sessions lines c.loop.history.items c.loop.store.base
+    (identity_of c.loop.store.log) c.loop.passes.items c.loop.progress.items c.loop.invariant.held ended.history.items c.in_ok-ended.ensures.own)
 
 pub returns-then-are_done-clause-gathered : goal.returns-then-are_done-clause-gathered
 returns-then-are_done-clause-gathered g c some =
@@ -70,7 +75,9 @@ pub returns-then-are_done-clause-state : goal.returns-then-are_done-clause-state
 returns-then-are_done-clause-state g c =
     let lines = map (λ one. one.lines.items) c.args.progress.items in
     let ended = c.in_ok-ended.ended in
-    round_state c.args.store.base (place_of c.args.store.log).sessions lines c.loop.history.items c.loop.store.base (place_of c.loop.store.log) c.loop.passes.items c.loop.progress.items c.loop.invariant.held ended.history.items ended.passes.items c.in_ok-ended.ensures.last
+    round_state c.args.store.base (identity_of c.args.store.log).sessions lines c.loop.history.items c.loop.store.base
+    (identity_of c.loop.store.log) c.loop.passes.items c.loop.progress.items c.loop.invariant.held ended.history.items ended.passes.items
+    c.in_ok-ended.ensures.last
     ∙ ap (state_after c.args.store.base) (sym c.in-Ok.ensures)
 
 pub carried-requires-clause-gathered : goal.carried-requires-clause-gathered
@@ -81,13 +88,15 @@ carried-requires-clause-gathered g c =
     let count : c.len-before.result ≡ length c.loop.history.items = c.len-before.ensures ∙ c.loop.history.ok.0 in
     let gains : AllGain c.loop.store.base (length c.loop.history.items) ended.history.items 1 c.loop.progress.items ended.progress.items =
     subst (λ n. AllGain c.loop.store.base n ended.history.items 1 c.loop.progress.items ended.progress.items) count c.in_ok-ended.ensures.gains in
-    let as_many = round_count c.args.store.base (place_of c.args.store.log).sessions lines c.loop.history.items c.loop.store.base (place_of c.loop.store.log) c.loop.passes.items c.loop.progress.items c.loop.invariant.held ended.history.items ended.progress.items gains in
+    let as_many =
+    round_count c.args.store.base (identity_of c.args.store.log).sessions lines c.loop.history.items c.loop.store.base
+    (identity_of c.loop.store.log) c.loop.passes.items c.loop.progress.items c.loop.invariant.held ended.history.items ended.progress.items gains in
     c.in_ok-ended.ensures.gathered (omega (arith, some, as_many, c.loop.progress.ok.0))
 
 pub carried-requires-clause-few : goal.carried-requires-clause-few
 carried-requires-clause-few g c =
     let held = c.loop.invariant.held in
-    let few = fresh_few (place_of c.loop.store.log) c.loop.passes.items held.homes held.fresh in
+    let few = fresh_few (identity_of c.loop.store.log) c.loop.passes.items held.belongs held.fresh in
     omega (arith, few, c.loop.invariant.count, c.in_ok-ended.ensures.passes, c.loop.passes.ok.0)
 
 pub loop-preserved : goal.loop-preserved
@@ -99,13 +108,18 @@ loop-preserved g c =
     let count : c.len-before.result ≡ length c.loop.history.items = c.len-before.ensures ∙ c.loop.history.ok.0 in
     let gains : AllGain c.loop.store.base (length c.loop.history.items) ended.history.items 1 c.loop.progress.items ended.progress.items =
     subst (λ n. AllGain c.loop.store.base n ended.history.items 1 c.loop.progress.items ended.progress.items) count c.in_ok-ended.ensures.gains in
-    let as_many = round_count c.args.store.base (place_of c.args.store.log).sessions lines c.loop.history.items c.loop.store.base (place_of c.loop.store.log) c.loop.passes.items c.loop.progress.items c.loop.invariant.held ended.history.items ended.progress.items gains in
+    let as_many =
+    round_count c.args.store.base (identity_of c.args.store.log).sessions lines c.loop.history.items c.loop.store.base
+    (identity_of c.loop.store.log) c.loop.passes.items c.loop.progress.items c.loop.invariant.held ended.history.items ended.progress.items gains in
     record {
       can = search rules;
       finite = search rules;
       count = omega (arith, as_many, next.ensures.count, c.in_ok-ended.ensures.passes, c.loop.progress.ok.0, ended.progress.ok.0);
       held =
-          subst (λ history. IsHeld c.args.store.base (place_of c.args.store.log).sessions lines history next.field-0-0.base (place_of next.field-0-0.log) next.field-0-1.items ended.progress.items) (sym c.in-Ok.ensures)
-          (round_held c.args.store.base (place_of c.args.store.log).sessions lines c.loop.history.items c.loop.store.base (place_of c.loop.store.log) c.loop.passes.items c.loop.progress.items c.loop.invariant.held ended.history.items ended.passes.items ended.progress.items next.field-0-0.base (place_of next.field-0-0.log) next.field-0-1.items
-          gains c.in_ok-ended.ensures.own c.in_ok-ended.ensures.last some next.ensures.base next.ensures.sessions next.ensures.homes next.ensures.fresh);
+          subst (λ history. IsHeld c.args.store.base (identity_of c.args.store.log).sessions lines history next.field-0-0.base
+          (identity_of next.field-0-0.log) next.field-0-1.items ended.progress.items) (sym c.in-Ok.ensures)
+          (round_held c.args.store.base (identity_of c.args.store.log).sessions lines c.loop.history.items c.loop.store.base
+          (identity_of c.loop.store.log) c.loop.passes.items c.loop.progress.items c.loop.invariant.held ended.history.items ended.passes.items
+          ended.progress.items next.field-0-0.base (identity_of next.field-0-0.log) next.field-0-1.items
+          gains c.in_ok-ended.ensures.own c.in_ok-ended.ensures.last some next.ensures.base next.ensures.sessions next.ensures.belongs next.ensures.fresh);
     }

@@ -2,16 +2,16 @@ use Rattle.std.proofs.Common.{◌≡◌, ◌≤◌, length, map, ap, sym, subst,
 use Rattle.std.specs.List.{All}
 use Rattle.std.proofs.lemmas.List.{length-map}
 use Rattle.std.proofs.lemmas.List.Elements.{All-map, recursion_from_All}
-use Rattle.xa_store.specs.Passes.{place_of, home_of}
+use Rattle.xa_store.specs.Passes.{identity_of, log_of}
 use Rattle.xa_store.specs.Legal.{Legal}
 use Rattle.xa_store.specs.Rounds.{AllAnswered}
 use Rattle.xa_store.proofs.InRounds.{legal_all, legal_runs}
 use Rattle.xa_store.proofs.rounds.race_in_rounds.Goals as goal
 
-pub hold_rounds-requires-clause-homes : goal.hold_rounds-requires-clause-homes
-hold_rounds-requires-clause-homes g c κs within =
-    subst (λ passes. All (λ pass. home_of pass ≡ place_of c.args.store.log) passes) (sym c.in-Ok.ensures.passes)
-    (All-map (λ pass. home_of pass ≡ place_of c.args.store.log) (λ run. run.pass) c.args.runs.items c.requires.homes)
+pub hold_rounds-requires-clause-belongs : goal.hold_rounds-requires-clause-belongs
+hold_rounds-requires-clause-belongs g c κs within =
+    subst (λ passes. All (λ pass. log_of pass ≡ identity_of c.args.store.log) passes) (sym c.in-Ok.ensures.passes)
+    (All-map (λ pass. log_of pass ≡ identity_of c.args.store.log) (λ run. run.pass) c.args.runs.items c.requires.belongs)
 
 pub returns-clause-legal : goal.returns-clause-legal
 returns-clause-legal g c =

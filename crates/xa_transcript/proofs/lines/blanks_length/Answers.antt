@@ -8,5 +8,7 @@ use Rattle.xa_transcript.proofs.lines.blanks_length.Goals as goal
 
 pub returns-clause-length : goal.returns-clause-length
 returns-clause-length c =
-    let found = position_from_yields_List (λ byte. not (is_blank byte)) _ _ _ c.position.ensures.ran (YieldsList-from_slice c.args.text.now cc) (λ x b q k. search (rules, tests)) in
+    let found =
+    position_from_yields_List (λ byte. not (is_blank byte)) _ _ _ c.position.ensures.ran (YieldsList-from_slice c.args.text.now cc)
+    (λ x b q k. search (rules, tests)) in
     c.unwrap_or.ensures ∙ from_position (λ byte. not (is_blank byte)) c.args.text.now _ found ∙ prefix_len-not_not is_blank c.args.text.now

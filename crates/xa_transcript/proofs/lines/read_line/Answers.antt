@@ -14,4 +14,5 @@ pub returns-in-Some : goal.returns-in-Some
 returns-in-Some c =
     let filled = line_of-filled c.args.line.now c.skip_blanks-text.result.now c.skip_blanks-text.ensures.value (sym c.is_empty.ensures ∙ c.if-is_empty.false) in
     rw c.skip_blanks.ensures.value
-    (filled-given c.args.line.now c.skip_blanks-text.result.now _ c.split_word.result.1.now c.in-Some.session filled c.split_word.ensures.word c.split_word.ensures.rest (sym c.session_of.ensures ∙ c.in-Some.is))
+    (filled-given c.args.line.now c.skip_blanks-text.result.now _ c.split_word.result.1.now c.in-Some.session filled c.split_word.ensures.word
+    c.split_word.ensures.rest (sym c.session_of.ensures ∙ c.in-Some.is))

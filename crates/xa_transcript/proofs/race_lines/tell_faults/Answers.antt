@@ -12,4 +12,5 @@ loop-rest-preserved c = record {
 }
 
 pub returns : goal.returns
-returns c = moved_whole _ _ _ c.loop-rest.invariant.told (faults_text-end c.loop-rest.number c.loop-rest.rest.now (sym c.is_empty.ensures ∙ c.loop-rest-test.false))
+returns c =
+    moved_whole _ _ _ c.loop-rest.invariant.told (faults_text-end c.loop-rest.number c.loop-rest.rest.now (sym c.is_empty.ensures ∙ c.loop-rest-test.false))

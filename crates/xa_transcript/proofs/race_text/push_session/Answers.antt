@@ -3,16 +3,20 @@ use Rattle.xa_transcript.proofs.Race.{session_text-more, session_text-none, sess
 use Rattle.xa_transcript.proofs.race_text.push_session.Goals as goal
 
 pub loop-index-init : goal.loop-index-init
-loop-index-init c = sym (ap (λ text. c.args.text.now.items ++ text) (session_text-none c.args.session c.args.statements.now c.args.answers.now) ∙ append-nil c.args.text.now.items)
+loop-index-init c =
+    sym (ap (λ text. c.args.text.now.items ++ text) (session_text-none c.args.session c.args.statements.now c.args.answers.now)
+    ∙ append-nil c.args.text.now.items)
 
 pub loop-index-preserved : goal.loop-index-preserved
 loop-index-preserved c =
     grown _ _ _ _ _ _ c.loop-index.invariant c.in_ok-push_answer.ensures
     (session_text-more c.args.session c.args.statements.now c.args.answers.now c.loop-index.index c.index-statements-index.result c.index-answers-index.result
-    (omega (arith, c.loop-index-test.true, c.min-index-end.ensures)) (omega (arith, c.loop-index-test.true, c.min-index-end.ensures)) c.index-statements-index.is c.index-answers-index.is)
+    (omega (arith, c.loop-index-test.true, c.min-index-end.ensures))
+    (omega (arith, c.loop-index-test.true, c.min-index-end.ensures)) c.index-statements-index.is c.index-answers-index.is)
 
 pub returns : goal.returns
 returns c =
     c.loop-index.invariant
     ∙ ap (λ text. c.args.text.now.items ++ text)
-    (session_text-whole c.args.session c.args.statements.now c.args.answers.now c.loop-index.index (omega (arith, c.loop-index-test.false, c.min-index-end.ensures)))
+    (session_text-whole c.args.session c.args.statements.now c.args.answers.now c.loop-index.index
+    (omega (arith, c.loop-index-test.false, c.min-index-end.ensures)))

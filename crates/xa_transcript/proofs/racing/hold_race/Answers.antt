@@ -1,18 +1,19 @@
 use Rattle.std.proofs.Common.{◌≡◌, length, max, ◌∙◌, subst, arith}
 use Rattle.std.specs.List.{All}
-use Rattle.xa_store.specs.Passes.{place_of, home_of}
+use Rattle.xa_store.specs.Passes.{identity_of, log_of}
 use Rattle.xa_server.specs.State.{State}
 use Rattle.xa_store.specs.Legal.{IsOutcome}
-use Rattle.xa_transcript.proofs.RaceRuns.{runs_home, runs_count, own_sessions, own_room}
+use Rattle.xa_transcript.proofs.RaceRuns.{runs_belong, runs_count, own_sessions, own_room}
 use Rattle.xa_transcript.proofs.racing.hold_race.Goals as goal
 
 pub race-requires-after_bounds : goal.race-requires-after_bounds
 race-requires-after_bounds g c κs bounds =
-    runs_home (place_of c.in-Ok.store.log) c.greatest_session-greatest.result c.in-Ok.passes.items c.truncate.new.self.items c.in-Ok-runs_of.runs.items c.in-Ok.ensures.ok.homes c.truncate.ensures.items c.in-Ok-runs_of.ensures.passes
+    runs_belong (identity_of c.in-Ok.store.log) c.greatest_session-greatest.result c.in-Ok.passes.items c.truncate.new.self.items c.in-Ok-runs_of.runs.items
+    c.in-Ok.ensures.ok.belongs c.truncate.ensures.items c.in-Ok-runs_of.ensures.passes
 
 pub returns-in-Ok-print_outcome-clause-raced : goal.returns-in-Ok-print_outcome-clause-raced
 returns-in-Ok-print_outcome-clause-raced g c =
-    let place = place_of c.in-Ok.store.log in
+    let identity = identity_of c.in-Ok.store.log in
     let greatest = c.greatest_session-greatest.result in
     let runs = c.in-Ok-runs_of.runs.items in
     let outcome = c.in-Ok-race.outcome in
@@ -21,16 +22,16 @@ returns-in-Ok-print_outcome-clause-raced g c =
     let kept : length c.in-Ok.passes.items ≡ max greatest 1 = omega (arith, opened.count, c.max.ensures) in
     let count : length runs ≡ greatest =
     runs_count greatest c.in-Ok.passes.items c.truncate.new.self.items runs kept c.truncate.ensures.items c.in-Ok-runs_of.ensures.passes in
-    let homes : All (λ run. home_of run.pass ≡ place) runs =
-    runs_home place greatest c.in-Ok.passes.items c.truncate.new.self.items runs opened.homes c.truncate.ensures.items c.in-Ok-runs_of.ensures.passes in
-    let sessions : place.sessions ≡ max (length runs) 1 = omega (arith, opened.sessions_is, c.max.ensures, count) in
+    let belong : All (λ run. log_of run.pass ≡ identity) runs =
+    runs_belong identity greatest c.in-Ok.passes.items c.truncate.new.self.items runs opened.belongs c.truncate.ensures.items c.in-Ok-runs_of.ensures.passes in
+    let sessions : identity.sessions ≡ max (length runs) 1 = omega (arith, opened.sessions_is, c.max.ensures, count) in
     let P : State → Type 0 = λ base. IsOutcome base runs outcome in
     record {
       runs = runs;
       outcome = outcome;
       are_runs = record { count = count ∙ c.greatest_session-greatest.ensures.value; each = c.in-Ok-runs_of.ensures.runs };
       legal = subst P c.in-Ok.ensures.base raced;
-      own = own_sessions place outcome.history.items runs outcome.passes.items sessions homes raced.passes raced.history;
-      fits = omega (arith, own_room place outcome.history.items runs outcome.passes.items homes raced.passes raced.history, opened.capacity_is);
+      own = own_sessions identity outcome.history.items runs outcome.passes.items sessions belong raced.passes raced.history;
+      fits = omega (arith, own_room identity outcome.history.items runs outcome.passes.items belong raced.passes raced.history, opened.capacity_is);
       text_is = c.in-Ok-print_outcome.ensures;
     }

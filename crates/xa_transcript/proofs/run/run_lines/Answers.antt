@@ -7,15 +7,21 @@ returns-in_default-clause-prefix g c = prefix_written _ _ _ _ c.loop-rest.invari
 
 pub returns-in_err-write_whole-clause-prefix : goal.returns-in_err-write_whole-clause-prefix
 returns-in_err-write_whole-clause-prefix g c =
-    let line = run_text-line c.loop-rest.server c.answer_line.new.server c.loop-rest.rest.now c.split_line.result.0.now c.split_line.result.1.now c.as_slice.result.now c.split_line.ensures.lines
+    let line =
+    run_text-line c.loop-rest.server c.answer_line.new.server c.loop-rest.rest.now c.split_line.result.0.now c.split_line.result.1.now c.as_slice.result.now
+    c.split_line.ensures.lines
     (c.as_slice.ensures.value ∙ c.in-Ok.ensures.answer) c.in-Ok.ensures.after in
-    on_err c.from_residual.result (prefix_more _ _ _ _ c.as_slice.result.now _ (written_as _ _ _ _ _ line c.loop-rest.invariant) c.in_err-write_whole.ensures.prefix)
+    on_err c.from_residual.result
+    (prefix_more _ _ _ _ c.as_slice.result.now _ (written_as _ _ _ _ _ line c.loop-rest.invariant) c.in_err-write_whole.ensures.prefix)
 
 pub loop-rest-preserved : goal.loop-rest-preserved
 loop-rest-preserved g c =
-    let line = run_text-line c.loop-rest.server c.answer_line.new.server c.loop-rest.rest.now c.split_line.result.0.now c.split_line.result.1.now c.as_slice.result.now c.split_line.ensures.lines
+    let line =
+    run_text-line c.loop-rest.server c.answer_line.new.server c.loop-rest.rest.now c.split_line.result.0.now c.split_line.result.1.now c.as_slice.result.now
+    c.split_line.ensures.lines
     (c.as_slice.ensures.value ∙ c.in-Ok.ensures.answer) c.in-Ok.ensures.after in
     written_more _ _ _ _ c.as_slice.result.now _ (written_as _ _ _ _ _ line c.loop-rest.invariant) c.in_ok-write_whole.ensures.all
 
 pub returns-clause-all : goal.returns-clause-all
-returns-clause-all g c = written_whole _ _ _ _ c.loop-rest.invariant (run_text-end c.loop-rest.server c.loop-rest.rest.now (sym c.is_empty.ensures ∙ c.loop-rest-test.false))
+returns-clause-all g c =
+    written_whole _ _ _ _ c.loop-rest.invariant (run_text-end c.loop-rest.server c.loop-rest.rest.now (sym c.is_empty.ensures ∙ c.loop-rest-test.false))

@@ -8,5 +8,6 @@ returns-then-count-len-clause-too_long g c =
     λ _. (
       c.loop.script.items ++ take c.in-Ok.count c.read.new.buf,
       Consumes-trans _ _ _ _ _ c.loop.invariant.consumed c.in-Ok.ensures.bytes.0,
-      length-piece c.loop.script.items c.read.new.buf c.in-Ok.count (omega (arith, c.if-count-len.true, c.len.ensures, c.loop.script.ok.0)) c.in-Ok.ensures.bound.0,
+      length-piece c.loop.script.items c.read.new.buf c.in-Ok.count
+          (omega (arith, c.if-count-len.true, c.len.ensures, c.loop.script.ok.0)) c.in-Ok.ensures.bound.0,
     )

@@ -9,8 +9,11 @@ loop-index-preserved c =
     let i = c.loop-index.invariant in
     let word = get_or c.args.words.now c.loop-index.index 0 in
     let e = c.push_word.ensures in
-    let size : length c.push_word.new.text.items ≡ 8 * (c.loop-index.index + 1) = ap length e ∙ length-append c.loop-index.text.items (to_be_bytes w64 word) ∙ omega (arith, i.size) in
+    let size : length c.push_word.new.text.items ≡ 8 * (c.loop-index.index + 1) =
+    ap length e ∙ length-append c.loop-index.text.items (to_be_bytes w64 word) ∙ omega (arith, i.size) in
     record {
       size = size;
-      bytes = λ place below. ap (λ xs. get_or xs place 0) e ∙ one_word_more c.args.words.now c.loop-index.text.items c.loop-index.index i.size i.bytes place (omega (arith, size, below));
+      bytes =
+          λ place below. ap (λ xs. get_or xs place 0) e
+          ∙ one_word_more c.args.words.now c.loop-index.text.items c.loop-index.index i.size i.bytes place (omega (arith, size, below));
     }

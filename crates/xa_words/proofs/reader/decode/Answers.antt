@@ -44,7 +44,16 @@ returns-clause-read c =
     rw c.entering.ensures
     (whole_of c.args.words.now (record { session = c.in_ok-session.session; statement = c.in_ok-statement.statement })
     (subst (λ parts. Pieces c.args.words.now c.in_ok-session.session parts) (sym st.1)
-    (record { all = search rules; session = sym c.in_ok-session.ensures.number; kind = refl; first_length = sym f.read.0; second_length = sym g.read.0; format_id = refl; first = sym f.read.1; second = sym g.read.1 })))
+    (record {
+      all = search rules;
+      session = sym c.in_ok-session.ensures.number;
+      kind = refl;
+      first_length = sym f.read.0;
+      second_length = sym g.read.0;
+      format_id = refl;
+      first = sym f.read.1;
+      second = sym g.read.1;
+    })))
 
 pub returns-clause-every : goal.returns-clause-every
 returns-clause-every c entry is same =
@@ -52,7 +61,8 @@ returns-clause-every c entry is same =
     let g = c.in_ok-second.ensures in
     let st = c.in_ok-statement.ensures.some in
     let p = pieces_of c.args.words.now entry same in
-    let told = parts_read c.args.words.now entry is same c.in_ok-first.first.items c.in_ok-second.second.items f.text g.text f.read.0 f.read.1 g.read.0 g.read.1 in
+    let told =
+    parts_read c.args.words.now entry is same c.in_ok-first.first.items c.in_ok-second.second.items f.text g.text f.read.0 f.read.1 g.read.0 g.read.1 in
     ap Some (c.entering.ensures
     ∙ entry_by (record { session = c.in_ok-session.session; statement = c.in_ok-statement.statement }) entry (c.in_ok-session.ensures.number ∙ p.session)
     (one_statement c.in_ok-statement.statement entry.statement st.0 is.kind (st.1 ∙ sym told)))

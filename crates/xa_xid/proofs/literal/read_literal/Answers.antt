@@ -15,7 +15,8 @@ returns-clause-complete c =
 
 pub returns-in_err-bytes-clause-complete : goal.returns-in_err-bytes-clause-complete
 returns-in_err-bytes-clause-complete c = λ bytes next form.
-    absurd (no_text_between c.args.text.now c.args.at c.in_err-bytes.field-0.0 (ap literal_at (sym c.text_from.ensures) ∙ c.in_err-bytes.ensures.value) bytes next form)
+    absurd (no_text_between c.args.text.now c.args.at c.in_err-bytes.field-0.0
+    (ap literal_at (sym c.text_from.ensures) ∙ c.in_err-bytes.ensures.value) bytes next form)
 
 pub returns-clause-faulty : goal.returns-clause-faulty
 returns-clause-faulty c =

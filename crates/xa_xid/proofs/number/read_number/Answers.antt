@@ -15,7 +15,8 @@ returns-clause-complete c =
 
 pub returns-in_err-number-clause-complete : goal.returns-in_err-number-clause-complete
 returns-in_err-number-clause-complete c = λ number next form.
-    absurd (no_number_between c.args.text.now c.args.at c.in_err-number.field-0.0 (ap number_at (sym c.text_from.ensures) ∙ c.in_err-number.ensures.value) number next form)
+    absurd (no_number_between c.args.text.now c.args.at c.in_err-number.field-0.0
+    (ap number_at (sym c.text_from.ensures) ∙ c.in_err-number.ensures.value) number next form)
 
 pub returns-clause-faulty : goal.returns-clause-faulty
 returns-clause-faulty c =

@@ -8,4 +8,5 @@ pub fill-requires-clause-kept : goal.fill-requires-clause-kept
 fill-requires-clause-kept c =
     let pass = c.args.pass.now in
     let told = c.load_newest-newest.ensures.seen in
-    kept_before c.args.self.now pass (hand c.load_newest-newest.new.seat) (looked (hand pass.seat) told.0) c.row_count-first.result told.1 c.requires c.row_count-first.ensures refl told.3.begins
+    kept_before c.args.self.now pass (hand c.load_newest-newest.new.seat)
+    (looked (hand pass.seat) told.0) c.row_count-first.result told.1 c.requires c.row_count-first.ensures refl told.3.begins

@@ -11,7 +11,8 @@ fill-requires-clause-kept c =
     let pass = c.args.second.now in
     let told = c.load_both-newest.ensures.met in
     let joined = c.join.ensures.second ∙ ap (λ seat. hand seat) c.replace-other.ensures.value in
-    kept_before c.args.self.now pass (hand c.split.result) (met (second c.join.new.seat) told.0) c.row_count-second_count.result (c.split.ensures.second ∙ told.1) c.requires.second c.row_count-second_count.ensures
+    kept_before c.args.self.now pass (hand c.split.result) (met (second c.join.new.seat) told.0) c.row_count-second_count.result
+    (c.split.ensures.second ∙ told.1) c.requires.second c.row_count-second_count.ensures
     (ap (λ h. h.capacity) joined) (subst (λ h. Begins h.known.seen told.0) joined told.3.begins)
 
 pub spare-spare-requires-clause-rule : goal.spare-spare-requires-clause-rule

@@ -4,7 +4,7 @@ use Rattle.std.specs.List.{All}
 use Rattle.chain_log.specs.declared.pass.ChainPass.{ChainPass}
 use Rattle.decision_log.specs.Known.{newcomer}
 use Rattle.decision_log.specs.Seats.{newcomer_hand}
-use Rattle.chain_log.specs.ChainPass.{place_of, home_of, known_of}
+use Rattle.chain_log.specs.ChainPass.{identity_of, log_of, known_of}
 use Rattle.decision_log.specs.Seats.{hand}
 use Rattle.chain_log.specs.ChainSeat.{IsRest}
 use Rattle.chain_log.proofs.chain.ChainLog.deal_all.Given as goal
@@ -14,6 +14,6 @@ invariant-loop-index l = record {
   rest : IsRest l.self l.rest;
   next : hand l.rest ≡ newcomer_hand l.self.sessions l.self.capacity (l.index + 1);
   count : length l.passes.items ≡ l.index;
-  homes : All (λ pass. home_of pass ≡ place_of l.self) l.passes.items;
+  belongs : All (λ pass. log_of pass ≡ identity_of l.self) l.passes.items;
   numbers : (index : ℕ) (pass : ChainPass) → slice_get l.passes.items index ≡ Some pass → known_of pass ≡ newcomer (index + 1);
 }

@@ -10,15 +10,20 @@ use Rattle.chain_log.proofs.Names.{there, name_low}
 use Rattle.chain_log.proofs.KeptColumns.{column_here, filling_first, filling_next, filling_last}
 use Rattle.chain_log.proofs.chain.ChainLog.fill.Goals as goal
 
-counted : (log : ChainLog) (h : Hand) (newest count : ℕ) → IsOurs log h → ((seen : List Entry) → AllOf log.sessions seen → newest ≡ newest_of log.sessions seen → count ≡ length seen) → newest ≡ newest_of h.sessions h.known.seen → count ≡ length h.known.seen
+counted : (log : ChainLog) (h : Hand) (newest count : ℕ) → IsOurs log h
+    → ((seen : List Entry) → AllOf log.sessions seen → newest ≡ newest_of log.sessions seen → count ≡ length seen) → newest ≡ newest_of h.sessions h.known.seen
+    → count ≡ length h.known.seen
 counted log h newest count ours told is =
     told h.known.seen (subst (λ n. AllOf n h.known.seen) ours.sessions ours.among) (is ∙ ap (λ n. newest_of n h.known.seen) ours.sessions)
 
 -- a row that is left to fill has its cell in its entry's column
-here : (log : ChainLog) (h : Hand) (first row name : ℕ) → IsOurs log h → first < row → row ≤ length h.known.seen → name ≡ name_before h.sessions h.known.seen row
-    → (1 ≤ session_at h.known.seen (row - 1)) × (session_at h.known.seen (row - 1) ≤ log.sessions) × (name ≡ name_at log.sessions (row - 1) (session_at h.known.seen (row - 1)))
+here : (log : ChainLog) (h : Hand) (first row name : ℕ) → IsOurs log h → first < row → row ≤ length h.known.seen
+    → name ≡ name_before h.sessions h.known.seen row
+    → (1 ≤ session_at h.known.seen (row - 1)) × (session_at h.known.seen (row - 1) ≤ log.sessions)
+    × (name ≡ name_at log.sessions (row - 1) (session_at h.known.seen (row - 1)))
 here log h first row name ours some within is =
-    subst (λ n. (1 ≤ session_at h.known.seen (row - 1)) × (session_at h.known.seen (row - 1) ≤ n) × (name ≡ name_at n (row - 1) (session_at h.known.seen (row - 1)))) ours.sessions
+    subst (λ n. (1 ≤ session_at h.known.seen (row - 1)) × (session_at h.known.seen (row - 1) ≤ n)
+    × (name ≡ name_at n (row - 1) (session_at h.known.seen (row - 1)))) ours.sessions
     (column_here h.sessions h.known.seen row name ours.among (omega arith) within is)
 
 -- the name of a row that is left to fill, at a pass that knows the same
@@ -36,7 +41,8 @@ linked at h link row same is = is ∙ ap (λ h. name_before h.sessions h.known.s
 pub loop-row-init : goal.loop-row-init
 loop-row-init c =
     let h = hand c.args.seat.now in
-    let count : c.row_count-count.result ≡ length h.known.seen = counted c.args.self.now h c.args.newest c.row_count-count.result c.requires.ours c.row_count-count.ensures c.requires.newest in
+    let count : c.row_count-count.result ≡ length h.known.seen =
+    counted c.args.self.now h c.args.newest c.row_count-count.result c.requires.ours c.row_count-count.ensures c.requires.newest in
     record {
       seat = c.requires.seat;
       same = refl;
@@ -49,7 +55,9 @@ pub cell_column-requires-clause-name : goal.cell_column-requires-clause-name
 cell_column-requires-clause-name c =
     let inv = c.loop-row.invariant in
     let h = hand c.args.seat.now in
-    let low = here c.args.self.now h c.args.first c.loop-row.row c.loop-row.name c.requires.ours c.loop-row-test.true (omega (arith, inv.count, c.loop-row.auto.row)) inv.name in
+    let low =
+    here c.args.self.now h c.args.first c.loop-row.row c.loop-row.name c.requires.ours c.loop-row-test.true
+    (omega (arith, inv.count, c.loop-row.auto.row)) inv.name in
     let above = name_low c.args.self.now.sessions (c.loop-row.row - 1) (session_at h.known.seen (c.loop-row.row - 1)) low.0 in
     omega (arith, low.2)
 
@@ -59,7 +67,9 @@ load_word-name-requires-clause-ours c = subst (λ h. IsOurs c.args.self.now h) (
 pub load_word-name-requires-clause-named : goal.load_word-name-requires-clause-named
 load_word-name-requires-clause-named c =
     let inv = c.loop-row.invariant in
-    let n = named (hand c.loop-row.seat) (hand c.args.seat.now) c.args.first c.loop-row.row c.loop-row.name inv.same c.loop-row-test.true (omega (arith, inv.count, c.loop-row.auto.row)) inv.name in
+    let n =
+    named (hand c.loop-row.seat) (hand c.args.seat.now) c.args.first c.loop-row.row c.loop-row.name inv.same c.loop-row-test.true
+    (omega (arith, inv.count, c.loop-row.auto.row)) inv.name in
     (c.loop-row.row - 1, n.0, n.1)
 
 pub loop-row-preserved : goal.loop-row-preserved
@@ -78,11 +88,14 @@ loop-row-preserved c =
       same = c.load_word-name.ensures.same ∙ inv.same;
       count = inv.count;
       name = linked at h c.load_word-name.result below inv.same told.1;
-      filling = filling_next h.capacity c.args.first c.loop-row.row c.cell_column.result h.known.seen c.loop-row.columns.items c.loop-row-test.true within (omega (arith, c.requires.ours.within))
+      filling =
+          filling_next h.capacity c.args.first c.loop-row.row c.cell_column.result h.known.seen c.loop-row.columns.items c.loop-row-test.true within
+          (omega (arith, c.requires.ours.within))
           (c.cell_column.ensures below (session_at h.known.seen below) low.0 low.1 low.2) inv.filling;
     }
 
 pub returns-clause-kept : goal.returns-clause-kept
 returns-clause-kept c =
     let h = hand c.args.seat.now in
-    filling_last h.capacity c.args.first c.loop-row.row h.known.seen c.loop-row.columns.items (omega (arith, c.loop-row-test.false)) c.loop-row.invariant.filling
+    filling_last h.capacity c.args.first c.loop-row.row h.known.seen c.loop-row.columns.items
+    (omega (arith, c.loop-row-test.false)) c.loop-row.invariant.filling

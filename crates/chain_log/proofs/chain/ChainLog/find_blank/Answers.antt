@@ -12,5 +12,6 @@ load-requires-clause-word c =
 
 pub load-requires-clause-allowed : goal.load-requires-clause-allowed
 load-requires-clause-allowed c =
-    find_step c.args.self.now.table.inner.shared.key c.args.self.now.table.inner.shared.table_id.slots c.args.seat.now.id (c.cell_start.result + c.args.index) c.args.index (hand_of c.args.seat.now.me.0)
+    find_step c.args.self.now.table.inner.shared.key c.args.self.now.table.inner.shared.table_id.slots c.args.seat.now.id
+    (c.cell_start.result + c.args.index) c.args.index (hand_of c.args.seat.now.me.0)
     (ap (λ n. n + c.args.index) (c.cell_start.ensures ∙ ap cell_at c.requires.own)) c.requires.along c.requires.index c.requires.room

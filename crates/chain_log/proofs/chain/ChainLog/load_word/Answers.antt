@@ -25,9 +25,11 @@ load-requires-clause-word c =
 pub load-requires-clause-allowed : goal.load-requires-clause-allowed
 load-requires-clause-allowed c =
     let start = c.cell_start.ensures in
-    read_step c.args.self.now.table.inner.shared.key c.args.self.now.table.inner.shared.table_id.slots c.args.seat.now.id (c.cell_start.result + c.args.index) (hand_of c.args.seat.now.me.0) (λ e. omega arith)
+    read_step c.args.self.now.table.inner.shared.key c.args.self.now.table.inner.shared.table_id.slots c.args.seat.now.id (c.cell_start.result + c.args.index)
+    (hand_of c.args.seat.now.me.0) (λ e. omega arith)
 
 pub returns-clause-read : goal.returns-clause-read
 returns-clause-read c row entry named is =
     let h = hand_of c.args.seat.now.me.0 in
-    c.load.ensures.told.2 row c.args.index entry (ap (λ n. n + c.args.index) (c.cell_start.ensures ∙ ap cell_at (named ∙ name_next_one h.sessions h.known.seen row entry is))) c.requires.index is
+    c.load.ensures.told.2 row c.args.index entry
+    (ap (λ n. n + c.args.index) (c.cell_start.ensures ∙ ap cell_at (named ∙ name_next_one h.sessions h.known.seen row entry is))) c.requires.index is

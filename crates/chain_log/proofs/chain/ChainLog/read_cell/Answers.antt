@@ -10,7 +10,8 @@ use Rattle.chain_log.specs.Cells.{name_before}
 use Rattle.chain_log.proofs.chain.ChainLog.read_cell.Goals as goal
 
 -- one more word is read
-one_more : (words spelled : List ℕ) (index word : ℕ) → index < length words → word ≡ get_or spelled index 0 → ((k : ℕ) → k < index → get_or words k 0 ≡ get_or spelled k 0) → (k : ℕ) → k < index + 1 → get_or (set words index word) k 0 ≡ get_or spelled k 0
+one_more : (words spelled : List ℕ) (index word : ℕ) → index < length words → word ≡ get_or spelled index 0
+    → ((k : ℕ) → k < index → get_or words k 0 ≡ get_or spelled k 0) → (k : ℕ) → k < index + 1 → get_or (set words index word) k 0 ≡ get_or spelled k 0
 one_more words spelled index word within is before k below =
     dite (ℕ_discrete k index)
     (λ e. ap (λ n. get_or (set words index word) n 0) e ∙ get_or-set_same words index word 0 within ∙ is ∙ ap (λ n. get_or spelled n 0) (sym e))
@@ -22,7 +23,8 @@ behind_link link words index = ap (λ n. get_or (link ∷ words) n 0) (one-add i
 
 pub load_word-requires-clause-named : goal.load_word-requires-clause-named
 load_word-requires-clause-named c =
-    subst (λ h. (row : ℕ) × (row < length h.known.seen) × (c.args.name ≡ name_before h.sessions h.known.seen (row + 1))) (sym c.loop-index.invariant.same) c.requires.named
+    subst (λ h. (row : ℕ) × (row < length h.known.seen) × (c.args.name ≡ name_before h.sessions h.known.seen (row + 1)))
+    (sym c.loop-index.invariant.same) c.requires.named
 
 pub loop-index-preserved : goal.loop-index-preserved
 loop-index-preserved c =
@@ -35,7 +37,8 @@ loop-index-preserved c =
           λ row entry named is.
           let h = hand c.loop-index.seat in
           let there : slice_get h.known.seen row ≡ Some entry = ap (λ h. slice_get h.known.seen row) inv.same ∙ is in
-          let name : c.args.name ≡ name_before h.sessions h.known.seen (row + 1) = named ∙ ap (λ h. name_before h.sessions h.known.seen (row + 1)) (sym inv.same) in
+          let name : c.args.name ≡ name_before h.sessions h.known.seen (row + 1) =
+          named ∙ ap (λ h. name_before h.sessions h.known.seen (row + 1)) (sym inv.same) in
           let told = c.load_word.ensures.read row entry name there in
           let before = inv.read row entry named is in (
             (λ p. told.0),

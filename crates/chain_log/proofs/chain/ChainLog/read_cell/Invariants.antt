@@ -12,6 +12,7 @@ invariant-loop-index l = record {
   seat : IsSeat l.self l.seat;
   sized : length l.words ≡ 21;
   same : hand l.seat ≡ hand l.fn.seat;
-  read : (row : ℕ) (entry : Entry) → l.name ≡ name_before (hand l.fn.seat).sessions (hand l.fn.seat).known.seen (row + 1) → slice_get (hand l.fn.seat).known.seen row ≡ Some entry
+  read : (row : ℕ) (entry : Entry) → l.name ≡ name_before (hand l.fn.seat).sessions (hand l.fn.seat).known.seen (row + 1)
+      → slice_get (hand l.fn.seat).known.seen row ≡ Some entry
       → (0 < l.index → IsEntry entry) × ((k : ℕ) → k < l.index → get_or l.words k 0 ≡ get_or (words_of entry) k 0);
 }

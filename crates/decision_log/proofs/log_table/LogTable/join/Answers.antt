@@ -9,5 +9,6 @@ join_seat-requires g c = (
   c.requires.other.table,
   ap (λ me. me.1) c.requires.other.held,
   c.args.self.now.some,
-  at_join c.args.seat.now.me c.args.other.me c.requires.seat.held c.requires.other.held (c.requires.rule.join c.args.self.now.inner.shared.key c.args.seat.now.id c.args.other.id (hand_of c.args.seat.now.me.0) (hand_of c.args.other.me.0)),
+  at_join c.args.seat.now.me c.args.other.me c.requires.seat.held c.requires.other.held
+      (c.requires.rule.join c.args.self.now.inner.shared.key c.args.seat.now.id c.args.other.id (hand_of c.args.seat.now.me.0) (hand_of c.args.other.me.0)),
 )

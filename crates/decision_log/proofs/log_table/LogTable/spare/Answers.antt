@@ -3,4 +3,8 @@ use Rattle.decision_log.proofs.SeatSteps.{at_spare}
 use Rattle.decision_log.proofs.log_table.LogTable.spare.Goals as goal
 
 pub split_seat-requires : goal.split_seat-requires
-split_seat-requires g c = (c.requires.seat.table, c.args.self.now.some, at_spare c.args.seat.now.me c.requires.seat.held (c.requires.rule.spare c.args.self.now.inner.shared.key c.args.seat.now.id (hand_of c.args.seat.now.me.0)))
+split_seat-requires g c = (
+  c.requires.seat.table,
+  c.args.self.now.some,
+  at_spare c.args.seat.now.me c.requires.seat.held (c.requires.rule.spare c.args.self.now.inner.shared.key c.args.seat.now.id (hand_of c.args.seat.now.me.0)),
+)

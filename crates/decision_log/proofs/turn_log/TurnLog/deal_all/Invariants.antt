@@ -4,7 +4,7 @@ use Rattle.std.specs.List.{All}
 use Rattle.decision_log.specs.declared.turn_log.pass.TurnPass.{TurnPass}
 use Rattle.decision_log.specs.Known.{newcomer}
 use Rattle.decision_log.specs.Seats.{newcomer_hand}
-use Rattle.decision_log.specs.TurnPass.{place_of, home_of, known_of}
+use Rattle.decision_log.specs.TurnPass.{identity_of, log_of, known_of}
 use Rattle.decision_log.specs.Seats.{hand}
 use Rattle.decision_log.specs.TurnSeat.{IsRest}
 use Rattle.decision_log.proofs.turn_log.TurnLog.deal_all.Given as goal
@@ -14,6 +14,6 @@ invariant-loop-index l = record {
   rest : IsRest l.self l.rest;
   next : hand l.rest ≡ newcomer_hand l.self.sessions l.self.capacity (l.index + 1);
   count : length l.passes.items ≡ l.index;
-  homes : All (λ pass. home_of pass ≡ place_of l.self) l.passes.items;
+  belongs : All (λ pass. log_of pass ≡ identity_of l.self) l.passes.items;
   numbers : (index : ℕ) (pass : TurnPass) → slice_get l.passes.items index ≡ Some pass → known_of pass ≡ newcomer (index + 1);
 }

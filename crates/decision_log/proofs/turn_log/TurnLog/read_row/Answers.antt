@@ -9,7 +9,8 @@ use Rattle.decision_log.specs.Seats.{hand_of}
 use Rattle.decision_log.proofs.turn_log.TurnLog.read_row.Goals as goal
 
 -- one more word is read
-one_more : (words spelled : List ℕ) (index word : ℕ) → index < length words → word ≡ get_or spelled index 0 → ((k : ℕ) → k < index → get_or words k 0 ≡ get_or spelled k 0) → (k : ℕ) → k < index + 1 → get_or (set words index word) k 0 ≡ get_or spelled k 0
+one_more : (words spelled : List ℕ) (index word : ℕ) → index < length words → word ≡ get_or spelled index 0
+    → ((k : ℕ) → k < index → get_or words k 0 ≡ get_or spelled k 0) → (k : ℕ) → k < index + 1 → get_or (set words index word) k 0 ≡ get_or spelled k 0
 one_more words spelled index word within is before k below =
     dite (ℕ_discrete k index)
     (λ e. ap (λ n. get_or (set words index word) n 0) e ∙ get_or-set_same words index word 0 within ∙ is ∙ ap (λ n. get_or spelled n 0) (sym e))
@@ -24,10 +25,12 @@ loop-index-preserved c =
       same = c.load_word.ensures.same ∙ inv.same;
       read =
           λ entry is.
-          let there : slice_get (hand_of c.loop-index.seat.me.0).known.seen c.args.place ≡ Some entry = ap (λ h. slice_get h.known.seen c.args.place) inv.same ∙ is in
+          let there : slice_get (hand_of c.loop-index.seat.me.0).known.seen c.args.place ≡ Some entry =
+          ap (λ h. slice_get h.known.seen c.args.place) inv.same ∙ is in
           let told = c.load_word.ensures.read c.args.place c.loop-index.index entry refl c.loop-index-test.true there in (
             (λ p. told.0),
-            one_more c.loop-index.words (words_of entry) c.loop-index.index c.load_word.result (omega (arith, inv.sized, c.loop-index-test.true)) told.1 (inv.read entry is).1,
+            one_more c.loop-index.words (words_of entry) c.loop-index.index c.load_word.result (omega (arith, inv.sized, c.loop-index-test.true)) told.1
+                (inv.read entry is).1,
           );
     }
 

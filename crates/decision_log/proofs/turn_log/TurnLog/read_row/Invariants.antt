@@ -11,5 +11,6 @@ invariant-loop-index l = record {
   seat : IsSeat l.self l.seat;
   sized : length l.words ≡ 21;
   same : hand l.seat ≡ hand l.fn.seat;
-  read : (entry : Entry) → slice_get (hand l.fn.seat).known.seen l.place ≡ Some entry → (0 < l.index → IsEntry entry) × ((k : ℕ) → k < l.index → get_or l.words k 0 ≡ get_or (words_of entry) k 0);
+  read : (entry : Entry) → slice_get (hand l.fn.seat).known.seen l.place ≡ Some entry
+      → (0 < l.index → IsEntry entry) × ((k : ℕ) → k < l.index → get_or l.words k 0 ≡ get_or (words_of entry) k 0);
 }

@@ -8,5 +8,6 @@ store-requires-clause-word c = omega (arith, c.args.self.now.wide, c.requires.pl
 
 pub store-requires-clause-allowed : goal.store-requires-clause-allowed
 store-requires-clause-allowed c =
-    draft_step c.args.self.now.table.inner.shared.key c.args.self.now.table.inner.shared.table_id.slots c.args.seat.now.id c.args.word c.requires.place.0 c.args.new (hand_of c.args.seat.now.me.0)
+    draft_step c.args.self.now.table.inner.shared.key c.args.self.now.table.inner.shared.table_id.slots c.args.seat.now.id c.args.word c.requires.place.0
+    c.args.new (hand_of c.args.seat.now.me.0)
     c.requires.place.1 c.requires.fresh c.requires.place.2 c.requires.place.3 c.requires.room

@@ -13,7 +13,8 @@ invariant_of-self g c =
     record {
       named = me.named;
       sized = me.sized;
-      open_there = marked g.S.Speak.view me.name.items me.stores.items me.branches c.args.store c.let_go.new.session None me.open_there (λ branch is. absurd (cc));
+      open_there =
+          marked g.S.Speak.view me.name.items me.stores.items me.branches c.args.store c.let_go.new.session None me.open_there (λ branch is. absurd (cc));
     }
 
 pub invariant_of-self-in-Err-1 : goal.invariant_of-self-in-Err-1
@@ -26,7 +27,8 @@ invariant_of-self-in-Err-1 g c =
       named = me.named;
       sized = me.sized;
       open_there = unmarked view me.name.items me.stores.items me.branches c.args.store old new c.index_mut.ensures.value me.open_there
-          (seat_refused Disconnect (Session c.in-Err.fault) (view old) (view new) (g.met.S.Speak.lawful new) (g.met.S.Speak.own_part old) (g.met.S.Speak.own_part new) c.in-Err.ensures.undone);
+          (seat_refused Disconnect (Session c.in-Err.fault) (view old) (view new) (g.met.S.Speak.lawful new) (g.met.S.Speak.own_part old)
+          (g.met.S.Speak.own_part new) c.in-Err.ensures.undone);
     }
 
 pub returns-in-Ok-clause-frame : goal.returns-in-Ok-clause-frame
@@ -37,12 +39,15 @@ returns-in-Ok-clause-marks g c = changes_at c.args.self.now.branches c.args.stor
 
 pub returns-in-Ok-clause-done : goal.returns-in-Ok-clause-done
 returns-in-Ok-clause-done g c =
-    at_place g.S.Speak.view c.args.self.now.name.items IsDisconnected c.args.self.now.stores.items c.args.store c.index_mut.result.now c.let_go.new.session c.index_mut.ensures.value c.in-Ok.ensures.done
+    at_place g.S.Speak.view c.args.self.now.name.items IsDisconnected c.args.self.now.stores.items c.args.store c.index_mut.result.now c.let_go.new.session
+    c.index_mut.ensures.value c.in-Ok.ensures.done
 
 pub returns-in-Err-clause-frame : goal.returns-in-Err-clause-frame
 returns-in-Err-clause-frame g c = changes_at c.args.self.now.stores.items c.args.store c.let_go.new.session
 
 pub returns-in-Err-clause-undone : goal.returns-in-Err-clause-undone
 returns-in-Err-clause-undone g c =
-    at_place g.S.Speak.view c.args.self.now.name.items (IsUndone Disconnect (Session c.in-Err.fault)) c.args.self.now.stores.items c.args.store c.index_mut.result.now c.let_go.new.session c.index_mut.ensures.value
+    at_place g.S.Speak.view c.args.self.now.name.items
+    (IsUndone Disconnect (Session c.in-Err.fault)) c.args.self.now.stores.items c.args.store c.index_mut.result.now c.let_go.new.session
+    c.index_mut.ensures.value
     c.in-Err.ensures.undone

@@ -10,7 +10,9 @@ pub returns-in-Ok-clause-vote : goal.returns-in-Ok-clause-vote
 returns-in-Ok-clause-vote g c = (
   refl,
   (c.args.store, c.requires.only),
-  ended_each g.S.Speak.view c.args.transaction c.args.store c.args.self.now.stores.items c.end_branch.new.self.stores.items c.requires.only c.in-Ok.ensures.frame
-      (subst (λ (name : List ℕ). AtStore g.S.Speak.view c.args.store (IsDone (End (branch_xid name c.args.transaction.number c.args.store))) c.args.self.now.stores.items c.end_branch.new.self.stores.items)
+  ended_each g.S.Speak.view c.args.transaction c.args.store c.args.self.now.stores.items c.end_branch.new.self.stores.items c.requires.only
+      c.in-Ok.ensures.frame
+      (subst (λ (name : List ℕ). AtStore g.S.Speak.view c.args.store
+      (IsDone (End (branch_xid name c.args.transaction.number c.args.store))) c.args.self.now.stores.items c.end_branch.new.self.stores.items)
       (sym c.requires.name) c.in-Ok.ensures.says),
 )

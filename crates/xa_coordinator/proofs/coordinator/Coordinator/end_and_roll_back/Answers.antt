@@ -4,7 +4,7 @@ use Rattle.xa_xid.specs.declared.xid.Xid.{Xid}
 use Rattle.xa_xid.specs.declared.statement.Statement.TheVariants.{End}
 use Rattle.xa_coordinator.specs.declared.closing.Closing.TheVariants.{RollBack}
 use Rattle.xa_coordinator.specs.Branch.{branch_xid}
-use Rattle.xa_coordinator.specs.Outcomes.{closing_of, SaysAs, ClosesAs}
+use Rattle.xa_coordinator.specs.Outcomes.{finish_statement, SaysAs, ClosesAs}
 use Rattle.xa_coordinator.specs.Stores.{AtStore}
 use Rattle.xa_coordinator.specs.Told.{IsDone}
 use Rattle.xa_coordinator.proofs.Walk.{at_then}
@@ -14,7 +14,10 @@ use Rattle.xa_coordinator.proofs.coordinator.Coordinator.end_and_roll_back.Goals
 pub returns-in-Ok-clause-closes : goal.returns-in-Ok-clause-closes
 returns-in-Ok-clause-closes g c =
     let xid : Xid = branch_xid c.args.self.now.name.items c.args.number c.args.store in
-    at_then g.S.Speak.view c.args.store (IsDone (End xid)) (SaysAs (closing_of RollBack xid) c.finish_branch.result) (ClosesAs true (closing_of RollBack xid) xid c.finish_branch.result) (said_behind (closing_of RollBack xid) xid c.finish_branch.result)
+    at_then g.S.Speak.view c.args.store (IsDone (End xid)) (SaysAs (finish_statement RollBack xid) c.finish_branch.result)
+    (ClosesAs true (finish_statement RollBack xid) xid c.finish_branch.result) (said_behind (finish_statement RollBack xid) xid c.finish_branch.result)
     c.args.self.now.stores.items c.end_branch.new.self.stores.items c.finish_branch.new.self.stores.items c.in-Ok.ensures.frame.count c.in-Ok.ensures.says
-    (subst (λ (name : Text). AtStore g.S.Speak.view c.args.store (SaysAs (closing_of RollBack (branch_xid name.items c.args.number c.args.store)) c.finish_branch.result) c.end_branch.new.self.stores.items c.finish_branch.new.self.stores.items)
+    (subst (λ (name : Text). AtStore g.S.Speak.view c.args.store
+    (SaysAs (finish_statement RollBack (branch_xid name.items c.args.number c.args.store)) c.finish_branch.result) c.end_branch.new.self.stores.items
+    c.finish_branch.new.self.stores.items)
     c.in-Ok.ensures.name c.finish_branch.ensures.finishes)

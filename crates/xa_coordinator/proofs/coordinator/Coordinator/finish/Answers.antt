@@ -2,7 +2,7 @@ use Rattle.std.proofs.Common.{ℕ, List, ap, ◌∙◌, subst}
 use Rattle.xa_coordinator.specs.Agreement.{Agrees}
 use Rattle.xa_coordinator.specs.Decisions.{is_decided}
 use Rattle.xa_coordinator.specs.Stores.{EachStore}
-use Rattle.xa_coordinator.specs.Outcomes.{EndsAs, closing_for}
+use Rattle.xa_coordinator.specs.Outcomes.{EndsAs, finish_for}
 use Rattle.xa_coordinator.proofs.Agreeing.{ending_agrees, allows_for}
 use Rattle.xa_coordinator.proofs.coordinator.Coordinator.finish.Goals as goal
 
@@ -11,8 +11,10 @@ returns-clause-agrees g c =
     let decisions = c.args.decisions.now in
     let transaction = c.args.prepared.transaction in
     let ballot = c.args.prepared.ballot in
-    subst (λ (name : List ℕ). EachStore g.S.Speak.view (Agrees decisions name) c.args.self.now.stores.items c.close.new.self.stores.items) c.requires.name
-    (ending_agrees g.S.Speak.view decisions transaction c.args.self.now.branches (closing_for (is_decided decisions transaction.number) ballot) c.close.result c.args.self.now.stores.items c.close.new.self.stores.items
+    subst (λ (name : List ℕ). EachStore g.S.Speak.view (Agrees decisions name) c.args.self.now.stores.items c.finish_each.new.self.stores.items) c.requires.name
+    (ending_agrees g.S.Speak.view decisions transaction c.args.self.now.branches
+    (finish_for (is_decided decisions transaction.number) ballot) c.finish_each.result c.args.self.now.stores.items c.finish_each.new.self.stores.items
     (allows_for decisions transaction.number ballot)
-    (subst (λ closing. EndsAs g.S.Speak.view c.args.self.now.branches transaction closing c.close.result c.args.self.now.stores.items c.close.new.self.stores.items)
-    (c.closing_for-closing.ensures ∙ ap (λ decided. closing_for decided ballot) c.is_decided.ensures) c.close.ensures.ends))
+    (subst (λ closing. EndsAs g.S.Speak.view c.args.self.now.branches transaction closing c.finish_each.result c.args.self.now.stores.items
+    c.finish_each.new.self.stores.items)
+    (c.finish_for-closing.ensures ∙ ap (λ decided. finish_for decided ballot) c.is_decided.ensures) c.finish_each.ensures.ends))

@@ -25,21 +25,30 @@ returns-in-Ok-clause-marks g c = changes_then c.args.store _ _ _ c.in-Ok.ensures
 pub returns-in-Ok-clause-settled : goal.returns-in-Ok-clause-settled
 returns-in-Ok-clause-settled g c =
     let me = c.args.self.now in
-    freed_finished g.S.Speak.view c.args.decisions.now me.name.items c.args.store c.list_and_finish.result me.stores.items c.disconnect.new.self.stores.items c.list_and_finish.new.self.stores.items
+    freed_finished g.S.Speak.view c.args.decisions.now me.name.items c.args.store c.list_and_finish.result me.stores.items c.disconnect.new.self.stores.items
+    c.list_and_finish.new.self.stores.items
     c.in-Ok.ensures.frame.count c.in-Ok.ensures.done
-    (subst (λ (name : Text). IfOk c.list_and_finish.result (λ tally. AtStore g.S.Speak.view c.args.store (IsFinished c.args.decisions.now name.items c.args.store tally) c.disconnect.new.self.stores.items c.list_and_finish.new.self.stores.items))
+    (subst (λ (name : Text). IfOk c.list_and_finish.result
+    (λ tally. AtStore g.S.Speak.view c.args.store
+    (IsFinished c.args.decisions.now name.items c.args.store tally) c.disconnect.new.self.stores.items c.list_and_finish.new.self.stores.items))
     c.in-Ok.ensures.name c.list_and_finish.ensures.finished)
 
 pub returns-in-Ok-clause-broken : goal.returns-in-Ok-clause-broken
 returns-in-Ok-clause-broken g c =
     let me = c.args.self.now in
-    broken_behind g.S.Speak.view c.args.decisions.now me.name.items c.args.store c.list_and_finish.result me.stores.items c.disconnect.new.self.stores.items c.list_and_finish.new.self.stores.items c.in-Ok.ensures.frame.count
-    (at_weaker g.S.Speak.view c.args.store IsDisconnected (Agrees c.args.decisions.now me.name.items c.args.store) (disconnected_agrees c.args.decisions.now me.name.items c.args.store)
+    broken_behind g.S.Speak.view c.args.decisions.now me.name.items c.args.store c.list_and_finish.result me.stores.items c.disconnect.new.self.stores.items
+    c.list_and_finish.new.self.stores.items c.in-Ok.ensures.frame.count
+    (at_weaker g.S.Speak.view c.args.store IsDisconnected (Agrees c.args.decisions.now me.name.items c.args.store)
+    (disconnected_agrees c.args.decisions.now me.name.items c.args.store)
     me.stores.items c.disconnect.new.self.stores.items c.in-Ok.ensures.done)
-    (subst (λ (name : Text). IfErr c.list_and_finish.result (λ cause. AtStore g.S.Speak.view c.args.store (IsBroken c.args.decisions.now name.items c.args.store cause) c.disconnect.new.self.stores.items c.list_and_finish.new.self.stores.items))
+    (subst (λ (name : Text). IfErr c.list_and_finish.result
+    (λ cause. AtStore g.S.Speak.view c.args.store
+    (IsBroken c.args.decisions.now name.items c.args.store cause) c.disconnect.new.self.stores.items c.list_and_finish.new.self.stores.items))
     c.in-Ok.ensures.name c.list_and_finish.ensures.broken)
 
 pub returns-in-Err-clause-broken : goal.returns-in-Err-clause-broken
 returns-in-Err-clause-broken g c =
-    at_weaker g.S.Speak.view c.args.store (IsUndone Disconnect (Session c.in-Err.fault)) (IsBroken c.args.decisions.now c.args.self.now.name.items c.args.store (Session c.in-Err.fault))
-    (λ a b undone. broken_by c.args.decisions.now c.args.self.now.name.items c.args.store Disconnect c.in-Err.fault a b tt undone) c.args.self.now.stores.items c.disconnect.new.self.stores.items c.in-Err.ensures.undone
+    at_weaker g.S.Speak.view c.args.store (IsUndone Disconnect (Session c.in-Err.fault))
+    (IsBroken c.args.decisions.now c.args.self.now.name.items c.args.store (Session c.in-Err.fault))
+    (λ a b undone. broken_by c.args.decisions.now c.args.self.now.name.items c.args.store Disconnect c.in-Err.fault a b tt undone) c.args.self.now.stores.items
+    c.disconnect.new.self.stores.items c.in-Err.ensures.undone

@@ -30,23 +30,36 @@ returns-in-Ok-clause-marks g c =
 pub returns-in-Ok-clause-finished : goal.returns-in-Ok-clause-finished
 returns-in-Ok-clause-finished g c =
     let me = c.args.self.now in
-    listed_finished g.S.Speak.view c.args.decisions.now me.name.items c.args.store c.settle_each.result c.in-Ok.found.0 c.in-Ok.found.1 me.stores.items c.prepared_in.new.self.stores.items c.settle_each.new.self.stores.items
+    listed_finished g.S.Speak.view c.args.decisions.now me.name.items c.args.store c.settle_each.result c.in-Ok.found.0 c.in-Ok.found.1 me.stores.items
+    c.prepared_in.new.self.stores.items c.settle_each.new.self.stores.items
     c.in-Ok.ensures.frame.count c.in-Ok.ensures.listed
-    (subst (λ (xids : List Xid). IfOk c.settle_each.result (λ tally. AtStore g.S.Speak.view c.args.store (λ a b. Settled c.args.decisions.now me.name.items c.args.store a xids tally b) c.prepared_in.new.self.stores.items c.settle_each.new.self.stores.items))
+    (subst (λ (xids : List Xid). IfOk c.settle_each.result
+    (λ tally. AtStore g.S.Speak.view c.args.store
+    (λ a b. Settled c.args.decisions.now me.name.items c.args.store a xids tally b) c.prepared_in.new.self.stores.items
+    c.settle_each.new.self.stores.items))
     c.as_slice.ensures
-    (subst (λ (name : Text). IfOk c.settle_each.result (λ tally. AtStore g.S.Speak.view c.args.store (λ a b. Settled c.args.decisions.now name.items c.args.store a c.as_slice.result.now tally b) c.prepared_in.new.self.stores.items c.settle_each.new.self.stores.items))
+    (subst (λ (name : Text). IfOk c.settle_each.result
+    (λ tally. AtStore g.S.Speak.view c.args.store
+    (λ a b. Settled c.args.decisions.now name.items c.args.store a c.as_slice.result.now tally b) c.prepared_in.new.self.stores.items
+    c.settle_each.new.self.stores.items))
     c.in-Ok.ensures.name c.settle_each.ensures.settled))
 
 pub returns-in-Ok-clause-broken : goal.returns-in-Ok-clause-broken
 returns-in-Ok-clause-broken g c =
     let me = c.args.self.now in
-    broken_behind g.S.Speak.view c.args.decisions.now me.name.items c.args.store c.settle_each.result me.stores.items c.prepared_in.new.self.stores.items c.settle_each.new.self.stores.items c.in-Ok.ensures.frame.count
-    (at_weaker g.S.Speak.view c.args.store (IsListed c.in-Ok.found.0 c.in-Ok.found.1) (Agrees c.args.decisions.now me.name.items c.args.store) (listed_agrees c.args.decisions.now me.name.items c.args.store c.in-Ok.found.0 c.in-Ok.found.1)
+    broken_behind g.S.Speak.view c.args.decisions.now me.name.items c.args.store c.settle_each.result me.stores.items c.prepared_in.new.self.stores.items
+    c.settle_each.new.self.stores.items c.in-Ok.ensures.frame.count
+    (at_weaker g.S.Speak.view c.args.store (IsListed c.in-Ok.found.0 c.in-Ok.found.1) (Agrees c.args.decisions.now me.name.items c.args.store)
+    (listed_agrees c.args.decisions.now me.name.items c.args.store c.in-Ok.found.0 c.in-Ok.found.1)
     me.stores.items c.prepared_in.new.self.stores.items c.in-Ok.ensures.listed)
-    (subst (λ (name : Text). IfErr c.settle_each.result (λ cause. AtStore g.S.Speak.view c.args.store (IsBroken c.args.decisions.now name.items c.args.store cause) c.prepared_in.new.self.stores.items c.settle_each.new.self.stores.items))
+    (subst (λ (name : Text). IfErr c.settle_each.result
+    (λ cause. AtStore g.S.Speak.view c.args.store
+    (IsBroken c.args.decisions.now name.items c.args.store cause) c.prepared_in.new.self.stores.items c.settle_each.new.self.stores.items))
     c.in-Ok.ensures.name c.settle_each.ensures.broken)
 
 pub returns-in-Err-clause-broken : goal.returns-in-Err-clause-broken
 returns-in-Err-clause-broken g c =
-    at_weaker g.S.Speak.view c.args.store (IsUndone (Recover false) (Session c.in-Err.fault)) (IsBroken c.args.decisions.now c.args.self.now.name.items c.args.store (Session c.in-Err.fault))
-    (λ a b undone. broken_by c.args.decisions.now c.args.self.now.name.items c.args.store (Recover false) c.in-Err.fault a b tt undone) c.args.self.now.stores.items c.prepared_in.new.self.stores.items c.in-Err.ensures.undone
+    at_weaker g.S.Speak.view c.args.store (IsUndone (Recover false) (Session c.in-Err.fault))
+    (IsBroken c.args.decisions.now c.args.self.now.name.items c.args.store (Session c.in-Err.fault))
+    (λ a b undone. broken_by c.args.decisions.now c.args.self.now.name.items c.args.store (Recover false) c.in-Err.fault a b tt undone)
+    c.args.self.now.stores.items c.prepared_in.new.self.stores.items c.in-Err.ensures.undone

@@ -26,8 +26,10 @@ returns-in-Ok-clause-clear g c =
       xids = c.in-Ok.found.0;
       listed = is;
       none_left = none_left_there me.name.items c.args.store c.in-Ok.found.0 c.in-Ok.found.1 a b is
-          (subst (λ (xids : List Xid). (number : ℕ) → number < 2 ^ 64 → list_any (same_xid (branch_xid me.name.items number c.args.store)) xids ≡ false) c.as_slice.ensures
-          (subst (λ (name : Text). (number : ℕ) → number < 2 ^ 64 → list_any (same_xid (branch_xid name.items number c.args.store)) c.as_slice.result.now ≡ false) c.in-Ok.ensures.name c.in-None.ensures.none));
+          (subst (λ (xids : List Xid). (number : ℕ) → number < 2 ^ 64 → list_any (same_xid (branch_xid me.name.items number c.args.store)) xids ≡ false)
+          c.as_slice.ensures
+          (subst (λ (name : Text). (number : ℕ) → number < 2 ^ 64
+          → list_any (same_xid (branch_xid name.items number c.args.store)) c.as_slice.result.now ≡ false) c.in-Ok.ensures.name c.in-None.ensures.none));
     }) me.stores.items c.prepared_in.new.self.stores.items c.in-Ok.ensures.listed
 
 pub returns-in-Some-clause-fails : goal.returns-in-Some-clause-fails
@@ -42,7 +44,8 @@ returns-in-Some-clause-fails g c = λ decisions.
             fits = c.in-Some.ensures.fits;
             prepared = listed_prepared c.in-Ok.found.0 c.in-Ok.found.1 a b is (branch_xid me.name.items c.in-Some._number c.args.store)
                 ∙ subst (λ (xids : List Xid). list_any (same_xid (branch_xid me.name.items c.in-Some._number c.args.store)) xids ≡ true) c.as_slice.ensures
-                (subst (λ (name : Text). list_any (same_xid (branch_xid name.items c.in-Some._number c.args.store)) c.as_slice.result.now ≡ true) c.in-Ok.ensures.name c.in-Some.ensures.some);
+                (subst (λ (name : Text). list_any (same_xid (branch_xid name.items c.in-Some._number c.args.store)) c.as_slice.result.now ≡ true)
+                c.in-Ok.ensures.name c.in-Some.ensures.some);
           }) me.stores.items c.prepared_in.new.self.stores.items c.in-Ok.ensures.listed,
     )
 
@@ -50,6 +53,8 @@ pub returns-clause-fails : goal.returns-clause-fails
 returns-clause-fails g c = λ decisions.
     let me = c.args.self.now in (
       refl,
-      at_weaker g.S.Speak.view c.args.store (IsUndone (Recover false) (Session c.in-Err.fault)) (IsBroken decisions me.name.items c.args.store (Session c.in-Err.fault))
-          (λ a b undone. broken_by decisions me.name.items c.args.store (Recover false) c.in-Err.fault a b tt undone) me.stores.items c.prepared_in.new.self.stores.items c.in-Err.ensures.undone,
+      at_weaker g.S.Speak.view c.args.store (IsUndone (Recover false) (Session c.in-Err.fault))
+          (IsBroken decisions me.name.items c.args.store (Session c.in-Err.fault))
+          (λ a b undone. broken_by decisions me.name.items c.args.store (Recover false) c.in-Err.fault a b tt undone) me.stores.items
+          c.prepared_in.new.self.stores.items c.in-Err.ensures.undone,
     )

@@ -17,7 +17,8 @@ returns-in-Err-clause-elsewhere g c =
 
 pub returns-clause-elsewhere : goal.returns-clause-elsewhere
 returns-clause-elsewhere g c =
-    keeps_farther c.args.transaction.now.participants c.loop-store.store 16 c.args.self.now.branches c.loop-store.self.branches (omega (arith, c.requires.stores, c.loop-store-test.false, c.args.self.now.sized)) c.loop-store.invariant.keeps
+    keeps_farther c.args.transaction.now.participants c.loop-store.store 16 c.args.self.now.branches c.loop-store.self.branches
+    (omega (arith, c.requires.stores, c.loop-store-test.false, c.args.self.now.sized)) c.loop-store.invariant.keeps
 
 pub returns-in-Err-clause-polls : goal.returns-in-Err-clause-polls
 returns-in-Err-clause-polls g c =
@@ -28,7 +29,9 @@ returns-in-Err-clause-polls g c =
       sym (c.if-not-has.ensures),
       ended_at g.S.Speak.view (λ other. IsVoted (branch_of transaction other) (takes_part transaction.participants other)) store
           (IsStopped true (Prepare (branch_of transaction store)) (branch_of transaction store) cause)
-          c.args.self.now.stores.items c.loop-store.self.stores.items c.prepare_branch.new.self.stores.items c.loop-store.invariant.reached c.in-Err.ensures.frame
-          (subst (λ (name : List ℕ). AtStore g.S.Speak.view store (PreparesAs (branch_xid name transaction.number store) (Err cause)) c.loop-store.self.stores.items c.prepare_branch.new.self.stores.items)
+          c.args.self.now.stores.items c.loop-store.self.stores.items c.prepare_branch.new.self.stores.items c.loop-store.invariant.reached
+          c.in-Err.ensures.frame
+          (subst (λ (name : List ℕ). AtStore g.S.Speak.view store
+          (PreparesAs (branch_xid name transaction.number store) (Err cause)) c.loop-store.self.stores.items c.prepare_branch.new.self.stores.items)
           names c.in-Err.ensures.prepares),
     )

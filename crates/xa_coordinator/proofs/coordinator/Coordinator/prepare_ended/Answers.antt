@@ -6,5 +6,5 @@ use Rattle.xa_coordinator.proofs.coordinator.Coordinator.prepare_ended.Goals as 
 
 pub returns-clause-says : goal.returns-clause-says
 returns-clause-says g c =
-    subst (λ xid. AtStore g.S.Speak.view c.args.store (Says (Prepare xid) c.say.result) c.args.self.now.stores.items c.say.new.self.stores.items)
-    c.branch-self.ensures c.say.ensures.says
+    subst (λ xid. AtStore g.S.Speak.view c.args.store (Says (Prepare xid) c.execute_at.result) c.args.self.now.stores.items c.execute_at.new.self.stores.items)
+    c.branch-self.ensures c.execute_at.ensures.says

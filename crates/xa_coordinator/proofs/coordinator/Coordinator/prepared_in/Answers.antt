@@ -12,7 +12,9 @@ invariant_of-self g c =
     record {
       named = me.named;
       sized = me.sized;
-      open_there = unmarked g.S.Speak.view me.name.items me.stores.items me.branches c.args.store c.index_mut.result.now c.list_prepared.new.session c.index_mut.ensures.value me.open_there c.list_prepared.ensures.seat;
+      open_there =
+          unmarked g.S.Speak.view me.name.items me.stores.items me.branches c.args.store c.index_mut.result.now c.list_prepared.new.session
+          c.index_mut.ensures.value me.open_there c.list_prepared.ensures.seat;
     }
 
 pub returns-in-Ok-clause-frame : goal.returns-in-Ok-clause-frame
@@ -20,7 +22,9 @@ returns-in-Ok-clause-frame g c = changes_at c.args.self.now.stores.items c.args.
 
 pub returns-in-Ok-clause-listed : goal.returns-in-Ok-clause-listed
 returns-in-Ok-clause-listed g c =
-    at_place g.S.Speak.view c.args.self.now.name.items (IsListed c.in-Ok.found.0 c.in-Ok.found.1) c.args.self.now.stores.items c.args.store c.index_mut.result.now c.list_prepared.new.session c.index_mut.ensures.value
+    at_place g.S.Speak.view c.args.self.now.name.items
+    (IsListed c.in-Ok.found.0 c.in-Ok.found.1) c.args.self.now.stores.items c.args.store c.index_mut.result.now c.list_prepared.new.session
+    c.index_mut.ensures.value
     c.in-Ok.ensures.listed
 
 pub returns-in-Err-clause-frame : goal.returns-in-Err-clause-frame
@@ -28,5 +32,7 @@ returns-in-Err-clause-frame g c = changes_at c.args.self.now.stores.items c.args
 
 pub returns-in-Err-clause-undone : goal.returns-in-Err-clause-undone
 returns-in-Err-clause-undone g c =
-    at_place g.S.Speak.view c.args.self.now.name.items (IsUndone (Recover false) (Session c.in-Err.fault)) c.args.self.now.stores.items c.args.store c.index_mut.result.now c.list_prepared.new.session c.index_mut.ensures.value
+    at_place g.S.Speak.view c.args.self.now.name.items
+    (IsUndone (Recover false) (Session c.in-Err.fault)) c.args.self.now.stores.items c.args.store c.index_mut.result.now c.list_prepared.new.session
+    c.index_mut.ensures.value
     c.in-Err.ensures.undone

@@ -11,7 +11,8 @@ returns-in_default-clause-none_undecided g c = λ number.
     subst (λ (list : List Standing). standing_of list number ≢ Some Undecided) (sym c.close_all.ensures) (closed_none c.args.decisions.now number)
 
 pub returns-in_default-clause-kept : goal.returns-in_default-clause-kept
-returns-in_default-clause-kept g c = λ number. ap (λ (list : List Standing). is_decided list number) c.close_all.ensures ∙ closed_decides c.args.decisions.now number
+returns-in_default-clause-kept g c =
+    λ number. ap (λ (list : List Standing). is_decided list number) c.close_all.ensures ∙ closed_decides c.args.decisions.now number
 
 pub returns-clause-none_undecided : goal.returns-clause-none_undecided
 returns-clause-none_undecided g c = λ number.
@@ -22,4 +23,5 @@ returns-clause-kept g c = λ number. ap (λ (list : List Standing). is_decided l
 
 pub returns-clause-agrees : goal.returns-clause-agrees
 returns-clause-agrees g c =
-    ends_as g.S.Speak.view c.close_all.new.self c.args.self.now.name.items c.recover_each.result c.args.self.now.stores.items c.recover_each.new.self.stores.items c.recover_each.ensures.recovers c.recover_each.ensures.breaks
+    ends_as g.S.Speak.view c.close_all.new.self c.args.self.now.name.items c.recover_each.result c.args.self.now.stores.items
+    c.recover_each.new.self.stores.items c.recover_each.ensures.recovers c.recover_each.ensures.breaks

@@ -31,8 +31,13 @@ loop-store-preserved g c =
     record {
       name = c.in-Ok.ensures.name ∙ so_far.name;
       frees = frees_next store me.branches c.loop-store.self.branches c.recover_store.new.self.branches so_far.frees c.in-Ok.ensures.marks c.in-Ok.ensures.free;
-      recovers = recovers_next view d me.name.items store c.loop-store.report c.add.new.self (c.in-Ok.tally, c.in-Ok.front) me.stores.items c.loop-store.self.stores.items c.recover_store.new.self.stores.items so_far.recovers c.in-Ok.ensures.frame
-          (subst (λ (name : Text). AtStore view store (IsRecovered d name.items store c.in-Ok.tally c.in-Ok.front) c.loop-store.self.stores.items c.recover_store.new.self.stores.items) so_far.name c.in-Ok.ensures.recovered)
+      recovers =
+          recovers_next view d me.name.items store c.loop-store.report c.add.new.self
+          (c.in-Ok.tally, c.in-Ok.front) me.stores.items c.loop-store.self.stores.items c.recover_store.new.self.stores.items so_far.recovers
+          c.in-Ok.ensures.frame
+          (subst (λ (name : Text). AtStore view store
+          (IsRecovered d name.items store c.in-Ok.tally c.in-Ok.front) c.loop-store.self.stores.items c.recover_store.new.self.stores.items) so_far.name
+          c.in-Ok.ensures.recovered)
           c.add.ensures.fronts c.add.ensures.committed c.add.ensures.rolled_back c.add.ensures.missing;
       length = c.add.ensures.length ∙ ap (λ n. n + 1) so_far.length;
       room = omega (arith, so_far.room, c.add.ensures.capacity);
@@ -47,12 +52,15 @@ returns-in-Err-clause-breaks g c =
     let view = g.S.Speak.view in
     let d = c.args.decisions.now in
     let store : ℕ = c.loop-store.store in
-    breaks_at view d me.name.items store c.loop-store.report c.in-Err.fault me.stores.items c.loop-store.self.stores.items c.recover_store.new.self.stores.items (omega (arith, c.loop-store-test.true, me.sized))
+    breaks_at view d me.name.items store c.loop-store.report c.in-Err.fault me.stores.items c.loop-store.self.stores.items c.recover_store.new.self.stores.items
+    (omega (arith, c.loop-store-test.true, me.sized))
     c.loop-store.invariant.recovers c.in-Err.ensures.frame
-    (subst (λ (name : Text). BreaksHere view d name.items store c.in-Err.fault c.loop-store.self.stores.items c.recover_store.new.self.stores.items) c.loop-store.invariant.name c.in-Err.ensures.fails)
+    (subst (λ (name : Text). BreaksHere view d name.items store c.in-Err.fault c.loop-store.self.stores.items c.recover_store.new.self.stores.items)
+    c.loop-store.invariant.name c.in-Err.ensures.fails)
 
 pub returns-clause-recovers : goal.returns-clause-recovers
 returns-clause-recovers g c =
     let me = c.args.self.now in
-    recovers_all g.S.Speak.view c.args.decisions.now me.name.items c.loop-store.store c.loop-store.report me.stores.items c.loop-store.self.stores.items c.loop-store.invariant.recovers
+    recovers_all g.S.Speak.view c.args.decisions.now me.name.items c.loop-store.store c.loop-store.report me.stores.items c.loop-store.self.stores.items
+    c.loop-store.invariant.recovers
     (omega (arith, c.loop-store-test.false, me.sized))

@@ -4,8 +4,8 @@ use Rattle.xa_coordinator.specs.declared.tally.Tally.{Tally}
 use Rattle.xa_coordinator.specs.View.{SessionView}
 use Rattle.xa_coordinator.specs.Branch.{branch_xid}
 use Rattle.xa_coordinator.specs.Decisions.{is_decided}
-use Rattle.xa_coordinator.specs.Outcomes.{closing_of, SaysAs}
-use Rattle.xa_coordinator.specs.Recovery.{SettlesOne, foreign, counted, closing_by, IsBroken}
+use Rattle.xa_coordinator.specs.Outcomes.{finish_statement, SaysAs}
+use Rattle.xa_coordinator.specs.Recovery.{SettlesOne, foreign, counted, finish_decided, IsBroken}
 use Rattle.xa_coordinator.specs.Stores.{AtStore}
 use Rattle.xa_coordinator.proofs.Walk.{at_same, at_weaker}
 use Rattle.xa_coordinator.proofs.Settling.{settles, broken_at}
@@ -13,7 +13,8 @@ use Rattle.xa_coordinator.proofs.coordinator.Coordinator.settle.Goals as goal
 
 pub returns-in_default-clause-settled : goal.returns-in_default-clause-settled
 returns-in_default-clause-settled g c =
-    at_same g.S.Speak.view c.args.store (λ old new. SettlesOne c.args.decisions.now c.args.self.now.name.items c.args.store c.args.xid.now c.args.tally old c.args.tally new)
+    at_same g.S.Speak.view c.args.store
+    (λ old new. SettlesOne c.args.decisions.now c.args.self.now.name.items c.args.store c.args.xid.now c.args.tally old c.args.tally new)
     (λ a. foreign (λ named. c.in_default.ensures.none named.0 named.1)) c.args.self.now.stores.items c.args.self.now.stores.items refl
 
 pub returns-in-Ok-clause-settled : goal.returns-in-Ok-clause-settled
@@ -23,14 +24,18 @@ returns-in-Ok-clause-settled g c =
     let number = c.in-Some.number in
     let decided : Bool = c.is_decided-decided.result in
     let is : is_decided decisions number ≡ decided = sym c.is_decided-decided.ensures in
-    subst (λ (tally : Tally). AtStore g.S.Speak.view c.args.store (λ old new. SettlesOne decisions me.name.items c.args.store c.args.xid.now c.args.tally old tally new) me.stores.items c.finish_branch.new.self.stores.items)
+    subst (λ (tally : Tally). AtStore g.S.Speak.view c.args.store
+    (λ old new. SettlesOne decisions me.name.items c.args.store c.args.xid.now c.args.tally old tally new) me.stores.items
+    c.finish_branch.new.self.stores.items)
     (sym c.with_one.ensures.counted)
-    (at_weaker g.S.Speak.view c.args.store (SaysAs (closing_of (closing_by decided) (branch_xid me.name.items number c.args.store)) (Ok c.in-Ok.found))
+    (at_weaker g.S.Speak.view c.args.store
+    (SaysAs (finish_statement (finish_decided decided) (branch_xid me.name.items number c.args.store)) (Ok c.in-Ok.found))
     (λ old new. SettlesOne decisions me.name.items c.args.store c.args.xid.now c.args.tally old (counted c.args.tally decided c.in-Ok.found) new)
     (settles decisions me.name.items c.args.store number c.args.xid.now c.in-Some.ensures.some c.args.tally decided is c.in-Ok.found)
     me.stores.items c.finish_branch.new.self.stores.items
-    (subst (λ (closing : Closing). AtStore g.S.Speak.view c.args.store (SaysAs (closing_of closing (branch_xid me.name.items number c.args.store)) (Ok c.in-Ok.found)) me.stores.items c.finish_branch.new.self.stores.items)
-    c.closing_by.ensures c.in-Ok.ensures.finishes))
+    (subst (λ (closing : Closing). AtStore g.S.Speak.view c.args.store
+    (SaysAs (finish_statement closing (branch_xid me.name.items number c.args.store)) (Ok c.in-Ok.found)) me.stores.items c.finish_branch.new.self.stores.items)
+    c.finish_decided.ensures c.in-Ok.ensures.finishes))
 
 pub returns-in-Err-clause-broken : goal.returns-in-Err-clause-broken
 returns-in-Err-clause-broken g c =
@@ -39,8 +44,12 @@ returns-in-Err-clause-broken g c =
     let number = c.in-Some.number in
     let decided : Bool = c.is_decided-decided.result in
     let is : is_decided decisions number ≡ decided = sym c.is_decided-decided.ensures in
-    at_weaker g.S.Speak.view c.args.store (SaysAs (closing_of (closing_by decided) (branch_xid me.name.items number c.args.store)) (Err c.in-Err.cause)) (IsBroken decisions me.name.items c.args.store c.in-Err.cause)
+    at_weaker g.S.Speak.view c.args.store
+    (SaysAs (finish_statement (finish_decided decided) (branch_xid me.name.items number c.args.store)) (Err c.in-Err.cause))
+    (IsBroken decisions me.name.items c.args.store c.in-Err.cause)
     (broken_at decisions me.name.items c.args.store number c.args.xid.now c.in-Some.ensures.some decided is c.in-Err.cause)
     me.stores.items c.finish_branch.new.self.stores.items
-    (subst (λ (closing : Closing). AtStore g.S.Speak.view c.args.store (SaysAs (closing_of closing (branch_xid me.name.items number c.args.store)) (Err c.in-Err.cause)) me.stores.items c.finish_branch.new.self.stores.items)
-    c.closing_by.ensures c.in-Err.ensures.finishes)
+    (subst (λ (closing : Closing). AtStore g.S.Speak.view c.args.store
+    (SaysAs (finish_statement closing (branch_xid me.name.items number c.args.store)) (Err c.in-Err.cause)) me.stores.items
+    c.finish_branch.new.self.stores.items)
+    c.finish_decided.ensures c.in-Err.ensures.finishes)

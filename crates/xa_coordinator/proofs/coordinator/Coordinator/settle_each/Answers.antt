@@ -20,7 +20,10 @@ loop-xid-init g c =
       marks = unchanged c.args.store me.branches;
       free = c.requires.free;
       few = omega arith;
-      settled = at_same g.S.Speak.view c.args.store (λ old new. Settled c.args.decisions.now me.name.items c.args.store old [] (record { committed = 0; rolled_back = 0; missing = 0 }) new) (λ a. nothing) me.stores.items me.stores.items refl;
+      settled =
+          at_same g.S.Speak.view c.args.store
+          (λ old new. Settled c.args.decisions.now me.name.items c.args.store old [] (record { committed = 0; rolled_back = 0; missing = 0 }) new)
+          (λ a. nothing) me.stores.items me.stores.items refl;
     }
 
 pub settle-requires-clause-store : goal.settle-requires-clause-store
@@ -50,10 +53,13 @@ loop-xid-preserved g c =
       few = omega (arith, so_far.few, c.in-Ok.ensures.more);
       settled = subst (λ (list : List Xid). AtStore view store (λ old new. Settled d n store old list after new) me.stores.items c.settle.new.self.stores.items)
           (sym (take_next xids i x (at_index xids i x c.xid-item.is c.loop-xid-test.true)))
-          (at_then view store (λ a b. Settled d n store a (take i xids) before b) (λ a b. SettlesOne d n store x before a after b) (λ a b. Settled d n store a (take i xids ++ x ∷ []) after b)
+          (at_then view store (λ a b. Settled d n store a (take i xids) before b) (λ a b. SettlesOne d n store x before a after b)
+          (λ a b. Settled d n store a (take i xids ++ x ∷ []) after b)
           (λ a m b settled one. one_more (take i xids) before m settled x after b one)
           me.stores.items c.loop-xid.self.stores.items c.settle.new.self.stores.items so_far.frame.count so_far.settled
-          (subst (λ (name : Text). AtStore view store (λ a b. SettlesOne d name.items store x before a after b) c.loop-xid.self.stores.items c.settle.new.self.stores.items) so_far.name c.in-Ok.ensures.settled));
+          (subst (λ (name : Text). AtStore view store
+          (λ a b. SettlesOne d name.items store x before a after b) c.loop-xid.self.stores.items c.settle.new.self.stores.items) so_far.name
+          c.in-Ok.ensures.settled));
     }
 
 pub returns-in-Err-clause-broken : goal.returns-in-Err-clause-broken
@@ -64,13 +70,17 @@ returns-in-Err-clause-broken g c =
     let n : List ℕ = me.name.items in
     let store : ℕ = c.args.store in
     let so_far = c.loop-xid.invariant in
-    at_then view store (λ a b. Settled d n store a (take c.loop-xid.xid-index c.args.xids.now) c.loop-xid.tally b) (IsBroken d n store c.in-Err.cause) (IsBroken d n store c.in-Err.cause)
-    (λ a m b settled broken. broken_later d n store c.in-Err.cause a m b (settled_agrees_so_far d n store (take c.loop-xid.xid-index c.args.xids.now) c.loop-xid.tally a m settled) broken)
+    at_then view store (λ a b. Settled d n store a (take c.loop-xid.xid-index c.args.xids.now) c.loop-xid.tally b) (IsBroken d n store c.in-Err.cause)
+    (IsBroken d n store c.in-Err.cause)
+    (λ a m b settled broken. broken_later d n store c.in-Err.cause a m b
+    (settled_agrees_so_far d n store (take c.loop-xid.xid-index c.args.xids.now) c.loop-xid.tally a m settled) broken)
     me.stores.items c.loop-xid.self.stores.items c.settle.new.self.stores.items so_far.frame.count so_far.settled
-    (subst (λ (name : Text). AtStore view store (IsBroken d name.items store c.in-Err.cause) c.loop-xid.self.stores.items c.settle.new.self.stores.items) so_far.name c.in-Err.ensures.broken)
+    (subst (λ (name : Text). AtStore view store (IsBroken d name.items store c.in-Err.cause) c.loop-xid.self.stores.items c.settle.new.self.stores.items)
+    so_far.name c.in-Err.ensures.broken)
 
 pub returns-clause-settled : goal.returns-clause-settled
 returns-clause-settled g c =
     let me = c.args.self.now in
-    subst (λ (list : List Xid). AtStore g.S.Speak.view c.args.store (λ old new. Settled c.args.decisions.now me.name.items c.args.store old list c.loop-xid.tally new) me.stores.items c.loop-xid.self.stores.items)
+    subst (λ (list : List Xid). AtStore g.S.Speak.view c.args.store
+    (λ old new. Settled c.args.decisions.now me.name.items c.args.store old list c.loop-xid.tally new) me.stores.items c.loop-xid.self.stores.items)
     (take_all c.loop-xid.xid-index c.args.xids.now c.loop-xid-test.false) c.loop-xid.invariant.settled

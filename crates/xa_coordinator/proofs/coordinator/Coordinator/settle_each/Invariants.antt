@@ -12,5 +12,6 @@ invariant-loop-xid g l = record {
   marks : ChangesAt l.store l.fn.self.branches l.self.branches;
   free : slice_get l.self.branches l.store ≡ Some None;
   few : total l.tally ≤ l.xid-index;
-  settled : AtStore g.S.Speak.view l.store (λ old new. Settled l.decisions l.fn.self.name.items l.store old (take l.xid-index l.xids) l.tally new) l.fn.self.stores.items l.self.stores.items;
+  settled : AtStore g.S.Speak.view l.store
+      (λ old new. Settled l.decisions l.fn.self.name.items l.store old (take l.xid-index l.xids) l.tally new) l.fn.self.stores.items l.self.stores.items;
 }

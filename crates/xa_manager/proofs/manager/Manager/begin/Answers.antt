@@ -19,7 +19,9 @@ invariant_of-self-in-Ok g c =
     record {
       named = was.named;
       pairs = was.pairs;
-      counted = ap length on ∙ length-append was.ledger (begun ∷ []) ∙ ap (λ n. n + 1) was.counted ∙ sym (length-append was.decisions (Undecided ∷ [])) ∙ sym (ap length c.in-Ok.ensures.undecided);
+      counted =
+          ap length on ∙ length-append was.ledger (begun ∷ []) ∙ ap (λ n. n + 1) was.counted ∙ sym (length-append was.decisions (Undecided ∷ []))
+          ∙ sym (ap length c.in-Ok.ensures.undecided);
       kept = kept_as _ _ _ _ refl on (kept_more (vec_len was.coordinator.stores) was.ledger begun was.kept (working_kept _ _ _ is));
       ready = ready_as _ _ on (ready_more was.ledger begun was.ready (λ prepared same. absurd (cc)));
     }

@@ -8,12 +8,14 @@ pub invariant_of-self : goal.invariant_of-self
 invariant_of-self g c =
     let was = c.args.self.now in
     let back : c.put.new.self ≡ was.ledger =
-    put_back was.ledger c.args.number Over (Ready c.in-Ok.prepared) c.take_ready.new.self c.put.new.self c.in-Ok.ensures.taken c.in-Ok.ensures.over c.put.ensures in
+    put_back was.ledger c.args.number Over
+    (Ready c.in-Ok.prepared) c.take_ready.new.self c.put.new.self c.in-Ok.ensures.taken c.in-Ok.ensures.over c.put.ensures in
     record {
       named = was.named;
       pairs = was.pairs;
       counted = ap length back ∙ was.counted
-          ∙ sym (after_decision c.decide-decided.result was.decisions c.decide-decided.new.self c.in-Ok.prepared.transaction.number c.decide-decided.ensures.ok c.decide-decided.ensures.err);
+          ∙ sym (after_decision c.decide-decided.result was.decisions c.decide-decided.new.self c.in-Ok.prepared.transaction.number c.decide-decided.ensures.ok
+          c.decide-decided.ensures.err);
       kept = kept_as _ _ _ _ refl back was.kept;
       ready = ready_as _ _ back was.ready;
     }
@@ -22,7 +24,8 @@ pub returns-in-Ok-decided-clause-answers : goal.returns-in-Ok-decided-clause-ans
 returns-in-Ok-decided-clause-answers g c =
     let was = c.args.self.now in
     let back : c.put.new.self ≡ was.ledger =
-    put_back was.ledger c.args.number Over (Ready c.in-Ok.prepared) c.take_ready.new.self c.put.new.self c.in-Ok.ensures.taken c.in-Ok.ensures.over c.put.ensures in
+    put_back was.ledger c.args.number Over
+    (Ready c.in-Ok.prepared) c.take_ready.new.self c.put.new.self c.in-Ok.ensures.taken c.in-Ok.ensures.over c.put.ensures in
     let is = was.kept c.args.number (Ready c.in-Ok.prepared) c.in-Ok.prepared.transaction c.in-Ok.ensures.taken refl in
     inr (record {
       prepared = c.in-Ok.prepared;
@@ -38,7 +41,8 @@ pub returns-in-Err-decided-clause-answers : goal.returns-in-Err-decided-clause-a
 returns-in-Err-decided-clause-answers g c =
     let was = c.args.self.now in
     let back : c.put.new.self ≡ was.ledger =
-    put_back was.ledger c.args.number Over (Ready c.in-Ok.prepared) c.take_ready.new.self c.put.new.self c.in-Ok.ensures.taken c.in-Ok.ensures.over c.put.ensures in
+    put_back was.ledger c.args.number Over
+    (Ready c.in-Ok.prepared) c.take_ready.new.self c.put.new.self c.in-Ok.ensures.taken c.in-Ok.ensures.over c.put.ensures in
     let is = was.kept c.args.number (Ready c.in-Ok.prepared) c.in-Ok.prepared.transaction c.in-Ok.ensures.taken refl in
     inr (record {
       prepared = c.in-Ok.prepared;

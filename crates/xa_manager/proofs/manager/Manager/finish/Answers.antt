@@ -6,12 +6,16 @@ use Rattle.xa_manager.proofs.manager.Manager.finish.Goals as goal
 
 pub finish-requires-clause-name : goal.finish-requires-clause-name
 finish-requires-clause-name g c =
-    let is = kept_voted (vec_len c.args.self.now.coordinator.stores) c.args.self.now.ledger c.args.number c.in-Ok.prepared c.args.self.now.kept c.in-Ok.ensures.taken in
+    let is =
+    kept_voted (vec_len c.args.self.now.coordinator.stores) c.args.self.now.ledger c.args.number c.in-Ok.prepared c.args.self.now.kept
+    c.in-Ok.ensures.taken in
     is.name ∙ sym c.args.self.now.named
 
 pub finish-requires-clause-stores : goal.finish-requires-clause-stores
 finish-requires-clause-stores g c =
-    let is = kept_voted (vec_len c.args.self.now.coordinator.stores) c.args.self.now.ledger c.args.number c.in-Ok.prepared c.args.self.now.kept c.in-Ok.ensures.taken in
+    let is =
+    kept_voted (vec_len c.args.self.now.coordinator.stores) c.args.self.now.ledger c.args.number c.in-Ok.prepared c.args.self.now.kept
+    c.in-Ok.ensures.taken in
     is.stores
 
 pub invariant_of-self : goal.invariant_of-self
@@ -37,7 +41,9 @@ returns-in-Ok-clause-answers g c =
 
 pub returns-in-Ok-clause-says : goal.returns-in-Ok-clause-says
 returns-in-Ok-clause-says g c =
-    let is = kept_voted (vec_len c.args.self.now.coordinator.stores) c.args.self.now.ledger c.args.number c.in-Ok.prepared c.args.self.now.kept c.in-Ok.ensures.taken in (
+    let is =
+    kept_voted (vec_len c.args.self.now.coordinator.stores) c.args.self.now.ledger c.args.number c.in-Ok.prepared c.args.self.now.kept
+    c.in-Ok.ensures.taken in (
       inl (record {
         number = c.args.number;
         asked = refl;

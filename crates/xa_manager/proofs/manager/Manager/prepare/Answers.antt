@@ -33,9 +33,11 @@ invariant_of-self g c =
       counted = ap length on ∙ with_stage-length was.ledger c.args.number stage ∙ was.counted;
       kept = kept_as _ _ _ _ c.prepare-vote.ensures.count on
           (kept_with (vec_len stores) was.ledger c.args.number stage was.kept
-          (voted_kept g.C.Speak.view c.in-Ok.transaction c.prepare-vote.result stores.items after (vec_len stores) c.args.number c.prepare-vote.ensures.vote is));
+          (voted_kept g.C.Speak.view c.in-Ok.transaction c.prepare-vote.result stores.items after
+          (vec_len stores) c.args.number c.prepare-vote.ensures.vote is));
       ready = ready_as _ _ on
-          (ready_with was.ledger c.args.number stage was.ready (voted_ready g.C.Speak.view c.in-Ok.transaction c.prepare-vote.result stores.items after c.prepare-vote.ensures.vote));
+          (ready_with was.ledger c.args.number stage was.ready
+          (voted_ready g.C.Speak.view c.in-Ok.transaction c.prepare-vote.result stores.items after c.prepare-vote.ensures.vote));
     }
 
 pub returns-in-Ok-clause-answers : goal.returns-in-Ok-clause-answers

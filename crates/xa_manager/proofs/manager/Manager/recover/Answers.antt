@@ -3,7 +3,8 @@ use Rattle.xa_manager.proofs.Desks.{same_desk}
 use Rattle.xa_manager.proofs.manager.Manager.recover.Goals as goal
 
 pub returns-clause-answers : goal.returns-clause-answers
-returns-clause-answers g c = inr (record { outcome = c.recover.result; told = refl; stands = same_desk _ _ _ _ _ _ c.recover.ensures.count c.recover.ensures.closed refl })
+returns-clause-answers g c =
+    inr (record { outcome = c.recover.result; told = refl; stands = same_desk _ _ _ _ _ _ c.recover.ensures.count c.recover.ensures.closed refl })
 
 pub returns-clause-says : goal.returns-clause-says
 returns-clause-says g c = (

@@ -26,7 +26,9 @@ invariant_of-self g c =
       named = ap (λ name. name.items) c.work-worked.ensures.name ∙ was.named;
       pairs = was.pairs ∙ sym count;
       counted = ap length on ∙ with_stage-length was.ledger c.args.number worked ∙ was.counted;
-      kept = kept_as _ _ _ _ count on (kept_with (vec_len was.coordinator.stores) was.ledger c.args.number worked was.kept (worked_kept _ _ _ _ _ c.work-worked.ensures.keeps is));
+      kept =
+          kept_as _ _ _ _ count on
+          (kept_with (vec_len was.coordinator.stores) was.ledger c.args.number worked was.kept (worked_kept _ _ _ _ _ c.work-worked.ensures.keeps is));
       ready = ready_as _ _ on (ready_with was.ledger c.args.number worked was.ready (λ prepared same. absurd (cc)));
     }
 

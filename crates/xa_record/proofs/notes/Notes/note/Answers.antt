@@ -11,6 +11,8 @@ returns-in_ok-push-in-None c =
     let told = told_kept c.args.happening in
     let old = c.args.self.now in
     noted-so (notes_kept old) c.args.number told (map noted_kept c.push.new.self.items) _
-    (ap (λ (s : ℕ). cause_of (slice_get old.presence s) told) (sym c.session-session.ensures) ∙ ap (λ (o : Option Presence). cause_of o told) (sym c.presence_of.ensures) ∙ sym c.fault.ensures ∙ c.in-None.is)
+    (ap (λ (s : ℕ). cause_of (slice_get old.presence s) told) (sym c.session-session.ensures)
+    ∙ ap (λ (o : Option Presence). cause_of o told) (sym c.presence_of.ensures) ∙ sym c.fault.ensures ∙ c.in-None.is)
     (ap (map noted_kept) c.in_ok-push-in-None.ensures.items ∙ map-append noted_kept old.noted.items _)
-    (ap (λ (s : ℕ). slice_set old.presence s c.presence.result) (c.get.ensures.value ∙ c.session-session.ensures) ∙ ap (slice_set old.presence _) c.presence.ensures)
+    (ap (λ (s : ℕ). slice_set old.presence s c.presence.result) (c.get.ensures.value ∙ c.session-session.ensures)
+    ∙ ap (slice_set old.presence _) c.presence.ensures)

@@ -11,4 +11,5 @@ returns-in-Bad c = inl (bad_answered c.args.self.now (line_of c.args.line.now) _
 
 pub returns-in-Ok : goal.returns-in-Ok
 returns-in-Ok c =
-    inl (given_answered c.args.self.now c.answer_statement.new.server c.in-Given.session c.in-Given.text.now (line_of c.args.line.now) _ c.in-Given.ensures c.in-Ok.ensures.answer c.in-Ok.ensures.after)
+    inl (given_answered c.args.self.now c.answer_statement.new.server c.in-Given.session c.in-Given.text.now
+    (line_of c.args.line.now) _ c.in-Given.ensures c.in-Ok.ensures.answer c.in-Ok.ensures.after)

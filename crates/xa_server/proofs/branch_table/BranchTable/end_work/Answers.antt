@@ -12,8 +12,11 @@ idle branch = record branch { phase = Idle }
 
 pub invariant_of-self : goal.invariant_of-self
 unfolding idle
-invariant_of-self c = rw (changed_in c.self.inside.by_xid c.set_phase.new.by_xid c.args.xid.now idle c.set_phase.ensures) (indexed_moved _ _ _ (λ other. owner_of-changed _ c.args.xid.now other idle (λ branch. refl)) c.self.invariant)
+invariant_of-self c =
+    rw (changed_in c.self.inside.by_xid c.set_phase.new.by_xid c.args.xid.now idle c.set_phase.ensures)
+    (indexed_moved _ _ _ (λ other. owner_of-changed _ c.args.xid.now other idle (λ branch. refl)) c.self.invariant)
 
 pub returns : goal.returns
 unfolding idle
-returns c = changed_in c.self.inside.by_xid c.set_phase.new.by_xid c.args.xid.now idle c.set_phase.ensures ∙ ap (λ m. with_record m c.args.xid.now idle) c.self.view_is
+returns c =
+    changed_in c.self.inside.by_xid c.set_phase.new.by_xid c.args.xid.now idle c.set_phase.ensures ∙ ap (λ m. with_record m c.args.xid.now idle) c.self.view_is

@@ -4,4 +4,5 @@ use Rattle.xa_server.proofs.Index.{indexed_empty}
 use Rattle.xa_server.proofs.branch_table.BranchTable.new.Goals as goal
 
 pub invariant_of-result : goal.invariant_of-result
-invariant_of-result c = rw (empty_view xids_total exact_xids c.new.result c.new.ensures.empty) (indexed_empty _ c.empty_places.ensures.places c.empty_places.ensures.empty)
+invariant_of-result c =
+    rw (empty_view xids_total exact_xids c.new.result c.new.ensures.empty) (indexed_empty _ c.empty_places.ensures.places c.empty_places.ensures.empty)

@@ -17,12 +17,14 @@ owner_in : Option BranchRecord → Option ℕ
 owner_in found = option_and_then (λ (branch : BranchRecord). branch.owner) found
 
 pub returns-in_err-owner-clause-removed : goal.returns-in_err-owner-clause-removed
-returns-in_err-owner-clause-removed c = removed_in c.self.inside.by_xid c.remove.new.self c.args.xid.now c.remove.ensures.updates ∙ ap (λ m. map.remove m c.args.xid.now) c.self.view_is
+returns-in_err-owner-clause-removed c =
+    removed_in c.self.inside.by_xid c.remove.new.self c.args.xid.now c.remove.ensures.updates ∙ ap (λ m. map.remove m c.args.xid.now) c.self.view_is
 
 pub returns-in_err-owner-clause-held : goal.returns-in_err-owner-clause-held
 unfolding keys_in
 returns-in_err-owner-clause-held c =
-    c.from_residual.ensures ∙ ap keys_in (sym c.in_err-owner.was ∙ c.remove.ensures.value ∙ get_branch c.self.inside.by_xid c.args.self.now c.args.xid.now c.self.view_is)
+    c.from_residual.ensures ∙ ap keys_in
+    (sym c.in_err-owner.was ∙ c.remove.ensures.value ∙ get_branch c.self.inside.by_xid c.args.self.now c.args.xid.now c.self.view_is)
 
 pub invariant_of-self-in-Some : goal.invariant_of-self-in-Some
 unfolding owner_in
@@ -44,9 +46,11 @@ invariant_of-self-in_default c =
 
 pub returns-clause-removed : goal.returns-clause-removed
 returns-clause-removed c =
-    let same : branches_in c.remove.new.self ≡ map.remove c.args.self.now c.args.xid.now = removed_in c.self.inside.by_xid c.remove.new.self c.args.xid.now c.remove.ensures.updates ∙ ap (λ m. map.remove m c.args.xid.now) c.self.view_is in
+    let same : branches_in c.remove.new.self ≡ map.remove c.args.self.now c.args.xid.now =
+    removed_in c.self.inside.by_xid c.remove.new.self c.args.xid.now c.remove.ensures.updates ∙ ap (λ m. map.remove m c.args.xid.now) c.self.view_is in
     elim c.match-owner.branch [ in-Some w ↦ w.self-is ∙ same | in_default w ↦ w.self-is ∙ same ]
 
 pub returns-clause-held : goal.returns-clause-held
 unfolding keys_in
-returns-clause-held c = ap keys_in (sym c.in_ok-owner.was ∙ c.remove.ensures.value ∙ get_branch c.self.inside.by_xid c.args.self.now c.args.xid.now c.self.view_is)
+returns-clause-held c =
+    ap keys_in (sym c.in_ok-owner.was ∙ c.remove.ensures.value ∙ get_branch c.self.inside.by_xid c.args.self.now c.args.xid.now c.self.view_is)

@@ -14,9 +14,11 @@ use Rattle.xa_server.proofs.branch_table.BranchTable.start.Goals as goal
 fresh : ℕ → BranchRecord
 fresh session = record { phase = Active; owner = Some session; held = [] }
 
-inserted : (c : goal.After-index-self-place_of) → branches_in c.insert.new.self ≡ map.insert (branches_in c.self.inside.by_xid) c.args.xid.now (fresh c.args.session)
+inserted : (c : goal.After-index-self-place_of)
+    → branches_in c.insert.new.self ≡ map.insert (branches_in c.self.inside.by_xid) c.args.xid.now (fresh c.args.session)
 unfolding fresh
-inserted c = rw (← c.copy.ensures, ← c.new.ensures) (one_set xids_total exact_xids c.self.inside.by_xid c.insert.new.self c.copy.result _ c.in_ok-insert.ensures.updates)
+inserted c =
+    rw (← c.copy.ensures, ← c.new.ensures) (one_set xids_total exact_xids c.self.inside.by_xid c.insert.new.self c.copy.result _ c.in_ok-insert.ensures.updates)
 
 pub invariant_of-self-2 : goal.invariant_of-self-2
 unfolding fresh

@@ -11,8 +11,12 @@ shorter branch = record branch { held = without_last branch.held }
 
 pub invariant_of-self : goal.invariant_of-self
 unfolding shorter
-invariant_of-self c = rw (changed_in c.self.inside.by_xid c.unlist_key.new.by_xid c.args.xid.now shorter c.unlist_key.ensures) (indexed_moved _ _ _ (λ other. owner_of-changed _ c.args.xid.now other shorter (λ branch. refl)) c.self.invariant)
+invariant_of-self c =
+    rw (changed_in c.self.inside.by_xid c.unlist_key.new.by_xid c.args.xid.now shorter c.unlist_key.ensures)
+    (indexed_moved _ _ _ (λ other. owner_of-changed _ c.args.xid.now other shorter (λ branch. refl)) c.self.invariant)
 
 pub returns : goal.returns
 unfolding shorter
-returns c = changed_in c.self.inside.by_xid c.unlist_key.new.by_xid c.args.xid.now shorter c.unlist_key.ensures ∙ ap (λ m. with_record m c.args.xid.now shorter) c.self.view_is
+returns c =
+    changed_in c.self.inside.by_xid c.unlist_key.new.by_xid c.args.xid.now shorter c.unlist_key.ensures
+    ∙ ap (λ m. with_record m c.args.xid.now shorter) c.self.view_is

@@ -7,4 +7,7 @@ use Rattle.xa_server.proofs.Outcomes.{if_ok}
 use Rattle.xa_server.proofs.row_table.RowTable.held_by.Goals as goal
 
 pub returns : goal.returns
-returns c = if_ok c.held_in.result c.held_in.ensures.listed (λ rows is. is ∙ ap (held_among c.args.xid.now) (sym (entries-made bytes_total exact_texts c.self.inside.by_key.entries c.held_in.ensures.ordered)) ∙ ap (λ records. held_among c.args.xid.now (entries records)) c.self.view_is)
+returns c =
+    if_ok c.held_in.result c.held_in.ensures.listed
+    (λ rows is. is ∙ ap (held_among c.args.xid.now) (sym (entries-made bytes_total exact_texts c.self.inside.by_key.entries c.held_in.ensures.ordered))
+    ∙ ap (λ records. held_among c.args.xid.now (entries records)) c.self.view_is)

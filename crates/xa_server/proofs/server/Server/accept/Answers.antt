@@ -9,4 +9,5 @@ returns-clause-ok c =
 
 pub returns-clause-memory : goal.returns-clause-memory
 returns-clause-memory c =
-    Accepted.may_run_out_at c.carry_out.result c.args.self.now c.args.session c.args.statement.now c.requires c.carry_out.ensures.enters c.carry_out.ensures.memory
+    Accepted.may_run_out_at c.carry_out.result c.args.self.now c.args.session c.args.statement.now c.requires c.carry_out.ensures.enters
+    c.carry_out.ensures.memory

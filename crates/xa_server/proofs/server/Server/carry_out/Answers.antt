@@ -11,7 +11,8 @@ start_branch-requires-clause-free c =
 
 pub end_work-requires : goal.end_work-requires
 end_work-requires c =
-    Accepted.accepted_end c.args.self.now _ c.in-End.xid (Accepted.open_seat c.args.self.now c.args.session) (Accepted.accepted_there c.args.self.now c.args.session _ (rw c.in-End.is at c.requires))
+    Accepted.accepted_end c.args.self.now _ c.in-End.xid (Accepted.open_seat c.args.self.now c.args.session)
+    (Accepted.accepted_there c.args.self.now c.args.session _ (rw c.in-End.is at c.requires))
 
 pub end_branch-requires : goal.end_branch-requires
 end_branch-requires c =

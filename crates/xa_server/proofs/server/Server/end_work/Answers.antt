@@ -24,16 +24,19 @@ idle_branch : Branch → Branch
 idle_branch branch = record branch { phase = PhaseIdle }
 
 -- a branch that isn't prepared has an owner
-owned : (branches : BranchMap) (rows : RowMap) (xid : Xid) (branch : BranchRecord) → IsWhole branches rows → is_prepared (state_of branches rows) xid ≡ false → map.get branches xid ≡ Some branch → is_none branch.owner ≡ false
+owned : (branches : BranchMap) (rows : RowMap) (xid : Xid) (branch : BranchRecord) → IsWhole branches rows → is_prepared (state_of branches rows) xid ≡ false
+    → map.get branches xid ≡ Some branch → is_none branch.owner ≡ false
 owned branches rows xid branch whole unprepared is =
-    whole.attached xid branch is ∙ sym (ap (λ found. option_map_or is_prepared_phase (option_map (λ (b : BranchRecord). b.phase) found) false) is) ∙ sym (Seen.is_prepared-seen branches rows xid) ∙ unprepared
+    whole.attached xid branch is ∙ sym (ap (λ found. option_map_or is_prepared_phase (option_map (λ (b : BranchRecord). b.phase) found) false) is)
+    ∙ sym (Seen.is_prepared-seen branches rows xid) ∙ unprepared
 
 pub invariant_of-self : goal.invariant_of-self
 unfolding idle
 invariant_of-self c =
     rw c.end_work.ensures
     (Whole.whole_changed c.self.inside.branches c.self.inside.rows c.args.xid.now idle
-    (λ branch is. owned c.self.inside.branches c.self.inside.rows c.args.xid.now branch c.self.invariant (ap (λ s. is_prepared s c.args.xid.now) c.self.view_is ∙ c.requires) is)
+    (λ branch is. owned c.self.inside.branches c.self.inside.rows c.args.xid.now branch c.self.invariant
+    (ap (λ s. is_prepared s c.args.xid.now) c.self.view_is ∙ c.requires) is)
     (λ branch session e. e) (λ branch. refl) c.self.invariant)
 
 pub returns : goal.returns

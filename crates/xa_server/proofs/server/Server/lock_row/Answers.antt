@@ -15,4 +15,5 @@ share-requires-clause-known c = Accepted.known_active c.args.self.now c.args.ses
 
 pub share-requires-clause-unlocked : goal.share-requires-clause-unlocked
 share-requires-clause-unlocked c =
-    Accepted.accepted_get c.args.self.now c.in-Active.own c.args.key.now (Accepted.accepted_as c.args.self.now c.args.session _ _ (sym c.seat-seat.ensures.seat ∙ c.in-Active.is) c.requires)
+    Accepted.accepted_get c.args.self.now c.in-Active.own c.args.key.now
+    (Accepted.accepted_as c.args.self.now c.args.session _ _ (sym c.seat-seat.ensures.seat ∙ c.in-Active.is) c.requires)

@@ -14,12 +14,14 @@ pub invariant_of-self : goal.invariant_of-self
 invariant_of-self c =
     either_way c.put.result c.put.ensures.ok c.put.ensures.err
     (λ ok. rw ok (Whole.whole_put c.self.inside.branches c.self.inside.rows c.args.key.now _ Steps.nobodys
-    (Seen.unheld_row c.self.inside.branches c.self.inside.rows c.args.key.now c.self.invariant (ap (λ s. is_held_against s Free c.args.key.now) c.self.view_is ∙ c.requires)) c.self.invariant))
+    (Seen.unheld_row c.self.inside.branches c.self.inside.rows c.args.key.now c.self.invariant
+    (ap (λ s. is_held_against s Free c.args.key.now) c.self.view_is ∙ c.requires)) c.self.invariant))
     (λ err. rw err c.self.invariant)
 
 pub returns-clause-ok : goal.returns-clause-ok
 returns-clause-ok c = on_ok c.put.result c.put.ensures.ok (λ ok.
     ap (state_of c.self.inside.branches) ok
     ∙ Steps.seen_put c.self.inside.branches c.self.inside.rows c.args.key.now c.args.value.now
-    (Seen.unheld_row c.self.inside.branches c.self.inside.rows c.args.key.now c.self.invariant (ap (λ s. is_held_against s Free c.args.key.now) c.self.view_is ∙ c.requires))
+    (Seen.unheld_row c.self.inside.branches c.self.inside.rows c.args.key.now c.self.invariant
+    (ap (λ s. is_held_against s Free c.args.key.now) c.self.view_is ∙ c.requires))
     ∙ ap (λ (s : State). record s { rows = with_write c.args.key.now (Some c.args.value.now) s.rows }) c.self.view_is)

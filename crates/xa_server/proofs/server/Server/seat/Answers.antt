@@ -18,15 +18,20 @@ kept : (branches : BranchMap) (rows : RowMap) (state : State) → state_of branc
 kept branches rows state is whole = subst LockLaw is (lock_law branches rows whole)
 
 -- a session that owns a branch in this phase
-owned : (branches : BranchMap) (rows : RowMap) (session : ℕ) (xid : Xid) (phase : Option Phase) (state : State) → state_of branches rows ≡ state → IsWhole branches rows → owner_of branches xid ≡ Some session →
+owned : (branches : BranchMap) (rows : RowMap) (session : ℕ) (xid : Xid) (phase : Option Phase) (state : State) → state_of branches rows ≡ state
+    → IsWhole branches rows → owner_of branches xid ≡ Some session →
     phase ≡ option_map (λ (b : BranchRecord). b.phase) (map.get branches xid) → seat_in phase xid ≡ seat_of state session
-owned branches rows session xid phase state is whole owner in_phase = sym (Seen.seat-owned branches rows session xid phase whole owner (sym in_phase)) ∙ ap (λ s. seat_of s session) is
+owned branches rows session xid phase state is whole owner in_phase =
+    sym (Seen.seat-owned branches rows session xid phase whole owner (sym in_phase)) ∙ ap (λ s. seat_of s session) is
 
 pub returns-in_default-clause-seat : goal.returns-in_default-clause-seat
-returns-in_default-clause-seat c = sym (Seen.seat-free c.self.inside.branches c.self.inside.rows c.args.session c.in_default.ensures.none) ∙ ap (λ s. seat_of s c.args.session) c.self.view_is
+returns-in_default-clause-seat c =
+    sym (Seen.seat-free c.self.inside.branches c.self.inside.rows c.args.session c.in_default.ensures.none) ∙ ap (λ s. seat_of s c.args.session) c.self.view_is
 
 pub returns-clause-seat : goal.returns-clause-seat
-returns-clause-seat c = c.seat_in.ensures ∙ owned c.self.inside.branches c.self.inside.rows c.args.session c.in-Some.own.now c.phase_of.result c.args.self.now c.self.view_is c.self.invariant c.in-Some.ensures.owner c.phase_of.ensures
+returns-clause-seat c =
+    c.seat_in.ensures ∙ owned c.self.inside.branches c.self.inside.rows c.args.session c.in-Some.own.now c.phase_of.result c.args.self.now c.self.view_is
+    c.self.invariant c.in-Some.ensures.owner c.phase_of.ensures
 
 pub returns-in_default-clause-lock_law : goal.returns-in_default-clause-lock_law
 returns-in_default-clause-lock_law c = kept c.self.inside.branches c.self.inside.rows c.args.self.now c.self.view_is c.self.invariant

@@ -26,7 +26,8 @@ returns-in-Ok-add-clause-answered g c =
 pub returns-in-Ok-add-clause-kept : goal.returns-in-Ok-add-clause-kept
 returns-in-Ok-add-clause-kept g c =
     let mid : Known = g.L.DecisionLog.known c.observe.new.self.pass in
-    kept_entered c.args.self.now.base.now c.args.statement.now (record { place = c.in-Ok.place; reply = c.in-Ok-reply.reply }) (entry_of c.number-session.result c.args.statement.now) mid _ c.add.new.self.replica
+    kept_entered c.args.self.now.base.now c.args.statement.now (record { place = c.in-Ok.place; reply = c.in-Ok-reply.reply })
+    (entry_of c.number-session.result c.args.statement.now) mid _ c.add.new.self.replica
     c.observe.new.self.replica.server c.number-session.result c.observe.new.self.replica.replayed
     c.in-Ok.ensures.length
     (c.observe.new.self.stands.state ∙ ap (λ b. state_at b mid.seen c.observe.new.self.replica.replayed) c.observe.ensures.base)

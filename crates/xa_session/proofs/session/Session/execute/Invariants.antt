@@ -6,7 +6,7 @@ abbrev pub invariant-loop : goal.invariant-loop
 invariant-loop g l = record {
   can : (goal.iterator-loop g).can_next l.iterator';
   finite : (goal.iterator-loop g).is_finite l.iterator';
-  home : g.L.DecisionLog.home l.self.pass ≡ g.L.DecisionLog.home l.fn.self.pass;
+  belongs : g.L.DecisionLog.belongs_to l.self.pass ≡ g.L.DecisionLog.belongs_to l.fn.self.pass;
   base : l.self.base.now ≡ l.fn.self.base.now;
   unanswered : IsUnanswered (g.L.DecisionLog.known l.fn.self.pass) (g.L.DecisionLog.known l.self.pass);
   looks : (g.L.DecisionLog.known l.self.pass).tries + (g.L.DecisionLog.known l.fn.self.pass).looks

@@ -1,6 +1,6 @@
 use Rattle.std.proofs.Common.{◌≡◌, refl}
 use Rattle.std.proofs.lemmas.List.Elements.{AllZip-push}
-use Rattle.xa_store.specs.Passes.{home_of, known_of}
+use Rattle.xa_store.specs.Passes.{log_of, known_of}
 use Rattle.xa_store.proofs.Gathering.{last_known_of, zip_itself}
 use Rattle.xa_store.proofs.store.Store.carry_over.Goals as goal
 
@@ -12,6 +12,7 @@ returns-in-Ok-clause-base c =
 pub returns-in-Err-clause-passes : goal.returns-in-Err-clause-passes
 returns-in-Err-clause-passes c =
     rw (c.take_last-last.ensures.items, c.push_reserved.ensures.items)
-    (AllZip-push (λ old new. (home_of new ≡ home_of old) × (known_of new ≡ known_of old)) c.take_last-last.new.self.items c.take_last-last.new.self.items c.take_last-last.result c.onward.new.last
+    (AllZip-push (λ old new. (log_of new ≡ log_of old) × (known_of new ≡ known_of old)) c.take_last-last.new.self.items c.take_last-last.new.self.items
+    c.take_last-last.result c.onward.new.last
     (zip_itself _ (λ pass. (refl, refl)) c.take_last-last.new.self.items)
-    (c.onward.ensures.home, c.onward.ensures.same))
+    (c.onward.ensures.belongs, c.onward.ensures.same))

@@ -2,7 +2,7 @@ use Rattle.std.proofs.Common.{◌≡◌, map, ap, sym, subst, ◌∙◌, arith}
 use Rattle.std.specs.List.{All, AllZip}
 use Rattle.std.proofs.lemmas.List.{length-map}
 use Rattle.std.proofs.lemmas.List.Elements.{All-map, length_all_zip}
-use Rattle.xa_store.specs.Passes.{place_of, home_of, known_of}
+use Rattle.xa_store.specs.Passes.{identity_of, log_of, known_of}
 use Rattle.xa_store.specs.Gathered.{IsTakenIn, Keeps, last_known}
 use Rattle.xa_store.proofs.Spreading.{zip_mapped, map_twice}
 use Rattle.xa_store.proofs.Gathering.{all_kept}
@@ -10,8 +10,10 @@ use Rattle.xa_store.proofs.store.Store.wind_up.Goals as goal
 
 pub returns-in-Ok-leave_all-clause-passes : goal.returns-in-Ok-leave_all-clause-passes
 returns-in-Ok-leave_all-clause-passes c =
-    subst (λ passes. AllZip (λ session pass. (home_of pass ≡ home_of session.pass) × Keeps (known_of session.pass) (known_of pass)) c.args.sessions.items passes) (sym c.in-Ok-leave_all.ensures.ok)
-    (zip_mapped _ (λ session pass. (home_of pass ≡ home_of session.pass) × Keeps (known_of session.pass) (known_of pass)) (λ session. session.pass) (λ old new is. (is.1, is.2)) c.args.sessions.items c.history.new.sessions.items c.in-Ok.ensures.keeps)
+    subst (λ passes. AllZip (λ session pass. (log_of pass ≡ log_of session.pass) × Keeps (known_of session.pass) (known_of pass)) c.args.sessions.items
+    passes) (sym c.in-Ok-leave_all.ensures.ok)
+    (zip_mapped _ (λ session pass. (log_of pass ≡ log_of session.pass) × Keeps (known_of session.pass) (known_of pass)) (λ session. session.pass)
+    (λ old new is. (is.1, is.2)) c.args.sessions.items c.history.new.sessions.items c.in-Ok.ensures.keeps)
 
 pub returns-in-Ok-leave_all-clause-last : goal.returns-in-Ok-leave_all-clause-last
 returns-in-Ok-leave_all-clause-last c =
@@ -28,14 +30,15 @@ returns-in-Ok-leave_all-clause-gathered c some =
     let kept = c.in-Ok.ensures.keeps in
     let before = c.args.sessions.items in
     let now = c.history.new.sessions.items in
-    let place = place_of c.args.self.now.log in
+    let identity = identity_of c.args.self.now.log in
     let long = length_all_zip _ before now kept in
     rw c.in-Ok-leave_all.ensures.ok
     (record {
       some = omega (arith, some, long, length-map now (λ session. session.pass));
-      homes =
-          All-map (λ pass. home_of pass ≡ place) (λ session. session.pass) now
-          (all_kept _ (λ session. home_of session.pass ≡ place) (λ session. home_of session.pass ≡ place) (λ old new is home. is.1 ∙ home) before now kept c.requires);
+      belongs =
+          All-map (λ pass. log_of pass ≡ identity) (λ session. session.pass) now
+          (all_kept _ (λ session. log_of session.pass ≡ identity) (λ session. log_of session.pass ≡ identity)
+          (λ old new is belongs. is.1 ∙ belongs) before now kept c.requires);
       whole =
           subst (λ history. All (λ pass. IsTakenIn history (known_of pass)) (map (λ session. session.pass) now))
           (c.in-Ok.ensures.last ∙ ap (λ list. (last_known list).seen) (sym (map_twice (λ session. session.pass) known_of now)))

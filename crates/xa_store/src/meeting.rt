@@ -14,11 +14,11 @@ use xa_xid::NoMemory;
 /// Each of the others meets the last, which then has seen what each of them has. Where it had seen all of that before, it sees
 /// no more, and has just the entries of each one's number that this one knows as its own.
 pub(crate) fn meet_each<L: DecisionLog>(others: &mut Vec<Session<'_, L>>, last: &mut Session<'_, L>)
-    requires { All (λ session. L.home session.pass ≡ L.home last.old.pass) others.old.items }
-    ensures others { AllZip (λ old new. (new.base.now ≡ old.base.now) × (L.home new.pass ≡ L.home old.pass) × MeetsFirst (L.known old.pass) (L.known new.pass)) others.old.items others.new.items }
+    requires { All (λ session. L.belongs_to session.pass ≡ L.belongs_to last.old.pass) others.old.items }
+    ensures others { AllZip (λ old new. (new.base.now ≡ old.base.now) × (L.belongs_to new.pass ≡ L.belongs_to old.pass) × MeetsFirst (L.known old.pass) (L.known new.pass)) others.old.items others.new.items }
     ensures room { vec_capacity others.new ≡ vec_capacity others.old }
     ensures base { last.new.base.now ≡ last.old.base.now }
-    ensures home { L.home last.new.pass ≡ L.home last.old.pass }
+    ensures belongs { L.belongs_to last.new.pass ≡ L.belongs_to last.old.pass }
     ensures last { Keeps (L.known last.old.pass) (L.known last.new.pass) }
     ensures seen { All (λ session. Begins (L.known session.pass).seen (L.known last.new.pass).seen) others.new.items }
     ensures whole { All (λ session. Begins (L.known session.pass).seen (L.known last.old.pass).seen) others.old.items → ((L.known last.new.pass).seen ≡ (L.known last.old.pass).seen) × All (λ session. entries_of (L.known session.pass).number (L.known last.new.pass).seen ≡ (L.known session.pass).mine) others.new.items }
@@ -33,12 +33,12 @@ pub(crate) fn meet_each<L: DecisionLog>(others: &mut Vec<Session<'_, L>>, last: 
 ///
 /// It meets them twice. After the first round it has seen the most, so the second lets it see no more, and all that is told of
 /// the others' entries is told of one history.
-pub(crate) fn gather<L: DecisionLog>(others: &mut Vec<Session<'_, L>>, last: &mut Session<'_, L>)
-    requires { All (λ session. L.home session.pass ≡ L.home last.old.pass) others.old.items }
-    ensures others { AllZip (λ old new. (new.base.now ≡ old.base.now) × (L.home new.pass ≡ L.home old.pass) × MeetsFirst (L.known old.pass) (L.known new.pass)) others.old.items others.new.items }
+pub(crate) fn meet_all<L: DecisionLog>(others: &mut Vec<Session<'_, L>>, last: &mut Session<'_, L>)
+    requires { All (λ session. L.belongs_to session.pass ≡ L.belongs_to last.old.pass) others.old.items }
+    ensures others { AllZip (λ old new. (new.base.now ≡ old.base.now) × (L.belongs_to new.pass ≡ L.belongs_to old.pass) × MeetsFirst (L.known old.pass) (L.known new.pass)) others.old.items others.new.items }
     ensures room { vec_capacity others.new ≡ vec_capacity others.old }
     ensures base { last.new.base.now ≡ last.old.base.now }
-    ensures home { L.home last.new.pass ≡ L.home last.old.pass }
+    ensures belongs { L.belongs_to last.new.pass ≡ L.belongs_to last.old.pass }
     ensures last { Keeps (L.known last.old.pass) (L.known last.new.pass) }
     ensures looked { (L.known last.old.pass).looks < (L.known last.new.pass).looks }
     ensures taken_in { All (λ session. IsTakenIn (L.known last.new.pass).seen (L.known session.pass)) others.new.items }
@@ -55,7 +55,7 @@ pub(crate) fn copy_seen<L: DecisionLog>(
     session: &mut Session<'_, L>,
 ) -> Result<Vec<Entry>, NoMemory>
     ensures base { session.new.base.now ≡ session.old.base.now }
-    ensures home { L.home session.new.pass ≡ L.home session.old.pass }
+    ensures belongs { L.belongs_to session.new.pass ≡ L.belongs_to session.old.pass }
     ensures same { L.known session.new.pass ≡ L.known session.old.pass }
     ensures copied { IfOk result (λ list. list.items ≡ (L.known session.old.pass).seen) }
 {

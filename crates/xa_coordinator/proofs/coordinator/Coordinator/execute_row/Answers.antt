@@ -12,7 +12,7 @@ use Rattle.xa_coordinator.specs.Work.{IsReplied}
 use Rattle.xa_coordinator.proofs.Keeping.{unmarked, at_place, changes_at}
 use Rattle.xa_coordinator.proofs.Telling.{is_undone}
 use Rattle.xa_coordinator.proofs.Working.{active_there, active_still}
-use Rattle.xa_coordinator.proofs.coordinator.Coordinator.row.Goals as goal
+use Rattle.xa_coordinator.proofs.coordinator.Coordinator.execute_row.Goals as goal
 
 pub invariant_of-self : goal.invariant_of-self
 invariant_of-self g c =
@@ -21,13 +21,16 @@ invariant_of-self g c =
     let old = c.index_mut.result.now in
     let new = c.execute.new.self in
     let xid : Xid = branch_xid me.name.items c.args.number c.args.store in
-    let there : slice_get me.stores.items c.args.store ≡ Some old = slice_get-get_or me.stores.items c.args.store old (omega (arith, c.requires.store)) ∙ ap Some (sym c.index_mut.ensures.value) in
-    let seat : seat_seen (view old) ≡ Active xid = me.open_there c.args.store old (record { number = c.args.number; phase = PhaseActive }) there c.requires.working in
+    let there : slice_get me.stores.items c.args.store ≡ Some old =
+    slice_get-get_or me.stores.items c.args.store old (omega (arith, c.requires.store)) ∙ ap Some (sym c.index_mut.ensures.value) in
+    let seat : seat_seen (view old) ≡ Active xid =
+    me.open_there c.args.store old (record { number = c.args.number; phase = PhaseActive }) there c.requires.working in
     record {
       named = me.named;
       sized = me.sized;
       open_there = unmarked view me.name.items me.stores.items me.branches c.args.store old new c.index_mut.ensures.value me.open_there
-          (active_still c.args.statement.now c.execute.result xid (view old) (view new) (g.met.S.Speak.lawful new) c.execute.ensures.stays (g.met.S.Speak.own_part old) (g.met.S.Speak.own_part new) seat c.requires.row
+          (active_still c.args.statement.now c.execute.result xid (view old) (view new) (g.met.S.Speak.lawful new) c.execute.ensures.stays
+          (g.met.S.Speak.own_part old) (g.met.S.Speak.own_part new) seat c.requires.row
           c.execute.ensures.answered c.execute.ensures.fails c.execute.ensures.lasts);
     }
 
@@ -41,14 +44,18 @@ returns-in-Ok-clause-replied g c =
     let old = c.index_mut.result.now in
     let new = c.execute.new.self in
     let xid : Xid = branch_xid me.name.items c.args.number c.args.store in
-    let there : slice_get me.stores.items c.args.store ≡ Some old = slice_get-get_or me.stores.items c.args.store old (omega (arith, c.requires.store)) ∙ ap Some (sym c.index_mut.ensures.value) in
-    let seat : seat_seen (view old) ≡ Active xid = me.open_there c.args.store old (record { number = c.args.number; phase = PhaseActive }) there c.requires.working in
+    let there : slice_get me.stores.items c.args.store ≡ Some old =
+    slice_get-get_or me.stores.items c.args.store old (omega (arith, c.requires.store)) ∙ ap Some (sym c.index_mut.ensures.value) in
+    let seat : seat_seen (view old) ≡ Active xid =
+    me.open_there c.args.store old (record { number = c.args.number; phase = PhaseActive }) there c.requires.working in
     at_place view me.name.items (IsReplied c.args.statement.now c.in-Ok.answer.reply xid) me.stores.items c.args.store old new c.index_mut.ensures.value
     (record {
       log = c.in-Ok.ensures.stays;
       place = c.in-Ok.answer.place;
       answered = c.in-Ok.ensures.answered;
-      active = active_there c.args.statement.now c.in-Ok.answer xid (view old) (view new) (g.met.S.Speak.lawful new) c.in-Ok.ensures.stays (g.met.S.Speak.own_part old) (g.met.S.Speak.own_part new) seat c.in-Ok.ensures.answered;
+      active =
+          active_there c.args.statement.now c.in-Ok.answer xid (view old) (view new) (g.met.S.Speak.lawful new) c.in-Ok.ensures.stays
+          (g.met.S.Speak.own_part old) (g.met.S.Speak.own_part new) seat c.in-Ok.ensures.answered;
     })
 
 pub returns-in-Err-clause-frame : goal.returns-in-Err-clause-frame
@@ -56,5 +63,7 @@ returns-in-Err-clause-frame g c = changes_at c.args.self.now.stores.items c.args
 
 pub returns-in-Err-clause-undone : goal.returns-in-Err-clause-undone
 returns-in-Err-clause-undone g c =
-    at_place g.S.Speak.view c.args.self.now.name.items (IsUndone c.args.statement.now (Session c.in-Err.fault)) c.args.self.now.stores.items c.args.store c.index_mut.result.now c.execute.new.self c.index_mut.ensures.value
+    at_place g.S.Speak.view c.args.self.now.name.items
+    (IsUndone c.args.statement.now (Session c.in-Err.fault)) c.args.self.now.stores.items c.args.store c.index_mut.result.now c.execute.new.self
+    c.index_mut.ensures.value
     (is_undone c.args.statement.now (Session c.in-Err.fault) _ _ c.in-Err.ensures.stays (c.in-Err.ensures.fails, c.in-Err.ensures.lasts))

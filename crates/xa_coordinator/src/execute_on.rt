@@ -25,7 +25,7 @@ pub(crate) fn refusal(reply: &Reply) -> Option<XaError>
 /// Gives a statement about a branch to a session: whether it was carried out, and why not.
 ///
 /// May wait: no number of tries is promised.
-pub(crate) fn tell<S: Speak, R: Wait>(
+pub(crate) fn execute_on<S: Speak, R: Wait>(
     rt: &R,
     session: &mut S,
     statement: &Statement,

@@ -6,10 +6,10 @@ use Rattle.xa_coordinator.specs.declared.closing.Closing.TheVariants.{RollBack}
 use Rattle.xa_coordinator.specs.Branch.{branch_xid}
 use Rattle.xa_coordinator.specs.OpenBranches.{is_working}
 use Rattle.xa_coordinator.specs.Stores.{AtStore}
-use Rattle.xa_coordinator.specs.Outcomes.{closing_of, ends_first, SaysAs, ClosesAs}
+use Rattle.xa_coordinator.specs.Outcomes.{finish_statement, ends_first, SaysAs, ClosesAs}
 use Rattle.xa_coordinator.proofs.Walk.{at_weaker}
 use Rattle.xa_coordinator.proofs.Closings.{said_alone, ends_roll_back}
-use Rattle.xa_coordinator.proofs.coordinator.Coordinator.close_branch.Goals as goal
+use Rattle.xa_coordinator.proofs.coordinator.Coordinator.finish_open.Goals as goal
 
 pub returns-then-ends-clause-closes : goal.returns-then-ends-clause-closes
 returns-then-ends-clause-closes g c =
@@ -18,8 +18,10 @@ returns-then-ends-clause-closes g c =
     let first : ends_first c.args.closing (is_working me.branches c.args.store c.args.number) ≡ true =
     ap (ends_first c.args.closing) (sym c.is_working.ensures) ∙ sym c.ends_first-ends.ensures ∙ c.if-ends.true in
     let rolls : c.args.closing ≡ RollBack = ends_roll_back c.args.closing _ first in
-    subst (λ (b : Bool). AtStore g.S.Speak.view c.args.store (ClosesAs b (closing_of c.args.closing xid) xid c.end_and_roll_back.result) me.stores.items c.end_and_roll_back.new.self.stores.items) (sym first)
-    (subst (λ (closing : Closing). AtStore g.S.Speak.view c.args.store (ClosesAs true (closing_of closing xid) xid c.end_and_roll_back.result) me.stores.items c.end_and_roll_back.new.self.stores.items) (sym rolls)
+    subst (λ (b : Bool). AtStore g.S.Speak.view c.args.store
+    (ClosesAs b (finish_statement c.args.closing xid) xid c.end_and_roll_back.result) me.stores.items c.end_and_roll_back.new.self.stores.items) (sym first)
+    (subst (λ (closing : Closing). AtStore g.S.Speak.view c.args.store
+    (ClosesAs true (finish_statement closing xid) xid c.end_and_roll_back.result) me.stores.items c.end_and_roll_back.new.self.stores.items) (sym rolls)
     c.end_and_roll_back.ensures.closes)
 
 pub returns-clause-closes : goal.returns-clause-closes
@@ -28,6 +30,9 @@ returns-clause-closes g c =
     let xid : Xid = branch_xid me.name.items c.args.number c.args.store in
     let first : ends_first c.args.closing (is_working me.branches c.args.store c.args.number) ≡ false =
     ap (ends_first c.args.closing) (sym c.is_working.ensures) ∙ sym c.ends_first-ends.ensures ∙ c.if-ends.false in
-    subst (λ (b : Bool). AtStore g.S.Speak.view c.args.store (ClosesAs b (closing_of c.args.closing xid) xid c.finish_branch.result) me.stores.items c.finish_branch.new.self.stores.items) (sym first)
-    (at_weaker g.S.Speak.view c.args.store (SaysAs (closing_of c.args.closing xid) c.finish_branch.result) (ClosesAs false (closing_of c.args.closing xid) xid c.finish_branch.result)
-    (said_alone (closing_of c.args.closing xid) xid c.finish_branch.result) me.stores.items c.finish_branch.new.self.stores.items c.finish_branch.ensures.finishes)
+    subst (λ (b : Bool). AtStore g.S.Speak.view c.args.store
+    (ClosesAs b (finish_statement c.args.closing xid) xid c.finish_branch.result) me.stores.items c.finish_branch.new.self.stores.items) (sym first)
+    (at_weaker g.S.Speak.view c.args.store (SaysAs (finish_statement c.args.closing xid) c.finish_branch.result)
+    (ClosesAs false (finish_statement c.args.closing xid) xid c.finish_branch.result)
+    (said_alone (finish_statement c.args.closing xid) xid c.finish_branch.result) me.stores.items c.finish_branch.new.self.stores.items
+    c.finish_branch.ensures.finishes)

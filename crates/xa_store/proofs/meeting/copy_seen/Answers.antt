@@ -1,6 +1,6 @@
 use Rattle.std.proofs.Common.{◌≡◌, suc, ◌+◌, [], ◌∷◌, ◌++◌, take, slice_get, ap, sym, ◌∙◌, Some, arith}
 use Rattle.xa_session.proofs.Replaying.{take-next}
-use Rattle.xa_store.proofs.gather.copy_seen.Goals as goal
+use Rattle.xa_store.proofs.meeting.copy_seen.Goals as goal
 
 pub loop-at-preserved : goal.loop-at-preserved
 loop-at-preserved g c =
@@ -11,7 +11,8 @@ loop-at-preserved g c =
     let next : suc c.loop-at.at ≡ c.loop-at.at + 1 = omega arith in
     let here : slice_get seen c.loop-at.at ≡ Some c.entry.result = ap (λ k. slice_get k.seen c.loop-at.at) (sym known) ∙ told.entry in (
       told.base ∙ inv.0,
-      told.home ∙ inv.1,
+      told.belongs ∙ inv.1,
       told.same ∙ known,
-      c.in_ok-push.ensures.items ∙ ap (λ list. list ++ c.entry.result ∷ []) inv.3 ∙ sym (take-next seen c.loop-at.at c.entry.result here) ∙ ap (λ n. take n seen) next,
+      c.in_ok-push.ensures.items ∙ ap (λ list. list ++ c.entry.result ∷ []) inv.3 ∙ sym (take-next seen c.loop-at.at c.entry.result here)
+          ∙ ap (λ n. take n seen) next,
     )

@@ -1,14 +1,14 @@
 use Rattle.xa_coordinator.specs.Told.{IsDone, IsUndone}
 use Rattle.xa_coordinator.proofs.Keeping.{marked, unmarked, at_place, changes_at, leaves_seat}
 use Rattle.xa_coordinator.proofs.Telling.{seat_refused}
-use Rattle.xa_coordinator.proofs.coordinator.Coordinator.say.Goals as goal
+use Rattle.xa_coordinator.proofs.coordinator.Coordinator.execute_at.Goals as goal
 
 pub invariant_of-self : goal.invariant_of-self
 invariant_of-self g c =
     let me = c.args.self.now in
     let view = g.S.Speak.view in
     let old = c.index_mut.result.now in
-    let new = c.tell.new.session in
+    let new = c.execute_on.new.session in
     record {
       named = me.named;
       sized = me.sized;
@@ -22,7 +22,7 @@ invariant_of-self-in-Err-1 g c =
     let me = c.args.self.now in
     let view = g.S.Speak.view in
     let old = c.index_mut.result.now in
-    let new = c.tell.new.session in
+    let new = c.execute_on.new.session in
     record {
       named = me.named;
       sized = me.sized;
@@ -32,18 +32,22 @@ invariant_of-self-in-Err-1 g c =
     }
 
 pub returns-in-Ok-clause-frame : goal.returns-in-Ok-clause-frame
-returns-in-Ok-clause-frame g c = changes_at c.args.self.now.stores.items c.args.store c.tell.new.session
+returns-in-Ok-clause-frame g c = changes_at c.args.self.now.stores.items c.args.store c.execute_on.new.session
 
 pub returns-in-Ok-clause-marks : goal.returns-in-Ok-clause-marks
 returns-in-Ok-clause-marks g c = changes_at c.args.self.now.branches c.args.store c.args.then
 
 pub returns-in-Ok-clause-says : goal.returns-in-Ok-clause-says
 returns-in-Ok-clause-says g c =
-    at_place g.S.Speak.view c.args.self.now.name.items (IsDone c.args.statement.now) c.args.self.now.stores.items c.args.store c.index_mut.result.now c.tell.new.session c.index_mut.ensures.value c.in-Ok.ensures.says
+    at_place g.S.Speak.view c.args.self.now.name.items
+    (IsDone c.args.statement.now) c.args.self.now.stores.items c.args.store c.index_mut.result.now c.execute_on.new.session c.index_mut.ensures.value
+    c.in-Ok.ensures.says
 
 pub returns-in-Err-clause-frame : goal.returns-in-Err-clause-frame
-returns-in-Err-clause-frame g c = changes_at c.args.self.now.stores.items c.args.store c.tell.new.session
+returns-in-Err-clause-frame g c = changes_at c.args.self.now.stores.items c.args.store c.execute_on.new.session
 
 pub returns-in-Err-clause-says : goal.returns-in-Err-clause-says
 returns-in-Err-clause-says g c =
-    at_place g.S.Speak.view c.args.self.now.name.items (IsUndone c.args.statement.now c.in-Err.cause) c.args.self.now.stores.items c.args.store c.index_mut.result.now c.tell.new.session c.index_mut.ensures.value c.in-Err.ensures.says
+    at_place g.S.Speak.view c.args.self.now.name.items
+    (IsUndone c.args.statement.now c.in-Err.cause) c.args.self.now.stores.items c.args.store c.index_mut.result.now c.execute_on.new.session
+    c.index_mut.ensures.value c.in-Err.ensures.says

@@ -6,37 +6,37 @@ use xa_xid::SessionNo;
 
 /// A fault, and whose run had it. Of several faults that of the lowest session is told.
 #[derive(Clone, Copy, Drop)]
-pub(crate) struct Blame {
+pub(crate) struct FirstFault {
     /// The session's number; above all numbers where no run had the fault.
     session: u64,
     /// The fault.
     pub(crate) fault: RaceFault,
 }
 
-impl Blame {
+impl FirstFault {
     /// The fault of a session's run.
-    pub(crate) fn of(session: SessionNo, fault: RaceFault) -> Blame
+    pub(crate) fn of(session: SessionNo, fault: RaceFault) -> FirstFault
         ensures fault { result.fault ≡ fault }
         ensures session { result.session ≡ session }
     {
-        Blame {
+        FirstFault {
             session: session.get(),
             fault,
         }
     }
 
     /// Want of memory outside the runs.
-    pub(crate) fn outside() -> Blame
+    pub(crate) fn outside() -> FirstFault
         ensures { result.fault ≡ RaceFault.NoMemory }
     {
-        Blame {
+        FirstFault {
             session: u64::MAX,
             fault: RaceFault::NoMemory,
         }
     }
 
     /// Which of the two is told.
-    pub(crate) fn or(self, other: Blame) -> Blame
+    pub(crate) fn or(self, other: FirstFault) -> FirstFault
         ensures either { (result ≡ self) ⊎ (result ≡ other) }
         ensures lowest { (result.session ≤ self.session) × (result.session ≤ other.session) }
     {

@@ -6,8 +6,8 @@ ghost use Rattle.xa_coordinator.specs.Stores.{AtStore, ChangesAt};
 ghost use Rattle.xa_coordinator.specs.Told.{IsOfBranch, Says};
 
 use crate::branch_xid::branch_xid;
+use crate::execute_on::execute_on;
 use crate::open_branch::OpenBranch;
-use crate::tell::tell;
 use crate::{Cause, Coordinator, Speak};
 use std::sync::Wait;
 use xa_xid::{Statement, Xid};
@@ -24,7 +24,7 @@ impl<S: Speak> Coordinator<S> {
     /// none.
     ///
     /// May wait: no number of tries is promised.
-    pub(crate) fn say<R: Wait>(
+    pub(crate) fn execute_at<R: Wait>(
         &mut self,
         rt: &R,
         store: u8,
@@ -41,7 +41,7 @@ impl<S: Speak> Coordinator<S> {
         ensures unsaid { OnErr result (self.new.branches ≡ self.old.branches) }
         ensures says { AtStore S.view store (Says statement.now result) self.old.stores.items self.new.stores.items }
     {
-        match tell(rt, &mut self.stores[store as usize], statement) {
+        match execute_on(rt, &mut self.stores[store as usize], statement) {
             Ok(()) => {
                 self.branches[store as usize] = then;
                 Ok(())

@@ -2,7 +2,7 @@ use Rattle.std.proofs.Common.{◌≡◌}
 use Rattle.xa_coordinator.specs.OpenBranches.{KeepsOpen}
 use Rattle.xa_coordinator.specs.Stores.{Reached}
 use Rattle.xa_coordinator.proofs.Hazards.{IsListed, SettledBy}
-use Rattle.xa_coordinator.proofs.coordinator.Coordinator.close.Given as goal
+use Rattle.xa_coordinator.proofs.coordinator.Coordinator.finish_each.Given as goal
 
 abbrev pub invariant-loop-store : goal.invariant-loop-store
 invariant-loop-store g l = record {
