@@ -1,5 +1,6 @@
 -- What stands first in a text, and where reading goes from there.
-use Rattle.std.proofs.Common.{◌≡◌, ℕ, ◌+◌, ◌≤◌, ◌<◌, Bool, true, false, ◌==◌, not, if◌then◌else◌, List, [], ◌∷◌, ◌++◌, length, Option, Some, None, Ok, refl, sym, ◌∙◌, ap, arith, IsTrue}
+use Rattle.std.proofs.Common.{◌≡◌, ℕ, ◌+◌, ◌≤◌, ◌<◌, Bool, true, false, ◌==◌, not, if◌then◌else◌, List, [], ◌∷◌, ◌++◌, length, Option, Some, None, Ok, refl}
+use Rattle.std.proofs.Common.{sym, ◌∙◌, ap, arith, IsTrue}
 use Rattle.std.proofs.lemmas.Bool.{eq-eqb, eqb-true, eqb-false}
 use Rattle.std.proofs.lemmas.List.{append-nil}
 use Rattle.xa_xid.specs.Bytes.{front, behind, unblank}
@@ -14,7 +15,8 @@ use Rattle.xa_xid.proofs.Cuts.{front-passes, front-stops, front-nil, behind-pass
 use Rattle.xa_xid.proofs.Reading.{plain_quote, plain_byte, quote_closes, quoted-nil-plain, quoted-nil-quote}
 use Rattle.xa_xid.proofs.Texts.{kept-fits}
 use Rattle.xa_statement.specs.declared.state.State.{State}
-use Rattle.xa_statement.specs.declared.state.State.TheVariants.{AtFirst, WantsGtrid, AfterGtrid, WantsBqual, AfterBqual, WantsFormatId, AfterXid, WantsKey, AfterKey, WantsValue, Whole, Ended}
+use Rattle.xa_statement.specs.declared.state.State.TheVariants.{AtFirst, WantsGtrid, AfterGtrid, WantsBqual, AfterBqual, WantsFormatId, AfterXid, WantsKey}
+use Rattle.xa_statement.specs.declared.state.State.TheVariants.{AfterKey, WantsValue, Whole, Ended}
 use Rattle.xa_statement.specs.declared.state.Verb.{Verb}
 use Rattle.xa_statement.specs.declared.state.RowVerb.{RowVerb}
 use Rattle.xa_statement.specs.declared.state.RowVerb.TheVariants.{Gets, Puts, Deletes}
