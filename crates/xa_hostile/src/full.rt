@@ -1,6 +1,6 @@
 //! A store whose log is full, and a session that is dropped.
 ghost use Rattle.std.specs.Prelude.{◌≡◌};
-ghost use Rattle.chain_log.specs.ChainPass.{identity_of, log_of};
+ghost use Rattle.xa_store.specs.Passes.{identity_of, log_of};
 
 use crate::made::{Wanted, is_wanted, said};
 use std::alloc::Global;

@@ -1,7 +1,7 @@
 //! Sixteen sessions on threads of their own, until the log is full.
 ghost use Rattle.std.specs.Prelude.{◌≡◌, ◌++◌, ◌∷◌, [], length, map, IfSome};
 ghost use Rattle.std.specs.List.{All};
-ghost use Rattle.chain_log.specs.ChainPass.{identity_of, log_of};
+ghost use Rattle.xa_store.specs.Passes.{identity_of, log_of};
 
 use crate::replay::{Account, Told, explains};
 use decision_log::DecisionLog;

@@ -6,8 +6,7 @@
 use Rattle.std.specs.Prelude.{◌≡◌, ◌⊎◌, ℕ, Option, List, [], ◌∷◌, ◌++◌, take, IfSome}
 use Rattle.std.specs.Io.KnownBytes.{Keeps, Appends}
 use Rattle.std.specs.List.{AllZip}
-use Rattle.chain_log.specs.ChainPass.{identity_of, log_of}
-use Rattle.chain_log.specs.declared.pass.ChainPass.{ChainPass}
+use Rattle.xa_store.specs.Passes.{Pass, identity_of, log_of}
 use Rattle.xa_store.specs.declared.store.Store.{Store}
 use Rattle.xa_transcript.specs.declared.script_fault.ScriptFault.{ScriptFault}
 use Rattle.xa_transcript.specs.declared.script_fault.ScriptFault.TheVariants.{Read, TooLong, Write, NoMemory, Full, GateShut, ThreadRefused}
@@ -18,7 +17,7 @@ use Rattle.xa_manager.specs.Texts.{answer_text}
 use Rattle.xa_manager.specs.Answers.{Desk, new_desk, Answers, IsRun}
 
 -- each pass is of the store in its place
-abbrev pub AreOf : List Store → List ChainPass → Type 0
+abbrev pub AreOf : List Store → List Pass → Type 0
 AreOf stores passes = AllZip (λ store pass. log_of pass ≡ identity_of store.log) stores passes
 
 -- every line of the script was answered, and the writer got all answers

@@ -1,7 +1,7 @@
 //! Calls of a coordinator over stores of its own, line by line.
 ghost use Rattle.std.specs.Prelude.{◌≡◌, ◌≤◌, [], length, vec_len, OnOk, IfOk, OnErr, IfErr, IfSome, Err};
 ghost use Rattle.std.specs.Io.KnownBytes.{IsAtEnd};
-ghost use Rattle.chain_log.specs.ChainPass.{log_of, identity_of};
+ghost use Rattle.xa_store.specs.Passes.{log_of, identity_of};
 ghost use Rattle.xa_transcript.specs.Limits.{script_bytes};
 ghost use Rattle.xa_transcript.specs.Transcript.{ConsumesMoreThan, IsOfRun};
 ghost use Rattle.xa_manager.specs.Answers.{new_desk};

@@ -1,6 +1,6 @@
 //! A coordinator of two stores, and a second one that recovers behind it.
 ghost use Rattle.std.specs.Prelude.{◌≡◌, vec_len};
-ghost use Rattle.chain_log.specs.ChainPass.{identity_of, log_of};
+ghost use Rattle.xa_store.specs.Passes.{identity_of, log_of};
 
 use crate::courses::{Course, text};
 use crate::made::{Wanted, is_wanted, said};

@@ -1,7 +1,7 @@
 //! A race of two sessions that start one branch.
 ghost use Rattle.std.specs.Prelude.{◌≡◌};
 ghost use Rattle.std.specs.List.{All};
-ghost use Rattle.chain_log.specs.ChainPass.{identity_of, log_of};
+ghost use Rattle.xa_store.specs.Passes.{identity_of, log_of};
 
 use crate::acts::{gives, is_entry};
 use crate::made::{Wanted, is_wanted, said};

@@ -1,7 +1,7 @@
 //! A store: how it is opened, how its sessions are connected, and its history.
 ghost use Rattle.std.specs.Prelude.{◌≡◌, [], ◌≤◌, IfOk, vec_capacity};
 ghost use Rattle.std.specs.List.{All};
-ghost use Rattle.chain_log.specs.ChainPass.{identity_of, log_of};
+ghost use Rattle.xa_store.specs.Passes.{identity_of, log_of};
 
 use crate::acts::{gives, has_history, is_entry};
 use crate::made::Wanted;

@@ -1,7 +1,7 @@
 use Rattle.std.proofs.Common.{◌≡◌, sym, subst, Some}
 use Rattle.std.specs.List.{All}
 use Rattle.std.proofs.lemmas.List.Elements.{All-pop, All-push}
-use Rattle.chain_log.specs.ChainPass.{identity_of, log_of}
+use Rattle.xa_store.specs.Passes.{identity_of, log_of}
 use Rattle.xa_hostile.proofs.sixteen.+apart.Goals as goal
 
 pub returns : goal.returns

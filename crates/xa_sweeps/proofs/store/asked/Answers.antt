@@ -1,5 +1,5 @@
 use Rattle.std.proofs.Common.{◌≡◌, ◌∙◌}
-use Rattle.chain_log.specs.ChainPass.{identity_of, log_of, known_of}
+use Rattle.xa_store.specs.Passes.{identity_of, log_of, known_of}
 use Rattle.xa_store.specs.Gathered.{Keeps}
 use Rattle.xa_sweeps.proofs.Kept.{all_kept}
 use Rattle.xa_sweeps.proofs.store.asked.Goals as goal
