@@ -10,6 +10,7 @@ pub mod Draft
 pub mod Observed
 pub mod Atomic
 pub mod AtTable
+pub mod LogRule
 pub mod TurnRule
 pub mod TurnPlays
 pub mod TurnCounts
