@@ -1,9 +1,8 @@
 -- The seats of a chain: its words have what splitting and joining seats asks, and words of zeros begin it.
 use Rattle.std.proofs.Common.{◌≡◌, ℕ, [], sym, ap, ◌∙◌, Some, None, arith}
 use Rattle.xa_words.specs.Entry.{Entry}
-use Rattle.decision_log.specs.declared.view.View.TheVariants.{Rest}
 use Rattle.decision_log.specs.declared.sizes.Sizes.{Sizes}
-use Rattle.decision_log.specs.Seats.{newcomer_hand}
+use Rattle.decision_log.specs.Seats.{all_passes}
 use Rattle.decision_log.specs.AtTable.{KeepsSeats, OpensSeats}
 use Rattle.decision_log.proofs.SeatRule.{HasWords, seats_kept, opens_seats}
 use Rattle.chain_log.specs.Cells.{word_count, newest_of}
@@ -23,7 +22,7 @@ keeps_seats = seats_kept has_words
 
 -- a log of so many words can begin
 pub opens : (sizes : Sizes) (words : ℕ) → words ≡ word_count sizes.sessions sizes.capacity
-    → OpensSeats Rules (λ sizes. Rest (newcomer_hand sizes.sessions sizes.capacity 1)) newest_for sizes words
+    → OpensSeats Rules all_passes newest_for sizes words
 opens sizes words count =
     opens_seats has_words sizes words (omega (arith, count))
     (λ list wide zeros. record { wide = wide ∙ count; newest = zeros ∙ sym (name_zero sizes.sessions []); cells = λ row entry is. absurd (never entry is) })

@@ -14,7 +14,7 @@ use Rattle.decision_log.specs.declared.view.View.TheVariants.{One}
 use Rattle.decision_log.specs.declared.sizes.Sizes.{Sizes}
 use Rattle.decision_log.specs.History.{Begins, entries_of}
 use Rattle.decision_log.specs.Seats.{seated}
-use Rattle.decision_log.specs.Atomic.{Load, Tells}
+use Rattle.decision_log.specs.Atomic.{Tells}
 use Rattle.decision_log.proofs.Histories.{begins_itself, get_begins}
 use Rattle.decision_log.proofs.Drafts.{holds_nothing}
 use Rattle.decision_log.proofs.LogRules.{known, history, stepped, unmoved, load_step}
@@ -58,16 +58,16 @@ module _ {sizes : Sizes} {words : List ℕ} {views : List View} (r : ChainRule s
       (sym (name_begins sizes.sessions h.known.seen r.log row k.seen (omega (arith, slice_get_within h.known.seen row entry is)))
       ∙ ap (λ s. name_before s h.known.seen row) (sym k.sessions))
 
-pub look_step : (sizes : Sizes) (slots id : ℕ) (h : Hand) → Allows (Rules sizes) slots id (seated h) 0 (λ n. n) (Tells (Sees (Load 0) h))
+pub look_step : (sizes : Sizes) (slots id : ℕ) (h : Hand) → Allows (Rules sizes) slots id (seated h) 0 (λ n. n) (Tells (Sees 0 h))
 look_step sizes slots id h =
-    load_step sizes slots id 0 h (Sees (Load 0) h)
+    load_step sizes slots id 0 h (Sees 0 h)
     (λ words views r here.
     let k = (known r id h here).fact_is in
     (looked h r.log, seen_keeps r id h (looked h r.log) here refl refl refl refl refl refl, (refl, r.log, refl, newest_by r h k.sessions, history r h k)))
 
-pub read_step : (sizes : Sizes) (slots id word : ℕ) (h : Hand) → word ≢ 0 → Allows (Rules sizes) slots id (seated h) word (λ n. n) (Tells (Reads (Load word) h))
+pub read_step : (sizes : Sizes) (slots id word : ℕ) (h : Hand) → word ≢ 0 → Allows (Rules sizes) slots id (seated h) word (λ n. n) (Tells (Reads word h))
 read_step sizes slots id word h behind =
-    load_step sizes slots id word h (Reads (Load word) h)
+    load_step sizes slots id word h (Reads word h)
     (λ words views r here.
     let k = (known r id h here).fact_is in (
       h,

@@ -25,7 +25,7 @@ use Rattle.decision_log.proofs.Drafts.{holds_beside, holds_one_more}
 use Rattle.decision_log.proofs.LogRules.{RuleOf, known, ranged, history, stepped, unmoved, appended, loaded, load_step, store_step, looked_log}
 use Rattle.chain_log.specs.Cells.{name_at, cell_at, name_before, newest_of}
 use Rattle.chain_log.specs.ChainRule.{own_cell, try_word, newest_for, HasCells, HasDraft, Knows, ChainRule}
-use Rattle.decision_log.specs.Atomic.{Atomic, Load, Store, Exchange, Tells, Does, Counts}
+use Rattle.decision_log.specs.Atomic.{Atomic, Tells, Does, Counts}
 use Rattle.chain_log.specs.ChainPlays.{won, lost, Finds, Drafts, Exchanges}
 use Rattle.chain_log.proofs.Chains.{chain_of, one_chain}
 use Rattle.chain_log.proofs.ChainSteps.{Rules, blank, newest_by, seen_keeps}
@@ -201,18 +201,18 @@ module _ {sizes : Sizes} {words : List ℕ} {views : List View} (r : ChainRule s
 
 pub draft_step : (sizes : Sizes) (slots id word index new : ℕ) (h : Hand) → word ≡ own_cell h + index → index ≤ length h.draft → index < 22
     → length h.known.seen < h.capacity
-    → Allows (Rules sizes) slots id (seated h) word (λ n. new) (λ n. Tells (Drafts (Store word new) h) new)
+    → Allows (Rules sizes) slots id (seated h) word (λ n. new) (λ n. Tells (Drafts word new h) new)
 draft_step sizes slots id word index new h at along below room =
     store_step sizes slots id (own_cell h) word index new h at (λ words views r here. (draft_keeps r id h index new here along below room).0)
 
 -- a 0 that is found in the own cell is a word of the draft; any other word leaves the draft
 pub find_step : (sizes : Sizes) (slots id word index : ℕ) (h : Hand) → word ≡ own_cell h + index → index ≤ length h.draft → index < 22
     → length h.known.seen < h.capacity
-    → Allows (Rules sizes) slots id (seated h) word (λ n. n) (Tells (Finds (Load word) h))
+    → Allows (Rules sizes) slots id (seated h) word (λ n. n) (Tells (Finds word h))
 find_step sizes slots id word index h at along below room =
     let back : word - own_cell h ≡ index = omega arith in
     let behind : word ≢ 0 = λ e. omega arith in
-    load_step sizes slots id word h (Finds (Load word) h)
+    load_step sizes slots id word h (Finds word h)
     (λ words views r here.
     let n = get_or words word 0 in
     dite (ℕ_discrete n 0)
@@ -230,7 +230,7 @@ find_step sizes slots id word index h at along below room =
 pub exchange_step : (sizes : Sizes) (slots id old own : ℕ) (h : Hand) (entry : Entry) → old ≡ newest_of h.sessions h.known.seen
     → own ≡ name_at h.sessions (length h.known.seen) h.known.number
     → IsEntry entry → entry.session ≡ h.known.number → h.draft ≡ old ∷ words_of entry → length h.known.seen < h.capacity
-    → Allows (Rules sizes) slots id (seated h) 0 (λ n. either (eqb n old) own n) (Tells (Exchanges (Exchange 0 old own (some entry)) h))
+    → Allows (Rules sizes) slots id (seated h) 0 (λ n. either (eqb n old) own n) (Tells (Exchanges 0 old own (some entry) h))
 exchange_step sizes slots id old own h entry last name is mine whole room state r homes here small =
     let n = get_or state.words 0 0 in
     let k = (known r id h here).fact_is in

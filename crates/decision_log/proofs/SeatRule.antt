@@ -2,14 +2,14 @@
 --     HasWords        what a log has to show of its own words
 --     seats_kept      seats may then be split and joined, and passes meet
 --     opens_seats     and the log can begin
-use Rattle.std.proofs.Common.{◌≡◌, ℕ, zero, suc, ◌+◌, ◌<◌, ◌≤◌, List, [], ◌∷◌, ◌++◌, length, set, get_or, refl, sym, subst, Some, None, arith}
+use Rattle.std.proofs.Common.{◌≡◌, ℕ, zero, suc, ◌+◌, ◌<◌, ◌≤◌, List, [], ◌∷◌, ◌++◌, length, set, refl, sym, subst, Some, None, arith}
 use Rattle.std.specs.Prelude.{slice_index}
 use mathlib.Core.Option.{some, some-injective, some-ne-none}
 use mathlib.Core.Logic.{dite}
 use native.Mathlib.Decide.{dec_le}
 use lib.ListN.{get_elem?}
 use Rattle.std.proofs.lemmas.List.{set-get_or}
-use Rattle.atomic_table.specs.Table.{State, keeps, Allows}
+use Rattle.atomic_table.specs.Table.{keeps, Allows}
 use Rattle.xa_words.specs.Entry.{Entry}
 use Rattle.decision_log.specs.declared.view.Hand.{Hand}
 use Rattle.decision_log.specs.declared.view.View.{View}
@@ -17,7 +17,7 @@ use Rattle.decision_log.specs.declared.view.View.TheVariants.{Spent, One, Two, R
 use Rattle.decision_log.specs.declared.view.Turn.TheVariants.{Without}
 use Rattle.decision_log.specs.declared.sizes.Sizes.{Sizes}
 use Rattle.decision_log.specs.History.{Begins, entries_of}
-use Rattle.decision_log.specs.Seats.{Fits, Seats, newcomer_hand, following, seated_two}
+use Rattle.decision_log.specs.Seats.{Fits, Seats, newcomer_hand, all_passes, following, seated_two}
 use Rattle.decision_log.specs.Observed.{met}
 use Rattle.decision_log.specs.Atomic.{Meets}
 use Rattle.decision_log.specs.AtTable.{KeepsSeats, OpensSeats}
@@ -164,7 +164,7 @@ module _ {Spells : Sizes → List ℕ → List Entry → Type 0} {KnowsWords : L
 
   -- an empty log, none of whose passes is given out
   at_opening : (sizes : Sizes) (words : List ℕ) → Spells sizes words []
-      → LogRule Spells KnowsWords sizes words (Rest (newcomer_hand sizes.sessions sizes.capacity 1) ∷ [])
+      → LogRule Spells KnowsWords sizes words (all_passes sizes ∷ [])
   at_opening sizes words spelled = record {
     log = [];
     home = λ n. 0;
@@ -180,10 +180,9 @@ module _ {Spells : Sizes → List ℕ → List Entry → Type 0} {KnowsWords : L
       never : (entry : Entry) → None ≡ Some entry → ⊥
       never entry is = cc
 
-      first : Seats (KnowsLog KnowsWords sizes words []) (λ n. 0) 1 (Rest (newcomer_hand sizes.sessions sizes.capacity 1) ∷ [])
+      first : Seats (KnowsLog KnowsWords sizes words []) (λ n. 0) 1 (all_passes sizes ∷ [])
       first zero view is =
-          subst (λ v. Fits (KnowsLog KnowsWords sizes words []) (λ n. 0) 1 0 v)
-          (some-injective (Rest (newcomer_hand sizes.sessions sizes.capacity 1)) view is) (
+          subst (λ v. Fits (KnowsLog KnowsWords sizes words []) (λ n. 0) 1 0 v) (some-injective (all_passes sizes) view is) (
             refl,
             refl,
             record {
@@ -199,6 +198,6 @@ module _ {Spells : Sizes → List ℕ → List Entry → Type 0} {KnowsWords : L
 
   pub opens_seats : (sizes : Sizes) (word_count : ℕ) → 0 < word_count
       → ((words : List ℕ) → length words ≡ word_count → slice_index words 0 ≡ 0 → Spells sizes words [])
-      → OpensSeats (Rules Spells KnowsWords) (λ sizes. Rest (newcomer_hand sizes.sessions sizes.capacity 1)) newest sizes word_count
+      → OpensSeats (Rules Spells KnowsWords) all_passes newest sizes word_count
   opens_seats sizes word_count low spelled =
       record { some = low; all = refl; zeros = λ words wide zeros. at_opening sizes words (spelled words wide zeros); keeps = seats_kept }

@@ -1,9 +1,8 @@
 -- The seats of a log with a turn: its words have what splitting and joining seats asks, and words of zeros begin it.
 use Rattle.std.proofs.Common.{◌≡◌, length, sym, subst, Some, None, arith}
 use Rattle.xa_words.specs.Entry.{Entry}
-use Rattle.decision_log.specs.declared.view.View.TheVariants.{Rest}
 use Rattle.decision_log.specs.declared.sizes.Sizes.{Sizes}
-use Rattle.decision_log.specs.Seats.{newcomer_hand}
+use Rattle.decision_log.specs.Seats.{all_passes}
 use Rattle.decision_log.specs.AtTable.{KeepsSeats, OpensSeats}
 use Rattle.decision_log.specs.TurnRule.{row_at, count_for, HasRows, HasTurn, HasDraft}
 use Rattle.decision_log.proofs.Drafts.{holds_nothing}
@@ -24,7 +23,7 @@ pub keeps_seats : KeepsSeats Rules count_for
 keeps_seats = seats_kept has_words
 
 -- a log can begin
-pub opens : (sizes : Sizes) → OpensSeats Rules (λ sizes. Rest (newcomer_hand sizes.sessions sizes.capacity 1)) count_for sizes (row_at sizes.capacity)
+pub opens : (sizes : Sizes) → OpensSeats Rules all_passes count_for sizes (row_at sizes.capacity)
 opens sizes =
     opens_seats has_words sizes (row_at sizes.capacity) (omega arith)
     (λ words wide zeros. record { wide = wide; count = zeros; rows = λ place entry is. absurd (never entry is) })

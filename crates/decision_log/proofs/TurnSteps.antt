@@ -1,6 +1,5 @@
 -- The loads of a log with a turn keep the rule, and tell what their plays say.
-use Rattle.std.proofs.Common.{◌≡◌, ◌≢◌, ℕ, List, get_or, refl, ap, ◌∙◌, arith}
-use mathlib.Core.Option.{some}
+use Rattle.std.proofs.Common.{◌≢◌, ℕ, List, get_or, refl, ap, ◌∙◌, arith}
 use Rattle.atomic_table.specs.Table.{State, Allows}
 use Rattle.xa_words.specs.Entry.{Entry}
 use Rattle.xa_words.proofs.Spelling.{length-words_of}
@@ -11,7 +10,7 @@ use Rattle.decision_log.specs.declared.view.Turn.TheVariants.{Without, Won, Fres
 use Rattle.decision_log.specs.declared.sizes.Sizes.{Sizes}
 use Rattle.decision_log.specs.Seats.{seated}
 use Rattle.decision_log.specs.TurnRule.{HasTurn, TurnRule}
-use Rattle.decision_log.specs.Atomic.{Load, Tells}
+use Rattle.decision_log.specs.Atomic.{Tells}
 use Rattle.decision_log.specs.TurnPlays.{looked_turn, looked, Sees, Reads}
 use Rattle.decision_log.proofs.Histories.{begins_itself, get_begins}
 use Rattle.decision_log.proofs.LogRules.{known, history, stepped, unmoved, load_step}
@@ -24,9 +23,9 @@ looked_has words log h Without has = has
 looked_has words log h Won has = (refl, has.1)
 looked_has words log h Fresh has = (refl, has.1)
 
-pub look_step : (sizes : Sizes) (slots id : ℕ) (h : Hand) → Allows (Rules sizes) slots id (seated h) 0 (λ n. n) (Tells (Sees (Load 0) h))
+pub look_step : (sizes : Sizes) (slots id : ℕ) (h : Hand) → Allows (Rules sizes) slots id (seated h) 0 (λ n. n) (Tells (Sees 0 h))
 look_step sizes slots id h =
-    load_step sizes slots id 0 h (Sees (Load 0) h)
+    load_step sizes slots id 0 h (Sees 0 h)
     (λ words views r here.
     let k = (known r id h here).fact_is in (
       looked h r.log,
@@ -35,9 +34,9 @@ look_step sizes slots id h =
       (refl, r.log, refl, r.spelled.count, history r h k),
     ))
 
-pub read_step : (sizes : Sizes) (slots id word : ℕ) (h : Hand) → word ≢ 0 → Allows (Rules sizes) slots id (seated h) word (λ n. n) (Tells (Reads (Load word) h))
+pub read_step : (sizes : Sizes) (slots id word : ℕ) (h : Hand) → word ≢ 0 → Allows (Rules sizes) slots id (seated h) word (λ n. n) (Tells (Reads word h))
 read_step sizes slots id word h behind =
-    load_step sizes slots id word h (Reads (Load word) h)
+    load_step sizes slots id word h (Reads word h)
     (λ words views r here. (
       h,
       unmoved r id h here,

@@ -23,7 +23,7 @@ use Rattle.decision_log.specs.declared.sizes.Sizes.{Sizes}
 use Rattle.decision_log.specs.Seats.{seated}
 use Rattle.decision_log.specs.Draft.{Holds, drafted}
 use Rattle.decision_log.specs.TurnRule.{row_at, HasRows, HasTurn, HasDraft, TurnRule}
-use Rattle.decision_log.specs.Atomic.{Store, Exchange, Tells}
+use Rattle.decision_log.specs.Atomic.{Tells}
 use Rattle.decision_log.specs.TurnPlays.{tried, published, released, Takes, Drafts, Publishes, Releases}
 use Rattle.decision_log.proofs.Histories.{get_last}
 use Rattle.decision_log.proofs.Drafts.{holds_nothing, holds_beside, holds_one_more}
@@ -141,7 +141,7 @@ pub fresh_has : (words : List ℕ) (log : List Entry) (h : Hand) → h.turn ≡ 
 fresh_has words log h fresh has = subst (λ t. HasTurn words log h t) fresh has
 
 pub take_step : (sizes : Sizes) (slots id : ℕ) (h : Hand)
-    → Allows (Rules sizes) slots id (seated h) 1 (λ n. either (eqb n 0) h.known.number n) (Tells (Takes (Exchange 1 0 h.known.number none) h))
+    → Allows (Rules sizes) slots id (seated h) 1 (λ n. either (eqb n 0) h.known.number n) (Tells (Takes 1 0 h.known.number none h))
 take_step sizes slots id h state r homes here small =
     let n = get_or state.words 1 0 in
     dite (ℕ_discrete n 0)
@@ -163,14 +163,14 @@ take_step sizes slots id h state r homes here small =
     ))
 
 pub release_step : (sizes : Sizes) (slots id : ℕ) (h : Hand) → h.turn ≡ Fresh
-    → Allows (Rules sizes) slots id (seated h) 1 (λ n. 0) (λ n. Tells (Releases (Store 1 0) h) 0)
+    → Allows (Rules sizes) slots id (seated h) 1 (λ n. 0) (λ n. Tells (Releases 1 0 h) 0)
 release_step sizes slots id h fresh state r homes here small =
     let f = fresh_has state.words r.log h fresh (known r id h here).fact_is.own.turn in
     (One (released h), keeps, tt, release_keeps r id h here f.1, (released h, refl, (refl, refl, refl)))
 
 pub draft_step : (sizes : Sizes) (slots id word index new : ℕ) (h : Hand) → word ≡ row_at (length h.known.seen) + index → h.turn ≡ Fresh
     → index ≤ length h.draft → index < 21 → length h.known.seen < h.capacity
-    → Allows (Rules sizes) slots id (seated h) word (λ n. new) (λ n. Tells (Drafts (Store word new) h) new)
+    → Allows (Rules sizes) slots id (seated h) word (λ n. new) (λ n. Tells (Drafts word new h) new)
 draft_step sizes slots id word index new h at fresh along below room =
     store_step sizes slots id (row_at (length h.known.seen)) word index new h at
     (λ words views r here.
@@ -183,7 +183,7 @@ draft_step sizes slots id word index new h at fresh along below room =
 
 pub publish_step : (sizes : Sizes) (slots id new : ℕ) (h : Hand) (entry : Entry) → new ≡ length h.known.seen + 1 → h.turn ≡ Fresh → IsEntry entry
     → entry.session ≡ h.known.number → h.draft ≡ words_of entry → length h.known.seen < h.capacity
-    → Allows (Rules sizes) slots id (seated h) 0 (λ n. new) (λ n. Tells (Publishes (Store 0 new) h) new)
+    → Allows (Rules sizes) slots id (seated h) 0 (λ n. new) (λ n. Tells (Publishes 0 new h) new)
 publish_step sizes slots id new h entry next fresh is own whole room state r homes here small =
     let k = (known r id h here).fact_is in
     let f = fresh_has state.words r.log h fresh k.own.turn in

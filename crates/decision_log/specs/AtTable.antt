@@ -17,7 +17,7 @@ use Rattle.decision_log.specs.declared.view.View.{View}
 use Rattle.decision_log.specs.declared.view.View.TheVariants.{Spent, One, Two, Rest}
 use Rattle.decision_log.specs.declared.sizes.Sizes.{Sizes}
 use Rattle.decision_log.specs.Known.{LogIdentity}
-use Rattle.decision_log.specs.Seats.{hand_of, second_of, hand, seated, seated_two, seated_rest, spent, newcomer_hand, following}
+use Rattle.decision_log.specs.Seats.{hand_of, second_of, hand, seated, seated_two, seated_rest, spent, all_passes, following}
 use Rattle.decision_log.specs.Atomic.{Meets}
 
 -- a seat at this table that knows one pass
@@ -61,6 +61,6 @@ pub record KeepsSeats (holds : Sizes → State Entry View → Type 0) (newest : 
 -- a log begins with words of zeros and one seat that knows all passes, and seats are split and joined from there on
 pub record OpensSeats (holds : Sizes → State Entry View → Type 0) (first : Sizes → View) (newest : Hand → ℕ) (sizes : Sizes) (word_count : ℕ) : Type 0 where
   pub some : 0 < word_count
-  pub all : first sizes ≡ Rest (newcomer_hand sizes.sessions sizes.capacity 1)
+  pub all : first sizes ≡ all_passes sizes
   pub zeros : (words : List ℕ) → length words ≡ word_count → slice_index words 0 ≡ 0 → holds sizes (opening words [] (first sizes))
   pub keeps : KeepsSeats holds newest

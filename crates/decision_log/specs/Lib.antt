@@ -9,6 +9,7 @@ pub mod Passes
 pub mod Draft
 pub mod Observed
 pub mod Atomic
+pub mod Counted
 pub mod AtTable
 pub mod LogRule
 pub mod TurnRule
