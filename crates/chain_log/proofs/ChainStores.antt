@@ -8,7 +8,7 @@ use native.Mathlib.Decide.{ℕ_discrete, dec_le}
 use lib.ListN.{get_elem?}
 use prog.Atomic.{either}
 use Rattle.std.proofs.lemmas.Option.{slice_get_within}
-use Rattle.std.proofs.lemmas.List.{length-set, get_or-set_same, get_or-set_other, length-take-le}
+use Rattle.std.proofs.lemmas.List.{length-set, get_or-set_same, get_or-set_other, length-take-le, set-get_or}
 use Rattle.atomic_table.specs.Table.{keeps, Allows}
 use Rattle.atomic_table.proofs.Lists.{exchanged}
 use Rattle.xa_words.specs.Entry.{Entry, IsEntry}
@@ -18,27 +18,27 @@ use Rattle.decision_log.specs.declared.view.Hand.{Hand}
 use Rattle.decision_log.specs.declared.view.View.{View}
 use Rattle.decision_log.specs.declared.view.View.TheVariants.{One}
 use Rattle.decision_log.specs.declared.sizes.Sizes.{Sizes}
-use Rattle.decision_log.specs.History.{Begins}
 use Rattle.decision_log.specs.Seats.{seated}
-use Rattle.decision_log.specs.Draft.{Holds}
-use Rattle.decision_log.specs.Draft.{drafted}
-use Rattle.decision_log.proofs.Histories.{begins_itself, begins_append, begins_more, begins_same, get_last, later_other, length_begins, own_last, own_other}
-use Rattle.decision_log.proofs.SeatLemmas.{step_seat}
-use Rattle.decision_log.proofs.TurnStores.{holds_nothing, holds_beside, holds_one_more}
+use Rattle.decision_log.specs.Draft.{Holds, drafted}
+use Rattle.decision_log.proofs.Histories.{begins_append, begins_same, get_last, later_other, length_begins}
+use Rattle.decision_log.proofs.Drafts.{holds_beside, holds_one_more}
+use Rattle.decision_log.proofs.LogRules.{RuleOf, known, ranged, history, stepped, unmoved, appended, loaded, load_step, store_step, looked_log}
 use Rattle.chain_log.specs.Cells.{name_at, cell_at, name_before, newest_of}
-use Rattle.chain_log.specs.ChainRule.{own_cell, try_word, newest_for, Knows, ChainRule}
-use Rattle.decision_log.specs.Atomic.{Atomic, Load, Store, Exchange, Tells, Does, Counts}
-use Rattle.decision_log.proofs.Counting.{look_is}
+use Rattle.chain_log.specs.ChainRule.{own_cell, try_word, newest_for, HasCells, HasDraft, Knows, ChainRule}
+use Rattle.decision_log.specs.Atomic.{Atomic, Tells, Does, Counts}
 use Rattle.chain_log.specs.ChainPlays.{won, lost, Finds, Drafts, Exchanges}
 use Rattle.chain_log.proofs.Chains.{chain_of, one_chain}
-use Rattle.chain_log.proofs.ChainSteps.{Rules, known, ranged, history, newest_by, seen_keeps, loaded, same_seat}
+use Rattle.chain_log.proofs.ChainSteps.{Rules, blank, newest_by, seen_keeps}
 use Rattle.chain_log.proofs.Names.{name_begins, name_low, newest_added, one_cell, one_length, within_words, words_apart}
 
-module _ (sizes : Sizes) (words : List ℕ) (views : List View) (r : ChainRule sizes words views) where
+one_log : (sizes : Sizes) (words : List ℕ) (one other : List View) (p : ChainRule sizes words one) (q : ChainRule sizes words other) → p.log ≡ q.log
+one_log sizes words one other p q = one_chain words p.log q.log (chain_of sizes words one p) (chain_of sizes words other q)
+
+module _ {sizes : Sizes} {words : List ℕ} {views : List View} (r : ChainRule sizes words views) where
   -- the number of a pass is one of the log's sessions
   numbered : (id : ℕ) (h : Hand) → get_elem? views id ≡ some (One h) → (1 ≤ h.known.number) × (h.known.number ≤ sizes.sessions)
   numbered id h here =
-      let p = known sizes words views r id h here in
+      let p = known r id h here in
       (omega (arith, p.low), omega (arith, p.high, r.within))
 
   -- a pass's own cell, by the log's count of the sessions
@@ -50,9 +50,9 @@ module _ (sizes : Sizes) (words : List ℕ) (views : List View) (r : ChainRule s
       → slice_get r.log row ≡ Some entry
       → cell_at (name_at sizes.sessions row entry.session) + i ≢ own_cell h + index
   not_of_history id h index row i entry here below below' is same =
-      let k = (known sizes words views r id h here).fact_is in
+      let k = (known r id h here).fact_is in
       let n = numbered id h here in
-      let e = ranged sizes words views r row entry is in
+      let e = ranged r row entry is in
       words_apart (name_at sizes.sessions row entry.session) (name_at sizes.sessions (length h.known.seen) h.known.number) i index
       (name_low sizes.sessions row entry.session e.0) (name_low sizes.sessions (length h.known.seen) h.known.number n.0)
       (λ one.
@@ -65,99 +65,77 @@ module _ (sizes : Sizes) (words : List ℕ) (views : List View) (r : ChainRule s
       → Knows sizes words r.log g → i < length g.draft
       → own_cell g + i ≢ own_cell h + index
   not_of_other id h g index i here below apart low k less same =
-      let p = (known sizes words views r id h here).fact_is in
+      let p = (known r id h here).fact_is in
       let n = numbered id h here in
-      let high : g.known.number ≤ sizes.sessions = omega (arith, k.column (omega (arith, less)), k.sessions) in
+      let high : g.known.number ≤ sizes.sessions = omega (arith, k.own.column (omega (arith, less)), k.sessions) in
       words_apart (name_at sizes.sessions (length g.known.seen) g.known.number) (name_at sizes.sessions (length h.known.seen) h.known.number) i index
       (name_low sizes.sessions (length g.known.seen) g.known.number (omega (arith, low))) (name_low sizes.sessions (length h.known.seen) h.known.number n.0)
       (λ one. apart (one_cell sizes.sessions (length g.known.seen) (length h.known.seen) g.known.number h.known.number (omega (arith, low)) high n.0 n.1 one).1)
-      (omega (arith, less, k.short)) below (sym (ap (λ a. a + i) (own_by g k.sessions)) ∙ same ∙ ap (λ a. a + index) (own_by h p.sessions))
+      (omega (arith, less, k.own.short)) below (sym (ap (λ a. a + i) (own_by g k.sessions)) ∙ same ∙ ap (λ a. a + index) (own_by h p.sessions))
 
   -- the own cell is within the log
   own_within : (id : ℕ) (h : Hand) (index : ℕ) → get_elem? views id ≡ some (One h) → index < 22 → length h.known.seen < h.capacity
       → own_cell h + index < length words
   own_within id h index here below room =
-      let k = (known sizes words views r id h here).fact_is in
+      let k = (known r id h here).fact_is in
       let n = numbered id h here in
       let w = within_words sizes.sessions sizes.capacity (length h.known.seen) h.known.number index (omega (arith, room, k.capacity)) n.0 n.1 below in
       subst (λ a. a + index < length words) (sym (own_by h k.sessions))
-      (subst (λ n. cell_at (name_at sizes.sessions (length h.known.seen) h.known.number) + index < n) (sym r.wide) w)
+      (subst (λ n. cell_at (name_at sizes.sessions (length h.known.seen) h.known.number) + index < n) (sym r.spelled.wide) w)
 
   -- a word of the own cell is stored
-  draft_keeps : (id : ℕ) (h : Hand) (index new : ℕ) → get_elem? views id ≡ some (One h) → index ≤ length h.draft → index < 22 → length h.known.seen < h.capacity
-      → ChainRule sizes (set words (own_cell h + index) new) (set views id (One (drafted h index new)))
+  pub draft_keeps : (id : ℕ) (h : Hand) (index new : ℕ) → get_elem? views id ≡ some (One h) → index ≤ length h.draft → index < 22
+      → length h.known.seen < h.capacity
+      → RuleOf HasCells HasDraft sizes (set words (own_cell h + index) new) (set views id (One (drafted h index new))) r.log
   draft_keeps id h index new here along below room =
-      let p = known sizes words views r id h here in
-      let k = p.fact_is in
+      let k = (known r id h here).fact_is in
       let n = numbered id h here in
       let word = own_cell h + index in
-      let words' = set words word new in
-      record {
-        log = r.log;
-        home = r.home;
-        next = r.next;
-        wide = length-set words word new ∙ r.wide;
-        room = r.room;
-        newest = get_or-set_other words word 0 new 0 (λ e. omega arith) ∙ r.newest;
+      stepped r (set words word new) id h (drafted h index new) here
+      (record {
+        wide = length-set words word new ∙ r.spelled.wide;
+        newest = get_or-set_other words word 0 new 0 (λ e. omega arith) ∙ r.spelled.newest;
         cells =
             λ row entry is.
             let len = length-words_of entry in
             holds_beside words word new (cell_at (name_at sizes.sessions row entry.session)) (name_before sizes.sessions r.log row ∷ words_of entry)
-            (λ i less. not_of_history id h index row i entry here below (omega (arith, less, len)) is) (r.cells row entry is);
-        entries = r.entries;
-        begun = r.begun;
-        within = r.within;
-        seats =
-            step_seat (Knows sizes words r.log) (Knows sizes words' r.log) r.home r.next views id h (drafted h index new) r.seats here refl
-            (record {
-              sessions = k.sessions;
-              capacity = k.capacity;
-              seen = k.seen;
-              mine = k.mine;
-              part = k.part;
-              short = omega (arith, length-append (take index h.draft) (new ∷ []), length-take-le index h.draft along);
-              column = λ some. omega (arith, n.1, k.sessions);
-              draft = holds_one_more words (own_cell h) index new h.draft along (own_within id h index here below room) k.draft;
-            })
-            (λ g apart low k. record {
-              sessions = k.sessions;
-              capacity = k.capacity;
-              seen = k.seen;
-              mine = k.mine;
-              part = k.part;
-              short = k.short;
-              column = k.column;
-              draft = holds_beside words word new (own_cell g) g.draft (λ i less. not_of_other id h g index i here below apart low k less) k.draft;
-            });
-      }
+            (λ i less. not_of_history id h index row i entry here below (omega (arith, less, len)) is) (r.spelled.cells row entry is);
+      })
+      refl refl refl refl k.seen k.part
+      (record {
+        short = omega (arith, length-append (take index h.draft) (new ∷ []), length-take-le index h.draft along);
+        column = λ some. omega (arith, n.1, k.sessions);
+        draft = holds_one_more words (own_cell h) index new h.draft along (own_within id h index here below room) k.own.draft;
+      })
+      (λ g apart low other. record {
+        short = other.own.short;
+        column = other.own.column;
+        draft = holds_beside words word new (own_cell g) g.draft (λ i less. not_of_other id h g index i here below apart low other less) other.own.draft;
+      })
 
   -- who has seen all that there is wins, and the own cell is the newest
-  win_keeps : (id : ℕ) (h : Hand) (entry : Entry) → get_elem? views id ≡ some (One h) → h.known.seen ≡ r.log → IsEntry entry → entry.session ≡ h.known.number
-      → h.draft ≡ newest_of sizes.sessions r.log ∷ words_of entry → length r.log < sizes.capacity
-      → ChainRule sizes (set words 0 (name_at sizes.sessions (length r.log) h.known.number)) (set views id (One (won h entry)))
+  pub win_keeps : (id : ℕ) (h : Hand) (entry : Entry) → get_elem? views id ≡ some (One h) → h.known.seen ≡ r.log → IsEntry entry
+      → entry.session ≡ h.known.number → h.draft ≡ newest_of sizes.sessions r.log ∷ words_of entry → length r.log < sizes.capacity
+      → RuleOf HasCells HasDraft sizes (set words 0 (name_at sizes.sessions (length r.log) h.known.number)) (set views id (One (won h entry)))
+      (r.log ++ entry ∷ [])
   win_keeps id h entry here all is own whole room =
-      let p = known sizes words views r id h here in
-      let k = p.fact_is in
+      let k = (known r id h here).fact_is in
       let new = name_at sizes.sessions (length r.log) h.known.number in
       let words' = set words 0 new in
       let log' = r.log ++ entry ∷ [] in
-      let longer : length log' ≡ length r.log + 1 = length-append r.log (entry ∷ []) in
-      let seen' : h.known.seen ++ entry ∷ [] ≡ log' = ap (λ list. list ++ entry ∷ []) all in
       let own_is : own_cell h ≡ cell_at (name_at sizes.sessions (length r.log) entry.session) =
       own_by h k.sessions ∙ ap (λ list. cell_at (name_at sizes.sessions (length list) h.known.number)) all
       ∙ ap (λ n. cell_at (name_at sizes.sessions (length r.log) n)) (sym own) in
       let cell : Holds words (cell_at (name_at sizes.sessions (length r.log) entry.session)) (newest_of sizes.sessions r.log ∷ words_of entry) =
-      subst (λ at. Holds words at (newest_of sizes.sessions r.log ∷ words_of entry)) own_is (subst (λ draft. Holds words (own_cell h) draft) whole k.draft) in
+      subst (λ at. Holds words at (newest_of sizes.sessions r.log ∷ words_of entry)) own_is
+      (subst (λ draft. Holds words (own_cell h) draft) whole k.own.draft) in
       let link : (row : ℕ) → row ≤ length r.log → name_before sizes.sessions r.log row ≡ name_before sizes.sessions log' row =
       λ row low. name_begins sizes.sessions r.log log' row (begins_append r.log (entry ∷ [])) low in
-      record {
-        log = log';
-        home = r.home;
-        next = r.next;
-        wide = length-set words 0 new ∙ r.wide;
-        room = omega (arith, longer);
+      appended r words' id h (won h entry) entry here all is own room
+      (record {
+        wide = length-set words 0 new ∙ r.spelled.wide;
         newest =
-            get_or-set_same words 0 new 0 (omega (arith, r.wide)) ∙ ap (name_at sizes.sessions (length r.log)) (sym own)
+            get_or-set_same words 0 new 0 (omega (arith, r.spelled.wide)) ∙ ap (name_at sizes.sessions (length r.log)) (sym own)
             ∙ sym (newest_added sizes.sessions r.log entry);
         cells =
             λ row other at.
@@ -165,41 +143,19 @@ module _ (sizes : Sizes) (words : List ℕ) (views : List View) (r : ChainRule s
             (λ i less e. omega arith)
             (⊎_elim
             (λ t. subst (λ name. Holds words (cell_at (name_at sizes.sessions row other.session)) (name ∷ words_of other))
-            (link row (omega (arith, slice_get_within r.log row other t))) (r.cells row other t))
+            (link row (omega (arith, slice_get_within r.log row other t))) (r.spelled.cells row other t))
             (λ t. subst (λ x. Holds words (cell_at (name_at sizes.sessions row x.session)) (name_before sizes.sessions log' row ∷ words_of x)) t.1
             (subst (λ n. Holds words (cell_at (name_at sizes.sessions n entry.session)) (name_before sizes.sessions log' n ∷ words_of entry)) (sym t.0)
             (subst (λ name. Holds words (cell_at (name_at sizes.sessions (length r.log) entry.session)) (name ∷ words_of entry))
             (link (length r.log) (omega arith)) cell)))
             (get_last r.log entry row other at));
-        entries =
-            λ row other at.
-            ⊎_elim (λ t. r.entries row other t) (λ t. subst (λ x. IsEntry x × (x.session < r.next)) t.1 (is, omega (arith, own, p.high)))
-            (get_last r.log entry row other at);
-        begun = r.begun;
-        within = r.within;
-        seats =
-            step_seat (Knows sizes words r.log) (Knows sizes words' log') r.home r.next views id h (won h entry) r.seats here refl
-            (record {
-              sessions = k.sessions;
-              capacity = k.capacity;
-              seen = subst (λ list. Begins list log') (sym seen') (begins_itself log');
-              mine = own_last h.known.number r.log entry own ∙ ap (λ list. list ++ entry ∷ []) k.mine;
-              part = own_last h.known.number h.known.seen entry own ∙ ap (λ list. list ++ entry ∷ []) k.part;
-              short = omega arith;
-              column = λ some. absurd (omega arith);
-              draft = holds_nothing words' (own_cell (won h entry)) [] refl;
-            })
-            (λ g apart low k. record {
-              sessions = k.sessions;
-              capacity = k.capacity;
-              seen = begins_more g.known.seen r.log (entry ∷ []) k.seen;
-              mine = own_other g.known.number r.log entry (λ e. apart (sym e ∙ own)) ∙ k.mine;
-              part = k.part;
-              short = k.short;
-              column = k.column;
-              draft = holds_beside words 0 new (own_cell g) g.draft (λ i less e. omega arith) k.draft;
-            });
-      }
+      })
+      refl refl refl refl refl (blank words' log' (won h entry) refl)
+      (λ g apart low other. record {
+        short = other.own.short;
+        column = other.own.column;
+        draft = holds_beside words 0 new (own_cell g) g.draft (λ i less e. omega arith) other.own.draft;
+      })
 
   -- an equal name means an equal history
   pub all_seen : (h : Hand) → Knows sizes words r.log h → newest_of h.sessions h.known.seen ≡ get_or words 0 0 → h.known.seen ≡ r.log
@@ -208,106 +164,90 @@ module _ (sizes : Sizes) (words : List ℕ) (views : List View) (r : ChainRule s
       let mine : newest_of h.sessions h.known.seen ≡ name_before sizes.sessions r.log (length h.known.seen) =
       ap (λ s. newest_of s h.known.seen) k.sessions ∙ name_begins sizes.sessions h.known.seen r.log (length h.known.seen) k.seen (omega arith) in
       let lengths =
-      one_length sizes.sessions r.log (length h.known.seen) (length r.log) (ranged sizes words views r) low (omega arith) (sym mine ∙ same ∙ r.newest) in
+      one_length sizes.sessions r.log (length h.known.seen) (length r.log) (ranged r) low (omega arith) (sym mine ∙ same ∙ r.spelled.newest) in
       begins_same h.known.seen r.log k.seen (omega (arith, lengths))
 
   -- words that a step leaves spell what the rule has after it
-  one_log : (words' : List ℕ) (one other : List View) (p : ChainRule sizes words' one) (q : ChainRule sizes words' other) → p.log ≡ q.log
-  one_log words' one other p q = one_chain words' p.log q.log (chain_of sizes words' one p) (chain_of sizes words' other q)
-
   pub stored_log : (views' : List View) (id : ℕ) (h : Hand) (index new : ℕ) → get_elem? views id ≡ some (One h) → index ≤ length h.draft → index < 22
       → length h.known.seen < h.capacity
       → (after : ChainRule sizes (set words (own_cell h + index) new) views') → after.log ≡ r.log
-  unfolding draft_keeps
   stored_log views' id h index new here along below room after =
-      one_log (set words (own_cell h + index) new) views' (set views id (One (drafted h index new))) after (draft_keeps id h index new here along below room)
+      let t = draft_keeps id h index new here along below room in
+      one_log sizes (set words (own_cell h + index) new) views' (set views id (One (drafted h index new))) after t.0 ∙ t.1
 
   pub won_log : (views' : List View) (id : ℕ) (h : Hand) (entry : Entry) → get_elem? views id ≡ some (One h)
       → get_or words 0 0 ≡ newest_of h.sessions h.known.seen → IsEntry entry → entry.session ≡ h.known.number
       → h.draft ≡ newest_of h.sessions h.known.seen ∷ words_of entry → length h.known.seen < h.capacity
       → (after : ChainRule sizes (set words 0 (name_at h.sessions (length h.known.seen) h.known.number)) views') → after.log ≡ r.log ++ entry ∷ []
-  unfolding win_keeps
   won_log views' id h entry here newest is own whole room after =
-      let k = (known sizes words views r id h here).fact_is in
+      let k = (known r id h here).fact_is in
       let all = all_seen h k (sym newest) in
       let last : newest_of h.sessions h.known.seen ≡ newest_of sizes.sessions r.log =
       ap (λ s. newest_of s h.known.seen) k.sessions ∙ ap (newest_of sizes.sessions) all in
       let name : name_at h.sessions (length h.known.seen) h.known.number ≡ name_at sizes.sessions (length r.log) h.known.number =
       ap (λ s. name_at s (length h.known.seen) h.known.number) k.sessions ∙ ap (λ list. name_at sizes.sessions (length list) h.known.number) all in
-      let kept = win_keeps id h entry here all is own (whole ∙ ap (λ n. n ∷ words_of entry) last) (omega (arith, ap length all, room, k.capacity)) in
+      let t = win_keeps id h entry here all is own (whole ∙ ap (λ n. n ∷ words_of entry) last) (omega (arith, ap length all, room, k.capacity)) in
       subst (λ n. (after : ChainRule sizes (set words 0 n) views') → after.log ≡ r.log ++ entry ∷ []) (sym name)
-      (λ after. one_log (set words 0 (name_at sizes.sessions (length r.log) h.known.number)) views' (set views id (One (won h entry))) after kept) after
+      (λ after. one_log sizes (set words 0 (name_at sizes.sessions (length r.log) h.known.number)) views' (set views id (One (won h entry))) after t.0 ∙ t.1)
+      after
 
   -- another name means a longer history
   more_there : (h : Hand) → Knows sizes words r.log h → newest_of h.sessions h.known.seen ≢ get_or words 0 0 → length h.known.seen < length r.log
   more_there h k other =
       let low = length_begins h.known.seen r.log k.seen in
       dite (dec_le (length r.log) (length h.known.seen))
-      (λ short. absurd (other (ap (newest_of h.sessions) (begins_same h.known.seen r.log k.seen short) ∙ sym (newest_by sizes words views r h k.sessions))))
+      (λ short. absurd (other (ap (newest_of h.sessions) (begins_same h.known.seen r.log k.seen short) ∙ sym (newest_by r h k.sessions))))
       (λ longer. omega arith)
 
 pub draft_step : (sizes : Sizes) (slots id word index new : ℕ) (h : Hand) → word ≡ own_cell h + index → index ≤ length h.draft → index < 22
     → length h.known.seen < h.capacity
-    → Allows (Rules sizes) slots id (seated h) word (λ n. new) (λ n. Tells (Drafts (Store word new) h) new)
-draft_step sizes slots id word index new h at along below room state r homes here small =
-    let back : word - own_cell h ≡ index = omega arith in (
-      One (drafted h (word - own_cell h) new),
-      keeps,
-      tt,
-      subst (λ i. ChainRule sizes (set state.words word new) (set state.views id (One (drafted h i new)))) (sym back)
-          (subst (λ w. ChainRule sizes (set state.words w new) (set state.views id (One (drafted h index new)))) (sym at)
-          (draft_keeps sizes state.words state.views r id h index new here along below room)),
-      (drafted h (word - own_cell h) new, refl, refl),
-    )
+    → Allows (Rules sizes) slots id (seated h) word (λ n. new) (λ n. Tells (Drafts word new h) new)
+draft_step sizes slots id word index new h at along below room =
+    store_step sizes slots id (own_cell h) word index new h at (λ words views r here. (draft_keeps r id h index new here along below room).0)
 
 -- a 0 that is found in the own cell is a word of the draft; any other word leaves the draft
 pub find_step : (sizes : Sizes) (slots id word index : ℕ) (h : Hand) → word ≡ own_cell h + index → index ≤ length h.draft → index < 22
     → length h.known.seen < h.capacity
-    → Allows (Rules sizes) slots id (seated h) word (λ n. n) (Tells (Finds (Load word) h))
-find_step sizes slots id word index h at along below room state r homes here small =
-    let n = get_or state.words word 0 in
+    → Allows (Rules sizes) slots id (seated h) word (λ n. n) (Tells (Finds word h))
+find_step sizes slots id word index h at along below room =
     let back : word - own_cell h ≡ index = omega arith in
     let behind : word ≢ 0 = λ e. omega arith in
+    load_step sizes slots id word h (Finds word h)
+    (λ words views r here.
+    let n = get_or words word 0 in
     dite (ℕ_discrete n 0)
     (λ blank. (
-      One (drafted h (word - own_cell h) 0),
-      keeps,
-      tt,
-      subst (λ new. ChainRule sizes (set state.words word n) (set state.views id (One (drafted h (word - own_cell h) new)))) blank
-          (subst (λ i. ChainRule sizes (set state.words word n) (set state.views id (One (drafted h i n)))) (sym back)
-          (subst (λ w. ChainRule sizes (set state.words w n) (set state.views id (One (drafted h index n)))) (sym at)
-          (draft_keeps sizes state.words state.views r id h index n here along below room))),
-      (drafted h (word - own_cell h) 0, refl, (behind, (λ _. refl), (λ other. absurd (other blank)))),
+      drafted h (word - own_cell h) 0,
+      subst (λ ws. ChainRule sizes ws (set views id (One (drafted h (word - own_cell h) 0)))) (set-get_or words word 0)
+          (subst (λ new. ChainRule sizes (set words word n) (set views id (One (drafted h (word - own_cell h) new)))) blank
+          (subst (λ i. ChainRule sizes (set words word n) (set views id (One (drafted h i n)))) (sym back)
+          (subst (λ w. ChainRule sizes (set words w n) (set views id (One (drafted h index n)))) (sym at)
+          (draft_keeps r id h index n here along below room).0))),
+      (behind, (λ _. refl), (λ other. absurd (other blank))),
     ))
-    (λ other. (
-      One h,
-      keeps,
-      tt,
-      same_seat sizes state.words state.views r id word h here,
-      (h, refl, (behind, (λ blank. absurd (other blank)), (λ _. refl))),
-    ))
+    (λ other. (h, unmoved r id h here, (behind, (λ blank. absurd (other blank)), (λ _. refl)))))
 
 pub exchange_step : (sizes : Sizes) (slots id old own : ℕ) (h : Hand) (entry : Entry) → old ≡ newest_of h.sessions h.known.seen
     → own ≡ name_at h.sessions (length h.known.seen) h.known.number
     → IsEntry entry → entry.session ≡ h.known.number → h.draft ≡ old ∷ words_of entry → length h.known.seen < h.capacity
-    → Allows (Rules sizes) slots id (seated h) 0 (λ n. either (eqb n old) own n) (Tells (Exchanges (Exchange 0 old own (some entry)) h))
+    → Allows (Rules sizes) slots id (seated h) 0 (λ n. either (eqb n old) own n) (Tells (Exchanges 0 old own (some entry) h))
 exchange_step sizes slots id old own h entry last name is mine whole room state r homes here small =
     let n = get_or state.words 0 0 in
-    let k = (known sizes state.words state.views r id h here).fact_is in
+    let k = (known r id h here).fact_is in
     let capacity = k.capacity in
     dite (ℕ_discrete n old)
     (λ e.
-    let all = all_seen sizes state.words state.views r h k (sym last ∙ sym e) in
+    let all = all_seen r h k (sym last ∙ sym e) in
     let lengths : length h.known.seen ≡ length r.log = ap length all in
     let own_is : name_at sizes.sessions (length r.log) h.known.number ≡ own =
     sym (name ∙ ap (λ s. name_at s (length h.known.seen) h.known.number) k.sessions ∙ ap (λ n. name_at sizes.sessions n h.known.number) lengths) in
-    let link : old ≡ newest_of sizes.sessions r.log = sym e ∙ r.newest in (
+    let link : old ≡ newest_of sizes.sessions r.log = sym e ∙ r.spelled.newest in (
       One (won h entry),
       keeps,
       tt,
       exchanged n old own (λ w. ChainRule sizes (set state.words 0 w) (set state.views id (One (won h entry))))
           (λ f. subst (λ w. ChainRule sizes (set state.words 0 w) (set state.views id (One (won h entry)))) own_is
-          (win_keeps sizes state.words state.views r id h entry here all is mine (whole ∙ ap (λ name. name ∷ words_of entry) link) (omega arith)))
+          (win_keeps r id h entry here all is mine (whole ∙ ap (λ name. name ∷ words_of entry) link) (omega arith)).0)
           (λ ne. absurd (ne e)),
       (won h entry, refl, (refl, last, name, (λ f. refl), (λ ne. absurd (ne e)))),
     ))
@@ -317,7 +257,7 @@ exchange_step sizes slots id old own h entry last name is mine whole room state 
       tt,
       exchanged n old own (λ w. ChainRule sizes (set state.words 0 w) (set state.views id (One (lost h r.log)))) (λ f. absurd (ne f))
           (λ f. loaded sizes state.words 0 (set state.views id (One (lost h r.log)))
-          (seen_keeps sizes state.words state.views r id h (lost h r.log) here refl refl refl refl refl refl)),
+          (seen_keeps r id h (lost h r.log) here refl refl refl refl refl refl)),
       (
         lost h r.log,
         refl,
@@ -329,23 +269,16 @@ exchange_step sizes slots id old own h entry last name is mine whole room state 
           (λ f. (
             r.log,
             refl,
-            newest_by sizes state.words state.views r h k.sessions,
-            history sizes state.words state.views r h k,
-            more_there sizes state.words state.views r h k (λ same. ne (sym same ∙ sym last)),
+            newest_by r h k.sessions,
+            history r h k,
+            more_there r h k (λ same. ne (sym same ∙ sym last)),
           )),
         ),
       ),
     ))
 
--- who looks has seen the whole history, which stays
-pub looked_log : (sizes : Sizes) (words words' : List ℕ) (views views' : List View) (r : ChainRule sizes words views) (after : ChainRule sizes words' views')
+pub look_sees : (sizes : Sizes) (words words' : List ℕ) (views views' : List View) (r : ChainRule sizes words views) (after : ChainRule sizes words' views')
     (step : Atomic) (found id : ℕ) (old new : Hand) → Does step words found words'
     → Counts newest_for try_word step found old new → new.known.looks ≢ old.known.looks → get_elem? views' id ≡ some (One new)
     → (new.known.seen ≡ after.log) × (after.log ≡ r.log)
-looked_log sizes words words' views views' r after step found id old new does counts rose here =
-    let look = look_is newest_for try_word step found old new words words' does counts rose in
-    subst (λ ws. (after : ChainRule sizes ws views') → (new.known.seen ≡ after.log) × (after.log ≡ r.log)) (sym look.1)
-    (λ after. (
-      all_seen sizes words views' after new (known sizes words views' after id new here).fact_is (sym look.0),
-      one_log sizes words views r words views' views after r,
-    )) after
+look_sees sizes = looked_log newest_for try_word (one_log sizes) (λ words views r h k same. all_seen r h k (sym same))

@@ -8,11 +8,11 @@ use Rattle.xa_words.proofs.Spelling.{one_entry, length-words_of}
 use Rattle.decision_log.specs.declared.sizes.Sizes.{Sizes}
 use Rattle.decision_log.specs.declared.view.View.{View}
 use Rattle.decision_log.specs.Draft.{Holds}
-use Rattle.decision_log.proofs.Histories.{take_next}
+use Rattle.decision_log.proofs.Histories.{there, take_next}
 use Rattle.chain_log.specs.Cells.{name_at, cell_at, name_before, newest_of}
 use Rattle.chain_log.specs.Chain.{Walk, Chain}
 use Rattle.chain_log.specs.ChainRule.{ChainRule}
-use Rattle.chain_log.proofs.Names.{there, name_zero, name_next, name_low}
+use Rattle.chain_log.proofs.Names.{name_zero, name_next, name_low}
 
 -- the first of some words, and the others
 holds_first : (words : List ℕ) (at word : ℕ) (rest : List ℕ) → Holds words at (word ∷ rest) → slice_index words at ≡ word
@@ -32,7 +32,7 @@ module _ (sizes : Sizes) (words : List ℕ) (views : List View) (r : ChainRule s
   walk_below (suc row) within =
       let t = there r.log row (omega arith) in
       let e = t.0 in
-      let cell = r.cells row e t.1 in
+      let cell = r.spelled.cells row e t.1 in
       let is = (r.entries row e t.1).0 in
       let low = name_low sizes.sessions row e.session is.first_session in
       let turned : reverse (take (suc row) r.log) ≡ e ∷ reverse (take row r.log) =
@@ -49,7 +49,7 @@ module _ (sizes : Sizes) (words : List ℕ) (views : List View) (r : ChainRule s
 
   pub chain_of : Chain words r.log
   chain_of =
-      subst (λ name. Walk words name (reverse r.log)) (sym r.newest)
+      subst (λ name. Walk words name (reverse r.log)) (sym r.spelled.newest)
       (subst (λ list. Walk words (newest_of sizes.sessions r.log) (reverse list)) (take_all (length r.log) r.log (omega arith))
       (walk_below (length r.log) (omega arith)))
 

@@ -9,10 +9,10 @@ use Rattle.std.proofs.lemmas.List.{length-set, get_or-set_same, get_or-set_other
 use Rattle.xa_words.specs.Entry.{Entry}
 use Rattle.decision_log.specs.History.{Begins}
 use Rattle.decision_log.specs.Known.{AllOf}
-use Rattle.decision_log.proofs.Histories.{get_begins, begins_append}
+use Rattle.decision_log.proofs.Histories.{there, get_begins, begins_append}
 use Rattle.chain_log.specs.Cells.{name_at, session_at, name_before}
 use Rattle.chain_log.specs.Columns.{HasColumns}
-use Rattle.chain_log.proofs.Names.{there, session_there, ranged_all, get_end}
+use Rattle.chain_log.proofs.Names.{session_there, ranged_all, get_end}
 
 -- the column of a name
 pub column_of_name : (sessions row session : ℕ) → 1 ≤ session → session ≤ sessions → (name_at sessions row session - 1) % sessions + 1 ≡ session

@@ -9,7 +9,7 @@ use Rattle.std.proofs.lemmas.Option.{get_or_from_slice_get, slice_get_within}
 use Rattle.xa_words.specs.Entry.{Entry}
 use Rattle.decision_log.specs.History.{Begins}
 use Rattle.decision_log.specs.Known.{AllOf}
-use Rattle.decision_log.proofs.Histories.{get_begins, some_injective}
+use Rattle.decision_log.proofs.Histories.{there, get_begins, some_injective}
 use Rattle.chain_log.specs.Cells.{word_count, name_at, cell_at, session_at, name_before, newest_of}
 
 -- rows and columns
@@ -84,11 +84,6 @@ row_of_name sessions row session low high =
     ap (λ n. n / sessions) front ∙ add-mul-div_right (session - 1) row (omega arith) ∙ ap (λ n. n + row) (div-eq_of_lt (omega arith)) ∙ zero-add row
 
 -- names below a row
-
-pub there : (xs : List Entry) (row : ℕ) → row < length xs → (entry : Entry) × (slice_get xs row ≡ Some entry)
-there [] row below = absurd (omega arith)
-there (x ∷ xs) zero below = (x, refl)
-there (x ∷ xs) (suc row) below = there xs row (omega arith)
 
 pub session_there : (log : List Entry) (row : ℕ) (entry : Entry) → slice_get log row ≡ Some entry → session_at log row ≡ entry.session
 unfolding session_at

@@ -1,14 +1,13 @@
 -- What each step of a chain does to the pass that takes it, and what it tells.
 --     looked, won, lost       the pass after a step
---     Sees, Reads, Finds, Drafts, Exchanges      the steps, each with its word and its kind
+--     Sees, Reads, Finds, Drafts, Exchanges      the steps, each by its word, its operands, the pass before, what was found and the pass after
 use Rattle.std.specs.Prelude.{◌≡◌, ◌≢◌, ◌<◌, ◌+◌, ◌-◌, ℕ, List, [], ◌∷◌, ◌++◌, length, slice_get, slice_index, Some}
-use mathlib.Core.Option.{none, some}
+use mathlib.Core.Option.{Option, none, some}
 use Rattle.xa_words.specs.Entry.{Entry, IsEntry}
 use Rattle.xa_words.specs.Words.{words_of}
 use Rattle.decision_log.specs.declared.view.Hand.{Hand}
 use Rattle.decision_log.specs.Draft.{drafted}
 use Rattle.decision_log.specs.Observed.{HistoryIs}
-use Rattle.decision_log.specs.Atomic.{Atomic, Load, Store, Exchange}
 use Rattle.chain_log.specs.Cells.{name_at, cell_at, name_before, newest_of}
 use Rattle.chain_log.specs.ChainRule.{own_cell, try_word, newest_for}
 
@@ -50,41 +49,31 @@ lost h seen = record {
 }
 
 -- a load of word 0, the newest cell's name
-abbrev pub Sees : Atomic → Hand → ℕ → Hand → Type 0
-Sees (Load word) old found new =
+abbrev pub Sees : ℕ → Hand → ℕ → Hand → Type 0
+Sees word old found new =
     (word ≡ 0) × (seen : List Entry) × (new ≡ looked old seen) × (found ≡ newest_of old.sessions seen) × HistoryIs old seen
-Sees (Store word value) old found new = ⊥
-Sees (Exchange word from to said) old found new = ⊥
 
 -- a load of a word of a cell; one of the cell of an entry that was seen is its link or one of the entry's words
-abbrev pub Reads : Atomic → Hand → ℕ → Hand → Type 0
-Reads (Load word) old found new =
+abbrev pub Reads : ℕ → Hand → ℕ → Hand → Type 0
+Reads word old found new =
     (word ≢ 0) × (new ≡ old)
     × ((row index : ℕ) (entry : Entry) → word ≡ cell_at (name_at old.sessions row entry.session) + index → index < 22
     → slice_get old.known.seen row ≡ Some entry
     → IsEntry entry × (found ≡ slice_index (name_before old.sessions old.known.seen row ∷ words_of entry) index))
-Reads (Store word value) old found new = ⊥
-Reads (Exchange word from to said) old found new = ⊥
 
 -- a load of a word of the own cell: a 0 that it finds is the draft's next word, without a store
-abbrev pub Finds : Atomic → Hand → ℕ → Hand → Type 0
-Finds (Load word) old found new = (word ≢ 0) × (found ≡ 0 → new ≡ drafted old (word - own_cell old) 0) × (found ≢ 0 → new ≡ old)
-Finds (Store word value) old found new = ⊥
-Finds (Exchange word from to said) old found new = ⊥
+abbrev pub Finds : ℕ → Hand → ℕ → Hand → Type 0
+Finds word old found new = (word ≢ 0) × (found ≡ 0 → new ≡ drafted old (word - own_cell old) 0) × (found ≢ 0 → new ≡ old)
 
 -- a store of a word into the own cell
-abbrev pub Drafts : Atomic → Hand → ℕ → Hand → Type 0
-Drafts (Load word) old found new = ⊥
-Drafts (Store word value) old found new = new ≡ drafted old (word - own_cell old) value
-Drafts (Exchange word from to said) old found new = ⊥
+abbrev pub Drafts : ℕ → ℕ → Hand → ℕ → Hand → Type 0
+Drafts word value old found new = new ≡ drafted old (word - own_cell old) value
 
 -- an exchange of word 0 from the last name that was seen to the own cell's, which is a try: the announced entry is added only where that name was found, and
 -- else more was seen
-abbrev pub Exchanges : Atomic → Hand → ℕ → Hand → Type 0
-Exchanges (Load word) old found new = ⊥
-Exchanges (Store word value) old found new = ⊥
-Exchanges (Exchange word from to none) old found new = ⊥
-Exchanges (Exchange word from to (some entry)) old found new =
+abbrev pub Exchanges : ℕ → ℕ → ℕ → Option Entry → Hand → ℕ → Hand → Type 0
+Exchanges word from to none old found new = ⊥
+Exchanges word from to (some entry) old found new =
     (word ≡ try_word) × (from ≡ newest_for old) × (to ≡ name_at old.sessions (length old.known.seen) old.known.number) × (found ≡ from → new ≡ won old entry)
     × (found ≢ from → (seen : List Entry) × (new ≡ lost old seen) × (found ≡ newest_of old.sessions seen) × HistoryIs old seen
     × (length old.known.seen < length seen))

@@ -1,6 +1,5 @@
 -- A seat at a chain.
 --     IsSeat          it is a seat of this log, and knows one pass
---     IsRest          the same with the passes that were not issued
 --     IsOurs          the pass has this log's sizes, one of its numbers, and has seen what it can have
 use Rattle.std.specs.Prelude.{◌≡◌, ◌≤◌, length}
 use Rattle.atomic_table.specs.declared.shared.Seat.{Seat}
@@ -8,16 +7,12 @@ use Rattle.xa_words.specs.Entry.{Entry}
 use Rattle.decision_log.specs.declared.view.View.{View}
 use Rattle.decision_log.specs.declared.view.Hand.{Hand}
 use Rattle.decision_log.specs.Known.{AllOf}
-use Rattle.decision_log.specs.AtTable.{KnowsOne, KnowsRest}
+use Rattle.decision_log.specs.AtTable.{KnowsOne}
 use Rattle.chain_log.specs.declared.chain.ChainLog.{ChainLog}
 
 -- it is a seat of this log, and knows one pass
 abbrev pub IsSeat : ChainLog → Seat Entry View → Type 0
 IsSeat log seat = KnowsOne log.table.inner.shared.table_id seat
-
--- it is a seat of this log, and knows the passes that weren't issued
-abbrev pub IsRest : ChainLog → Seat Entry View → Type 0
-IsRest log seat = KnowsRest log.table.inner.shared.table_id seat
 
 -- what is so of each of the log's passes, also within a call
 pub record IsOurs (log : ChainLog) (hand : Hand) : Type 0 where

@@ -82,11 +82,7 @@ impl DecisionLog for ChainLog {
     }
 
     fn meet(&self, first: &mut ChainPass, second: &mut ChainPass) {
-        let spare = self.table.spare(&mut first.seat);
-        let other = std::mem::replace(&mut second.seat, spare);
-        self.table.join(&mut first.seat, other);
-        let newest = self.table.load_both(&mut first.seat);
-        second.seat = self.table.split(&mut first.seat);
+        let newest = self.table.meet(&mut first.seat, &mut second.seat);
         let second_count = row_count(self.sessions, second.newest);
         if second_count < row_count(self.sessions, first.newest) {
             self.fill(&mut second.seat, &mut second.columns, second_count, newest);

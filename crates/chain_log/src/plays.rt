@@ -1,4 +1,5 @@
 //! What each step tells. These types are for the proofs alone.
+ghost use Rattle.decision_log.specs.Atomic.{AtLoad, AtStore, AtExchange};
 ghost use Rattle.chain_log.specs.ChainPlays.{Sees, Reads, Finds, Drafts, Exchanges};
 ghost use Rattle.chain_log.specs.ChainCounts.{see_counts, read_counts, find_counts, draft_counts, exchange_counts};
 
@@ -9,7 +10,7 @@ use decision_log::LogPlay;
 pub(crate) struct SeeAll;
 
 impl LogPlay<Links> for SeeAll {
-    ghost then = { Sees };
+    ghost then = { AtLoad Sees };
 
     ghost counts = { see_counts };
 }
@@ -18,7 +19,7 @@ impl LogPlay<Links> for SeeAll {
 pub(crate) struct ReadWord;
 
 impl LogPlay<Links> for ReadWord {
-    ghost then = { Reads };
+    ghost then = { AtLoad Reads };
 
     ghost counts = { read_counts };
 }
@@ -27,7 +28,7 @@ impl LogPlay<Links> for ReadWord {
 pub(crate) struct FindBlank;
 
 impl LogPlay<Links> for FindBlank {
-    ghost then = { Finds };
+    ghost then = { AtLoad Finds };
 
     ghost counts = { find_counts };
 }
@@ -36,7 +37,7 @@ impl LogPlay<Links> for FindBlank {
 pub(crate) struct DraftWord;
 
 impl LogPlay<Links> for DraftWord {
-    ghost then = { Drafts };
+    ghost then = { AtStore Drafts };
 
     ghost counts = { draft_counts };
 }
@@ -45,7 +46,7 @@ impl LogPlay<Links> for DraftWord {
 pub(crate) struct Publish;
 
 impl LogPlay<Links> for Publish {
-    ghost then = { Exchanges };
+    ghost then = { AtExchange Exchanges };
 
     ghost counts = { exchange_counts };
 }

@@ -52,6 +52,12 @@ pub get_begins : (xs ys : List Entry) (place : ℕ) (entry : Entry) → Begins x
 get_begins xs ys place entry begins is =
     subst (λ list. slice_get list place ≡ Some entry) (behind xs ys begins) (get_append xs (drop (length xs) ys) place entry is)
 
+-- below the length there is an entry
+pub there : (xs : List Entry) (place : ℕ) → place < length xs → (entry : Entry) × (slice_get xs place ≡ Some entry)
+there [] place below = absurd (omega arith)
+there (x ∷ xs) zero below = (x, refl)
+there (x ∷ xs) (suc place) below = there xs place (omega arith)
+
 pub some_injective : (a b : Entry) → Some a ≡ Some b → a ≡ b
 some_injective a b is = cc
 

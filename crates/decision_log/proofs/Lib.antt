@@ -1,11 +1,13 @@
 pub mod Histories
 pub mod SeatLemmas
-pub mod SeatRule
 pub mod SeatSteps
+pub mod Drafts
 pub mod MachineLaw
 pub mod MachineReach
 pub mod MachineSeats
 pub mod Counting
+pub mod LogRules
+pub mod SeatRule
 pub mod TurnSteps
 pub mod TurnStores
 pub mod TurnSeats

@@ -1,176 +1,203 @@
--- The rule of a log is kept where seats are split and joined, where a pass is issued, and where two passes meet: once, for every rule that has seats.
---     KnownOf         what every rule says of a pass
---     HasSeats        what a rule has to have, for some words and seats
---     seats_kept      a rule that has it keeps seats
-use Rattle.std.proofs.Common.{◌≡◌, ℕ, ◌+◌, ◌<◌, ◌≤◌, List, [], ◌∷◌, ◌++◌, length, set, get_or, refl, sym, subst, Some, arith}
-use Rattle.std.specs.Prelude.{slice_get, slice_index}
-use mathlib.Core.Option.{some}
+-- The rule of a log is kept where seats are split and joined, where a pass is issued and where passes meet, and words of zeros keep it: once, for every log.
+--     HasWords        what a log has to show of its own words
+--     seats_kept      seats may then be split and joined, and passes meet
+--     opens_seats     and the log can begin
+use Rattle.std.proofs.Common.{◌≡◌, ℕ, zero, suc, ◌+◌, ◌<◌, ◌≤◌, List, [], ◌∷◌, ◌++◌, length, set, refl, sym, subst, Some, None, arith}
+use Rattle.std.specs.Prelude.{slice_index}
+use mathlib.Core.Option.{some, some-injective, some-ne-none}
 use mathlib.Core.Logic.{dite}
 use native.Mathlib.Decide.{dec_le}
 use lib.ListN.{get_elem?}
 use Rattle.std.proofs.lemmas.List.{set-get_or}
-use Rattle.atomic_table.specs.Table.{State, keeps, Allows}
+use Rattle.atomic_table.specs.Table.{keeps, Allows}
 use Rattle.xa_words.specs.Entry.{Entry}
 use Rattle.decision_log.specs.declared.view.Hand.{Hand}
 use Rattle.decision_log.specs.declared.view.View.{View}
 use Rattle.decision_log.specs.declared.view.View.TheVariants.{Spent, One, Two, Rest}
+use Rattle.decision_log.specs.declared.view.Turn.TheVariants.{Without}
 use Rattle.decision_log.specs.declared.sizes.Sizes.{Sizes}
 use Rattle.decision_log.specs.History.{Begins, entries_of}
-use Rattle.decision_log.specs.Known.{AllOf}
-use Rattle.decision_log.specs.Seats.{Seats, following, seated_two}
-use Rattle.decision_log.specs.Observed.{met, HistoryIs}
+use Rattle.decision_log.specs.Seats.{Fits, Seats, newcomer_hand, all_passes, following, seated_two}
+use Rattle.decision_log.specs.Observed.{met}
 use Rattle.decision_log.specs.Atomic.{Meets}
-use Rattle.decision_log.specs.AtTable.{KeepsSeats}
-use Rattle.decision_log.proofs.Histories.{begins_itself, begins_between, get_begins, all_from_places, own_between, own_none, length_begins}
+use Rattle.decision_log.specs.AtTable.{KeepsSeats, OpensSeats}
+use Rattle.decision_log.specs.LogRule.{KnowsLog, LogRule}
+use Rattle.decision_log.proofs.Histories.{begins_itself, begins_nothing, begins_between, own_between, own_none, length_begins}
 use Rattle.decision_log.proofs.SeatLemmas.{step_two, join_seats, split_two, split_one, deal_seat, moved}
+use Rattle.decision_log.proofs.LogRules.{Rules, reseated, among}
 
--- what it knows fits the history
-pub record KnownOf (sizes : Sizes) (log : List Entry) (hand : Hand) : Type 0 where
-  pub sessions : hand.sessions ≡ sizes.sessions
-  pub capacity : hand.capacity ≡ sizes.capacity
-  pub seen : Begins hand.known.seen log
-  pub mine : entries_of hand.known.number log ≡ hand.known.mine
-  pub part : entries_of hand.known.number hand.known.seen ≡ hand.known.mine
+-- a pass with no draft and no turn knows nothing of the words; and what word 0 is where a pass has seen the whole history
+pub record HasWords (Spells : Sizes → List ℕ → List Entry → Type 0) (KnowsWords : List ℕ → List Entry → Hand → Type 0) (newest : Hand → ℕ) : Type 0 where
+  pub idle : (words : List ℕ) (log : List Entry) (hand : Hand) → hand.draft ≡ [] → hand.turn ≡ Without → KnowsWords words log hand
+  pub newest_is : (sizes : Sizes) (words : List ℕ) (log : List Entry) (hand : Hand) → Spells sizes words log → hand.sessions ≡ sizes.sessions
+      → slice_index words 0 ≡ newest (met hand log)
 
--- a history of the log's sessions, a fact of each pass at its seat, and that seats alone may change where each pass keeps its fact
-pub record HasSeats (Rule : List View → Type 0) (Knows : List Entry → Hand → Type 0) (newest : Hand → ℕ) (sizes : Sizes) (words : List ℕ)
-    (views : List View) : Type 0 where
-  pub log : List Entry
-  pub home : ℕ → ℕ
-  pub next : ℕ
-  pub room : length log ≤ sizes.capacity
-  pub entries : (place : ℕ) (entry : Entry) → slice_get log place ≡ Some entry → (1 ≤ entry.session) × (entry.session < next)
-  pub begun : 0 < next
-  pub within : next ≤ sizes.sessions + 1
-  pub seats : Seats (Knows log) home next views
-  pub known : (hand : Hand) → Knows log hand → KnownOf sizes log hand
-  pub meets : (hand : Hand) (seen : List Entry) → Knows log hand → Begins seen log → entries_of hand.known.number seen ≡ hand.known.mine
-      → Knows log (met hand seen)
-  pub issued : (hand : Hand) → Knows log hand → entries_of (hand.known.number + 1) log ≡ [] → Knows log (following hand)
-  pub newest_is : (hand : Hand) → Knows log hand → slice_index words 0 ≡ newest (met hand log)
-  pub reseated : (home' : ℕ → ℕ) (next' : ℕ) (views' : List View) → next ≤ next' → next' ≤ sizes.sessions + 1 → Seats (Knows log) home' next' views'
-      → Rule views'
+module _ {Spells : Sizes → List ℕ → List Entry → Type 0} {KnowsWords : List ℕ → List Entry → Hand → Type 0} {newest : Hand → ℕ}
+    (has : HasWords Spells KnowsWords newest) where
+  module _ {sizes : Sizes} {words : List ℕ} {views : List View} (r : LogRule Spells KnowsWords sizes words views) where
+    abbrev Rule : List View → Type 0
+    Rule views' = LogRule Spells KnowsWords sizes words views'
 
-module _ (Rule : List View → Type 0) (Knows : List Entry → Hand → Type 0) (newest : Hand → ℕ) (sizes : Sizes) (words : List ℕ) (views : List View)
-    (r : HasSeats Rule Knows newest sizes words views) where
-  -- the rule where no pass is issued
-  rehoused : (home : ℕ → ℕ) (views' : List View) → Seats (Knows r.log) home r.next views' → Rule views'
-  rehoused home views' seats = r.reseated home r.next views' (omega arith) r.within seats
+    abbrev Known : Hand → Type 0
+    Known hand = KnowsLog KnowsWords sizes words r.log hand
 
-  -- all that was seen is of sessions of the log
-  among : (h : Hand) (seen : List Entry) → h.sessions ≡ sizes.sessions → Begins seen r.log → AllOf h.sessions seen
-  among h seen sessions begins =
-      all_from_places (λ entry. (1 ≤ entry.session) × (entry.session ≤ h.sessions)) seen
-      (λ place entry is. let e = r.entries place entry (get_begins seen r.log place entry begins is) in (e.0, omega (arith, e.1, r.within, sessions)))
+    -- where no pass is issued
+    rehoused : (home : ℕ → ℕ) (views' : List View) → Seats Known home r.next views' → Rule views'
+    rehoused home views' seats = reseated r home r.next views' (omega arith) r.within seats
 
-  spare : (id : ℕ) (g : Hand) → get_elem? views id ≡ some (One g) → Rule (set views id (One g) ++ Spent ∷ [])
-  spare id g here = rehoused r.home (set views id (One g) ++ Spent ∷ []) (split_one (Knows r.log) r.home r.next views id g r.seats here)
+    spare : (id : ℕ) (g : Hand) → get_elem? views id ≡ some (One g) → Rule (set views id (One g) ++ Spent ∷ [])
+    spare id g here = rehoused r.home (set views id (One g) ++ Spent ∷ []) (split_one Known r.home r.next views id g r.seats here)
 
-  split : (id : ℕ) (g h : Hand) → get_elem? views id ≡ some (Two g h) → Rule (set views id (One g) ++ One h ∷ [])
-  split id g h here =
-      rehoused (moved r.home h.known.number (length views)) (set views id (One g) ++ One h ∷ [])
-      (split_two (Knows r.log) r.home r.next views id g h r.seats here)
+    split : (id : ℕ) (g h : Hand) → get_elem? views id ≡ some (Two g h) → Rule (set views id (One g) ++ One h ∷ [])
+    split id g h here =
+        rehoused (moved r.home h.known.number (length views)) (set views id (One g) ++ One h ∷ [])
+        (split_two Known r.home r.next views id g h r.seats here)
 
-  join : (id other : ℕ) (g h : Hand) → get_elem? views id ≡ some (One g) → (other ≡ id → ⊥) → get_elem? (set views id (Two g h)) other ≡ some (One h)
-      → Rule (set (set views id (Two g h)) other Spent)
-  join id other g h here apart there =
-      rehoused (moved r.home h.known.number id) (set (set views id (Two g h)) other Spent)
-      (join_seats (Knows r.log) r.home r.next views id other g h r.seats here apart there)
+    join : (id other : ℕ) (g h : Hand) → get_elem? views id ≡ some (One g) → (other ≡ id → ⊥) → get_elem? (set views id (Two g h)) other ≡ some (One h)
+        → Rule (set (set views id (Two g h)) other Spent)
+    join id other g h here apart there =
+        rehoused (moved r.home h.known.number id) (set (set views id (Two g h)) other Spent)
+        (join_seats Known r.home r.next views id other g h r.seats here apart there)
 
-  issue : (id : ℕ) (h : Hand) → h.known.number ≤ h.sessions → get_elem? views id ≡ some (Rest h) → Rule (set views id (Rest (following h)) ++ One h ∷ [])
-  issue id h low here =
-      let p = r.seats id (Rest h) here in
-      let k = r.known h p.2 in
-      let number = p.1 in
-      r.reseated (moved r.home h.known.number (length views)) (r.next + 1) (set views id (Rest (following h)) ++ One h ∷ []) (omega arith)
-      (omega (arith, number, k.sessions, low))
-      (deal_seat (Knows r.log) r.home r.next views id h r.begun r.seats here
-      (r.issued h p.2 (own_none (h.known.number + 1) r.log (λ place entry is. let e = (r.entries place entry is).1 in λ same. omega arith))))
+    -- the next pass knows the history of which it has seen nothing
+    issued : (h : Hand) → Known h → h.known.number ≡ r.next → Known (following h)
+    issued h k number = record {
+      sessions = k.sessions;
+      capacity = k.capacity;
+      seen = begins_nothing r.log;
+      mine = own_none (h.known.number + 1) r.log (λ place entry is. let e = (r.entries place entry is).1 in λ same. omega arith);
+      part = refl;
+      own = has.idle words r.log (following h) refl refl;
+    }
 
-  meet_keeps : (id : ℕ) (g h : Hand) (seen : List Entry) → get_elem? views id ≡ some (Two g h) → Begins seen r.log
-      → entries_of h.known.number seen ≡ h.known.mine → Rule (set views id (Two g (met h seen)))
-  meet_keeps id g h seen here begins part =
-      let p = r.seats id (Two g h) here in
-      rehoused r.home (set views id (Two g (met h seen)))
-      (step_two (Knows r.log) r.home r.next views id g h g (met h seen) r.seats here refl refl p.0.fact_is (r.meets h seen p.1.fact_is begins part))
+    issue : (id : ℕ) (h : Hand) → h.known.number ≤ h.sessions → get_elem? views id ≡ some (Rest h) → Rule (set views id (Rest (following h)) ++ One h ∷ [])
+    issue id h low here =
+        let p = r.seats id (Rest h) here in
+        let number = p.1 in
+        let sessions = p.2.sessions in
+        reseated r (moved r.home h.known.number (length views)) (r.next + 1) (set views id (Rest (following h)) ++ One h ∷ []) (omega arith)
+        (omega (arith, number, sessions, low))
+        (deal_seat Known r.home r.next views id h r.begun r.seats here (issued h p.2 number))
 
-  -- where the second pass has seen as much as the first it stays, and else it sees all
-  meet : (id : ℕ) (g h : Hand) → get_elem? views id ≡ some (Two g h)
-      → (seen : List Entry) × Rule (set views id (Two g (met h seen))) × Meets newest g h (slice_index words 0) (seated_two g (met h seen))
-  meet id g h here =
-      let p = r.seats id (Two g h) here in
-      let kg = r.known g p.0.fact_is in
-      let kh = r.known h p.1.fact_is in
-      dite (dec_le (length g.known.seen) (length h.known.seen))
-      (λ short.
-      let begins : Begins g.known.seen h.known.seen = begins_between g.known.seen h.known.seen r.log kg.seen kh.seen short in (
-        h.known.seen,
-        meet_keeps id g h h.known.seen here kh.seen kh.part,
-        (
+    meet_keeps : (id : ℕ) (g h : Hand) (seen : List Entry) → get_elem? views id ≡ some (Two g h) → Begins seen r.log
+        → entries_of h.known.number seen ≡ h.known.mine → Rule (set views id (Two g (met h seen)))
+    meet_keeps id g h seen here begins part =
+        let p = r.seats id (Two g h) here in
+        let k = p.1.fact_is in
+        rehoused r.home (set views id (Two g (met h seen)))
+        (step_two Known r.home r.next views id g h g (met h seen) r.seats here refl refl p.0.fact_is
+        (record {
+          sessions = k.sessions;
+          capacity = k.capacity;
+          seen = begins;
+          mine = k.mine;
+          part = part;
+          own = has.idle words r.log (met h seen) refl refl;
+        }))
+
+    -- where the second pass has seen as much as the first it stays, and else it sees all
+    meet : (id : ℕ) (g h : Hand) → get_elem? views id ≡ some (Two g h)
+        → (seen : List Entry) × Rule (set views id (Two g (met h seen))) × Meets newest g h (slice_index words 0) (seated_two g (met h seen))
+    meet id g h here =
+        let p = r.seats id (Two g h) here in
+        let kg = p.0.fact_is in
+        let kh = p.1.fact_is in
+        dite (dec_le (length g.known.seen) (length h.known.seen))
+        (λ short.
+        let begins : Begins g.known.seen h.known.seen = begins_between g.known.seen h.known.seen r.log kg.seen kh.seen short in (
           h.known.seen,
-          refl,
-          (λ longer. absurd (omega arith)),
-          record {
-            begins = begins_itself h.known.seen;
-            whole = begins;
-            of_first = own_between g.known.number g.known.seen h.known.seen r.log g.known.mine begins kh.seen kg.part kg.mine;
-            stays = λ s. refl;
-            room = omega (arith, length_begins h.known.seen r.log kh.seen, r.room, kh.capacity);
-            all = among h h.known.seen kh.sessions kh.seen;
-            part = kh.part;
-          },
-        ),
-      ))
-      (λ longer. (
-        r.log,
-        meet_keeps id g h r.log here (begins_itself r.log) kh.mine,
-        (
+          meet_keeps id g h h.known.seen here kh.seen kh.part,
+          (
+            h.known.seen,
+            refl,
+            (λ longer. absurd (omega arith)),
+            record {
+              begins = begins_itself h.known.seen;
+              whole = begins;
+              of_first = own_between g.known.number g.known.seen h.known.seen r.log g.known.mine begins kh.seen kg.part kg.mine;
+              stays = λ s. refl;
+              room = omega (arith, length_begins h.known.seen r.log kh.seen, r.room, kh.capacity);
+              all = among r h h.known.seen kh.sessions kh.seen;
+              part = kh.part;
+            },
+          ),
+        ))
+        (λ longer. (
           r.log,
-          refl,
-          (λ l. r.newest_is h p.1.fact_is),
-          record {
-            begins = kh.seen;
-            whole = kg.seen;
-            of_first = kg.mine;
-            stays = λ s. absurd (longer s);
-            room = omega (arith, r.room, kh.capacity);
-            all = among h r.log kh.sessions (begins_itself r.log);
-            part = kh.mine;
-          },
-        ),
-      ))
-
-module _ (Rule : Sizes → List ℕ → List View → Type 0) (Knows : Sizes → List ℕ → List Entry → Hand → Type 0) (newest : Hand → ℕ)
-    (each : (sizes : Sizes) (words : List ℕ) (views : List View) → Rule sizes words views
-    → HasSeats (Rule sizes words) (Knows sizes words) newest sizes words views) where
-  abbrev Holds : Sizes → State Entry View → Type 0
-  Holds sizes state = Rule sizes state.words state.views
+          meet_keeps id g h r.log here (begins_itself r.log) kh.mine,
+          (
+            r.log,
+            refl,
+            (λ l. has.newest_is sizes words r.log h r.spelled kh.sessions),
+            record {
+              begins = kh.seen;
+              whole = kg.seen;
+              of_first = kg.mine;
+              stays = λ s. absurd (longer s);
+              room = omega (arith, r.room, kh.capacity);
+              all = among r h r.log kh.sessions (begins_itself r.log);
+              part = kh.mine;
+            },
+          ),
+        ))
 
   -- the load leaves the words
-  meet_step : (sizes : Sizes) (slots id : ℕ) (g h : Hand) → Allows (Holds sizes) slots id (seated_two g h) 0 (λ n. n) (Meets newest g h)
+  meet_step : (sizes : Sizes) (slots id : ℕ) (g h : Hand)
+      → Allows (Rules Spells KnowsWords sizes) slots id (seated_two g h) 0 (λ n. n) (Meets newest g h)
   meet_step sizes slots id g h state r homes here small =
-      let m =
-      meet (Rule sizes state.words) (Knows sizes state.words) newest sizes state.words state.views (each sizes state.words state.views r) id g h here in (
+      let m = meet r id g h here in (
         Two g (met h m.0),
         keeps,
         tt,
-        subst (λ words. Rule sizes words (set state.views id (Two g (met h m.0)))) (sym (set-get_or state.words 0 0)) m.1,
+        subst (λ words. LogRule Spells KnowsWords sizes words (set state.views id (Two g (met h m.0)))) (sym (set-get_or state.words 0 0)) m.1,
         m.2,
       )
 
-  pub seats_kept : KeepsSeats Holds newest
+  pub seats_kept : KeepsSeats (Rules Spells KnowsWords) newest
   seats_kept = record {
-    spare =
-        λ sizes id g state r here. spare (Rule sizes state.words) (Knows sizes state.words) newest sizes state.words state.views
-        (each sizes state.words state.views r) id g here;
-    join =
-        λ sizes id other g h state r here apart there. join (Rule sizes state.words) (Knows sizes state.words) newest sizes state.words state.views
-        (each sizes state.words state.views r) id other g h here apart there;
-    split =
-        λ sizes id g h state r here. split (Rule sizes state.words) (Knows sizes state.words) newest sizes state.words state.views
-        (each sizes state.words state.views r) id g h here;
-    issue =
-        λ sizes id h low state r here. issue (Rule sizes state.words) (Knows sizes state.words) newest sizes state.words state.views
-        (each sizes state.words state.views r) id h low here;
+    spare = λ sizes id g state r here. spare r id g here;
+    join = λ sizes id other g h state r here apart there. join r id other g h here apart there;
+    split = λ sizes id g h state r here. split r id g h here;
+    issue = λ sizes id h low state r here. issue r id h low here;
     meet = meet_step;
   }
+
+  -- an empty log, none of whose passes is given out
+  at_opening : (sizes : Sizes) (words : List ℕ) → Spells sizes words []
+      → LogRule Spells KnowsWords sizes words (all_passes sizes ∷ [])
+  at_opening sizes words spelled = record {
+    log = [];
+    home = λ n. 0;
+    next = 1;
+    room = omega arith;
+    spelled = spelled;
+    entries = λ place entry is. absurd (never entry is);
+    begun = omega arith;
+    within = omega arith;
+    seats = first;
+  }
+    where
+      never : (entry : Entry) → None ≡ Some entry → ⊥
+      never entry is = cc
+
+      first : Seats (KnowsLog KnowsWords sizes words []) (λ n. 0) 1 (all_passes sizes ∷ [])
+      first zero view is =
+          subst (λ v. Fits (KnowsLog KnowsWords sizes words []) (λ n. 0) 1 0 v) (some-injective (all_passes sizes) view is) (
+            refl,
+            refl,
+            record {
+              sessions = refl;
+              capacity = refl;
+              seen = refl;
+              mine = refl;
+              part = refl;
+              own = has.idle words [] (newcomer_hand sizes.sessions sizes.capacity 1) refl refl;
+            },
+          )
+      first (suc id) view is = absurd (some-ne-none view (sym is))
+
+  pub opens_seats : (sizes : Sizes) (word_count : ℕ) → 0 < word_count
+      → ((words : List ℕ) → length words ≡ word_count → slice_index words 0 ≡ 0 → Spells sizes words [])
+      → OpensSeats (Rules Spells KnowsWords) all_passes newest sizes word_count
+  opens_seats sizes word_count low spelled =
+      record { some = low; all = refl; zeros = λ words wide zeros. at_opening sizes words (spelled words wide zeros); keeps = seats_kept }

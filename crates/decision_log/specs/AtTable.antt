@@ -3,17 +3,21 @@
 --     KnowsTwo        the same with two passes
 --     KnowsRest       the same with those that were not issued
 --     KnowsNone       the same with no pass
+--     identity_at     the identity of a log at a table
+--     belongs_at      of which log the pass at a seat is
 --     KeepsSeats      a rule is kept where seats are split and joined, where a pass is issued, and where two passes meet
-use Rattle.std.specs.Prelude.{◌≡◌, ◌≤◌, ℕ}
+--     OpensSeats      words of zeros keep a rule where one seat knows all passes, and so does all that follows
+use Rattle.std.specs.Prelude.{◌≡◌, ◌<◌, ◌≤◌, ℕ, List, [], length, slice_index}
 use Rattle.atomic_table.specs.Seated.{TableId}
-use Rattle.atomic_table.specs.Table.{State, Allows, Splits, Joins}
+use Rattle.atomic_table.specs.Table.{State, Allows, Splits, Joins, opening}
 use Rattle.atomic_table.specs.declared.shared.Seat.{Seat}
 use Rattle.xa_words.specs.Entry.{Entry}
 use Rattle.decision_log.specs.declared.view.Hand.{Hand}
 use Rattle.decision_log.specs.declared.view.View.{View}
 use Rattle.decision_log.specs.declared.view.View.TheVariants.{Spent, One, Two, Rest}
 use Rattle.decision_log.specs.declared.sizes.Sizes.{Sizes}
-use Rattle.decision_log.specs.Seats.{hand_of, second_of, seated, seated_two, seated_rest, spent, following}
+use Rattle.decision_log.specs.Known.{LogIdentity}
+use Rattle.decision_log.specs.Seats.{hand_of, second_of, hand, seated, seated_two, seated_rest, spent, all_passes, following}
 use Rattle.decision_log.specs.Atomic.{Meets}
 
 -- a seat at this table that knows one pass
@@ -36,6 +40,14 @@ pub record KnowsNone (table_id : TableId) (seat : Seat Entry View) : Type 0 wher
   pub table : seat.table_id ≡ table_id
   pub held : seat.me ≡ spent
 
+-- a log's table and its sizes
+abbrev pub identity_at : TableId → Sizes → LogIdentity
+identity_at table_id sizes = record { table = table_id; sessions = sizes.sessions; capacity = sizes.capacity }
+
+-- the seat's table, and the sizes that its pass was given
+abbrev pub belongs_at : Seat Entry View → LogIdentity
+belongs_at seat = record { table = seat.table_id; sessions = (hand seat).sessions; capacity = (hand seat).capacity }
+
 -- the rule holds after each of these steps where it held before; a pass is issued only while there are numbers left
 pub record KeepsSeats (holds : Sizes → State Entry View → Type 0) (newest : Hand → ℕ) : Type 0 where
   pub spare : (sizes : Sizes) (id : ℕ) (pass : Hand) → Splits (holds sizes) id (One pass) (One pass) Spent
@@ -45,3 +57,10 @@ pub record KeepsSeats (holds : Sizes → State Entry View → Type 0) (newest : 
       → Splits (holds sizes) id (Rest pass) (Rest (following pass)) (One pass)
   pub meet : (sizes : Sizes) (slots id : ℕ) (first second : Hand)
       → Allows (holds sizes) slots id (seated_two first second) 0 (λ n. n) (Meets newest first second)
+
+-- a log begins with words of zeros and one seat that knows all passes, and seats are split and joined from there on
+pub record OpensSeats (holds : Sizes → State Entry View → Type 0) (first : Sizes → View) (newest : Hand → ℕ) (sizes : Sizes) (word_count : ℕ) : Type 0 where
+  pub some : 0 < word_count
+  pub all : first sizes ≡ all_passes sizes
+  pub zeros : (words : List ℕ) → length words ≡ word_count → slice_index words 0 ≡ 0 → holds sizes (opening words [] (first sizes))
+  pub keeps : KeepsSeats holds newest

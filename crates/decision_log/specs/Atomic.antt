@@ -1,5 +1,6 @@
 -- One atomic step of a pass on the words of a log, and how the counts of the pass rise by it.
 --     Atomic          a load of a word, a store into it, or an exchange of it
+--     AtLoad, AtStore, AtExchange      what a play tells that has steps of one kind alone
 --     Does            what the step finds, and the words after it
 --     IsLoad          the step loads this word
 --     IsTry           the step exchanges this word
@@ -20,6 +21,24 @@ pub data Atomic : Type 0 where
   Load : ℕ → Atomic
   Store : ℕ → ℕ → Atomic
   Exchange : ℕ → ℕ → ℕ → Option Entry → Atomic
+
+-- a play of loads
+abbrev pub AtLoad : (ℕ → Hand → ℕ → Hand → Type 0) → Atomic → Hand → ℕ → Hand → Type 0
+AtLoad tells (Load word) old found new = tells word old found new
+AtLoad tells (Store word value) old found new = ⊥
+AtLoad tells (Exchange word from to said) old found new = ⊥
+
+-- a play of stores
+abbrev pub AtStore : (ℕ → ℕ → Hand → ℕ → Hand → Type 0) → Atomic → Hand → ℕ → Hand → Type 0
+AtStore tells (Load word) old found new = ⊥
+AtStore tells (Store word value) old found new = tells word value old found new
+AtStore tells (Exchange word from to said) old found new = ⊥
+
+-- a play of exchanges
+abbrev pub AtExchange : (ℕ → ℕ → ℕ → Option Entry → Hand → ℕ → Hand → Type 0) → Atomic → Hand → ℕ → Hand → Type 0
+AtExchange tells (Load word) old found new = ⊥
+AtExchange tells (Store word value) old found new = ⊥
+AtExchange tells (Exchange word from to said) old found new = tells word from to said old found new
 
 -- a load and an exchange find what stood there; an exchange leaves it where it isn't what was asked for
 abbrev pub Does : Atomic → List ℕ → ℕ → List ℕ → Type 0

@@ -9,7 +9,9 @@ pub mod Passes
 pub mod Draft
 pub mod Observed
 pub mod Atomic
+pub mod Counted
 pub mod AtTable
+pub mod LogRule
 pub mod TurnRule
 pub mod TurnPlays
 pub mod TurnCounts

@@ -1,11 +1,12 @@
 -- What opening a log gives, and why it is refused.
---     CanOpen         both sizes are in range
+--     IsCapacity, IsCount, AreSizes      a capacity, a number of sessions, and both, in range
 --     Opens           the passes that a log begins with
 --     Refuses         the only cause of each fault
 use Rattle.std.specs.Prelude.{◌≡◌, ◌≤◌, ◌+◌, ℕ, List, length, slice_get, Some, All}
 use Rattle.decision_log.specs.declared.known.Known.{Known}
 use Rattle.decision_log.specs.declared.fault.OpenFault.{OpenFault}
 use Rattle.decision_log.specs.declared.fault.OpenFault.TheVariants.{CapacityOutOfRange, SessionsOutOfRange, NoMemory}
+use Rattle.decision_log.specs.declared.sizes.Sizes.{Sizes}
 use Rattle.decision_log.specs.Known.{LogIdentity, newcomer}
 
 -- from 1 to 1024 entries (own rule)
@@ -15,6 +16,11 @@ IsCapacity capacity = (1 ≤ capacity) × (capacity ≤ 1024)
 -- from 1 to 16 sessions (own rule)
 abbrev pub IsCount : ℕ → Type 0
 IsCount sessions = (1 ≤ sessions) × (sessions ≤ 16)
+
+-- both are in range
+pub record AreSizes (sizes : Sizes) : Type 0 where
+  pub capacity : IsCapacity sizes.capacity
+  pub sessions : IsCount sizes.sessions
 
 -- the passes of sessions 1 to the last, in order, each of this log and with nothing seen
 pub record Opens {Pass : Type 0} (belongs_to : Pass → LogIdentity) (known : Pass → Known) (capacity sessions : ℕ) (identity : LogIdentity)

@@ -4,6 +4,7 @@
 --     hand, second    the same of a seat's value
 --     seated, seated_two, seated_rest, spent     a seat that knows one pass, two, the rest, or none
 --     newcomer_hand, following      a pass that wasn't given out, and the one after it
+--     all_passes      a seat that knows all passes of a log
 --     left_of, right_of    how a seat is split: two passes into one and one, one pass into it and nothing, the rest into the next pass and those after it
 --     both_of         how two seats are joined
 --     IsPass          a pass between two calls, of a number and with so many entries seen
@@ -20,6 +21,7 @@ use Rattle.decision_log.specs.History.{entries_of}
 use Rattle.decision_log.specs.Known.{newcomer, AllOf}
 use Rattle.decision_log.specs.declared.view.Turn.TheVariants.{Without}
 use Rattle.decision_log.specs.declared.view.Hand.{Hand}
+use Rattle.decision_log.specs.declared.sizes.Sizes.{Sizes}
 use Rattle.decision_log.specs.declared.view.View.{View}
 use Rattle.decision_log.specs.declared.view.View.TheVariants.{Spent, One, Two, Rest}
 
@@ -31,6 +33,10 @@ newcomer_hand sessions capacity number =
 -- the pass of the next number
 abbrev pub following : Hand → Hand
 following hand = newcomer_hand hand.sessions hand.capacity (hand.known.number + 1)
+
+-- a seat that knows all passes: none was given out
+abbrev pub all_passes : Sizes → View
+all_passes sizes = Rest (newcomer_hand sizes.sessions sizes.capacity 1)
 
 -- a seat's pass; any where it knows none
 abbrev pub hand_of : View → Hand

@@ -1,7 +1,8 @@
 -- What each step of a log with a turn does to the pass that takes it, and what it tells.
 --     looked, tried, published, released      the pass after a step
---     Sees, Reads, Takes, Drafts, Publishes, Releases     the steps, each with its word and its kind
+--     Sees, Reads, Takes, Drafts, Publishes, Releases     the steps, each by its word, its operands, the pass before, what was found and the pass after
 use Rattle.std.specs.Prelude.{◌≡◌, ◌≢◌, ◌<◌, ◌+◌, ◌-◌, ℕ, List, [], ◌∷◌, ◌++◌, length, slice_get, slice_index, Some}
+use mathlib.Core.Option.{Option}
 use Rattle.xa_words.specs.Entry.{Entry, IsEntry}
 use Rattle.xa_words.specs.Words.{words_of}
 use Rattle.decision_log.specs.declared.view.Hand.{Hand}
@@ -9,7 +10,6 @@ use Rattle.decision_log.specs.declared.view.Turn.{Turn}
 use Rattle.decision_log.specs.declared.view.Turn.TheVariants.{Without, Won, Fresh}
 use Rattle.decision_log.specs.Draft.{drafted}
 use Rattle.decision_log.specs.Observed.{HistoryIs}
-use Rattle.decision_log.specs.Atomic.{Atomic, Load, Store, Exchange}
 use Rattle.decision_log.specs.TurnRule.{row_at, turn_word}
 
 -- who has the turn and has looked is fresh
@@ -54,43 +54,31 @@ abbrev pub released : Hand → Hand
 released h = record { known = h.known; sessions = h.sessions; capacity = h.capacity; draft = []; turn = Without }
 
 -- a load of word 0, the count
-abbrev pub Sees : Atomic → Hand → ℕ → Hand → Type 0
-Sees (Load word) old found new =
+abbrev pub Sees : ℕ → Hand → ℕ → Hand → Type 0
+Sees word old found new =
     (word ≡ 0) × (seen : List Entry) × (new ≡ looked old seen) × (found ≡ length seen) × HistoryIs old seen
-Sees (Store word value) old found new = ⊥
-Sees (Exchange word from to said) old found new = ⊥
 
 -- a load of a word behind the count; one of a row that was seen is the entry's there
-abbrev pub Reads : Atomic → Hand → ℕ → Hand → Type 0
-Reads (Load word) old found new =
+abbrev pub Reads : ℕ → Hand → ℕ → Hand → Type 0
+Reads word old found new =
     (word ≢ 0) × (new ≡ old)
     × ((place index : ℕ) (entry : Entry) → word ≡ row_at place + index → index < 21 → slice_get old.known.seen place ≡ Some entry
     → IsEntry entry × (found ≡ slice_index (words_of entry) index))
-Reads (Store word value) old found new = ⊥
-Reads (Exchange word from to said) old found new = ⊥
 
 -- an exchange of the turn's word from 0 to the pass's number, which is a try
-abbrev pub Takes : Atomic → Hand → ℕ → Hand → Type 0
-Takes (Load word) old found new = ⊥
-Takes (Store word value) old found new = ⊥
-Takes (Exchange word from to said) old found new =
+abbrev pub Takes : ℕ → ℕ → ℕ → Option Entry → Hand → ℕ → Hand → Type 0
+Takes word from to said old found new =
     (word ≡ turn_word) × (from ≡ 0) × (to ≡ old.known.number) × (found ≡ 0 → new ≡ tried old Won) × (found ≢ 0 → new ≡ tried old Without)
 
 -- a store of a word into the row at the count
-abbrev pub Drafts : Atomic → Hand → ℕ → Hand → Type 0
-Drafts (Load word) old found new = ⊥
-Drafts (Store word value) old found new = new ≡ drafted old (word - row_at (length old.known.seen)) value
-Drafts (Exchange word from to said) old found new = ⊥
+abbrev pub Drafts : ℕ → ℕ → Hand → ℕ → Hand → Type 0
+Drafts word value old found new = new ≡ drafted old (word - row_at (length old.known.seen)) value
 
 -- a store of the count, one higher
-abbrev pub Publishes : Atomic → Hand → ℕ → Hand → Type 0
-Publishes (Load word) old found new = ⊥
-Publishes (Store word value) old found new =
+abbrev pub Publishes : ℕ → ℕ → Hand → ℕ → Hand → Type 0
+Publishes word value old found new =
     (word ≡ 0) × (value ≡ length old.known.seen + 1) × (entry : Entry) × IsEntry entry × (old.draft ≡ words_of entry) × (new ≡ published old entry)
-Publishes (Exchange word from to said) old found new = ⊥
 
 -- a store of 0 to the turn's word
-abbrev pub Releases : Atomic → Hand → ℕ → Hand → Type 0
-Releases (Load word) old found new = ⊥
-Releases (Store word value) old found new = (word ≡ turn_word) × (value ≡ 0) × (new ≡ released old)
-Releases (Exchange word from to said) old found new = ⊥
+abbrev pub Releases : ℕ → ℕ → Hand → ℕ → Hand → Type 0
+Releases word value old found new = (word ≡ turn_word) × (value ≡ 0) × (new ≡ released old)

@@ -1,16 +1,11 @@
 -- A seat at a log with a turn.
 --     IsSeat          it is a seat of this log, and knows one pass
---     IsRest          the same with the passes that were not issued
 use Rattle.atomic_table.specs.declared.shared.Seat.{Seat}
 use Rattle.xa_words.specs.Entry.{Entry}
 use Rattle.decision_log.specs.declared.view.View.{View}
 use Rattle.decision_log.specs.declared.turn_log.TurnLog.{TurnLog}
-use Rattle.decision_log.specs.AtTable.{KnowsOne, KnowsRest}
+use Rattle.decision_log.specs.AtTable.{KnowsOne}
 
 -- it is a seat of this log, and knows one pass
 abbrev pub IsSeat : TurnLog → Seat Entry View → Type 0
 IsSeat log seat = KnowsOne log.table.inner.shared.table_id seat
-
--- it is a seat of this log, and knows the passes that weren't issued
-abbrev pub IsRest : TurnLog → Seat Entry View → Type 0
-IsRest log seat = KnowsRest log.table.inner.shared.table_id seat

@@ -1,4 +1,9 @@
 //! How large a log is.
+ghost use Rattle.std.specs.Prelude.{◌≡◌, IfOk, IfErr};
+ghost use Rattle.decision_log.specs.Opens.{AreSizes, Refuses};
+
+use crate::OpenFault;
+use xa_xid::SessionNo;
 
 /// How large a log is. The rule of a log is told it once, when the log is opened.
 #[derive(Clone, Copy, Debug)]
@@ -11,3 +16,24 @@ pub struct Sizes {
 
 /// How many entries a log can have at most.
 pub const MOST_ENTRIES: u64 = 1024;
+
+impl Sizes {
+    /// The sizes of a log of `capacity` entries, in `[1, 1024]`, and of `sessions` sessions, in `[1, 16]`.
+    ///
+    /// Errors, in the order of test: `CapacityOutOfRange`, `SessionsOutOfRange`.
+    ///
+    /// Takes no memory. Doesn't wait.
+    /// Own rule: docs/LOG.md, 'What a log promises'.
+    pub fn of(capacity: u64, sessions: u64) -> Result<Sizes, OpenFault>
+        ensures ok { IfOk result (λ sizes. AreSizes sizes × (sizes.capacity ≡ capacity) × (sizes.sessions ≡ sessions)) }
+        ensures err { IfErr result (λ fault. Refuses capacity sessions fault) }
+    {
+        if capacity < 1 || capacity > MOST_ENTRIES {
+            return Err(OpenFault::CapacityOutOfRange);
+        }
+        if sessions < 1 || sessions > SessionNo::MAX {
+            return Err(OpenFault::SessionsOutOfRange);
+        }
+        Ok(Sizes { sessions, capacity })
+    }
+}

@@ -81,4 +81,24 @@ impl<R: LogWords> LogTable<R> {
     {
         self.inner.shared.split_seat::<Seating>(seat)
     }
+
+    /// Two passes meet: the second has then seen all that the first has. The answer is word 0.
+    ///
+    /// Takes no memory. Doesn't wait.
+    pub fn meet(&self, first: &mut Seat<Entry, View>, second: &mut Seat<Entry, View>) -> u64
+        requires rule { KeepsSeats R.holds R.newest }
+        requires first { KnowsOne self.now.inner.shared.table_id first.old }
+        requires second { KnowsOne self.now.inner.shared.table_id second.old }
+        ensures first { KnowsOne self.now.inner.shared.table_id first.new }
+        ensures second { KnowsOne self.now.inner.shared.table_id second.new }
+        ensures same { hand first.new ≡ hand first.old }
+        ensures met { (seen : List Entry) × (hand second.new ≡ met (hand second.old) seen) × (length (hand second.old).known.seen < length (hand first.old).known.seen → result ≡ R.newest (met (hand second.old) seen)) × MetAt (hand first.old) (hand second.old) seen }
+    {
+        let spare = self.spare(first);
+        let other = std::mem::replace(second, spare);
+        self.join(first, other);
+        let found = self.load_both(first);
+        *second = self.split(first);
+        found
+    }
 }

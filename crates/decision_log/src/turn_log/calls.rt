@@ -69,11 +69,7 @@ impl DecisionLog for TurnLog {
     }
 
     fn meet(&self, first: &mut TurnPass, second: &mut TurnPass) {
-        let spare = self.table.spare(&mut first.seat);
-        let other = std::mem::replace(&mut second.seat, spare);
-        self.table.join(&mut first.seat, other);
-        let count = self.table.load_both(&mut first.seat);
-        second.seat = self.table.split(&mut first.seat);
+        let count = self.table.meet(&mut first.seat, &mut second.seat);
         if second.front < first.front {
             second.front = count;
         }

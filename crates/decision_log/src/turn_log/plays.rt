@@ -1,4 +1,5 @@
 //! What each step tells. These types are for the proofs alone.
+ghost use Rattle.decision_log.specs.Atomic.{AtLoad, AtStore, AtExchange};
 ghost use Rattle.decision_log.specs.TurnPlays.{Sees, Reads, Takes, Drafts, Publishes, Releases};
 ghost use Rattle.decision_log.specs.TurnCounts.{see_counts, read_counts, take_counts, draft_counts, publish_counts, release_counts};
 
@@ -9,7 +10,7 @@ use crate::LogPlay;
 pub(super) struct SeeAll;
 
 impl LogPlay<Turns> for SeeAll {
-    ghost then = { Sees };
+    ghost then = { AtLoad Sees };
 
     ghost counts = { see_counts };
 }
@@ -18,7 +19,7 @@ impl LogPlay<Turns> for SeeAll {
 pub(super) struct ReadWord;
 
 impl LogPlay<Turns> for ReadWord {
-    ghost then = { Reads };
+    ghost then = { AtLoad Reads };
 
     ghost counts = { read_counts };
 }
@@ -27,7 +28,7 @@ impl LogPlay<Turns> for ReadWord {
 pub(super) struct TakeTurn;
 
 impl LogPlay<Turns> for TakeTurn {
-    ghost then = { Takes };
+    ghost then = { AtExchange Takes };
 
     ghost counts = { take_counts };
 }
@@ -36,7 +37,7 @@ impl LogPlay<Turns> for TakeTurn {
 pub(super) struct DraftWord;
 
 impl LogPlay<Turns> for DraftWord {
-    ghost then = { Drafts };
+    ghost then = { AtStore Drafts };
 
     ghost counts = { draft_counts };
 }
@@ -45,7 +46,7 @@ impl LogPlay<Turns> for DraftWord {
 pub(super) struct Publish;
 
 impl LogPlay<Turns> for Publish {
-    ghost then = { Publishes };
+    ghost then = { AtStore Publishes };
 
     ghost counts = { publish_counts };
 }
@@ -54,7 +55,7 @@ impl LogPlay<Turns> for Publish {
 pub(super) struct Release;
 
 impl LogPlay<Turns> for Release {
-    ghost then = { Releases };
+    ghost then = { AtStore Releases };
 
     ghost counts = { release_counts };
 }

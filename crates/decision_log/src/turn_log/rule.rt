@@ -8,13 +8,12 @@ use xa_words::Entry;
 pub struct Turns;
 
 impl TableRule<Entry, View, Sizes> for Turns {
-    ghost use Rattle.decision_log.specs.Seats.{newcomer_hand};
+    ghost use Rattle.decision_log.specs.Seats.{all_passes};
     ghost use Rattle.decision_log.specs.TurnRule.{TurnRule};
-    ghost use Rattle.decision_log.specs.declared.view.View.TheVariants.{Rest};
 
     ghost holds = { λ sizes state. TurnRule sizes state.words state.views };
 
-    ghost first = { λ sizes. Rest (newcomer_hand sizes.sessions sizes.capacity 1) };
+    ghost first = { all_passes };
 }
 
 impl LogWords for Turns {

@@ -2,4 +2,4 @@ use Rattle.chain_log.proofs.ChainStores.{stored_log}
 use Rattle.chain_log.proofs.laws.store_keeps_the_history.Goals as goal
 
 pub returns : goal.returns
-returns c sizes words views views' rule id pass index word = stored_log sizes words views rule views' id pass index word
+returns c sizes words views views' rule id pass index word = stored_log rule views' id pass index word

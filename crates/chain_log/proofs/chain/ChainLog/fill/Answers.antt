@@ -6,7 +6,8 @@ use Rattle.decision_log.specs.Seats.{hand}
 use Rattle.chain_log.specs.declared.chain.ChainLog.{ChainLog}
 use Rattle.chain_log.specs.Cells.{name_at, session_at, name_before, newest_of}
 use Rattle.chain_log.specs.ChainSeat.{IsOurs}
-use Rattle.chain_log.proofs.Names.{there, name_low}
+use Rattle.decision_log.proofs.Histories.{there}
+use Rattle.chain_log.proofs.Names.{name_low}
 use Rattle.chain_log.proofs.KeptColumns.{column_here, filling_first, filling_next, filling_last}
 use Rattle.chain_log.proofs.chain.ChainLog.fill.Goals as goal
 

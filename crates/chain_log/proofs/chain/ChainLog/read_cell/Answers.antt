@@ -1,21 +1,12 @@
-use Rattle.std.proofs.Common.{◌≡◌, ℕ, ◌+◌, ◌<◌, List, ◌∷◌, Some, length, get_or, set, arith, one-add, sym, ap, ◌∙◌, subst}
+use Rattle.std.proofs.Common.{◌≡◌, ℕ, ◌+◌, ◌<◌, List, ◌∷◌, Some, length, get_or, arith, one-add, sym, ap, ◌∙◌, subst}
 use Rattle.std.specs.Prelude.{slice_get, slice_index}
-use mathlib.Core.Logic.{dite}
-use native.Mathlib.Decide.{ℕ_discrete}
-use Rattle.std.proofs.lemmas.List.{length-set, get_or-set_same, get_or-set_other, ext_get_or}
+use Rattle.std.proofs.lemmas.List.{length-set, ext_get_or}
 use Rattle.xa_words.specs.Words.{words_of}
 use Rattle.xa_words.proofs.Spelling.{length-words_of}
 use Rattle.decision_log.specs.Seats.{hand}
+use Rattle.decision_log.proofs.Drafts.{one_more}
 use Rattle.chain_log.specs.Cells.{name_before}
 use Rattle.chain_log.proofs.chain.ChainLog.read_cell.Goals as goal
-
--- one more word is read
-one_more : (words spelled : List ℕ) (index word : ℕ) → index < length words → word ≡ get_or spelled index 0
-    → ((k : ℕ) → k < index → get_or words k 0 ≡ get_or spelled k 0) → (k : ℕ) → k < index + 1 → get_or (set words index word) k 0 ≡ get_or spelled k 0
-one_more words spelled index word within is before k below =
-    dite (ℕ_discrete k index)
-    (λ e. ap (λ n. get_or (set words index word) n 0) e ∙ get_or-set_same words index word 0 within ∙ is ∙ ap (λ n. get_or spelled n 0) (sym e))
-    (λ n. get_or-set_other words index k word 0 n ∙ before k (omega arith))
 
 -- the words of a cell behind its link
 behind_link : (link : ℕ) (words : List ℕ) (index : ℕ) → slice_index (link ∷ words) (1 + index) ≡ get_or words index 0

@@ -1,13 +1,7 @@
-use Rattle.std.proofs.Common.{◌≡◌, ◌<◌, ℕ, zero, suc, List, [], ◌∷◌, Some, length, arith, sym, ◌∙◌, refl, rules}
-use Rattle.std.specs.Prelude.{slice_get}
-use Rattle.xa_words.specs.Entry.{Entry}
+use Rattle.std.proofs.Common.{sym, ◌∙◌, rules}
 use Rattle.decision_log.specs.Seats.{hand}
+use Rattle.decision_log.proofs.Histories.{there}
 use Rattle.decision_log.proofs.turn_log.TurnLog.read_entry.Goals as goal
-
-there : (xs : List Entry) (place : ℕ) → place < length xs → (entry : Entry) × (slice_get xs place ≡ Some entry)
-there [] place below = absurd (omega arith)
-there (x ∷ xs) zero below = (x, refl)
-there (x ∷ xs) (suc place) below = there xs place (omega arith)
 
 pub unwrap-requires : goal.unwrap-requires
 unwrap-requires c =

@@ -1,0 +1,103 @@
+//! Opening a log, whatever its words are.
+ghost use Rattle.std.specs.Prelude.{◌≡◌, ◌≤◌, IfOk, IfErr};
+ghost use Rattle.decision_log.specs.AtTable.{KnowsRest, KeepsSeats, OpensSeats, identity_at, belongs_at};
+ghost use Rattle.decision_log.specs.Known.{LogIdentity, newcomer};
+ghost use Rattle.decision_log.specs.Opens.{AreSizes, Opens, Refuses};
+ghost use Rattle.decision_log.specs.Seats.{hand, newcomer_hand, seated};
+ghost use Rattle.decision_log.specs.declared.known.Known.{Known};
+
+use crate::{Known, LogTable, LogWords, OpenFault, Sizes, View};
+use atomic_table::Seat;
+use std::alloc::{AllocError, Global};
+use xa_words::Entry;
+use xa_xid::SessionNo;
+
+/// A pass that has a seat at the words of its log.
+///
+/// Own rule: docs/LOG.md, 'What both logs share'.
+pub trait SeatedPass {
+    // of which log the pass is
+    ghost belongs_to: { Self → LogIdentity };
+
+    // what the pass knows
+    ghost known: { Self → Known };
+
+    /// The pass of a session, at its seat, before its first call.
+    ///
+    /// May answer `AllocError`. Doesn't wait.
+    fn at_seat(
+        alloc: Global,
+        seat: Seat<Entry, View>,
+        number: SessionNo,
+        sizes: &Sizes,
+    ) -> Result<Self, AllocError>
+        requires held { seat.me ≡ seated (hand seat) }
+        requires issued { hand seat ≡ newcomer_hand sizes.now.sessions sizes.now.capacity number }
+        requires last { number ≤ sizes.now.sessions }
+        ensures { IfOk result (λ pass. (belongs_to pass ≡ belongs_at seat) × (known pass ≡ newcomer number)) };
+}
+
+/// So many words, all 0, and the passes of all sessions, in order.
+///
+/// Errors: `NoMemory`.
+///
+/// May answer `NoMemory`. Doesn't wait.
+/// Own rule: docs/LOG.md, 'What both logs share'.
+pub fn open_seats<R: LogWords, P: SeatedPass + Drop>(
+    alloc: Global,
+    sizes: &Sizes,
+    word_count: usize,
+) -> Result<(LogTable<R>, Vec<P>), OpenFault>
+    requires rule { OpensSeats R.holds R.first R.newest sizes.now word_count }
+    requires sizes { AreSizes sizes.now }
+    ensures wide { IfOk result (λ opened. opened.0.inner.shared.table_id.words ≡ word_count) }
+    ensures sized { IfOk result (λ opened. opened.0.inner.shared.key ≡ sizes.now) }
+    ensures passes { IfOk result (λ opened. Opens P.belongs_to P.known sizes.now.capacity sizes.now.sessions (identity_at opened.0.inner.shared.table_id sizes.now) opened.1.items) }
+    ensures err { IfErr result (λ fault. Refuses sizes.now.capacity sizes.now.sessions fault) }
+{
+    let Ok((table, rest)) = lay_out(alloc, sizes, word_count) else {
+        return Err(OpenFault::NoMemory);
+    };
+    let Ok(passes) = deal_all(alloc, &table, rest, sizes) else {
+        return Err(OpenFault::NoMemory);
+    };
+    Ok((table, passes))
+}
+
+/// The words, and the seat that knows all passes.
+fn lay_out<R: LogWords>(
+    alloc: Global,
+    sizes: &Sizes,
+    word_count: usize,
+) -> Result<(LogTable<R>, Seat<Entry, View>), AllocError>
+    requires rule { OpensSeats R.holds R.first R.newest sizes.now word_count }
+    ensures wide { IfOk result (λ made. made.0.inner.shared.table_id.words ≡ word_count) }
+    ensures sized { IfOk result (λ made. made.0.inner.shared.key ≡ sizes.now) }
+    ensures rest { IfOk result (λ made. KnowsRest made.0.inner.shared.table_id made.1) }
+    ensures all { IfOk result (λ made. hand made.1 ≡ newcomer_hand sizes.now.sessions sizes.now.capacity 1) }
+{
+    let words: Vec<u64> = vec![in alloc; 0; word_count]?;
+    LogTable::of_words(alloc, &words, sizes)
+}
+
+/// The passes, in order.
+fn deal_all<R: LogWords, P: SeatedPass + Drop>(
+    alloc: Global,
+    table: &LogTable<R>,
+    mut rest: Seat<Entry, View>,
+    sizes: &Sizes,
+) -> Result<Vec<P>, AllocError>
+    requires rule { KeepsSeats R.holds R.newest }
+    requires sizes { AreSizes sizes.now }
+    requires rest { KnowsRest table.now.inner.shared.table_id rest }
+    requires all { hand rest ≡ newcomer_hand sizes.now.sessions sizes.now.capacity 1 }
+    ensures { IfOk result (λ passes. Opens P.belongs_to P.known sizes.now.capacity sizes.now.sessions (identity_at table.now.inner.shared.table_id sizes.now) passes.items) }
+{
+    let mut passes = Vec::with_capacity(alloc, sizes.sessions as usize)?;
+    for index in 0..sizes.sessions {
+        let seat = table.issue(&mut rest);
+        let number = SessionNo::of(index + 1).unwrap();
+        passes.push(P::at_seat(alloc, seat, number, sizes)?)?;
+    }
+    Ok(passes)
+}
