@@ -1,15 +1,9 @@
 //! Races of scripts, and what is written where none is held.
-ghost use Rattle.decision_log.specs.Opens.{IsCapacity};
-
-use std::alloc::Global;
-use std::io::{Read, Write};
-use std::process::Abort;
-use std::sync::Wait;
+use crate::raced_scripts::{Manner, raced, writes_nothing, writes_prefixes};
 use std::sync::atomic::{AtomicU64, Ordering};
 use std::test::Fail;
-use std::thread::Threads;
 use xa_store::{Gate, OpenGate};
-use xa_transcript::{CutReader, CutWriter, ScriptFault, race_script, race_script_in_rounds};
+use xa_transcript::{CutReader, CutWriter, ScriptFault, race_script};
 use xa_xid::SessionNo;
 
 /// A gate that lets nobody in.
@@ -45,96 +39,6 @@ impl Gate for Meeting {
     }
 }
 
-/// How a script is raced.
-#[derive(Clone, Copy, Debug)]
-enum Manner {
-    /// In one history.
-    Once,
-    /// In rounds.
-    InRounds,
-}
-
-/// Races the script that a reader gives.
-fn race<I: Read, O: Write, G: Gate + Sync, R: Threads + Wait + Sync>(
-    rt: &R,
-    alloc: Global,
-    manner: Manner,
-    input: &mut I,
-    output: &mut O,
-    capacity: u64,
-    gate: &G,
-) -> Result<(), ScriptFault>
-    requires { IsCapacity capacity }
-{
-    match manner {
-        Manner::Once => race_script(rt, alloc, input, output, capacity, gate),
-        Manner::InRounds => race_script_in_rounds(rt, alloc, input, output, capacity, gate),
-    }
-}
-
-/// What a race of the script writes.
-fn raced<G: Gate + Sync, R: Threads + Wait + Sync>(
-    rt: &R,
-    alloc: Global,
-    manner: Manner,
-    script: &[u8],
-    capacity: u64,
-    gate: &G,
-) -> Result<Vec<u8>, ScriptFault>
-    requires { IsCapacity capacity }
-{
-    let mut output = Vec::new(alloc);
-    let mut input = script;
-    race(rt, alloc, manner, &mut input, &mut output, capacity, gate)?;
-    Ok(output)
-}
-
-/// Asks for a race to end in this fault, with nothing written.
-fn writes_nothing<I: Read, G: Gate + Sync, R: Abort + Threads + Wait + Sync>(
-    rt: &R,
-    alloc: Global,
-    manner: Manner,
-    input: &mut I,
-    capacity: u64,
-    gate: &G,
-    fault: ScriptFault,
-)
-    requires { IsCapacity capacity }
-{
-    let mut output = Vec::new(alloc);
-    let result = race(rt, alloc, manner, input, &mut output, capacity, gate);
-    assert_eq!(rt; result, Err(fault));
-    assert!(rt; output.is_empty());
-}
-
-/// Asks for a race that would write this text to write just what the writer has room for, however little.
-fn writes_prefixes<R: Abort + Threads + Wait + Sync>(
-    rt: &R,
-    alloc: Global,
-    manner: Manner,
-    script: &[u8],
-    text: &[u8],
-    capacity: u64,
-)
-    requires { IsCapacity capacity }
-{
-    for room in 0..text.len() {
-        let mut input = script;
-        let mut output = CutWriter::new(alloc, 5, room);
-        let result = race(
-            rt,
-            alloc,
-            manner,
-            &mut input,
-            &mut output,
-            capacity,
-            &OpenGate,
-        );
-        assert_eq!(rt; result, Err(ScriptFault::Write));
-        assert_eq!(rt; output.as_slice(), &text[..room]);
-    }
-}
-
 /// Scripts with faulty lines, and what is told of these.
 const FAULTY: [(&[u8], &[u8]); 4] = [
     (
@@ -157,7 +61,7 @@ LINE 2 ERROR 1064 (42000): syntax fault at byte 0\n",
 #[test]
 fn faulty_lines_are_told_alone(rt: HostRuntime) -> Result<(), Fail> {
     for (script, told) in FAULTY {
-        let output = raced(&rt, rt.alloc(), Manner::Once, script, 1024, &ShutGate)?;
+        let output = raced(&rt, Manner::Once, script, 1024, &ShutGate)?;
         assert_eq!(rt; output.as_slice(), told);
     }
     Ok(())
@@ -166,23 +70,21 @@ fn faulty_lines_are_told_alone(rt: HostRuntime) -> Result<(), Fail> {
 #[test]
 fn write_fault_leaves_a_prefix_of_faulty_lines(rt: HostRuntime) {
     for (script, told) in FAULTY {
-        writes_prefixes(&rt, rt.alloc(), Manner::Once, script, told, 1);
+        writes_prefixes(&rt, Manner::Once, script, told, 1);
     }
 }
 
 #[test]
 fn script_that_is_not_read_is_not_raced(rt: HostRuntime) {
-    let fault = ScriptFault::Read;
     for reads in 0..3 {
         let mut input = CutReader::new(b"1 GET 'k'", 3, reads);
         writes_nothing(
             &rt,
-            rt.alloc(),
             Manner::Once,
             &mut input,
             8,
             &ShutGate,
-            fault,
+            ScriptFault::Read,
         );
     }
 }
@@ -193,14 +95,7 @@ fn longer_script_is_not_raced(rt: HostRuntime) -> Result<(), Fail> {
     for _ in 0..1_048_577 {
         spaces.push(b' ')?;
     }
-    let result = raced(
-        &rt,
-        rt.alloc(),
-        Manner::Once,
-        spaces.as_slice(),
-        1,
-        &OpenGate,
-    );
+    let result = raced(&rt, Manner::Once, spaces.as_slice(), 1, &OpenGate);
     assert_eq!(rt; result.err(), Some(ScriptFault::TooLong));
     Ok(())
 }
@@ -223,7 +118,7 @@ const SINGLE: [(&[u8], &[u8]); 4] = [
 #[test]
 fn race_of_one_session_is_its_run(rt: HostRuntime) -> Result<(), Fail> {
     for (script, text) in SINGLE {
-        let output = raced(&rt, rt.alloc(), Manner::Once, script, 1024, &OpenGate)?;
+        let output = raced(&rt, Manner::Once, script, 1024, &OpenGate)?;
         assert_eq!(rt; output.as_slice(), text);
     }
     Ok(())
@@ -232,7 +127,7 @@ fn race_of_one_session_is_its_run(rt: HostRuntime) -> Result<(), Fail> {
 #[test]
 fn write_fault_leaves_a_prefix_of_an_outcome(rt: HostRuntime) {
     let (script, text) = SINGLE[1];
-    writes_prefixes(&rt, rt.alloc(), Manner::Once, script, text, 1024);
+    writes_prefixes(&rt, Manner::Once, script, text, 1024);
 }
 
 #[test]
@@ -255,30 +150,26 @@ fn stream_fault_ends_a_race_at_once(rt: HostRuntime) -> Result<(), Fail> {
 #[test]
 fn full_log_writes_nothing(rt: HostRuntime) {
     let (mut script, _) = SINGLE[1];
-    let fault = ScriptFault::Full;
     writes_nothing(
         &rt,
-        rt.alloc(),
         Manner::Once,
         &mut script,
         1,
         &OpenGate,
-        fault,
+        ScriptFault::Full,
     );
 }
 
 #[test]
 fn shut_gate_writes_nothing(rt: HostRuntime) {
     let (mut script, _) = SINGLE[1];
-    let fault = ScriptFault::GateShut;
     writes_nothing(
         &rt,
-        rt.alloc(),
         Manner::Once,
         &mut script,
         1024,
         &ShutGate,
-        fault,
+        ScriptFault::GateShut,
     );
 }
 
@@ -296,7 +187,7 @@ fn sessions_run_side_by_side(rt: HostRuntime) -> Result<(), Fail> {
         second: AtomicU64::new(0),
     };
     let script = b"1 XA START 'a'\n2 XA START 'a'\n";
-    let output = raced(&rt, rt.alloc(), Manner::Once, script, 1024, &gate)?;
+    let output = raced(&rt, Manner::Once, script, 1024, &gate)?;
     let text = output.as_slice();
     assert!(rt; text == FIRST_WINS || text == SECOND_WINS);
     Ok(())
@@ -306,14 +197,7 @@ fn sessions_run_side_by_side(rt: HostRuntime) -> Result<(), Fail> {
 fn race_in_rounds_of_one_session_is_its_run(rt: HostRuntime) -> Result<(), Fail> {
     for (script, text) in SINGLE {
         for capacity in [1, 2, 3, 1024] {
-            let output = raced(
-                &rt,
-                rt.alloc(),
-                Manner::InRounds,
-                script,
-                capacity,
-                &OpenGate,
-            )?;
+            let output = raced(&rt, Manner::InRounds, script, capacity, &OpenGate)?;
             assert_eq!(rt; output.as_slice(), text);
         }
     }
@@ -323,7 +207,7 @@ fn race_in_rounds_of_one_session_is_its_run(rt: HostRuntime) -> Result<(), Fail>
 #[test]
 fn faulty_lines_are_not_raced_in_rounds(rt: HostRuntime) -> Result<(), Fail> {
     for (script, listed) in FAULTY {
-        let output = raced(&rt, rt.alloc(), Manner::InRounds, script, 1, &ShutGate)?;
+        let output = raced(&rt, Manner::InRounds, script, 1, &ShutGate)?;
         assert_eq!(rt; output.as_slice(), listed);
     }
     Ok(())
@@ -333,15 +217,13 @@ fn faulty_lines_are_not_raced_in_rounds(rt: HostRuntime) -> Result<(), Fail> {
 fn fault_of_a_race_in_rounds_writes_nothing_but_a_prefix(rt: HostRuntime) {
     let (script, text) = SINGLE[1];
     let mut input = script;
-    let fault = ScriptFault::GateShut;
     writes_nothing(
         &rt,
-        rt.alloc(),
         Manner::InRounds,
         &mut input,
         1,
         &ShutGate,
-        fault,
+        ScriptFault::GateShut,
     );
-    writes_prefixes(&rt, rt.alloc(), Manner::InRounds, script, text, 1);
+    writes_prefixes(&rt, Manner::InRounds, script, text, 1);
 }
