@@ -1,66 +1,48 @@
 //! What every log has to show, over a chain, and how one is opened.
+use crate::scenes::{OPENED, REFUSED, Scene};
 use chain_log::ChainLog;
-use decision_log::OpenFault;
-use log_conformance::logs;
+use std::alloc::Global;
+use std::process::Abort;
+use std::sync::Wait;
+use std::thread::Threads;
+
+/// Has a chain show a scene.
+fn over_a_chain<R: Abort + Threads + Wait + Sync>(rt: &R, alloc: Global, scene: Scene) {
+    let Ok((log, passes)) = ChainLog::open(alloc, scene.capacity(), 2) else {
+        panic!(rt; "not opened")
+    };
+    assert!(rt; scene.is_shown(rt, &log, passes));
+}
 
 #[test]
 fn an_add_is_overtaken_then_stands_until_the_log_is_full(rt: HostRuntime) {
-    let Ok((log, mut passes)) = ChainLog::open(rt.alloc(), 2, 2) else {
-        panic!(rt; "not opened")
-    };
-    let (Some(mut second), Some(mut first)) = (passes.pop(), passes.pop()) else {
-        panic!(rt; "two passes")
-    };
-    assert!(rt; logs::adds_in_turn(&log, &mut first, &mut second));
+    over_a_chain(&rt, rt.alloc(), Scene::AddsInTurn);
 }
 
 #[test]
 fn passes_see_what_others_added(rt: HostRuntime) {
-    let Ok((log, mut passes)) = ChainLog::open(rt.alloc(), 3, 2) else {
-        panic!(rt; "not opened")
-    };
-    let (Some(mut second), Some(mut first)) = (passes.pop(), passes.pop()) else {
-        panic!(rt; "two passes")
-    };
-    assert!(rt; logs::looks_and_meets(&log, &mut first, &mut second));
+    over_a_chain(&rt, rt.alloc(), Scene::LooksAndMeets);
 }
 
 #[test]
 fn an_outdated_look_is_overtaken_once(rt: HostRuntime) {
-    let Ok((log, mut passes)) = ChainLog::open(rt.alloc(), 8, 2) else {
-        panic!(rt; "not opened")
-    };
-    let (Some(mut second), Some(mut first)) = (passes.pop(), passes.pop()) else {
-        panic!(rt; "two passes")
-    };
-    assert!(rt; logs::outdated_look_is_overtaken_once(&log, &mut first, &mut second));
+    over_a_chain(&rt, rt.alloc(), Scene::OutdatedLookIsOvertakenOnce);
 }
 
 #[test]
 fn two_threads_add_each_one_in_its_order(rt: HostRuntime) {
-    let Ok((log, mut passes)) = ChainLog::open(rt.alloc(), 16, 2) else {
-        panic!(rt; "not opened")
-    };
-    let (Some(second), Some(first)) = (passes.pop(), passes.pop()) else {
-        panic!(rt; "two passes")
-    };
-    assert!(rt; logs::two_threads_add(&rt, &log, first, second));
+    over_a_chain(&rt, rt.alloc(), Scene::TwoThreadsAdd);
 }
 
 #[test]
 fn a_log_is_opened_for_its_sizes_alone(rt: HostRuntime) {
-    for (capacity, sessions, fault) in [
-        (0, 17, OpenFault::CapacityOutOfRange),
-        (1025, 1, OpenFault::CapacityOutOfRange),
-        (4, 17, OpenFault::SessionsOutOfRange),
-        (4, 0, OpenFault::SessionsOutOfRange),
-    ] {
+    for (capacity, sessions, fault) in REFUSED {
         match ChainLog::open(rt.alloc(), capacity, sessions) {
             Ok(_) => panic!(rt; "opened for {capacity} and {sessions}"),
             Err(found) => assert_eq!(rt; found, fault),
         }
     }
-    for (capacity, sessions) in [(1, 1), (1024, 16)] {
+    for (capacity, sessions) in OPENED {
         match ChainLog::open(rt.alloc(), capacity, sessions) {
             Ok((_, passes)) => assert!(rt; passes.len() as u64 == sessions),
             Err(found) => panic!(rt; "fault {}", found.number()),

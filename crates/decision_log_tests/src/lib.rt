@@ -6,4 +6,6 @@ mod chain;
 #[cfg(test)]
 mod entries;
 #[cfg(test)]
+mod scenes;
+#[cfg(test)]
 mod turn;

@@ -3,7 +3,9 @@ ghost use Rattle.std.specs.Prelude.{◌≡◌, vec_len};
 ghost use Rattle.xa_coordinator.specs.declared.prepared.Ballot.TheVariants.{Ready as BallotReady};
 
 use crate::acts::{begun, get, has_none_prepared, is_value, put, puts, reads, ready, text, works};
-use crate::opened::{connected, opened, opened_for_three, over_three};
+use crate::opened::{
+    connected, connected_each, opened_each, opened_for_three, over_each, over_three,
+};
 use std::alloc::Global;
 use std::process::Abort;
 use std::sync::Wait;
@@ -138,14 +140,9 @@ fn numbers_stand_apart<S: Speak, R: Abort + Wait>(
 
 #[test]
 fn transactions_of_one_coordinator_end_each_in_its_way(rt: HostRuntime) {
-    let (first, pass_0, reader) = opened(&rt, rt.alloc(), 32);
-    let (second, pass_1, _) = opened(&rt, rt.alloc(), 32);
-    let (third, pass_2, _) = opened(&rt, rt.alloc(), 32);
-    let one = connected(&rt, &first, pass_0);
-    let two = connected(&rt, &second, pass_1);
-    let three = connected(&rt, &third, pass_2);
-    let mut coordinator = over_three(&rt, rt.alloc(), one, two, three);
-    let mut reader = connected(&rt, &first, reader);
+    let (stores, own, others) = opened_each(&rt, rt.alloc(), (32, 32, 32));
+    let mut coordinator = over_each(&rt, rt.alloc(), &stores, own);
+    let (mut reader, _, _) = connected_each(&rt, &stores, others);
     numbers_stand_apart(&rt, rt.alloc(), &mut coordinator, &mut reader);
 }
 
@@ -187,20 +184,8 @@ fn works_stand_apart<S: Speak, R: Abort + Wait>(
 
 #[test]
 fn work_of_two_transactions_stays_open_in_two_stores(rt: HostRuntime) {
-    let (first, pass_0, reader_0) = opened(&rt, rt.alloc(), 16);
-    let (second, pass_1, reader_1) = opened(&rt, rt.alloc(), 16);
-    let (third, pass_2, _) = opened(&rt, rt.alloc(), 16);
-    let one = connected(&rt, &first, pass_0);
-    let two = connected(&rt, &second, pass_1);
-    let three = connected(&rt, &third, pass_2);
-    let mut coordinator = over_three(&rt, rt.alloc(), one, two, three);
-    let mut reader_0 = connected(&rt, &first, reader_0);
-    let mut reader_1 = connected(&rt, &second, reader_1);
-    works_stand_apart(
-        &rt,
-        rt.alloc(),
-        &mut coordinator,
-        &mut reader_0,
-        &mut reader_1,
-    );
+    let (stores, own, others) = opened_each(&rt, rt.alloc(), (16, 16, 16));
+    let mut coordinator = over_each(&rt, rt.alloc(), &stores, own);
+    let (mut one, mut two, _) = connected_each(&rt, &stores, others);
+    works_stand_apart(&rt, rt.alloc(), &mut coordinator, &mut one, &mut two);
 }

@@ -1,11 +1,12 @@
 //! Stores with room, their sessions, and coordinators over them.
 ghost use Rattle.std.specs.Prelude.{◌≡◌, ◌∷◌, ◌++◌, [], vec_len};
+ghost use Rattle.xa_store.specs.Passes.{identity_of, log_of};
 
 use crate::acts::text;
 use decision_log::DecisionLog;
 use std::alloc::Global;
 use std::process::Abort;
-use xa_coordinator::{Coordinator, Speak};
+use xa_coordinator::{Coordinator, Fused, Speak};
 use xa_session::Session;
 use xa_store::{Log, Pass, Store};
 
@@ -55,6 +56,64 @@ where
     Coordinator::new(text(b'c'), stores)
 }
 
+/// Three stores with room for so many entries each, a pass of each, and another pass of each.
+pub(crate) fn opened_each(
+    rt: &impl Abort,
+    alloc: Global,
+    capacities: (u64, u64, u64),
+) -> (
+    (Store, Store, Store),
+    (Pass, Pass, Pass),
+    (Pass, Pass, Pass),
+)
+    ensures first { (log_of result.1.0 ≡ identity_of result.0.0.log) × (log_of result.2.0 ≡ identity_of result.0.0.log) }
+    ensures second { (log_of result.1.1 ≡ identity_of result.0.1.log) × (log_of result.2.1 ≡ identity_of result.0.1.log) }
+    ensures third { (log_of result.1.2 ≡ identity_of result.0.2.log) × (log_of result.2.2 ≡ identity_of result.0.2.log) }
+{
+    let (first, own_0, other_0) = opened(rt, alloc, capacities.0);
+    let (second, own_1, other_1) = opened(rt, alloc, capacities.1);
+    let (third, own_2, other_2) = opened(rt, alloc, capacities.2);
+    (
+        (first, second, third),
+        (own_0, own_1, own_2),
+        (other_0, other_1, other_2),
+    )
+}
+
+/// A session of each of three stores.
+pub(crate) fn connected_each<'a>(
+    rt: &impl Abort,
+    stores: &'a (Store, Store, Store),
+    passes: (Pass, Pass, Pass),
+) -> (Session<'a, Log>, Session<'a, Log>, Session<'a, Log>)
+    requires first { log_of passes.0 ≡ identity_of stores.now.0.log }
+    requires second { log_of passes.1 ≡ identity_of stores.now.1.log }
+    requires third { log_of passes.2 ≡ identity_of stores.now.2.log }
+{
+    let (first, second, third) = passes;
+    (
+        connected(rt, &stores.0, first),
+        connected(rt, &stores.1, second),
+        connected(rt, &stores.2, third),
+    )
+}
+
+/// A coordinator of the name `c` over a session of each of three stores.
+pub(crate) fn over_each<'a>(
+    rt: &impl Abort,
+    alloc: Global,
+    stores: &'a (Store, Store, Store),
+    passes: (Pass, Pass, Pass),
+) -> Coordinator<Session<'a, Log>>
+    requires first { log_of passes.0 ≡ identity_of stores.now.0.log }
+    requires second { log_of passes.1 ≡ identity_of stores.now.1.log }
+    requires third { log_of passes.2 ≡ identity_of stores.now.2.log }
+    ensures { vec_len result.stores ≡ 3 }
+{
+    let (first, second, third) = connected_each(rt, stores, passes);
+    over_three(rt, alloc, first, second, third)
+}
+
 /// A store with room for so many entries, and its three passes.
 pub(crate) fn opened_for_three(
     rt: &impl Abort,
@@ -95,4 +154,45 @@ where
     let second = taken(rt, &mut sessions);
     let first = taken(rt, &mut sessions);
     (first, second, third)
+}
+
+/// A coordinator whose sessions pass so many calls on.
+pub(crate) fn fused<S: Speak>(
+    rt: &impl Abort,
+    alloc: Global,
+    sessions: (S, S, S),
+    shares: [u64; 3],
+) -> Coordinator<Fused<S>>
+where
+    S: Drop,
+    ensures { vec_len result.stores ≡ 3 }
+{
+    let (first, second, third) = sessions;
+    over_three(
+        rt,
+        alloc,
+        Fused::new(first, shares[0]),
+        Fused::new(second, shares[1]),
+        Fused::new(third, shares[2]),
+    )
+}
+
+/// Another coordinator of the name, over the sessions of one that stops.
+pub(crate) fn successor<S: Speak>(
+    rt: &impl Abort,
+    alloc: Global,
+    coordinator: Coordinator<Fused<S>>,
+) -> Coordinator<S>
+where
+    S: Drop,
+    ensures { vec_len result.stores ≡ 3 }
+{
+    let (first, second, third) = stopped(rt, coordinator);
+    over_three(
+        rt,
+        alloc,
+        first.into_inner(),
+        second.into_inner(),
+        third.into_inner(),
+    )
 }

@@ -2,7 +2,7 @@
 ghost use Rattle.std.specs.Prelude.{◌≡◌, vec_len};
 
 use crate::acts::{begun, has_none_prepared, put, puts, reads, ready, works};
-use crate::opened::{connected, opened, over_three, stopped};
+use crate::opened::{connected_each, opened_each, over_each, over_three, stopped};
 use crate::strangers::{Forestalled, Outrun};
 use std::alloc::Global;
 use std::process::Abort;
@@ -55,19 +55,9 @@ where
 
 #[test]
 fn branch_that_a_stranger_finishes_behind_the_list_is_missing(rt: HostRuntime) {
-    let (first, pass_0, stranger_0) = opened(&rt, rt.alloc(), 16);
-    let (second, pass_1, stranger_1) = opened(&rt, rt.alloc(), 16);
-    let (third, pass_2, stranger_2) = opened(&rt, rt.alloc(), 16);
-    let sessions = (
-        connected(&rt, &first, pass_0),
-        connected(&rt, &second, pass_1),
-        connected(&rt, &third, pass_2),
-    );
-    let strangers = (
-        connected(&rt, &first, stranger_0),
-        connected(&rt, &second, stranger_1),
-        connected(&rt, &third, stranger_2),
-    );
+    let (stores, own, others) = opened_each(&rt, rt.alloc(), (16, 16, 16));
+    let sessions = connected_each(&rt, &stores, own);
+    let strangers = connected_each(&rt, &stores, others);
     forestalled_branch_is_missing(&rt, rt.alloc(), sessions, strangers);
 }
 
@@ -115,19 +105,9 @@ where
 
 #[test]
 fn branch_that_a_stranger_prepares_before_the_last_list_is_told(rt: HostRuntime) {
-    let (first, pass_0, stranger_0) = opened(&rt, rt.alloc(), 16);
-    let (second, pass_1, stranger_1) = opened(&rt, rt.alloc(), 16);
-    let (third, pass_2, stranger_2) = opened(&rt, rt.alloc(), 16);
-    let sessions = (
-        connected(&rt, &first, pass_0),
-        connected(&rt, &second, pass_1),
-        connected(&rt, &third, pass_2),
-    );
-    let strangers = (
-        connected(&rt, &first, stranger_0),
-        connected(&rt, &second, stranger_1),
-        connected(&rt, &third, stranger_2),
-    );
+    let (stores, own, others) = opened_each(&rt, rt.alloc(), (16, 16, 16));
+    let sessions = connected_each(&rt, &stores, own);
+    let strangers = connected_each(&rt, &stores, others);
     outrun_recovery_is_told(&rt, rt.alloc(), sessions, strangers);
 }
 
@@ -160,13 +140,8 @@ fn work_behind_a_recovery_is_lost<S: Speak, R: Abort + Wait>(
 
 #[test]
 fn work_is_lost_behind_a_recovery(rt: HostRuntime) {
-    let (first, pass_0, reader) = opened(&rt, rt.alloc(), 16);
-    let (second, pass_1, _) = opened(&rt, rt.alloc(), 16);
-    let (third, pass_2, _) = opened(&rt, rt.alloc(), 16);
-    let one = connected(&rt, &first, pass_0);
-    let two = connected(&rt, &second, pass_1);
-    let three = connected(&rt, &third, pass_2);
-    let mut coordinator = over_three(&rt, rt.alloc(), one, two, three);
-    let mut reader = connected(&rt, &first, reader);
+    let (stores, own, others) = opened_each(&rt, rt.alloc(), (16, 16, 16));
+    let mut coordinator = over_each(&rt, rt.alloc(), &stores, own);
+    let (mut reader, _, _) = connected_each(&rt, &stores, others);
     work_behind_a_recovery_is_lost(&rt, rt.alloc(), &mut coordinator, &mut reader);
 }

@@ -4,13 +4,11 @@ ghost use Rattle.xa_coordinator.specs.declared.prepared.Ballot.TheVariants.{Read
 
 use crate::acts::{begun, does, has_none_prepared, puts, reads, text};
 use crate::meddled::prepares;
-use crate::opened::{connected, opened, over_three, stopped};
+use crate::opened::{connected_each, fused, opened_each, successor};
 use std::alloc::Global;
 use std::process::Abort;
 use std::sync::Wait;
-use xa_coordinator::{
-    Cause, Coordinator, Decisions, Ending, Fused, Prepared, Speak, Vote, xid_of_branch,
-};
+use xa_coordinator::{Cause, Coordinator, Decisions, Ending, Prepared, Speak, Vote, xid_of_branch};
 use xa_session::Fault;
 use xa_xid::Statement;
 
@@ -90,24 +88,10 @@ fn stop_and_recover<S: Speak, R: Abort + Wait>(
 where
     S: Drop,
 {
-    let (first, second, third) = sessions;
-    let mut coordinator = over_three(
-        rt,
-        alloc,
-        Fused::new(first, stop.shares[0]),
-        Fused::new(second, stop.shares[1]),
-        Fused::new(third, stop.shares[2]),
-    );
+    let mut coordinator = fused(rt, alloc, sessions, stop.shares);
     let mut decisions = Decisions::new(alloc);
     let left = voted(rt, &mut coordinator, &mut decisions, stop.decides);
-    let (first, second, third) = stopped(rt, coordinator);
-    let mut anew = over_three(
-        rt,
-        alloc,
-        first.into_inner(),
-        second.into_inner(),
-        third.into_inner(),
-    );
+    let mut anew = successor(rt, alloc, coordinator);
     let counts = (expected.committed, expected.rolled_back, 0);
     assert!(rt;
         recovers(rt, alloc, &mut anew, &mut decisions, counts),
@@ -134,19 +118,9 @@ where
 
 /// One row of the table of stops, over new stores.
 fn row<R: Abort + Wait>(rt: &R, alloc: Global, stop: Stop, expected: Expected) {
-    let (first, pass_0, reader_0) = opened(rt, alloc, 16);
-    let (second, pass_1, reader_1) = opened(rt, alloc, 16);
-    let (third, pass_2, reader_2) = opened(rt, alloc, 16);
-    let sessions = (
-        connected(rt, &first, pass_0),
-        connected(rt, &second, pass_1),
-        connected(rt, &third, pass_2),
-    );
-    let readers = (
-        connected(rt, &first, reader_0),
-        connected(rt, &second, reader_1),
-        connected(rt, &third, reader_2),
-    );
+    let (stores, own, others) = opened_each(rt, alloc, (16, 16, 16));
+    let sessions = connected_each(rt, &stores, own);
+    let readers = connected_each(rt, &stores, others);
     stop_and_recover(rt, alloc, stop, expected, sessions, readers);
 }
 
@@ -226,14 +200,7 @@ fn failing_calls_are_told<S: Speak, R: Abort + Wait>(
 where
     S: Drop,
 {
-    let (first, second, third) = sessions;
-    let mut coordinator = over_three(
-        rt,
-        alloc,
-        Fused::new(first, 4),
-        Fused::new(second, 4),
-        Fused::new(third, last),
-    );
+    let mut coordinator = fused(rt, alloc, sessions, [4, 4, last]);
     let mut decisions = Decisions::new(alloc);
     let mut transaction = begun(rt, &coordinator, &mut decisions);
     let worked = puts(rt, &mut coordinator, &mut transaction, 0)
@@ -265,14 +232,8 @@ where
 #[test]
 fn session_that_fails_is_named(rt: HostRuntime) {
     for last in [2, 4] {
-        let (first, pass_0, _) = opened(&rt, rt.alloc(), 16);
-        let (second, pass_1, _) = opened(&rt, rt.alloc(), 16);
-        let (third, pass_2, _) = opened(&rt, rt.alloc(), 16);
-        let sessions = (
-            connected(&rt, &first, pass_0),
-            connected(&rt, &second, pass_1),
-            connected(&rt, &third, pass_2),
-        );
+        let (stores, own, _) = opened_each(&rt, rt.alloc(), (16, 16, 16));
+        let sessions = connected_each(&rt, &stores, own);
         failing_calls_are_told(&rt, rt.alloc(), sessions, last);
     }
 }
@@ -287,28 +248,14 @@ fn strangers_before_a_recovery<S: Speak, R: Abort + Wait>(
 where
     S: Drop,
 {
-    let (first, second, third) = sessions;
-    let mut coordinator = over_three(
-        rt,
-        alloc,
-        Fused::new(first, 4),
-        Fused::new(second, 4),
-        Fused::new(third, 4),
-    );
+    let mut coordinator = fused(rt, alloc, sessions, [4, 4, 4]);
     let mut decisions = Decisions::new(alloc);
     let left = voted(rt, &mut coordinator, &mut decisions, true);
     assert!(rt; left.is_none() && decisions.is_decided(1));
-    let (first, second, third) = stopped(rt, coordinator);
     let (mut one, mut two, mut three) = strangers;
     let rollback = Statement::Rollback(xid_of_branch(&text(b'c'), 1, 1));
     assert!(rt; does(rt, &mut two, &rollback));
-    let mut anew = over_three(
-        rt,
-        alloc,
-        first.into_inner(),
-        second.into_inner(),
-        third.into_inner(),
-    );
+    let mut anew = successor(rt, alloc, coordinator);
     assert!(rt; recovers(rt, alloc, &mut anew, &mut decisions, (2, 0, 0)));
     let read = reads(rt, &mut one, Some(b'v'))
         && reads(rt, &mut two, None)
@@ -325,18 +272,8 @@ where
 
 #[test]
 fn recovery_leaves_what_strangers_named_and_finished(rt: HostRuntime) {
-    let (first, pass_0, stranger_0) = opened(&rt, rt.alloc(), 16);
-    let (second, pass_1, stranger_1) = opened(&rt, rt.alloc(), 16);
-    let (third, pass_2, stranger_2) = opened(&rt, rt.alloc(), 16);
-    let sessions = (
-        connected(&rt, &first, pass_0),
-        connected(&rt, &second, pass_1),
-        connected(&rt, &third, pass_2),
-    );
-    let strangers = (
-        connected(&rt, &first, stranger_0),
-        connected(&rt, &second, stranger_1),
-        connected(&rt, &third, stranger_2),
-    );
+    let (stores, own, others) = opened_each(&rt, rt.alloc(), (16, 16, 16));
+    let sessions = connected_each(&rt, &stores, own);
+    let strangers = connected_each(&rt, &stores, others);
     strangers_before_a_recovery(&rt, rt.alloc(), sessions, strangers);
 }

@@ -2,7 +2,7 @@
 ghost use Rattle.std.specs.Prelude.{◌≡◌, vec_len};
 
 use crate::acts::text;
-use crate::opened::{connected, opened, over_three};
+use crate::opened::{connected, connected_each, opened, opened_each, over_each};
 use crate::scenes;
 use std::alloc::Global;
 use std::process::Abort;
@@ -14,175 +14,99 @@ use xa_xid::write_xid;
 
 #[test]
 fn decided_transaction_commits(rt: HostRuntime) {
-    let (first, pass_0, reader_0) = opened(&rt, rt.alloc(), 16);
-    let (second, pass_1, reader_1) = opened(&rt, rt.alloc(), 16);
-    let (third, pass_2, _) = opened(&rt, rt.alloc(), 16);
-    let one = connected(&rt, &first, pass_0);
-    let two = connected(&rt, &second, pass_1);
-    let three = connected(&rt, &third, pass_2);
-    let mut coordinator = over_three(&rt, rt.alloc(), one, two, three);
-    let mut reader_0 = connected(&rt, &first, reader_0);
-    let mut reader_1 = connected(&rt, &second, reader_1);
-    scenes::decided_commits(
-        &rt,
-        rt.alloc(),
-        &mut coordinator,
-        &mut reader_0,
-        &mut reader_1,
-    );
+    let (stores, own, others) = opened_each(&rt, rt.alloc(), (16, 16, 16));
+    let mut coordinator = over_each(&rt, rt.alloc(), &stores, own);
+    let (mut one, mut two, _) = connected_each(&rt, &stores, others);
+    scenes::decided_commits(&rt, rt.alloc(), &mut coordinator, &mut one, &mut two);
 }
 
 #[test]
 fn undecided_transaction_rolls_back(rt: HostRuntime) {
-    let (first, pass_0, reader_0) = opened(&rt, rt.alloc(), 16);
-    let (second, pass_1, reader_1) = opened(&rt, rt.alloc(), 16);
-    let (third, pass_2, _) = opened(&rt, rt.alloc(), 16);
-    let one = connected(&rt, &first, pass_0);
-    let two = connected(&rt, &second, pass_1);
-    let three = connected(&rt, &third, pass_2);
-    let mut coordinator = over_three(&rt, rt.alloc(), one, two, three);
-    let mut reader_0 = connected(&rt, &first, reader_0);
-    let mut reader_1 = connected(&rt, &second, reader_1);
-    scenes::undecided_rolls_back(
-        &rt,
-        rt.alloc(),
-        &mut coordinator,
-        &mut reader_0,
-        &mut reader_1,
-    );
+    let (stores, own, others) = opened_each(&rt, rt.alloc(), (16, 16, 16));
+    let mut coordinator = over_each(&rt, rt.alloc(), &stores, own);
+    let (mut one, mut two, _) = connected_each(&rt, &stores, others);
+    scenes::undecided_rolls_back(&rt, rt.alloc(), &mut coordinator, &mut one, &mut two);
 }
 
 #[test]
 fn only_participant_commits_in_one_phase(rt: HostRuntime) {
-    let (first, pass_0, _) = opened(&rt, rt.alloc(), 16);
-    let (second, pass_1, _) = opened(&rt, rt.alloc(), 16);
-    let (third, pass_2, reader_2) = opened(&rt, rt.alloc(), 16);
-    let one = connected(&rt, &first, pass_0);
-    let two = connected(&rt, &second, pass_1);
-    let three = connected(&rt, &third, pass_2);
-    let mut coordinator = over_three(&rt, rt.alloc(), one, two, three);
-    let mut reader_2 = connected(&rt, &third, reader_2);
-    scenes::single_commits(&rt, rt.alloc(), &mut coordinator, &mut reader_2);
+    let (stores, own, others) = opened_each(&rt, rt.alloc(), (16, 16, 16));
+    let mut coordinator = over_each(&rt, rt.alloc(), &stores, own);
+    let (_, _, mut three) = connected_each(&rt, &stores, others);
+    scenes::single_commits(&rt, rt.alloc(), &mut coordinator, &mut three);
 }
 
 #[test]
 fn no_work_is_no_vote(rt: HostRuntime) {
-    let (first, pass_0, _) = opened(&rt, rt.alloc(), 16);
-    let (second, pass_1, _) = opened(&rt, rt.alloc(), 16);
-    let (third, pass_2, _) = opened(&rt, rt.alloc(), 16);
-    let one = connected(&rt, &first, pass_0);
-    let two = connected(&rt, &second, pass_1);
-    let three = connected(&rt, &third, pass_2);
-    let mut coordinator = over_three(&rt, rt.alloc(), one, two, three);
+    let (stores, own, _) = opened_each(&rt, rt.alloc(), (16, 16, 16));
+    let mut coordinator = over_each(&rt, rt.alloc(), &stores, own);
     scenes::nothing_to_vote(&rt, rt.alloc(), &mut coordinator);
 }
 
 #[test]
 fn abandoned_transaction_leaves_nothing(rt: HostRuntime) {
-    let (first, pass_0, reader_0) = opened(&rt, rt.alloc(), 16);
-    let (second, pass_1, _) = opened(&rt, rt.alloc(), 16);
-    let (third, pass_2, _) = opened(&rt, rt.alloc(), 16);
-    let one = connected(&rt, &first, pass_0);
-    let two = connected(&rt, &second, pass_1);
-    let three = connected(&rt, &third, pass_2);
-    let mut coordinator = over_three(&rt, rt.alloc(), one, two, three);
-    let mut reader_0 = connected(&rt, &first, reader_0);
-    scenes::abandoned_leaves_nothing(&rt, rt.alloc(), &mut coordinator, &mut reader_0);
+    let (stores, own, others) = opened_each(&rt, rt.alloc(), (16, 16, 16));
+    let mut coordinator = over_each(&rt, rt.alloc(), &stores, own);
+    let (mut one, _, _) = connected_each(&rt, &stores, others);
+    scenes::abandoned_leaves_nothing(&rt, rt.alloc(), &mut coordinator, &mut one);
 }
 
 #[test]
 fn locked_row_is_a_reply(rt: HostRuntime) {
-    let (first, pass_0, reader_0) = opened(&rt, rt.alloc(), 16);
-    let (second, pass_1, _) = opened(&rt, rt.alloc(), 16);
-    let (third, pass_2, _) = opened(&rt, rt.alloc(), 16);
-    let one = connected(&rt, &first, pass_0);
-    let two = connected(&rt, &second, pass_1);
-    let three = connected(&rt, &third, pass_2);
-    let mut coordinator = over_three(&rt, rt.alloc(), one, two, three);
-    let mut reader_0 = connected(&rt, &first, reader_0);
-    scenes::locked_row_is_told(&rt, rt.alloc(), &mut coordinator, &mut reader_0);
+    let (stores, own, others) = opened_each(&rt, rt.alloc(), (16, 16, 16));
+    let mut coordinator = over_each(&rt, rt.alloc(), &stores, own);
+    let (mut one, _, _) = connected_each(&rt, &stores, others);
+    scenes::locked_row_is_told(&rt, rt.alloc(), &mut coordinator, &mut one);
 }
 
 #[test]
 fn branch_that_a_stranger_finished_is_a_hazard(rt: HostRuntime) {
-    let (first, pass_0, reader_0) = opened(&rt, rt.alloc(), 16);
-    let (second, pass_1, reader_1) = opened(&rt, rt.alloc(), 16);
-    let (third, pass_2, reader_2) = opened(&rt, rt.alloc(), 16);
-    let one = connected(&rt, &first, pass_0);
-    let two = connected(&rt, &second, pass_1);
-    let three = connected(&rt, &third, pass_2);
-    let mut coordinator = over_three(&rt, rt.alloc(), one, two, three);
-    let mut reader_0 = connected(&rt, &first, reader_0);
-    let mut reader_1 = connected(&rt, &second, reader_1);
-    let mut reader_2 = connected(&rt, &third, reader_2);
+    let (stores, own, others) = opened_each(&rt, rt.alloc(), (16, 16, 16));
+    let mut coordinator = over_each(&rt, rt.alloc(), &stores, own);
+    let (mut one, mut two, mut three) = connected_each(&rt, &stores, others);
     scenes::strangers_rollback_is_a_hazard(
         &rt,
         rt.alloc(),
         &mut coordinator,
-        &mut reader_0,
-        &mut reader_1,
-        &mut reader_2,
+        &mut one,
+        &mut two,
+        &mut three,
     );
 }
 
 #[test]
 fn full_store_votes_no(rt: HostRuntime) {
-    let (first, pass_0, _) = opened(&rt, rt.alloc(), 3);
-    let (second, pass_1, reader_1) = opened(&rt, rt.alloc(), 16);
-    let (third, pass_2, _) = opened(&rt, rt.alloc(), 16);
-    let one = connected(&rt, &first, pass_0);
-    let two = connected(&rt, &second, pass_1);
-    let three = connected(&rt, &third, pass_2);
-    let mut coordinator = over_three(&rt, rt.alloc(), one, two, three);
-    let mut reader_1 = connected(&rt, &second, reader_1);
-    scenes::full_store_is_told(&rt, rt.alloc(), &mut coordinator, &mut reader_1);
+    let (stores, own, others) = opened_each(&rt, rt.alloc(), (3, 16, 16));
+    let mut coordinator = over_each(&rt, rt.alloc(), &stores, own);
+    let (_, mut two, _) = connected_each(&rt, &stores, others);
+    scenes::full_store_is_told(&rt, rt.alloc(), &mut coordinator, &mut two);
 }
 
 #[test]
 fn full_store_takes_no_work(rt: HostRuntime) {
-    let (first, pass_0, _) = opened(&rt, rt.alloc(), 1);
-    let (second, pass_1, _) = opened(&rt, rt.alloc(), 16);
-    let (third, pass_2, _) = opened(&rt, rt.alloc(), 16);
-    let one = connected(&rt, &first, pass_0);
-    let two = connected(&rt, &second, pass_1);
-    let three = connected(&rt, &third, pass_2);
-    let mut coordinator = over_three(&rt, rt.alloc(), one, two, three);
+    let (stores, own, _) = opened_each(&rt, rt.alloc(), (1, 16, 16));
+    let mut coordinator = over_each(&rt, rt.alloc(), &stores, own);
     scenes::full_store_takes_part(&rt, rt.alloc(), &mut coordinator);
 }
 
 #[test]
 fn busy_session_starts_no_second_branch(rt: HostRuntime) {
-    let (first, pass_0, _) = opened(&rt, rt.alloc(), 16);
-    let (second, pass_1, _) = opened(&rt, rt.alloc(), 16);
-    let (third, pass_2, _) = opened(&rt, rt.alloc(), 16);
-    let one = connected(&rt, &first, pass_0);
-    let two = connected(&rt, &second, pass_1);
-    let three = connected(&rt, &third, pass_2);
-    let mut coordinator = over_three(&rt, rt.alloc(), one, two, three);
+    let (stores, own, _) = opened_each(&rt, rt.alloc(), (16, 16, 16));
+    let mut coordinator = over_each(&rt, rt.alloc(), &stores, own);
     scenes::second_branch_is_refused(&rt, rt.alloc(), &mut coordinator);
 }
 
 #[test]
 fn work_of_another_coordinator_is_lost(rt: HostRuntime) {
-    let (first, pass_0, _) = opened(&rt, rt.alloc(), 16);
-    let (second, pass_1, _) = opened(&rt, rt.alloc(), 16);
-    let (third, pass_2, _) = opened(&rt, rt.alloc(), 16);
-    let one = connected(&rt, &first, pass_0);
-    let two = connected(&rt, &second, pass_1);
-    let three = connected(&rt, &third, pass_2);
-    let coordinator = over_three(&rt, rt.alloc(), one, two, three);
+    let (stores, own, _) = opened_each(&rt, rt.alloc(), (16, 16, 16));
+    let coordinator = over_each(&rt, rt.alloc(), &stores, own);
     scenes::lost_work_is_told(&rt, rt.alloc(), coordinator.stop());
 }
 
 #[test]
 fn numbers_are_spent(rt: HostRuntime) {
-    let (first, pass_0, _) = opened(&rt, rt.alloc(), 1);
-    let (second, pass_1, _) = opened(&rt, rt.alloc(), 1);
-    let (third, pass_2, _) = opened(&rt, rt.alloc(), 1);
-    let one = connected(&rt, &first, pass_0);
-    let two = connected(&rt, &second, pass_1);
-    let three = connected(&rt, &third, pass_2);
-    let coordinator = over_three(&rt, rt.alloc(), one, two, three);
+    let (stores, own, _) = opened_each(&rt, rt.alloc(), (1, 1, 1));
+    let coordinator = over_each(&rt, rt.alloc(), &stores, own);
     let mut decisions = Decisions::new(rt.alloc());
     assert!(rt; scenes::spends_all(&coordinator, &mut decisions));
     assert!(rt; !decisions.is_decided(1_000_000) && !decisions.is_decided(0));

@@ -2,31 +2,48 @@
 ghost use Rattle.std.specs.Prelude.{◌≡◌};
 ghost use Rattle.xa_store.specs.Passes.{identity_of, log_of};
 
-use crate::made::{Wanted, is_wanted, said};
 use std::alloc::Global;
 use std::process::Abort;
 use std::sync::Wait;
+use xa_server::{Reply, XaError};
 use xa_session::{Fault, Session};
+use xa_statement::read_statement;
 use xa_store::{Log, Pass, Store};
 use xa_words::Entry;
+use xa_xid::Statement;
 
-/// Has a session answer a statement, which is to be this at this place.
-fn gives<R: Abort + Wait>(
+/// The statement that a text spells.
+fn said(rt: &impl Abort, text: &[u8]) -> Statement {
+    let Ok(statement) = read_statement(text) else {
+        panic!(rt; "not a statement")
+    };
+    statement
+}
+
+/// What a session replies to a statement at this place.
+fn replied<R: Abort + Wait>(
     rt: &R,
     session: &mut Session<'_, Log>,
     text: &[u8],
     place: u64,
-    wanted: Wanted,
-)
+) -> Reply
     ensures { log_of session.new.pass ≡ log_of session.old.pass }
 {
     match session.execute(rt, &said(rt, text)) {
         Ok(answer) => {
             assert_eq!(rt; answer.place, place);
-            assert!(rt; is_wanted(&answer.reply, wanted), "{:?}", answer.reply);
+            answer.reply
         }
         Err(fault) => panic!(rt; "{fault:?}"),
     }
+}
+
+/// Has a session carry a statement out at this place.
+fn does<R: Abort + Wait>(rt: &R, session: &mut Session<'_, Log>, text: &[u8], place: u64)
+    ensures { log_of session.new.pass ≡ log_of session.old.pass }
+{
+    let reply = replied(rt, session, text, place);
+    assert!(rt; matches!(&reply, Reply::Ok), "{reply:?}");
 }
 
 /// Has a session try a statement for which the log has no room.
@@ -45,10 +62,13 @@ fn fills<R: Abort + Wait>(
     ensures first { log_of result.0 ≡ log_of first.entry.pass }
     ensures second { log_of result.1 ≡ log_of second.entry.pass }
 {
-    gives(rt, &mut first, b"XA START 'a'", 0, Wanted::Done);
-    gives(rt, &mut first, b"PUT 'k','v'", 1, Wanted::Done);
+    does(rt, &mut first, b"XA START 'a'", 0);
+    does(rt, &mut first, b"PUT 'k','v'", 1);
     assert!(rt; is_full(rt, &mut second, b"XA START 'b'"));
-    gives(rt, &mut first, b"GET 'k'", 2, Wanted::Value(b"v"));
+    let Reply::Value(Some(value)) = replied(rt, &mut first, b"GET 'k'", 2) else {
+        panic!(rt; "no value")
+    };
+    assert_eq!(rt; value.as_slice(), b"v".as_slice());
     assert!(rt; is_full(rt, &mut first, b"GET 'm'"));
     let Err((first, Fault::Full)) = first.disconnect(rt) else {
         panic!(rt; "disconnected in a full log")
@@ -99,12 +119,23 @@ fn dropped_session_leaves_its_branch(rt: HostRuntime) {
     let (Ok(mut first), Ok(mut second)) = (store.connect(first), store.connect(second)) else {
         panic!(rt; "not connected")
     };
-    gives(&rt, &mut first, b"XA START 'a'", 0, Wanted::Done);
-    gives(&rt, &mut first, b"PUT 'k','v'", 1, Wanted::Done);
+    does(&rt, &mut first, b"XA START 'a'", 0);
+    does(&rt, &mut first, b"PUT 'k','v'", 1);
     drop(first);
-    gives(&rt, &mut second, b"PUT 'k','x'", 2, Wanted::Refused(3572));
-    gives(&rt, &mut second, b"XA START 'a'", 2, Wanted::Refused(1440));
-    gives(&rt, &mut second, b"XA RECOVER", 2, Wanted::Listed(b""));
+    let written = replied(&rt, &mut second, b"PUT 'k','x'", 2);
+    assert!(rt;
+        matches!(&written, Reply::Refused(XaError::RowLocked)),
+        "{written:?}"
+    );
+    let started = replied(&rt, &mut second, b"XA START 'a'", 2);
+    assert!(rt;
+        matches!(&started, Reply::Refused(XaError::Dupid)),
+        "{started:?}"
+    );
+    let Reply::Recovered(xids) = replied(&rt, &mut second, b"XA RECOVER", 2) else {
+        panic!(rt; "no list")
+    };
+    assert!(rt; xids.as_slice().is_empty());
     let Some(history) = history_of(&store, rt.alloc(), second) else {
         panic!(rt; "no memory")
     };

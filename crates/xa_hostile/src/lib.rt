@@ -4,8 +4,6 @@
 #[cfg(test)]
 mod full;
 #[cfg(test)]
-mod made;
-#[cfg(test)]
 mod printed;
 #[cfg(test)]
 mod replay;

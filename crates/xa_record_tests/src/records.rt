@@ -1,5 +1,6 @@
 //! Records of each form of line, each verdict and each faulty line, with what is written for them.
 use std::alloc::Global;
+use std::process::Abort;
 use std::test::Fail;
 use xa_record::{Outcome, judge_record};
 use xa_transcript::{CutReader, CutWriter, ScriptFault};
@@ -10,6 +11,21 @@ fn judged(alloc: Global, record: &[u8], limit: usize) -> Result<(Outcome, Vec<u8
     let mut input = record;
     let outcome = judge_record(alloc, &mut input, &mut output, limit)?;
     Ok((outcome, output))
+}
+
+/// Judges the records, each of which is to come to this, with this written.
+fn come_to(
+    rt: &impl Abort,
+    alloc: Global,
+    records: &[(&[u8], &[u8])],
+    wanted: Outcome,
+) -> Result<(), Fail> {
+    for (record, text) in records {
+        let (outcome, output) = judged(alloc, record, 100)?;
+        assert_eq!(rt; output.as_slice(), *text);
+        assert!(rt; outcome == wanted);
+    }
+    Ok(())
 }
 
 /// Records that an order explains, with that order.
@@ -77,12 +93,7 @@ const LEGAL: [(&[u8], &[u8]); 17] = [
 
 #[test]
 fn order_that_explains_is_written(rt: HostRuntime) -> Result<(), Fail> {
-    for (record, wanted) in LEGAL {
-        let (outcome, output) = judged(rt.alloc(), record, 100)?;
-        assert_eq!(rt; output.as_slice(), wanted);
-        assert!(rt; outcome == Outcome::Legal);
-    }
-    Ok(())
+    come_to(&rt, rt.alloc(), &LEGAL, Outcome::Legal)
 }
 
 /// Records that no order explains, with what is written.
@@ -123,12 +134,7 @@ const ILLEGAL: [(&[u8], &[u8]); 8] = [
 
 #[test]
 fn first_line_that_no_order_explains_is_named(rt: HostRuntime) -> Result<(), Fail> {
-    for (record, wanted) in ILLEGAL {
-        let (outcome, output) = judged(rt.alloc(), record, 100)?;
-        assert_eq!(rt; output.as_slice(), wanted);
-        assert!(rt; outcome == Outcome::Illegal);
-    }
-    Ok(())
+    come_to(&rt, rt.alloc(), &ILLEGAL, Outcome::Illegal)
 }
 
 /// Four clients at once, each with a row of its own.
@@ -198,12 +204,7 @@ const FAULTY: [(&[u8], &[u8]); 14] = [
 
 #[test]
 fn faulty_lines_are_told(rt: HostRuntime) -> Result<(), Fail> {
-    for (record, wanted) in FAULTY {
-        let (outcome, output) = judged(rt.alloc(), record, 100)?;
-        assert_eq!(rt; output.as_slice(), wanted);
-        assert!(rt; outcome == Outcome::Faulty);
-    }
-    Ok(())
+    come_to(&rt, rt.alloc(), &FAULTY, Outcome::Faulty)
 }
 
 #[test]
@@ -222,12 +223,7 @@ fn faulty_row_stands_behind_the_faulty_line_of_its_return(rt: HostRuntime) -> Re
             b"LINE 2: session 2 is lost\nLINE 3: not a row\nLINE 4: not a row\n",
         ),
     ];
-    for (record, wanted) in records {
-        let (outcome, output) = judged(rt.alloc(), record, 100)?;
-        assert_eq!(rt; output.as_slice(), wanted);
-        assert!(rt; outcome == Outcome::Faulty);
-    }
-    Ok(())
+    come_to(&rt, rt.alloc(), &records, Outcome::Faulty)
 }
 
 /// Two returns with rows: two faulty rows of a return that is none's, and one of a return whose rows are missing.

@@ -1,6 +1,6 @@
 //! What a person sees of a server.
-use crate::worked::Told::Value;
-use crate::worked::{OK, replies, statement_of};
+use crate::asked::Told::Value;
+use crate::asked::{OK, replies, statement_of};
 use std::alloc::Global;
 use std::process::Abort;
 use std::test::Fail;

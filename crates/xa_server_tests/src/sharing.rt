@@ -1,16 +1,14 @@
 //! The worked cases of docs/BEHAVIOR.md of rows that branches share, on one server.
-use crate::worked::Told::Value;
-use crate::worked::{NONE, OK, ROW_LOCKED, replies, statement_of};
+use crate::asked::Told::Value;
+use crate::asked::{NONE, OK, ROW_LOCKED, enters, is_replied, replies};
 use std::test::Fail;
 use xa_server::Server;
-use xa_xid::SessionNo;
 
 #[test]
 fn readers_share_a_row_and_a_writer_is_told(rt: HostRuntime) -> Result<(), Fail> {
-    let mut server = Server::new(rt.alloc());
-    replies(
+    is_replied(
         &rt,
-        &mut server,
+        rt.alloc(),
         &[
             (1, "XA START 'a'", OK),
             (1, "GET 'k'", NONE),
@@ -36,10 +34,9 @@ fn readers_share_a_row_and_a_writer_is_told(rt: HostRuntime) -> Result<(), Fail>
 
 #[test]
 fn prepared_branch_keeps_its_shares(rt: HostRuntime) -> Result<(), Fail> {
-    let mut server = Server::new(rt.alloc());
-    replies(
+    is_replied(
         &rt,
-        &mut server,
+        rt.alloc(),
         &[
             (1, "PUT 'k','o'", OK),
             (1, "XA START 'a'", OK),
@@ -63,10 +60,9 @@ fn prepared_branch_keeps_its_shares(rt: HostRuntime) -> Result<(), Fail> {
 
 #[test]
 fn disconnect_frees_shares_and_raised_shares(rt: HostRuntime) -> Result<(), Fail> {
-    let mut server = Server::new(rt.alloc());
-    replies(
+    is_replied(
         &rt,
-        &mut server,
+        rt.alloc(),
         &[
             (1, "XA START 'a'", OK),
             (1, "GET 'k'", NONE),
@@ -105,21 +101,16 @@ fn copy_shares_by_itself(rt: HostRuntime) -> Result<(), Fail> {
 
 #[test]
 fn only_the_first_get_of_a_row_enters(rt: HostRuntime) -> Result<(), Fail> {
-    let mut server = Server::new(rt.alloc());
-    let one = SessionNo::of(1).ok_or("a session number")?;
-    let cases = [
-        ("XA START 'a'", true),
-        ("GET 'k'", true),
-        ("GET 'k'", false),
-        ("PUT 'k','v'", true),
-        ("GET 'k'", false),
-        ("PUT 'k','w'", true),
-    ];
-    for (text, expected) in &cases {
-        let statement = statement_of(text)?;
-        let (_reply, enters) = server.reply(one, &statement)?;
-        assert_eq!(rt; enters, *expected, "{text}");
-        let _reply = server.apply(one, &statement)?;
-    }
-    Ok(())
+    enters(
+        &rt,
+        rt.alloc(),
+        &[
+            ("XA START 'a'", true),
+            ("GET 'k'", true),
+            ("GET 'k'", false),
+            ("PUT 'k','v'", true),
+            ("GET 'k'", false),
+            ("PUT 'k','w'", true),
+        ],
+    )
 }

@@ -36,28 +36,26 @@ fn each_refusal_reads_as_in_the_manual(rt: HostRuntime) -> Result<(), Fail> {
 
 #[test]
 fn refusal_by_state_names_the_state(rt: HostRuntime) -> Result<(), Fail> {
-    reads(
-        &rt,
-        rt.alloc(),
-        XaError::Rmfail(BranchState::NonExisting),
-        "XAER_RMFAIL: The command cannot be executed when global transaction is in the NON-EXISTING state",
-    )?;
-    reads(
-        &rt,
-        rt.alloc(),
-        XaError::Rmfail(BranchState::Active),
-        "XAER_RMFAIL: The command cannot be executed when global transaction is in the ACTIVE state",
-    )?;
-    reads(
-        &rt,
-        rt.alloc(),
-        XaError::Rmfail(BranchState::Idle),
-        "XAER_RMFAIL: The command cannot be executed when global transaction is in the IDLE state",
-    )?;
-    reads(
-        &rt,
-        rt.alloc(),
-        XaError::Rmfail(BranchState::Prepared),
-        "XAER_RMFAIL: The command cannot be executed when global transaction is in the PREPARED state",
-    )
+    let texts = [
+        (
+            BranchState::NonExisting,
+            "XAER_RMFAIL: The command cannot be executed when global transaction is in the NON-EXISTING state",
+        ),
+        (
+            BranchState::Active,
+            "XAER_RMFAIL: The command cannot be executed when global transaction is in the ACTIVE state",
+        ),
+        (
+            BranchState::Idle,
+            "XAER_RMFAIL: The command cannot be executed when global transaction is in the IDLE state",
+        ),
+        (
+            BranchState::Prepared,
+            "XAER_RMFAIL: The command cannot be executed when global transaction is in the PREPARED state",
+        ),
+    ];
+    for (state, text) in texts {
+        reads(&rt, rt.alloc(), XaError::Rmfail(state), text)?;
+    }
+    Ok(())
 }

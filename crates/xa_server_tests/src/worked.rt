@@ -1,80 +1,16 @@
 //! The worked cases of docs/BEHAVIOR.md, on one server.
+use crate::asked::Told::{Rows, Value};
+use crate::asked::{DUPID, INVAL, NONE, NOTA, OK, RMFAIL, ROW_LOCKED, enters, is_replied, replies};
 use std::process::Abort;
 use std::test::Fail;
 use xa_server::{BranchState, Reply, Server, XaError};
-use xa_statement::read_statement;
 use xa_xid::{SessionNo, Statement};
-
-/// A reply in short.
-#[derive(Clone, Copy, Debug, PartialEq, Eq)]
-pub(crate) enum Told {
-    /// The statement was carried out.
-    Done,
-    /// No value.
-    Nothing,
-    /// A value that begins with this byte; an empty one is 0.
-    Value(u8),
-    /// A list of so many identifiers.
-    Rows(u64),
-    /// A refusal of this number.
-    Refused(u16),
-}
-
-use Told::{Rows, Value};
-
-/// A reply in short.
-fn short(reply: &Reply) -> Told {
-    match reply {
-        Reply::Ok => Told::Done,
-        Reply::Value(None) => Told::Nothing,
-        Reply::Value(Some(value)) => Value(value.first().copied().unwrap_or(0)),
-        Reply::Recovered(xids) => Rows(xids.as_slice().len() as u64),
-        Reply::Refused(error) => Told::Refused(error.number()),
-    }
-}
-
-pub(crate) const OK: Told = Told::Done;
-
-pub(crate) const NONE: Told = Told::Nothing;
-
-const NOTA: Told = Told::Refused(1397);
-
-const INVAL: Told = Told::Refused(1398);
-
-const RMFAIL: Told = Told::Refused(1399);
-
-const DUPID: Told = Told::Refused(1440);
-
-pub(crate) const ROW_LOCKED: Told = Told::Refused(3572);
-
-/// The statement of a text.
-pub(crate) fn statement_of(text: &str) -> Result<Statement, Fail> {
-    Ok(read_statement(text.as_bytes()).ok().ok_or("a statement")?)
-}
-
-/// Gives the statements in turn, and asks for these replies of `reply` and of `apply`.
-pub(crate) fn replies(
-    rt: &impl Abort,
-    server: &mut Server,
-    script: &[(u64, &str, Told)],
-) -> Result<(), Fail> {
-    for (number, text, expected) in script {
-        let session = SessionNo::of(*number).ok_or("a session number")?;
-        let statement = statement_of(text)?;
-        let (told, _enters) = server.reply(session, &statement)?;
-        assert_eq!(rt; short(&told), *expected, "reply to {text}");
-        let reply = server.apply(session, &statement)?;
-        assert_eq!(rt; short(&reply), *expected, "{text}");
-    }
-    Ok(())
-}
 
 #[test]
 fn branch_goes_through_its_states_once(rt: HostRuntime) -> Result<(), Fail> {
-    let mut server = Server::new(rt.alloc());
-    replies(
+    is_replied(
         &rt,
-        &mut server,
+        rt.alloc(),
         &[
             (1, "XA START 'a'", OK),
             (1, "XA END 'a'", OK),
@@ -89,10 +25,9 @@ fn branch_goes_through_its_states_once(rt: HostRuntime) -> Result<(), Fail> {
 
 #[test]
 fn one_phase_commits_an_idle_branch_alone(rt: HostRuntime) -> Result<(), Fail> {
-    let mut server = Server::new(rt.alloc());
-    replies(
+    is_replied(
         &rt,
-        &mut server,
+        rt.alloc(),
         &[
             (1, "XA START 'a'", OK),
             (1, "XA COMMIT 'a' ONE PHASE", RMFAIL),
@@ -111,10 +46,9 @@ fn one_phase_commits_an_idle_branch_alone(rt: HostRuntime) -> Result<(), Fail> {
 
 #[test]
 fn free_session_finishes_a_prepared_branch(rt: HostRuntime) -> Result<(), Fail> {
-    let mut server = Server::new(rt.alloc());
-    replies(
+    is_replied(
         &rt,
-        &mut server,
+        rt.alloc(),
         &[
             (1, "XA START 'a'", OK),
             (2, "XA COMMIT 'a'", NOTA),
@@ -132,10 +66,9 @@ fn free_session_finishes_a_prepared_branch(rt: HostRuntime) -> Result<(), Fail> 
 
 #[test]
 fn disconnect_rolls_back_what_is_not_prepared(rt: HostRuntime) -> Result<(), Fail> {
-    let mut server = Server::new(rt.alloc());
-    replies(
+    is_replied(
         &rt,
-        &mut server,
+        rt.alloc(),
         &[
             (1, "XA START 'a'", OK),
             (1, "PUT 'k','v'", OK),
@@ -154,10 +87,9 @@ fn disconnect_rolls_back_what_is_not_prepared(rt: HostRuntime) -> Result<(), Fai
 
 #[test]
 fn prepared_branch_keeps_its_rows_until_it_ends(rt: HostRuntime) -> Result<(), Fail> {
-    let mut server = Server::new(rt.alloc());
-    replies(
+    is_replied(
         &rt,
-        &mut server,
+        rt.alloc(),
         &[
             (1, "PUT 'k','o'", OK),
             (1, "XA START 'a'", OK),
@@ -178,10 +110,9 @@ fn prepared_branch_keeps_its_rows_until_it_ends(rt: HostRuntime) -> Result<(), F
 
 #[test]
 fn branch_reads_its_own_writes_and_others_do_not(rt: HostRuntime) -> Result<(), Fail> {
-    let mut server = Server::new(rt.alloc());
-    replies(
+    is_replied(
         &rt,
-        &mut server,
+        rt.alloc(),
         &[
             (1, "PUT 'k',''", OK),
             (1, "GET 'k'", Value(0)),
@@ -206,10 +137,9 @@ fn branch_reads_its_own_writes_and_others_do_not(rt: HostRuntime) -> Result<(), 
 
 #[test]
 fn unsupported_clause_is_refused_in_every_state(rt: HostRuntime) -> Result<(), Fail> {
-    let mut server = Server::new(rt.alloc());
-    replies(
+    is_replied(
         &rt,
-        &mut server,
+        rt.alloc(),
         &[
             (1, "XA START 'a' JOIN", INVAL),
             (1, "XA START 'a'", OK),
@@ -251,28 +181,23 @@ fn prepared_branches_are_listed_in_order(rt: HostRuntime) -> Result<(), Fail> {
 
 #[test]
 fn what_changes_nothing_does_not_enter(rt: HostRuntime) -> Result<(), Fail> {
-    let mut server = Server::new(rt.alloc());
-    let one = SessionNo::of(1).ok_or("a session number")?;
-    let cases = [
-        ("GET 'k'", false),
-        ("DISCONNECT", false),
-        ("XA RECOVER", false),
-        ("XA START 'a'", true),
-        ("XA START 'b'", false),
-        ("GET 'k'", true),
-        ("GET 'k'", false),
-        ("PUT 'k','v'", true),
-        ("XA END 'b'", false),
-        ("XA END 'a'", true),
-        ("DISCONNECT", true),
-    ];
-    for (text, expected) in &cases {
-        let statement = statement_of(text)?;
-        let (_reply, enters) = server.reply(one, &statement)?;
-        assert_eq!(rt; enters, *expected, "{text}");
-        let _reply = server.apply(one, &statement)?;
-    }
-    Ok(())
+    enters(
+        &rt,
+        rt.alloc(),
+        &[
+            ("GET 'k'", false),
+            ("DISCONNECT", false),
+            ("XA RECOVER", false),
+            ("XA START 'a'", true),
+            ("XA START 'b'", false),
+            ("GET 'k'", true),
+            ("GET 'k'", false),
+            ("PUT 'k','v'", true),
+            ("XA END 'b'", false),
+            ("XA END 'a'", true),
+            ("DISCONNECT", true),
+        ],
+    )
 }
 
 #[test]

@@ -5,6 +5,7 @@ ghost use Rattle.xa_store.specs.Passes.{identity_of, log_of};
 
 use crate::sessions::{is_listed_by, is_ok_at, xid};
 use std::alloc::{AllocError, Global};
+use std::process::Abort;
 use std::sync::atomic::{AtomicU64, Ordering};
 use xa_server::{Reply, XaError};
 use xa_session::Answer;
@@ -17,6 +18,22 @@ fn one_run(store: &Store, alloc: Global, pass: Pass, lines: Vec<Statement>) -> O
     ensures { IfSome result (λ runs. All (λ run. log_of run.pass ≡ identity_of store.now.log) runs.items) }
 {
     vec![in alloc; Run { pass, lines }].ok()
+}
+
+/// A store of one session, and that session's run.
+fn alone(rt: &impl Abort, alloc: Global, capacity: u64, lines: Vec<Statement>) -> (Store, Vec<Run>)
+    ensures { All (λ run. log_of run.pass ≡ identity_of result.0.log) result.1.items }
+{
+    let Ok((store, mut passes)) = Store::open(alloc, capacity, 1) else {
+        panic!(rt; "not opened")
+    };
+    let Some(pass) = passes.pop() else {
+        panic!(rt; "a pass")
+    };
+    let Some(runs) = one_run(&store, alloc, pass, lines) else {
+        panic!(rt; "a run")
+    };
+    (store, runs)
 }
 
 /// Two runs.
@@ -157,20 +174,12 @@ fn a_race_without_runs_gives_nothing(rt: HostRuntime) {
 
 #[test]
 fn a_full_history_stops_a_run(rt: HostRuntime) -> Result<(), AllocError> {
-    let Ok((store, mut passes)) = Store::open(rt.alloc(), 1, 1) else {
-        panic!(rt; "not opened")
-    };
-    let Some(pass) = passes.pop() else {
-        panic!(rt; "a pass")
-    };
     let lines = vec![in rt.alloc();
         Statement::Start(xid(b'a')),
         Statement::End(xid(b'a')),
         Statement::Recover { convert: false },
     ]?;
-    let Some(runs) = one_run(&store, rt.alloc(), pass, lines) else {
-        panic!(rt; "a run")
-    };
+    let (store, runs) = alone(&rt, rt.alloc(), 1, lines);
     let session = SessionNo::of(1).unwrap();
     assert!(rt;
         race(&rt, rt.alloc(), &store, runs, &OpenGate).err()
@@ -213,21 +222,13 @@ fn a_gate_stops_one_run_and_no_other(rt: HostRuntime) -> Result<(), AllocError> 
 
 #[test]
 fn a_gate_is_asked_once_before_each_statement(rt: HostRuntime) -> Result<(), AllocError> {
-    let Ok((store, mut passes)) = Store::open(rt.alloc(), 2, 1) else {
-        panic!(rt; "not opened")
-    };
-    let Some(pass) = passes.pop() else {
-        panic!(rt; "a pass")
-    };
     let lines = vec![in rt.alloc();
         Statement::Start(xid(b'a')),
         Statement::End(xid(b'a')),
         Statement::Recover { convert: false },
         Statement::Prepare(xid(b'a')),
     ]?;
-    let Some(runs) = one_run(&store, rt.alloc(), pass, lines) else {
-        panic!(rt; "a run")
-    };
+    let (store, runs) = alone(&rt, rt.alloc(), 2, lines);
     let gate = CountsLines {
         asked: AtomicU64::new(0),
     };

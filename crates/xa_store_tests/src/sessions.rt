@@ -2,6 +2,7 @@
 ghost use Rattle.std.specs.Prelude.{◌≡◌};
 ghost use Rattle.xa_store.specs.Passes.{identity_of, log_of};
 
+use crate::acts::{both, opened};
 use decision_log::OpenFault;
 use log_conformance::sessions as scenes;
 use std::alloc::Global;
@@ -13,43 +14,22 @@ use xa_xid::{Bytes, Statement, Xid};
 
 #[test]
 fn full_store_still_answers(rt: HostRuntime) {
-    let Ok((store, mut passes)) = Store::open(rt.alloc(), 4, 2) else {
-        panic!(rt; "not opened")
-    };
-    let (Some(second), Some(first)) = (passes.pop(), passes.pop()) else {
-        panic!(rt; "two passes")
-    };
-    let (Ok(mut first), Ok(mut second)) = (store.connect(first), store.connect(second)) else {
-        panic!(rt; "not connected")
-    };
+    let (store, passes) = opened(&rt, rt.alloc(), 4);
+    let (mut first, mut second) = both(&rt, &store, passes);
     assert!(rt; scenes::full_log_still_answers(&mut first, &mut second));
 }
 
 #[test]
 fn write_is_seen_by_other_sessions(rt: HostRuntime) {
-    let Ok((store, mut passes)) = Store::open(rt.alloc(), 8, 2) else {
-        panic!(rt; "not opened")
-    };
-    let (Some(second), Some(first)) = (passes.pop(), passes.pop()) else {
-        panic!(rt; "two passes")
-    };
-    let (Ok(mut first), Ok(mut second)) = (store.connect(first), store.connect(second)) else {
-        panic!(rt; "not connected")
-    };
+    let (store, passes) = opened(&rt, rt.alloc(), 8);
+    let (mut first, mut second) = both(&rt, &store, passes);
     assert!(rt; scenes::write_is_seen_by_others(&mut first, &mut second));
 }
 
 #[test]
 fn two_threads_prepare(rt: HostRuntime) {
-    let Ok((store, mut passes)) = Store::open(rt.alloc(), 8, 2) else {
-        panic!(rt; "not opened")
-    };
-    let (Some(second), Some(first)) = (passes.pop(), passes.pop()) else {
-        panic!(rt; "two passes")
-    };
-    let (Ok(first), Ok(second)) = (store.connect(first), store.connect(second)) else {
-        panic!(rt; "not connected")
-    };
+    let (store, passes) = opened(&rt, rt.alloc(), 8);
+    let (first, second) = both(&rt, &store, passes);
     assert!(rt; scenes::two_threads_prepare(&rt, first, second));
 }
 

@@ -5,7 +5,8 @@ ghost use Rattle.xa_coordinator.specs.Work.{IsRow};
 use std::process::Abort;
 use std::sync::Wait;
 use xa_coordinator::{
-    BeginFault, Cause, Coordinator, Decisions, Ending, Speak, Transaction, Vote, WorkFault,
+    BeginFault, Cause, Coordinator, Decisions, Ending, Prepared, Speak, Transaction, Vote,
+    WorkFault,
 };
 use xa_server::Reply;
 use xa_session::Fault;
@@ -130,6 +131,23 @@ fn is_rolled_back(rt: &impl Abort, ending: &Ending) {
     assert!(rt; is_unfinished(rt, ending) || matches!(ending, Ending::RolledBack));
 }
 
+/// Finishes a transaction that a store refused for want of memory: it is rolled back, or unfinished.
+fn lost_the_vote<S: Speak, R: Abort + Wait>(
+    rt: &R,
+    coordinator: &mut Coordinator<S>,
+    decisions: &Decisions,
+    prepared: Prepared,
+    cause: Cause,
+)
+    requires name { prepared.transaction.name.items ≡ coordinator.old.name.items }
+    requires stores { prepared.transaction.stores ≡ vec_len coordinator.old.stores }
+    ensures { vec_len coordinator.new.stores ≡ vec_len coordinator.old.stores }
+{
+    assert!(rt; cause == Cause::Session(Fault::NoMemory));
+    let ending = coordinator.finish(rt, decisions, prepared);
+    is_rolled_back(rt, &ending);
+}
+
 /// Has two stores vote, decides where they are ready and the transaction is to be decided, and finishes it. Whether it was decided.
 fn voted_by_both<S: Speak, R: Abort + Wait>(
     rt: &R,
@@ -158,9 +176,7 @@ fn voted_by_both<S: Speak, R: Abort + Wait>(
             cause,
             ..
         } => {
-            assert!(rt; cause == Cause::Session(Fault::NoMemory));
-            let ending = coordinator.finish(rt, decisions, prepared);
-            is_rolled_back(rt, &ending);
+            lost_the_vote(rt, coordinator, decisions, prepared, cause);
             false
         }
         _ => panic!(rt; "another vote"),
@@ -187,9 +203,7 @@ fn voted_by_one<S: Speak, R: Abort + Wait>(
             cause,
             ..
         } => {
-            assert!(rt; cause == Cause::Session(Fault::NoMemory));
-            let ending = coordinator.finish(rt, decisions, prepared);
-            is_rolled_back(rt, &ending);
+            lost_the_vote(rt, coordinator, decisions, prepared, cause);
             false
         }
         _ => panic!(rt; "another vote"),

@@ -125,32 +125,41 @@ impl Scene {
     }
 }
 
-/// Plays a scene over a log with a turn.
-fn over_a_turn(rt: &impl Abort, alloc: Global, scene: Scene) {
+/// Plays a scene over a log that was opened for two sessions.
+fn play_over<L: DecisionLog>(
+    rt: &impl Abort,
+    alloc: Global,
+    scene: Scene,
+    log: &L,
+    mut passes: Vec<L::Pass>,
+)
+where
+    L::Pass: Drop,
+    requires { All (λ pass. L.belongs_to pass ≡ L.identity log.now) passes.items }
+{
     let base = Server::new(alloc);
-    let Ok((log, mut passes)) = turn(alloc, scene.capacity()) else {
-        panic!(rt; "not opened")
-    };
     let (Some(second), Some(first)) = (passes.pop(), passes.pop()) else {
         panic!(rt; "two passes")
     };
-    let mut first = connected(rt, &log, first, &base);
-    let mut second = connected(rt, &log, second, &base);
+    let mut first = connected(rt, log, first, &base);
+    let mut second = connected(rt, log, second, &base);
     scene.play(rt, &mut first, &mut second);
+}
+
+/// Plays a scene over a log with a turn.
+fn over_a_turn(rt: &impl Abort, alloc: Global, scene: Scene) {
+    let Ok((log, passes)) = turn(alloc, scene.capacity()) else {
+        panic!(rt; "not opened")
+    };
+    play_over(rt, alloc, scene, &log, passes);
 }
 
 /// Plays a scene over a chain.
 fn over_a_chain(rt: &impl Abort, alloc: Global, scene: Scene) {
-    let base = Server::new(alloc);
-    let Ok((log, mut passes)) = chain(alloc, scene.capacity()) else {
+    let Ok((log, passes)) = chain(alloc, scene.capacity()) else {
         panic!(rt; "not opened")
     };
-    let (Some(second), Some(first)) = (passes.pop(), passes.pop()) else {
-        panic!(rt; "two passes")
-    };
-    let mut first = connected(rt, &log, first, &base);
-    let mut second = connected(rt, &log, second, &base);
-    scene.play(rt, &mut first, &mut second);
+    play_over(rt, alloc, scene, &log, passes);
 }
 
 #[test]

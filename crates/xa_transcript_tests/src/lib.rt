@@ -2,6 +2,8 @@
 #![tactic(auto)]
 
 #[cfg(test)]
+mod raced_scripts;
+#[cfg(test)]
 mod races;
 #[cfg(test)]
 mod runs;

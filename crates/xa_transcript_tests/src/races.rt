@@ -1,13 +1,9 @@
 //! Races of scripts, and what is written where none is held.
-ghost use Rattle.decision_log.specs.Opens.{IsCapacity};
-
-use std::alloc::Global;
-use std::sync::Wait;
+use crate::raced_scripts::{Manner, raced, writes_nothing, writes_prefixes};
 use std::sync::atomic::{AtomicU64, Ordering};
 use std::test::Fail;
-use std::thread::Threads;
 use xa_store::{Gate, OpenGate};
-use xa_transcript::{CutReader, CutWriter, ScriptFault, race_script, race_script_in_rounds};
+use xa_transcript::{CutReader, CutWriter, ScriptFault, race_script};
 use xa_xid::SessionNo;
 
 /// A gate that lets nobody in.
@@ -43,22 +39,6 @@ impl Gate for Meeting {
     }
 }
 
-/// What a race of the script writes.
-fn raced<G: Gate + Sync, R: Threads + Wait + Sync>(
-    rt: &R,
-    alloc: Global,
-    script: &[u8],
-    capacity: u64,
-    gate: &G,
-) -> Result<Vec<u8>, ScriptFault>
-    requires { IsCapacity capacity }
-{
-    let mut output = Vec::new(alloc);
-    let mut input = script;
-    race_script(rt, alloc, &mut input, &mut output, capacity, gate)?;
-    Ok(output)
-}
-
 /// Scripts with faulty lines, and what is told of these.
 const FAULTY: [(&[u8], &[u8]); 4] = [
     (
@@ -81,36 +61,32 @@ LINE 2 ERROR 1064 (42000): syntax fault at byte 0\n",
 #[test]
 fn faulty_lines_are_told_alone(rt: HostRuntime) -> Result<(), Fail> {
     for (script, told) in FAULTY {
-        let output = raced(&rt, rt.alloc(), script, 1024, &ShutGate)?;
+        let output = raced(&rt, Manner::Once, script, 1024, &ShutGate)?;
         assert_eq!(rt; output.as_slice(), told);
     }
     Ok(())
 }
 
 #[test]
-fn write_fault_leaves_a_prefix_of_faulty_lines(rt: HostRuntime) -> Result<(), Fail> {
+fn write_fault_leaves_a_prefix_of_faulty_lines(rt: HostRuntime) {
     for (script, told) in FAULTY {
-        for room in 0..told.len() {
-            let mut input = script;
-            let mut output = CutWriter::new(rt.alloc(), 5, room);
-            let result = race_script(&rt, rt.alloc(), &mut input, &mut output, 1, &OpenGate);
-            assert_eq!(rt; result, Err(ScriptFault::Write));
-            assert_eq!(rt; output.as_slice(), &told[..room]);
-        }
+        writes_prefixes(&rt, Manner::Once, script, told, 1);
     }
-    Ok(())
 }
 
 #[test]
-fn script_that_is_not_read_is_not_raced(rt: HostRuntime) -> Result<(), Fail> {
+fn script_that_is_not_read_is_not_raced(rt: HostRuntime) {
     for reads in 0..3 {
         let mut input = CutReader::new(b"1 GET 'k'", 3, reads);
-        let mut output = Vec::new(rt.alloc());
-        let result = race_script(&rt, rt.alloc(), &mut input, &mut output, 8, &ShutGate);
-        assert_eq!(rt; result, Err(ScriptFault::Read));
-        assert!(rt; output.is_empty());
+        writes_nothing(
+            &rt,
+            Manner::Once,
+            &mut input,
+            8,
+            &ShutGate,
+            ScriptFault::Read,
+        );
     }
-    Ok(())
 }
 
 #[test]
@@ -119,7 +95,7 @@ fn longer_script_is_not_raced(rt: HostRuntime) -> Result<(), Fail> {
     for _ in 0..1_048_577 {
         spaces.push(b' ')?;
     }
-    let result = raced(&rt, rt.alloc(), spaces.as_slice(), 1, &OpenGate);
+    let result = raced(&rt, Manner::Once, spaces.as_slice(), 1, &OpenGate);
     assert_eq!(rt; result.err(), Some(ScriptFault::TooLong));
     Ok(())
 }
@@ -142,23 +118,16 @@ const SINGLE: [(&[u8], &[u8]); 4] = [
 #[test]
 fn race_of_one_session_is_its_run(rt: HostRuntime) -> Result<(), Fail> {
     for (script, text) in SINGLE {
-        let output = raced(&rt, rt.alloc(), script, 1024, &OpenGate)?;
+        let output = raced(&rt, Manner::Once, script, 1024, &OpenGate)?;
         assert_eq!(rt; output.as_slice(), text);
     }
     Ok(())
 }
 
 #[test]
-fn write_fault_leaves_a_prefix_of_an_outcome(rt: HostRuntime) -> Result<(), Fail> {
+fn write_fault_leaves_a_prefix_of_an_outcome(rt: HostRuntime) {
     let (script, text) = SINGLE[1];
-    for room in 0..text.len() {
-        let mut input = script;
-        let mut output = CutWriter::new(rt.alloc(), 5, room);
-        let result = race_script(&rt, rt.alloc(), &mut input, &mut output, 1024, &OpenGate);
-        assert_eq!(rt; result, Err(ScriptFault::Write));
-        assert_eq!(rt; output.as_slice(), &text[..room]);
-    }
-    Ok(())
+    writes_prefixes(&rt, Manner::Once, script, text, 1024);
 }
 
 #[test]
@@ -179,25 +148,29 @@ fn stream_fault_ends_a_race_at_once(rt: HostRuntime) -> Result<(), Fail> {
 }
 
 #[test]
-fn full_log_writes_nothing(rt: HostRuntime) -> Result<(), Fail> {
-    let (script, _) = SINGLE[1];
-    let mut input = script;
-    let mut output = Vec::new(rt.alloc());
-    let result = race_script(&rt, rt.alloc(), &mut input, &mut output, 1, &OpenGate);
-    assert_eq!(rt; result, Err(ScriptFault::Full));
-    assert!(rt; output.is_empty());
-    Ok(())
+fn full_log_writes_nothing(rt: HostRuntime) {
+    let (mut script, _) = SINGLE[1];
+    writes_nothing(
+        &rt,
+        Manner::Once,
+        &mut script,
+        1,
+        &OpenGate,
+        ScriptFault::Full,
+    );
 }
 
 #[test]
-fn shut_gate_writes_nothing(rt: HostRuntime) -> Result<(), Fail> {
-    let (script, _) = SINGLE[1];
-    let mut input = script;
-    let mut output = Vec::new(rt.alloc());
-    let result = race_script(&rt, rt.alloc(), &mut input, &mut output, 1024, &ShutGate);
-    assert_eq!(rt; result, Err(ScriptFault::GateShut));
-    assert!(rt; output.is_empty());
-    Ok(())
+fn shut_gate_writes_nothing(rt: HostRuntime) {
+    let (mut script, _) = SINGLE[1];
+    writes_nothing(
+        &rt,
+        Manner::Once,
+        &mut script,
+        1024,
+        &ShutGate,
+        ScriptFault::GateShut,
+    );
 }
 
 /// What two sessions that start one branch side by side can get.
@@ -214,33 +187,17 @@ fn sessions_run_side_by_side(rt: HostRuntime) -> Result<(), Fail> {
         second: AtomicU64::new(0),
     };
     let script = b"1 XA START 'a'\n2 XA START 'a'\n";
-    let output = raced(&rt, rt.alloc(), script, 1024, &gate)?;
+    let output = raced(&rt, Manner::Once, script, 1024, &gate)?;
     let text = output.as_slice();
     assert!(rt; text == FIRST_WINS || text == SECOND_WINS);
     Ok(())
-}
-
-/// What a race of the script in rounds writes.
-fn raced_in_rounds<G: Gate + Sync, R: Threads + Wait + Sync>(
-    rt: &R,
-    alloc: Global,
-    script: &[u8],
-    capacity: u64,
-    gate: &G,
-) -> Result<Vec<u8>, ScriptFault>
-    requires { IsCapacity capacity }
-{
-    let mut output = Vec::new(alloc);
-    let mut input = script;
-    race_script_in_rounds(rt, alloc, &mut input, &mut output, capacity, gate)?;
-    Ok(output)
 }
 
 #[test]
 fn race_in_rounds_of_one_session_is_its_run(rt: HostRuntime) -> Result<(), Fail> {
     for (script, text) in SINGLE {
         for capacity in [1, 2, 3, 1024] {
-            let output = raced_in_rounds(&rt, rt.alloc(), script, capacity, &OpenGate)?;
+            let output = raced(&rt, Manner::InRounds, script, capacity, &OpenGate)?;
             assert_eq!(rt; output.as_slice(), text);
         }
     }
@@ -250,26 +207,23 @@ fn race_in_rounds_of_one_session_is_its_run(rt: HostRuntime) -> Result<(), Fail>
 #[test]
 fn faulty_lines_are_not_raced_in_rounds(rt: HostRuntime) -> Result<(), Fail> {
     for (script, listed) in FAULTY {
-        let output = raced_in_rounds(&rt, rt.alloc(), script, 1, &ShutGate)?;
+        let output = raced(&rt, Manner::InRounds, script, 1, &ShutGate)?;
         assert_eq!(rt; output.as_slice(), listed);
     }
     Ok(())
 }
 
 #[test]
-fn fault_of_a_race_in_rounds_writes_nothing_but_a_prefix(rt: HostRuntime) -> Result<(), Fail> {
+fn fault_of_a_race_in_rounds_writes_nothing_but_a_prefix(rt: HostRuntime) {
     let (script, text) = SINGLE[1];
     let mut input = script;
-    let mut output = Vec::new(rt.alloc());
-    let result = race_script_in_rounds(&rt, rt.alloc(), &mut input, &mut output, 1, &ShutGate);
-    assert_eq!(rt; result, Err(ScriptFault::GateShut));
-    assert!(rt; output.is_empty());
-    for room in 0..text.len() {
-        let mut input = script;
-        let mut output = CutWriter::new(rt.alloc(), 5, room);
-        let result = race_script_in_rounds(&rt, rt.alloc(), &mut input, &mut output, 1, &OpenGate);
-        assert_eq!(rt; result, Err(ScriptFault::Write));
-        assert_eq!(rt; output.as_slice(), &text[..room]);
-    }
-    Ok(())
+    writes_nothing(
+        &rt,
+        Manner::InRounds,
+        &mut input,
+        1,
+        &ShutGate,
+        ScriptFault::GateShut,
+    );
+    writes_prefixes(&rt, Manner::InRounds, script, text, 1);
 }
