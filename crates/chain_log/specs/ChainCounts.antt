@@ -45,6 +45,8 @@ exchange_counts = counts_at_exchange Exchanges counted
     counted word from to none old found new is = absurd is
     counted word from to (some entry) old found new is =
         dite (ℕ_discrete found from)
-        (λ same. let added = is.3 same in record { looks = inr (ap (λ h. h.known.looks) added, λ never. never); tries = inl (ap (λ h. h.known.tries) added, is.0) })
+        (λ same.
+        let added = is.3 same in
+        record { looks = inr (ap (λ h. h.known.looks) added, λ never. never); tries = inl (ap (λ h. h.known.tries) added, is.0) })
         (λ other. let seen = (is.4 other).1 in record
         { looks = inr (ap (λ h. h.known.looks) seen, λ never. never); tries = inl (ap (λ h. h.known.tries) seen, is.0) })
