@@ -3,12 +3,12 @@ use Rattle.std.proofs.Common.{◌≡◌, Bool, false, true, refl, inr, [], ◌�
 use Rattle.xa_xid.specs.declared.statement.Statement.{Statement}
 use Rattle.xa_xid.specs.declared.xid.Xid.{Xid}
 use Rattle.xa_xid.specs.declared.statement.Statement.TheVariants.{End, Prepare}
+use Rattle.xa_session.specs.View.{SessionView}
 use Rattle.xa_coordinator.specs.declared.cause.Cause.{Cause}
 use Rattle.xa_coordinator.specs.declared.closing.Closing.{Closing}
 use Rattle.xa_coordinator.specs.declared.closing.Closing.TheVariants.{InTwoPhases, InOnePhase, RollBack}
 use Rattle.xa_coordinator.specs.declared.closing.Found.{Found}
 use Rattle.xa_coordinator.specs.declared.closing.Found.TheVariants.{Closed, Missing}
-use Rattle.xa_coordinator.specs.View.{SessionView}
 use Rattle.xa_coordinator.specs.Agreement.{Adds}
 use Rattle.xa_coordinator.specs.Outcomes.{ends_first, SaysAs, ClosesAs, PreparesAs}
 use Rattle.xa_coordinator.specs.Told.{Says, IsDone}

@@ -1,8 +1,8 @@
 -- The store of the only participant, when its work has ended.
 use Rattle.std.proofs.Common.{◌≡◌, ◌≢◌, ℕ, Bool, true, false, List, sym, subst, refl}
 use Rattle.xa_xid.specs.declared.statement.Statement.TheVariants.{End}
+use Rattle.xa_session.specs.View.{SessionView}
 use Rattle.xa_coordinator.specs.declared.transaction.Transaction.{Transaction}
-use Rattle.xa_coordinator.specs.View.{SessionView}
 use Rattle.xa_coordinator.specs.Participants.{takes_part, OnlyTakesPart}
 use Rattle.xa_coordinator.specs.Stores.{AtStore, EachStore, ChangesAt}
 use Rattle.xa_coordinator.specs.Told.{IsDone}

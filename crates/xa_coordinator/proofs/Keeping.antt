@@ -8,7 +8,7 @@ use Rattle.xa_xid.specs.declared.xid.Xid.{Xid}
 use Rattle.xa_xid.specs.declared.statement.Statement.{Statement}
 use Rattle.xa_server.specs.Locks.{LockLaw}
 use Rattle.decision_log.specs.History.{entries_of}
-use Rattle.xa_coordinator.specs.View.{SessionView}
+use Rattle.xa_session.specs.View.{SessionView}
 use Rattle.xa_coordinator.specs.Told.{IsDone}
 use Rattle.xa_coordinator.proofs.Telling.{seat_done}
 use Rattle.xa_coordinator.specs.Branch.{branch_xid}

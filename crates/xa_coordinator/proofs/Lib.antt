@@ -1,5 +1,3 @@
-pub mod OwnSeats
-pub mod Seats
 pub mod Places
 pub mod Limited
 pub mod Standings

@@ -16,7 +16,7 @@ use Rattle.xa_server.proofs.Maps.{same_or_apart, same_itself}
 use Rattle.xa_server.proofs.Listing.{prepared_exactly}
 use Rattle.xa_server.specs.State.{State, is_prepared, prepared_xids}
 use Rattle.xa_session.specs.Replay.{state_after}
-use Rattle.xa_coordinator.specs.View.{SessionView}
+use Rattle.xa_session.specs.View.{SessionView}
 use Rattle.xa_coordinator.specs.Branch.{branch_xid, IsBranchOf}
 use Rattle.xa_coordinator.specs.Recovery.{IsNamed, IsListed, NoneLeft}
 

@@ -7,6 +7,7 @@ use Rattle.std.proofs.lemmas.List.{map_push}
 use Rattle.std.proofs.lemmas.List.Sums.{sum_by_push}
 use Rattle.std.proofs.lemmas.Bool.{cases_lt}
 use Rattle.std.proofs.lemmas.Option.{slice_get_within}
+use Rattle.xa_session.specs.View.{SessionView}
 use Rattle.xa_coordinator.specs.declared.cause.Cause.{Cause}
 use Rattle.xa_coordinator.specs.declared.cause.Cause.TheVariants.{Session as CauseSession, Refused as CauseRefused}
 use Rattle.xa_coordinator.specs.declared.open_branch.OpenBranch.{OpenBranch}
@@ -15,7 +16,6 @@ use Rattle.xa_coordinator.specs.declared.recover_fault.RecoverFault.TheVariants.
 use Rattle.xa_coordinator.specs.declared.report.Report.{Report}
 use Rattle.xa_coordinator.specs.declared.standing.Standing.{Standing}
 use Rattle.xa_coordinator.specs.declared.tally.Tally.{Tally}
-use Rattle.xa_coordinator.specs.View.{SessionView}
 use Rattle.xa_coordinator.specs.Agreement.{Agrees}
 use Rattle.xa_coordinator.specs.Stores.{AtStore, EachStore, ChangesAt, Reached, EndsAt}
 use Rattle.xa_coordinator.specs.Recovery.{IsRecovered, RecoveredBy, Recovers, BreaksHere, BreaksAt, BreaksOff, fault_by, IsBroken, IsStillPrepared}

@@ -2,6 +2,7 @@
 use Rattle.std.proofs.Common.{◌≡◌, ◌≤◌, ◌<◌, ◌+◌, ℕ, Bool, true, false, List, [], ◌∷◌, ◌++◌, length, refl, ap, sym, ◌∙◌, subst, cond, inl, inr, arith}
 use Rattle.std.proofs.Common.{append-nil, length-append, Result, Ok, Err}
 use Rattle.std.specs.Prelude.{All, filter, IfOk, IfErr}
+use Rattle.xa_session.specs.View.{SessionView, StaysOfLog}
 use Rattle.xa_coordinator.specs.Stores.{AtStore}
 use Rattle.xa_coordinator.proofs.Walk.{at_then}
 use Rattle.std.proofs.lemmas.List.Elements.{All-nil, All-cons, All-append, filter-append}
@@ -20,7 +21,6 @@ use Rattle.xa_coordinator.specs.declared.closing.Found.{Found}
 use Rattle.xa_coordinator.specs.declared.closing.Found.TheVariants.{Closed, Missing}
 use Rattle.xa_coordinator.specs.declared.standing.Standing.{Standing}
 use Rattle.xa_coordinator.specs.declared.tally.Tally.{Tally}
-use Rattle.xa_coordinator.specs.View.{SessionView, StaysOfLog}
 use Rattle.xa_coordinator.specs.Agreement.{Adds, AgreesWith, Agrees}
 use Rattle.xa_coordinator.specs.Branch.{branch_xid, IsBranchOf}
 use Rattle.xa_coordinator.specs.Decisions.{is_decided}

@@ -16,17 +16,18 @@ use Rattle.decision_log.specs.declared.known.Known.{Known}
 use Rattle.xa_session.specs.Answer.{entry_of, IsAnswered, IsUnanswered}
 use Rattle.xa_session.specs.Replay.{state_after, state_at}
 use Rattle.xa_session.specs.declared.answer.Answer.{Answer}
-use Rattle.xa_session.proofs.Answering.{advances_through, fails_unanswered, unanswered_itself}
+use Rattle.xa_session.proofs.Answering.{accepted_there, refused_unanswered, advances_through, fails_unanswered, unanswered_itself}
+use Rattle.xa_session.proofs.Views.{stays_itself, stays_through}
+use Rattle.xa_session.specs.View.{SessionView, StaysOfLog}
+use Rattle.xa_session.proofs.OwnSeats.{started, ended}
+use Rattle.xa_session.proofs.Seats.{law_seen, seat_unanswered, state_entered}
 use Rattle.xa_coordinator.specs.Agreement.{Adds}
 use Rattle.xa_coordinator.specs.Told.{IsOfBranch, IsDone, IsUndone, HasCause}
-use Rattle.xa_coordinator.specs.View.{SessionView, StaysOfLog}
 use Rattle.xa_coordinator.specs.OpenBranches.{seat_seen, seat_in, opening}
 use Rattle.xa_coordinator.specs.declared.open_branch.Phase.{Phase}
 use Rattle.xa_coordinator.specs.declared.open_branch.Phase.TheVariants.{Active, Idle}
 use Rattle.xa_coordinator.specs.declared.cause.Cause.{Cause}
 use Rattle.xa_coordinator.specs.declared.cause.Cause.TheVariants.{Session, Refused as RefusedBy}
-use Rattle.xa_coordinator.proofs.OwnSeats.{started, ended}
-use Rattle.xa_coordinator.proofs.Seats.{law_seen, seat_unanswered, state_entered}
 
 -- a statement about a branch enters where it isn't refused
 enters_unrefused : (state : State) (session : ℕ) (statement : Statement) → IsOfBranch statement → is_refused (reply_to state session statement) ≡ false
@@ -43,11 +44,6 @@ enters_unrefused state session (Get key) is accepted = absurd is
 enters_unrefused state session (Put key value) is accepted = absurd is
 enters_unrefused state session (Del key) is accepted = absurd is
 enters_unrefused state session Disconnect is accepted = absurd is
-
-pub accepted_there : (base : State) (statement : Statement) (answer : Answer) (old new : Known) → IsAnswered base statement answer old new
-    → is_refused answer.reply ≡ false →
-    is_refused (reply_to (state_at base new.seen answer.place) old.number statement) ≡ false
-accepted_there base statement answer old new is accepted = sym (ap is_refused is.at.reply_is) ∙ accepted
 
 pub entering_there : (base : State) (statement : Statement) (answer : Answer) (old new : Known) → IsOfBranch statement
     → IsAnswered base statement answer old new → is_refused answer.reply ≡ false →
@@ -96,20 +92,7 @@ seat_done old new phase xid law own_old own_new is =
     opened Active state law session accepted = started state law session xid accepted
     opened Idle state law session accepted = ended state law session xid accepted
 
--- a refused statement adds nothing
-refused_unanswered : (base : State) (statement : Statement) (answer : Answer) (old new : Known) → IsAnswered base statement answer old new
-    → is_refused answer.reply ≡ true → IsUnanswered old new
-unfolding enters
-refused_unanswered base statement answer old new is refused =
-    let there : is_refused (reply_to (state_at base new.seen answer.place) old.number statement) ≡ true = sym (ap is_refused is.at.reply_is) ∙ refused in
-    record {
-      advances = is.advances;
-      mine =
-          (is.outside (ap (λ b. not b && may_enter (state_at base new.seen answer.place) (seat_of (state_at base new.seen answer.place) old.number) statement)
-          there)).mine;
-    }
-
--- nor does one that a session couldn't answer
+-- nothing is added by a statement that is refused, or that a session couldn't answer
 cause_unanswered : (statement : Statement) (cause : Cause) (old new : SessionView) → HasCause statement cause old new → IsUnanswered old.known new.known
 cause_unanswered statement (Session fault) old new is = fails_unanswered old.turns old.identity.capacity old.base statement fault old.known new.known is.0
 cause_unanswered statement (RefusedBy error) old new is =
@@ -141,7 +124,7 @@ seat_refused statement cause old new law own_old own_new is =
 
 pub adds_then : (first second : List Statement) (old mid new : SessionView) → Adds first old mid → Adds second mid new → Adds (first ++ second) old new
 adds_then first second old mid new one two = record {
-  log = record { identity = two.log.identity ∙ one.log.identity; turns = two.log.turns ∙ one.log.turns; base = two.log.base ∙ one.log.base };
+  log = stays_through old mid new one.log two.log;
   advances = advances_through old.known mid.known new.known one.advances two.advances;
   mine = two.mine
       ∙ ap (λ list. list ++ map (entry_of mid.known.number) second) one.mine
@@ -152,7 +135,7 @@ adds_then first second old mid new one two = record {
 
 pub adds_nothing : (session : SessionView) → Adds [] session session
 adds_nothing session = record {
-  log = record { identity = refl; turns = refl; base = refl };
+  log = stays_itself session;
   advances = (unanswered_itself session.known).advances;
   mine = sym (append-nil session.known.mine);
 }

@@ -12,16 +12,16 @@ use Rattle.xa_server.specs.Step.{enters, may_enter, is_refused, after}
 use Rattle.decision_log.specs.History.{entries_of}
 use Rattle.std.specs.Prelude.{Result, Ok, Err, IfOk, IfErr}
 use Rattle.xa_session.specs.declared.fault.Fault.{Fault}
+use Rattle.xa_session.specs.View.{SessionView, StaysOfLog}
+use Rattle.xa_session.proofs.OwnSeats.{read, written, deleted}
+use Rattle.xa_session.proofs.Seats.{law_seen, seat_at, state_entered, state_outside}
 use Rattle.xa_coordinator.specs.declared.cause.Cause.TheVariants.{Session}
 use Rattle.xa_coordinator.proofs.Telling.{is_undone, seat_refused}
 use Rattle.xa_session.specs.Answer.{IsAnswered, Fails, IsFinal}
 use Rattle.xa_session.specs.Replay.{state_after, state_at}
 use Rattle.xa_session.specs.declared.answer.Answer.{Answer}
-use Rattle.xa_coordinator.specs.View.{SessionView, StaysOfLog}
 use Rattle.xa_coordinator.specs.OpenBranches.{seat_seen}
 use Rattle.xa_coordinator.specs.Work.{IsRow}
-use Rattle.xa_coordinator.proofs.OwnSeats.{read, written, deleted}
-use Rattle.xa_coordinator.proofs.Seats.{law_seen, seat_at, state_entered, state_outside}
 
 unrefused : (refused may : Bool) → (not refused && may) ≡ true → refused ≡ false
 unrefused true may is = absurd (cc)

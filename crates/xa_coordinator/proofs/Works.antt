@@ -1,6 +1,7 @@
 -- What work in a store comes to, from its statements.
 use Rattle.std.proofs.Common.{◌≡◌, inl, inr, ℕ, Bool, true, false, List, [], ◌∷◌, ◌++◌, length, refl, ap, sym, ◌∙◌, subst, append-nil}
 use Rattle.std.specs.Prelude.{slice_get, Option, Some, Result, Ok, Err, All}
+use Rattle.xa_session.specs.View.{SessionView}
 use Rattle.xa_coordinator.specs.declared.open_branch.OpenBranch.{OpenBranch}
 use Rattle.std.proofs.lemmas.List.Elements.{All-nil, All-cons, All-append}
 use Rattle.xa_xid.specs.declared.xid.Xid.{Xid}
@@ -16,7 +17,6 @@ use Rattle.xa_coordinator.specs.declared.work_fault.WorkFault.{WorkFault}
 use Rattle.xa_coordinator.specs.declared.work_fault.WorkFault.TheVariants.{Session, Refused, Lost}
 use Rattle.xa_coordinator.specs.declared.standing.Standing.{Standing}
 use Rattle.xa_coordinator.specs.declared.transaction.Transaction.{Transaction}
-use Rattle.xa_coordinator.specs.View.{SessionView}
 use Rattle.xa_coordinator.specs.Agreement.{Adds, AgreesWith, Agrees}
 use Rattle.xa_coordinator.specs.OpenBranches.{seat_seen, IsWorking}
 use Rattle.xa_coordinator.specs.Outcomes.{branch_of}

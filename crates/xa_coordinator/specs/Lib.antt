@@ -1,4 +1,3 @@
-pub mod View
 pub mod Branch
 pub mod Decisions
 pub mod Participants

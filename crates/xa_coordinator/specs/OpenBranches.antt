@@ -16,7 +16,7 @@ use Rattle.xa_server.specs.State.{seat_of}
 use Rattle.xa_server.specs.declared.seat.Seat.{Seat}
 use Rattle.xa_server.specs.declared.seat.Seat.TheVariants.{Active as SeatActive, Idle as SeatIdle}
 use Rattle.xa_session.specs.Replay.{state_after}
-use Rattle.xa_coordinator.specs.View.{SessionView}
+use Rattle.xa_session.specs.View.{SessionView}
 use Rattle.xa_coordinator.specs.Branch.{branch_xid}
 use Rattle.xa_coordinator.specs.Participants.{takes_part}
 use Rattle.xa_coordinator.specs.declared.participants.Participants.{Participants}

@@ -23,13 +23,13 @@ use Rattle.xa_xid.specs.declared.xid.Xid.{Xid}
 use Rattle.xa_xid.specs.declared.statement.Statement.{Statement}
 use Rattle.xa_xid.specs.declared.statement.Statement.TheVariants.{End, Prepare, Commit, Rollback}
 use Rattle.xa_server.specs.declared.xa_error.XaError.TheVariants.{Nota}
+use Rattle.xa_session.specs.View.{SessionView}
 use Rattle.xa_coordinator.specs.declared.cause.Cause.{Cause}
 use Rattle.xa_coordinator.specs.declared.cause.Cause.TheVariants.{Refused as RefusedBy}
 use Rattle.xa_coordinator.specs.declared.closing.Closing.{Closing}
 use Rattle.xa_coordinator.specs.declared.closing.Closing.TheVariants.{InTwoPhases, InOnePhase, RollBack}
 use Rattle.xa_coordinator.specs.declared.closing.Found.{Found}
 use Rattle.xa_coordinator.specs.declared.closing.Found.TheVariants.{Closed, Missing}
-use Rattle.xa_coordinator.specs.View.{SessionView}
 use Rattle.xa_coordinator.specs.Agreement.{Adds}
 use Rattle.xa_coordinator.specs.Decisions.{is_decided}
 use Rattle.xa_coordinator.specs.declared.standing.Standing.{Standing}

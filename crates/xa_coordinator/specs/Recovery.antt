@@ -22,6 +22,7 @@ use Rattle.xa_server.specs.State.{is_prepared, prepared_xids}
 use Rattle.xa_server.specs.declared.seat.Seat.TheVariants.{Free}
 use Rattle.xa_server.specs.declared.xa_error.XaError.TheVariants.{Nota}
 use Rattle.xa_session.specs.Replay.{state_after, state_at}
+use Rattle.xa_session.specs.View.{SessionView}
 use Rattle.xa_coordinator.specs.declared.cause.Cause.{Cause}
 use Rattle.xa_coordinator.specs.declared.cause.Cause.TheVariants.{Session as CauseSession, Refused as CauseRefused}
 use Rattle.xa_coordinator.specs.declared.closing.Closing.{Closing}
@@ -33,7 +34,6 @@ use Rattle.xa_coordinator.specs.declared.tally.Tally.{Tally}
 use Rattle.xa_coordinator.specs.declared.report.Report.{Report}
 use Rattle.xa_coordinator.specs.declared.recover_fault.RecoverFault.{RecoverFault}
 use Rattle.xa_coordinator.specs.declared.recover_fault.RecoverFault.TheVariants.{Session, StillPrepared, NoMemory, Refused}
-use Rattle.xa_coordinator.specs.View.{SessionView}
 use Rattle.xa_coordinator.specs.Agreement.{Adds, AgreesWith, Agrees}
 use Rattle.xa_coordinator.specs.Branch.{branch_xid, IsBranchOf}
 use Rattle.xa_coordinator.specs.Decisions.{is_decided}

@@ -5,7 +5,7 @@
 --     Reached          a call has come as far as this store
 --     EndsAt           a call ended at this store
 use Rattle.std.specs.Prelude.{◌≡◌, ◌≢◌, ◌<◌, ◌≤◌, ℕ, List, Some, length, slice_get}
-use Rattle.xa_coordinator.specs.View.{SessionView}
+use Rattle.xa_session.specs.View.{SessionView}
 
 -- a fact of one store, of what its session was and is
 abbrev pub AtStore : {S : Type 0} → (S → SessionView) → ℕ → (SessionView → SessionView → Type 0) → List S → List S → Type 0

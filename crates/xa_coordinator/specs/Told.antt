@@ -17,9 +17,9 @@ use Rattle.xa_server.specs.declared.xa_error.XaError.TheVariants.{Nota}
 use Rattle.xa_server.specs.Step.{is_refused}
 use Rattle.xa_session.specs.Answer.{IsAnswered, Fails, IsFinal}
 use Rattle.xa_session.specs.declared.answer.Answer.{Answer}
+use Rattle.xa_session.specs.View.{SessionView}
 use Rattle.xa_coordinator.specs.declared.cause.Cause.{Cause}
 use Rattle.xa_coordinator.specs.declared.cause.Cause.TheVariants.{Session, Refused as RefusedBy}
-use Rattle.xa_coordinator.specs.View.{SessionView}
 use Rattle.xa_coordinator.specs.Agreement.{Adds}
 
 -- XA START, XA END, XA PREPARE, XA COMMIT and XA ROLLBACK

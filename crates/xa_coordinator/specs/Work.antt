@@ -18,12 +18,12 @@ use Rattle.xa_server.specs.declared.seat.Seat.TheVariants.{Active}
 use Rattle.xa_server.specs.declared.reply.Reply.{Reply}
 use Rattle.xa_session.specs.Answer.{IsAnswered}
 use Rattle.xa_session.specs.Replay.{state_at}
+use Rattle.xa_session.specs.View.{SessionView, StaysOfLog}
 use Rattle.xa_coordinator.specs.declared.cause.Cause.{Cause}
 use Rattle.xa_coordinator.specs.declared.cause.Cause.TheVariants.{Session as CauseSession, Refused as CauseRefused}
 use Rattle.xa_coordinator.specs.declared.work_fault.WorkFault.{WorkFault}
 use Rattle.xa_coordinator.specs.declared.work_fault.WorkFault.TheVariants.{Session, Refused, Lost}
 use Rattle.xa_coordinator.specs.declared.transaction.Transaction.{Transaction}
-use Rattle.xa_coordinator.specs.View.{SessionView, StaysOfLog}
 use Rattle.xa_coordinator.specs.Agreement.{Adds}
 use Rattle.xa_coordinator.specs.OpenBranches.{seat_seen, HasOpen, is_working, IsWorking}
 use Rattle.xa_coordinator.specs.declared.open_branch.OpenBranch.{OpenBranch}

@@ -1,11 +1,11 @@
 //! The branch of a transaction in one store, from its start to its end.
 ghost use Rattle.std.specs.Prelude.{◌≡◌, ◌<◌, Some, None, true, false, OnOk, OnErr, slice_get, vec_len};
+ghost use Rattle.xa_session.specs.View.{SessionView};
 ghost use Rattle.xa_coordinator.specs.Branch.{branch_xid};
 ghost use Rattle.xa_coordinator.specs.OpenBranches.{HasOpen, is_working as is_working_in};
 ghost use Rattle.xa_coordinator.specs.Outcomes.{finish_statement, ends_first, SaysAs, ClosesAs, PreparesAs};
 ghost use Rattle.xa_coordinator.specs.Stores.{AtStore, ChangesAt};
 ghost use Rattle.xa_coordinator.specs.Told.{Says};
-ghost use Rattle.xa_coordinator.specs.View.{SessionView};
 ghost use Rattle.xa_xid.specs.declared.statement.Statement.{Statement};
 ghost use Rattle.xa_xid.specs.declared.statement.Statement.TheVariants.{Start, End, Prepare, Rollback};
 

@@ -6,7 +6,7 @@ ghost use Rattle.xa_session.specs.Answer.{IsAnswered, Fails, IsFinal, WantsMemor
 ghost use Rattle.xa_session.specs.declared.answer.Answer.{Answer as AnswerOf};
 ghost use Rattle.xa_session.specs.declared.fault.Fault.{Fault as FaultOf};
 ghost use Rattle.xa_xid.specs.declared.statement.Statement.{Statement as StatementOf};
-ghost use Rattle.xa_coordinator.specs.View.{SessionView, StaysOfLog};
+ghost use Rattle.xa_session.specs.View.{SessionView, StaysOfLog};
 
 use decision_log::DecisionLog;
 use std::sync::Wait;

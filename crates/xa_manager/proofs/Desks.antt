@@ -2,10 +2,10 @@
 use Rattle.std.proofs.Common.{◌≡◌, ℕ, ◌∙◌, ◌+◌, ◌-◌, ◌++◌, ◌∷◌, [], List, length, ap, sym, subst, Result, Ok, Err, Some}
 use Rattle.std.specs.Prelude.{OnOk, OnErr}
 use Rattle.std.proofs.lemmas.List.{length-set}
+use Rattle.xa_session.specs.View.{SessionView}
 use Rattle.xa_coordinator.specs.declared.standing.Standing.{Standing}
 use Rattle.xa_coordinator.specs.declared.standing.Standing.TheVariants.{Decided}
 use Rattle.xa_coordinator.specs.Decisions.{with_decided}
-use Rattle.xa_coordinator.specs.View.{SessionView}
 use Rattle.xa_coordinator.specs.Outcomes.{VotesAs}
 use Rattle.xa_coordinator.specs.Work.{Keeps}
 use Rattle.xa_coordinator.specs.declared.transaction.Transaction.{Transaction}

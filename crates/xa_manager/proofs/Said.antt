@@ -6,7 +6,7 @@ use Rattle.xa_xid.specs.declared.statement.Statement.{Statement}
 use Rattle.xa_session.specs.declared.answer.Answer.{Answer}
 use Rattle.xa_session.specs.declared.fault.Fault.{Fault}
 use Rattle.xa_session.specs.Answer.{IsAnswered, Fails}
-use Rattle.xa_coordinator.specs.View.{SessionView}
+use Rattle.xa_session.specs.View.{SessionView}
 use Rattle.xa_coordinator.specs.declared.fused.Fused.{Fused}
 use Rattle.xa_manager.specs.Said.{IsQuiet, RepliesAs, reply_of}
 

@@ -18,7 +18,7 @@ use Rattle.xa_server.specs.declared.reply.Reply.{Reply}
 use Rattle.xa_session.specs.declared.fault.Fault.{Fault}
 use Rattle.xa_session.specs.declared.answer.Answer.{Answer}
 use Rattle.xa_session.specs.Answer.{IsAnswered, Fails}
-use Rattle.xa_coordinator.specs.View.{SessionView}
+use Rattle.xa_session.specs.View.{SessionView}
 use Rattle.xa_coordinator.specs.Stores.{AtStore, ChangesAt}
 use Rattle.xa_coordinator.specs.Work.{WorksAs}
 use Rattle.xa_coordinator.specs.Outcomes.{EndsAs, VotesAs, finish_for}

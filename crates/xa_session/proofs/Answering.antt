@@ -1,12 +1,12 @@
--- What a look, a reply and an add make of an answer or a fault, and what tries one after another come to.
+-- What a look, a reply and an add make of an answer or a fault, what tries one after another come to, and what an answer says of its statement.
 use Rattle.std.proofs.Common.{◌≡◌, ◌+◌, ℕ, Bool, true, false, List, [], ◌∷◌, ◌++◌, length, take, refl, ap, sym, ◌∙◌, subst, ⊎_elim, inl, inr, Some, Ok, Err}
 use Rattle.std.proofs.Common.{arith, length-append}
-use Rattle.std.specs.Prelude.{slice_get, ◌⊎◌, Result, OnOk, OnErr}
+use Rattle.std.specs.Prelude.{slice_get, ◌⊎◌, Result, OnOk, OnErr, not, ◌&&◌}
 use Rattle.xa_words.specs.Entry.{Entry}
 use Rattle.xa_xid.specs.declared.statement.Statement.{Statement}
-use Rattle.xa_server.specs.State.{State}
+use Rattle.xa_server.specs.State.{State, seat_of}
 use Rattle.xa_server.specs.Replies.{reply_to}
-use Rattle.xa_server.specs.Step.{enters, may_take_memory}
+use Rattle.xa_server.specs.Step.{enters, may_enter, is_refused, may_take_memory}
 use Rattle.decision_log.specs.History.{Begins}
 use Rattle.decision_log.specs.Calls.{Looked, IsAdded, IsOvertaken, IsBusy}
 use Rattle.decision_log.specs.declared.known.Known.{Known}
@@ -241,3 +241,22 @@ disconnected base answer old new is = record {
   entered = is.entered;
   outside = is.outside;
 }
+
+-- an accepted answer is an accepted statement
+pub accepted_there : (base : State) (statement : Statement) (answer : Answer) (old new : Known) → IsAnswered base statement answer old new
+    → is_refused answer.reply ≡ false →
+    is_refused (reply_to (state_at base new.seen answer.place) old.number statement) ≡ false
+accepted_there base statement answer old new is accepted = sym (ap is_refused is.at.reply_is) ∙ accepted
+
+-- a refused statement adds nothing
+pub refused_unanswered : (base : State) (statement : Statement) (answer : Answer) (old new : Known) → IsAnswered base statement answer old new
+    → is_refused answer.reply ≡ true → IsUnanswered old new
+unfolding enters
+refused_unanswered base statement answer old new is refused =
+    let there : is_refused (reply_to (state_at base new.seen answer.place) old.number statement) ≡ true = sym (ap is_refused is.at.reply_is) ∙ refused in
+    record {
+      advances = is.advances;
+      mine =
+          (is.outside (ap (λ b. not b && may_enter (state_at base new.seen answer.place) (seat_of (state_at base new.seen answer.place) old.number) statement)
+          there)).mine;
+    }

@@ -1,15 +1,15 @@
--- A statement that enters makes an entry, and DISCONNECT is accepted.
+-- A statement that enters makes an entry, DISCONNECT is accepted, and XA RECOVER is answered a list and doesn't enter.
 use Rattle.std.proofs.Common.{◌≡◌, ℕ, Bool, true, false, if◌then◌else◌, ◌&&◌, not, refl, subst, sym, Option, Some, None, rules}
 use Rattle.std.specs.Option.{IsSome}
 use Rattle.xa_words.specs.Entry.{Entry}
 use Rattle.xa_xid.specs.declared.statement.Statement.{Statement}
 use Rattle.xa_xid.specs.declared.statement.Statement.TheVariants.{Start, End, Prepare, Commit, Rollback, Recover, Unsupported, Get, Put, Del, Disconnect}
 use Rattle.xa_words.specs.Entry.{may_enter as makes_entry}
-use Rattle.xa_server.specs.State.{State, seat_of}
+use Rattle.xa_server.specs.State.{State, seat_of, prepared_xids}
 use Rattle.xa_server.specs.Replies.{table, reply_to}
 use Rattle.xa_server.specs.declared.seat.Seat.{Seat}
 use Rattle.xa_server.specs.declared.seat.Seat.TheVariants.{Free, Active, Idle}
-use Rattle.xa_server.specs.declared.reply.Reply.TheVariants.{Ok as Accepted}
+use Rattle.xa_server.specs.declared.reply.Reply.TheVariants.{Ok as Accepted, Recovered}
 use Rattle.xa_server.specs.Step.{enters, may_enter, is_refused}
 
 never_both : (b : Bool) → b && false ≡ true → ⊥
@@ -49,6 +49,25 @@ disconnect_in state (Idle own) = refl
 pub disconnect_accepted : (state : State) (session : ℕ) → reply_to state session Disconnect ≡ Accepted
 unfolding reply_to
 disconnect_accepted state session = disconnect_in state (seat_of state session)
+
+-- XA RECOVER enters no history
+pub recover_outside : (state : State) (session : ℕ) (convert : Bool) → enters state session (Recover convert) ≡ false
+unfolding enters may_enter
+recover_outside state session convert = none (not (is_refused (reply_to state session (Recover convert))))
+  where
+    none : (b : Bool) → (b && false) ≡ false
+    none true = refl
+    none false = refl
+
+-- and is answered the list of the prepared branches
+pub recover_reply : (state : State) (session : ℕ) (convert : Bool) → reply_to state session (Recover convert) ≡ Recovered (prepared_xids state)
+unfolding reply_to table
+recover_reply state session convert = by (seat_of state session)
+  where
+    by : (seat : Seat) → table state seat (Recover convert) ≡ Recovered (prepared_xids state)
+    by Free = refl
+    by (Active own) = refl
+    by (Idle own) = refl
 
 -- an entry is made where it may be
 pub is_made : (makes : Bool) (found : Option Entry) (entry : Entry) → found ≡ (if makes then Some entry else None) → makes ≡ true → IsSome found

@@ -1,3 +1,6 @@
 pub mod Replaying
 pub mod Answering
 pub mod Entering
+pub mod Views
+pub mod OwnSeats
+pub mod Seats

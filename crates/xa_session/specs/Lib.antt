@@ -1,3 +1,4 @@
 pub mod Replay
+pub mod View
 pub mod Answer
 pub mod Faults

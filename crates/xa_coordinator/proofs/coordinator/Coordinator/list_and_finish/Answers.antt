@@ -1,12 +1,12 @@
 use Rattle.std.proofs.Common.{◌≡◌, ℕ, List, Option, Some, None, false, ap, sym, ◌∙◌, subst, refl, arith}
 use Rattle.std.specs.Prelude.{slice_get, IfOk, IfErr}
 use Rattle.xa_xid.specs.declared.xid.Xid.{Xid}
+use Rattle.xa_session.specs.View.{SessionView}
 use Rattle.xa_coordinator.specs.Agreement.{Agrees}
 use Rattle.xa_xid.specs.Xid.{Text}
 use Rattle.xa_xid.specs.declared.statement.Statement.TheVariants.{Recover, Disconnect}
 use Rattle.xa_coordinator.specs.declared.cause.Cause.TheVariants.{Session}
 use Rattle.xa_coordinator.specs.declared.open_branch.OpenBranch.{OpenBranch}
-use Rattle.xa_coordinator.specs.View.{SessionView}
 use Rattle.xa_coordinator.specs.Recovery.{IsListed, IsFinished, IsBroken, Settled}
 use Rattle.xa_coordinator.specs.Stores.{AtStore, ChangesAt}
 use Rattle.xa_coordinator.specs.Told.{IsUndone}

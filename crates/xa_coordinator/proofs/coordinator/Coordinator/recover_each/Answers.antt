@@ -1,6 +1,6 @@
 use Rattle.std.proofs.Common.{◌≡◌, ◌<◌, ◌≤◌, ◌+◌, ℕ, refl, ap, ◌∙◌, subst, arith}
 use Rattle.xa_xid.specs.Xid.{Text}
-use Rattle.xa_coordinator.specs.View.{SessionView}
+use Rattle.xa_session.specs.View.{SessionView}
 use Rattle.xa_coordinator.specs.declared.tally.Tally.{Tally}
 use Rattle.xa_coordinator.specs.Recovery.{IsRecovered, BreaksHere}
 use Rattle.xa_coordinator.specs.Stores.{AtStore}

@@ -2,9 +2,9 @@ use Rattle.std.proofs.Common.{◌≡◌, ℕ, List, Option, Some, None, false, a
 use Rattle.std.specs.Prelude.{slice_get}
 use Rattle.xa_xid.specs.Xid.{Text}
 use Rattle.xa_xid.specs.declared.statement.Statement.TheVariants.{Recover, Disconnect}
+use Rattle.xa_session.specs.View.{SessionView}
 use Rattle.xa_coordinator.specs.declared.cause.Cause.TheVariants.{Session}
 use Rattle.xa_coordinator.specs.declared.open_branch.OpenBranch.{OpenBranch}
-use Rattle.xa_coordinator.specs.View.{SessionView}
 use Rattle.xa_coordinator.specs.Agreement.{Agrees}
 use Rattle.xa_coordinator.specs.Recovery.{IsSettled, IsClear, IsRecovered, BreaksHere}
 use Rattle.xa_coordinator.specs.declared.recover_fault.RecoverFault.{RecoverFault}

@@ -1,22 +1,24 @@
 -- What a session has open after a statement of its own that was carried out.
-use Rattle.std.proofs.Common.{◌≡◌, ℕ, true, false, refl, ap, sym, ◌∙◌, subst, Option, Some, None, List, cond, eq-eqb}
-use Rattle.std.specs.Prelude.{◌==◌}
+use Rattle.std.proofs.Common.{◌≡◌, ◌≢◌, ℕ, true, false, refl, ap, sym, ◌∙◌, subst, inl, inr, Option, Some, None, List, cond, eq-eqb}
+use Rattle.std.specs.Prelude.{not, ◌&&◌, ◌==◌}
 use Rattle.std.proofs.lemmas.Bool.{eqb-true}
 use Rattle.std.specs.Option.{option_map, option_map_or, option_and_then}
 use Rattle.std.specs.FinMap as map
+use Rattle.std.specs.FinMap.{get-remove}
 use mathlib.Core.Bool.{true≢false}
 use Rattle.xa_xid.specs.declared.xid.Xid.{Xid}
 use Rattle.xa_xid.specs.Xid.{same_xid, Text}
 use Rattle.xa_xid.proofs.Orders.{xids_total, exact_xids}
 use Rattle.xa_xid.specs.declared.statement.Statement.{Statement}
-use Rattle.xa_xid.specs.declared.statement.Statement.TheVariants.{Start, End, Get, Put, Del}
+use Rattle.xa_xid.specs.declared.statement.Statement.TheVariants.{Start, End, Get, Put, Del, Disconnect}
+use Rattle.xa_server.specs.declared.seat.Seat.{Seat}
 use Rattle.xa_server.specs.declared.seat.Seat.TheVariants.{Free, Active, Idle}
 use Rattle.xa_server.specs.State.{Branch, State, owns, phase_at, seat_in, seat_of}
 use Rattle.xa_server.specs.Locks.{LockLaw}
-use Rattle.xa_server.specs.Replies.{reply_to}
-use Rattle.xa_server.specs.Step.{started_by, with_lock, with_own_write, is_refused, after}
-use Rattle.xa_server.proofs.Maps.{same_itself}
-use Rattle.xa_server.proofs.Others.{IsOwn, own_seat, own_found, accepted_end_own}
+use Rattle.xa_server.specs.Replies.{reply_to, table}
+use Rattle.xa_server.specs.Step.{started_by, with_lock, with_own_write, is_refused, after, effect, enters, may_enter, without_branch, unless_refused}
+use Rattle.xa_server.proofs.Maps.{same_or_apart, same_itself}
+use Rattle.xa_server.proofs.Others.{IsOwn, own_seat, own_found, none_found, accepted_end_own}
 use Rattle.xa_server.proofs.Changes.{idle, branch_after, effect-branch, accepted_done}
 use Rattle.xa_server.proofs.Keeping.{law_after}
 
@@ -120,3 +122,54 @@ pub deleted : (state : State) → LockLaw state → (session : ℕ) (xid : Xid) 
 unfolding branch_after
 deleted state law session xid key seat accepted =
     changed_within state law session xid (Del key) (with_own_write key None) seat accepted (λ found. refl) (λ branch. refl) (λ branch. refl)
+
+-- ---- DISCONNECT
+
+-- without the branch that it owns, a session owns none
+unowned : (state : State) → LockLaw state → (session : ℕ) (own : Xid) → owns state session own ≡ true → (at : Xid)
+    → owns (without_branch state own) session at ≢ true
+unowned state law session own owned at is =
+    let gone : map.get (without_branch state own).branches at ≡ cond (same_xid at own) None (map.get state.branches at) =
+    get-remove xids_total state.branches own at in
+    elim (same_or_apart xids_total exact_xids at own) [
+      | inl same ↦ absurd (true≢false
+          (sym is ∙ ap (λ (f : Option Branch). option_map_or (λ o. o == session) (option_and_then (λ (b : Branch). b.owner) f) false)
+          (ap (map.get (without_branch state own).branches) same ∙ get-remove xids_total state.branches own own
+          ∙ ap (λ b. cond b None (map.get state.branches own)) (itself own))))
+      | inr apart ↦
+          let was : owns state session at ≡ true =
+          ap (λ (f : Option Branch). option_map_or (λ o. o == session) (option_and_then (λ (b : Branch). b.owner) f) false)
+          (sym (gone ∙ ap (λ b. cond b None (map.get state.branches at)) apart)) ∙ is in
+          absurd (true≢false (sym (itself own) ∙ ap (λ x. same_xid x own) (law.one_branch session own at owned was) ∙ apart))
+    ]
+  where
+    itself : (xid : Xid) → same_xid xid xid ≡ true
+    itself xid = same_itself xids_total exact_xids xid
+
+freed : (state : State) → LockLaw state → (session : ℕ) (own : Xid) → owns state session own ≡ true → seat_of (without_branch state own) session ≡ Free
+unfolding seat_of
+freed state law session own owned =
+    ap (λ found. option_map_or (λ xid. seat_in (phase_at (without_branch state own) xid) xid) found Free)
+    (none_found (without_branch state own) session (unowned state law session own owned))
+
+-- after DISCONNECT a session has nothing open
+pub let_go : (state : State) → LockLaw state → (session : ℕ) → seat_of (after state session Disconnect) session ≡ Free
+unfolding after reply_to table effect
+let_go state law session = by (seat_of state session) refl (own_seat state session)
+  where
+    by : (seat : Seat) → seat_of state session ≡ seat → IsOwn state session seat
+        → seat_of (unless_refused (table state seat Disconnect) state (effect state session seat Disconnect)) session ≡ Free
+    by Free is own = is
+    by (Active owned) is own = freed state law session owned own
+    by (Idle owned) is own = freed state law session owned own
+
+-- where it doesn't enter, the session had nothing open
+pub outside_free : (state : State) (session : ℕ) → enters state session Disconnect ≡ false → seat_of state session ≡ Free
+unfolding enters may_enter reply_to table
+outside_free state session outside = by (seat_of state session) refl outside
+  where
+    by : (seat : Seat) → seat_of state session ≡ seat → (not (is_refused (table state seat Disconnect)) && may_enter state seat Disconnect) ≡ false
+        → seat_of state session ≡ Free
+    by Free is e = is
+    by (Active owned) is e = absurd (true≢false e)
+    by (Idle owned) is e = absurd (true≢false e)

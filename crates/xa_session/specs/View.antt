@@ -1,4 +1,4 @@
--- What a contract sees of a session that a coordinator speaks through.
+-- What a contract sees of a session, or of whatever else answers statements as one.
 --     SessionView      the log that it is of, whether the log has turns, the state in which its history begins, and what it knows
 --     StaysOfLog       it is of the log that it was of
 use Rattle.std.specs.Prelude.{◌≡◌, Bool}
