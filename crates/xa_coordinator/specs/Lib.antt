@@ -1,4 +1,5 @@
 pub mod Branch
+pub mod Limits
 pub mod Decisions
 pub mod Participants
 pub mod Agreement

@@ -1,6 +1,7 @@
 //! A coordinator of global transactions over several stores.
 ghost use Rattle.std.specs.Prelude.{◌≡◌, ◌≤◌, ◌<◌, ◌+◌, ◌++◌, ◌∷◌, [], ℕ, false, Some, None, Err, IfOk, OnOk, OnErr, length, slice_get, vec_len};
 ghost use Rattle.arrayvec.specs.ArrayVec.{array_vec_len};
+ghost use Rattle.xa_coordinator.specs.Limits.{most_numbers};
 ghost use Rattle.xa_coordinator.specs.OpenBranches.{OpenThere};
 
 use crate::open_branch::OpenBranch;
@@ -53,8 +54,8 @@ impl<S: Speak> Coordinator<S> {
         ensures nobody { IfOk result (λ transaction. (store : ℕ) → takes_part transaction.participants store ≡ false) }
         ensures undecided { OnOk result (decisions.new ≡ decisions.old ++ Undecided ∷ []) }
         ensures err { OnErr result (decisions.new ≡ decisions.old) }
-        ensures spent { result ≡ Err BeginFault.NumbersSpent → length decisions.old ≡ 1000000 }
-        ensures full { length decisions.old ≡ 1000000 → result ≡ Err BeginFault.NumbersSpent }
+        ensures spent { result ≡ Err BeginFault.NumbersSpent → length decisions.old ≡ most_numbers }
+        ensures full { length decisions.old ≡ most_numbers → result ≡ Err BeginFault.NumbersSpent }
     {
         match decisions.give() {
             Ok(number) => Ok(Transaction {

@@ -1,6 +1,7 @@
 //! The decisions of a coordinator.
 ghost use Rattle.std.specs.Prelude.{ℕ, ◌≡◌, ◌≤◌, ◌<◌, ◌+◌, [], ◌∷◌, ◌++◌, true, false, length, map, OnOk, OnErr, IfOk, IfSome, IfNone};
 ghost use Rattle.xa_coordinator.specs.declared.standing.Standing.TheVariants.{Undecided as StandsUndecided};
+ghost use Rattle.xa_coordinator.specs.Limits.{most_numbers};
 ghost use Rattle.xa_coordinator.specs.Decisions.{standing_of, is_decided as is_decided_by, may_be_decided, with_decided, closed_of};
 
 use crate::Standing;
@@ -25,13 +26,14 @@ pub struct Decisions {
 
 impl Model for Decisions {
     ghost use Rattle.std.specs.Prelude.{List, length, ◌≤◌};
+    ghost use Rattle.xa_coordinator.specs.Limits.{most_numbers};
     ghost use Rattle.xa_coordinator.specs.declared.standing.Standing.{Standing};
 
     ghost Value = { List Standing };
 
     ghost view = { λ decisions. decisions.standings.items };
 
-    ghost invariant = { λ decisions. length decisions.standings.items ≤ 1000000 };
+    ghost invariant = { λ decisions. length decisions.standings.items ≤ most_numbers };
 }
 
 /// Closes each number that is undecided.
@@ -119,10 +121,10 @@ impl Decisions {
     pub(crate) fn give(&mut self) -> Result<u64, BeginFault>
         ensures number { IfOk result (λ number. number ≡ length self.old + 1) }
         ensures ok { OnOk result (self.new ≡ self.old ++ StandsUndecided ∷ []) }
-        ensures room { OnOk result (length self.old < 1000000) }
+        ensures room { OnOk result (length self.old < most_numbers) }
         ensures err { OnErr result (self.new ≡ self.old) }
-        ensures spent { result ≡ Err BeginFault.NumbersSpent → length self.old ≡ 1000000 }
-        ensures full { length self.old ≡ 1000000 → result ≡ Err BeginFault.NumbersSpent }
+        ensures spent { result ≡ Err BeginFault.NumbersSpent → length self.old ≡ most_numbers }
+        ensures full { length self.old ≡ most_numbers → result ≡ Err BeginFault.NumbersSpent }
     {
         if self.standings.len() >= Self::MOST {
             return Err(BeginFault::NumbersSpent);

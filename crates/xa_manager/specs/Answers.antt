@@ -20,6 +20,7 @@ use Rattle.xa_coordinator.specs.declared.report.Report.{Report}
 use Rattle.xa_coordinator.specs.declared.work_fault.WorkFault.{WorkFault}
 use Rattle.xa_coordinator.specs.declared.vote.Vote.{Vote}
 use Rattle.xa_coordinator.specs.declared.vote.Vote.TheVariants.{Ready as VoteReady, OnePhase as VoteOnePhase, No as VoteNo, Nothing as VoteNothing}
+use Rattle.xa_coordinator.specs.Limits.{most_numbers}
 use Rattle.xa_coordinator.specs.Decisions.{closed_of, may_be_decided, with_decided}
 use Rattle.xa_transcript.specs.Printed.{converts}
 use Rattle.xa_transcript.specs.Script.{lines_of}
@@ -114,7 +115,7 @@ pub record IsBegun (old : Desk) (response : Response) (new : Desk) : Type 0 wher
 
 -- no number is left
 pub record IsSpent (old : Desk) (response : Response) (new : Desk) : Type 0 where
-  pub all : length old.decisions ≡ 1000000
+  pub all : length old.decisions ≡ most_numbers
   pub told : response ≡ NumbersSpent
   pub stands : new ≡ old
 

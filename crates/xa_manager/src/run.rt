@@ -1,6 +1,7 @@
 //! Calls of a coordinator over stores of its own, line by line.
 ghost use Rattle.std.specs.Prelude.{◌≡◌, ◌≤◌, [], length, vec_len, OnOk, IfOk, OnErr, IfErr, IfSome, Err};
 ghost use Rattle.std.specs.Io.KnownBytes.{IsAtEnd};
+ghost use Rattle.decision_log.specs.Opens.{IsCapacity};
 ghost use Rattle.xa_store.specs.Passes.{log_of, identity_of};
 ghost use Rattle.xa_transcript.specs.Limits.{script_bytes};
 ghost use Rattle.xa_transcript.specs.Transcript.{ConsumesMoreThan, IsOfRun};
@@ -197,7 +198,7 @@ pub fn converse<R: Wait, I: Read + Drop, W: Write + Drop>(
     capacity: u64,
 ) -> Result<(), ScriptFault>
     requires stores { (1 ≤ stores) × (stores ≤ 16) }
-    requires capacity { (1 ≤ capacity) × (capacity ≤ 1024) }
+    requires capacity { IsCapacity capacity }
 {
     let Ok((stores, firsts, seconds)) = open_stores(alloc, stores, capacity) else {
         return Err(ScriptFault::NoMemory);
@@ -225,7 +226,7 @@ pub fn coordinate<R: Wait, I: Read, W: Write>(
     capacity: u64,
 ) -> Result<(), ScriptFault>
     requires stores { (1 ≤ stores) × (stores ≤ 16) }
-    requires capacity { (1 ≤ capacity) × (capacity ≤ 1024) }
+    requires capacity { IsCapacity capacity }
     ensures read { OnOk result (IsAtEnd (I.remaining reader.new)) }
     ensures written { OnOk result (IfSome (I.remaining reader.old) (λ script. IsWhole (new_desk stores) script (W.contents writer.old) (W.contents writer.new))) }
     ensures short { OnOk result (IfSome (I.remaining reader.old) (λ script. length script ≤ script_bytes)) }

@@ -6,6 +6,7 @@ use Rattle.std.specs.Prelude.{ℕ, ◌+◌, ◌==◌, ◌&&◌, nat_le, if◌the
 use Rattle.hex.specs.Hex.{decode_sized}
 use Rattle.hex.specs.declared.error.FromHexError.{FromHexError}
 use Rattle.xa_xid.specs.Bytes.{belongs, front, only}
+use Rattle.xa_xid.specs.Limits.{text_bytes}
 use Rattle.xa_xid.specs.Literal.{Reading}
 use Rattle.xa_xid.specs.Number.{number_at}
 use Rattle.xa_xid.specs.declared.byte_class.ByteClass.TheVariants.{Decimal}
@@ -42,7 +43,8 @@ xid_of format_id gtrid (Err fault) = None
 
 -- the identifier of a formatID, of the lengths of gtrid and bqual, and of the digits of both
 unfoldable pub xid_written : ℕ → ℕ → ℕ → List ℕ → Option Xid
-xid_written format_id gtrid bqual digits = if nat_le gtrid 64 && nat_le bqual 64 then xid_of format_id gtrid (decode_sized digits (gtrid + bqual)) else None
+xid_written format_id gtrid bqual digits =
+    if nat_le gtrid text_bytes && nat_le bqual text_bytes then xid_of format_id gtrid (decode_sized digits (gtrid + bqual)) else None
 
 abbrev pub xid_with : Option ℕ → Option ℕ → Option ℕ → Option (List ℕ) → Option Xid
 xid_with None gtrid bqual digits = None

@@ -1,6 +1,7 @@
 //! Rows of a return, as `XA RECOVER CONVERT XID` prints them.
 ghost use Rattle.std.specs.Prelude.{◌≡◌, ◌≤◌, ◌+◌, length, take, drop, IfSome, option_copied, Some, Ok};
 ghost use Rattle.hex.specs.Hex.{decode_sized};
+ghost use Rattle.xa_xid.specs.Limits.{text_bytes};
 ghost use Rattle.xa_transcript.specs.Script.{first_word};
 ghost use Rattle.xa_record.specs.Rows.{behind_word as behind_word_of, leading_number as leading_number_of, number_named, digits_named, xid_of, xid_written, xid_with, row_of, row_said};
 
@@ -50,7 +51,7 @@ fn digits_in(word: &[u8]) -> Option<&[u8]>
 
 /// A text of at most 64 bytes.
 fn text_of(bytes: &[u8]) -> Bytes
-    requires { length bytes.now ≤ 64 }
+    requires { length bytes.now ≤ text_bytes }
     ensures { result.items ≡ bytes.now }
 {
     let mut text = Bytes::new();
@@ -60,8 +61,8 @@ fn text_of(bytes: &[u8]) -> Bytes
 
 /// The identifier of these bytes, the first of which are its gtrid.
 fn xid_from(format_id: u64, gtrid: usize, bqual: usize, bytes: &[u8]) -> Xid
-    requires gtrid { gtrid ≤ 64 }
-    requires bqual { bqual ≤ 64 }
+    requires gtrid { gtrid ≤ text_bytes }
+    requires bqual { bqual ≤ text_bytes }
     requires whole { length bytes.now ≡ gtrid + bqual }
     ensures { Some result ≡ xid_of format_id gtrid (Ok bytes.now) }
 {

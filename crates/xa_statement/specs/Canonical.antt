@@ -1,6 +1,7 @@
 -- The canonical text of a statement: capitals, one space between tokens, no ; (own rule).
 use Rattle.std.specs.Prelude.{ℕ, ◌<◌, ◌≤◌, true, false, List, [], ◌∷◌, ◌++◌, length, codes}
 use Rattle.hex.specs.Hex.{IsBytes}
+use Rattle.xa_xid.specs.Limits.{text_bytes}
 use Rattle.xa_xid.specs.XidText.{part_text, xid_text}
 use Rattle.xa_xid.specs.declared.statement.Statement.{Statement}
 use Rattle.xa_xid.specs.declared.statement.Statement.TheVariants.{Start, End, Prepare, Commit, Rollback, Recover, Unsupported, Get, Put, Del, Disconnect}
@@ -25,4 +26,4 @@ statement_text Disconnect = codes "DISCONNECT"
 pub record IsKey (key : List ℕ) : Type 0 where
   pub some : 0 < length key
   pub all : IsBytes key
-  pub fits : length key ≤ 64
+  pub fits : length key ≤ text_bytes

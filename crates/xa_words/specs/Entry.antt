@@ -1,12 +1,13 @@
 -- Which statements of which session make an entry of the history.
 --     Entry           an entry as a contract sees it: a session and a statement
---     IsText          a text of at most 64 bytes
+--     IsText          a text of at most `text_bytes` bytes
 --     IsXid           an identifier within its limits
 --     IsKey           a key within its limits
 --     may_enter       whether the history takes statements of this kind
 --     KeepsLimits     the texts and the formatID of a statement are within their limits
 --     IsEntry         the session's number and the statement are those of an entry
 use Rattle.std.specs.Prelude.{ℕ, ◌<◌, ◌≤◌, ◌^◌, Bool, true, false, IsTrue, List, length, slice_index}
+use Rattle.xa_xid.specs.Limits.{text_bytes}
 use Rattle.xa_xid.specs.declared.xid.Xid.{Xid}
 use Rattle.xa_xid.specs.declared.statement.Statement.{Statement}
 use Rattle.xa_xid.specs.declared.statement.Statement.TheVariants.{Start, End, Prepare, Commit, Rollback, Recover, Unsupported, Get, Put, Del, Disconnect}
@@ -16,9 +17,9 @@ pub record Entry : Type 0 where
   pub session : ℕ
   pub statement : Statement
 
--- at most 64 bytes (C193 for gtrid and bqual, own rule for values)
+-- bytes, at most `text_bytes` (C193 for gtrid and bqual, own rule for values)
 pub record IsText (text : List ℕ) : Type 0 where
-  pub fits : length text ≤ 64
+  pub fits : length text ≤ text_bytes
   pub bytes : (i : ℕ) → slice_index text i < 256
 
 -- the formatID is of 64 bits, gtrid and bqual are texts (manual; the range is our own)

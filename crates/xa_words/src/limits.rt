@@ -1,11 +1,12 @@
 //! What the types of a statement's parts say of its limits.
 ghost use Rattle.std.specs.Prelude.{◌≤◌, length};
+ghost use Rattle.xa_xid.specs.Limits.{text_bytes};
 ghost use Rattle.xa_words.specs.Entry.{IsText, IsXid, IsKey, KeepsLimits};
 
 use xa_xid::{Bytes, Key, Statement, Xid};
 
 fn of_bytes(bytes: &[u8])
-    requires { length bytes.now ≤ 64 }
+    requires { length bytes.now ≤ text_bytes }
     ensures { IsText bytes.now }
 {}
 

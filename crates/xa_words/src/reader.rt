@@ -1,5 +1,6 @@
 //! Reading an entry.
 ghost use Rattle.std.specs.Prelude.{◌≡◌, ◌<◌, ◌≤◌, ◌+◌, ◌++◌, ℕ, List, length, slice_index, Some, IfSome, IfNone, IsTrue};
+ghost use Rattle.xa_xid.specs.Limits.{text_bytes};
 ghost use Rattle.xa_words.specs.Entry.{IsText, IsEntry, KeepsLimits, may_enter};
 ghost use Rattle.xa_words.specs.Words.{parts_of, of_xid, of_texts, text_words, words_of, byte_of, RowParts};
 ghost use Rattle.xa_words.specs.Entry.{Entry};
@@ -12,7 +13,7 @@ use xa_xid::{Bytes, Key, SessionNo, Statement, Xid};
 
 /// Appends the eight bytes of a word.
 fn push_word(text: &mut Bytes, word: u64)
-    requires { length text.old.items + 8 ≤ 64 }
+    requires { length text.old.items + 8 ≤ text_bytes }
     ensures { text.new.items ≡ text.old.items ++ to_be_bytes w64 word }
 {
     text.try_extend_from_slice(&word.to_be_bytes()).unwrap();
@@ -21,7 +22,7 @@ fn push_word(text: &mut Bytes, word: u64)
 /// The first bytes of eight words, as many as asked for.
 fn bytes_of(words: &[u64], size: usize) -> Bytes
     requires length { length words.now ≡ 8 }
-    requires fits { size ≤ 64 }
+    requires fits { size ≤ text_bytes }
     ensures size { length result.items ≡ size }
     ensures bytes { (place : ℕ) → place < size → slice_index result.items place ≡ byte_of words.now place }
 {

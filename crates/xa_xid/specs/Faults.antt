@@ -1,12 +1,13 @@
 -- Why a text begins with no literal, no number or no identifier: the table of faults, a constructor for each row.
 --     number_of_literal_fault       the number of a fault
---     FaultyLiteral text fault      the text begins with no literal of at most 64 bytes, and this is the first fault that holds
+--     FaultyLiteral text fault      the text begins with no literal of at most `text_bytes` bytes, and this is the first fault that holds
 --     NumeralAt text value rest     the text begins with the digits of a number, of any size, and `rest` stands behind them
 --     FaultyNumber text fault       the text begins with no number below 2^64, for this reason
 --     FaultyXid text fault rest     the text begins with no identifier, for this reason; `rest` is the text from the faulty token on
 use Rattle.std.specs.Prelude.{◌≡◌, ◌≢◌, ℕ, ◌<◌, ◌≤◌, ◌%◌, ◌^◌, false, IsTrue, List, ◌∷◌, ◌++◌, length}
 use Rattle.std.specs.Str.Parse.{digits_value}
 use Rattle.xa_xid.specs.Bytes.{belongs, only, unblank, StartsNo}
+use Rattle.xa_xid.specs.Limits.{text_bytes, text_digits}
 use Rattle.xa_xid.specs.Literal.{TextAt, is_quote, is_x, opens_text, opens_hex}
 use Rattle.xa_xid.specs.Quoted.{QuotedAt}
 use Rattle.xa_xid.specs.Xid.{Text}
@@ -36,7 +37,7 @@ pub data HexRunAt : List ℕ → List ℕ → List ℕ → Type 0 where
 pub data FaultyLiteral : List ℕ → LiteralFault → Type 0 where
   no_closing_quote : (quote : ℕ) (text : List ℕ) → IsTrue (is_quote quote) → ((bytes rest : List ℕ) → QuotedAt quote text bytes rest → ⊥)
       → FaultyLiteral (quote ∷ text) Unclosed
-  too_many_bytes : (quote : ℕ) (text bytes rest : List ℕ) → IsTrue (is_quote quote) → QuotedAt quote text bytes rest → 64 < length bytes
+  too_many_bytes : (quote : ℕ) (text bytes rest : List ℕ) → IsTrue (is_quote quote) → QuotedAt quote text bytes rest → text_bytes < length bytes
       → FaultyLiteral (quote ∷ text) TooLong
   digits_without_end : (letter : ℕ) (digits : List ℕ) → IsTrue (is_x letter) → AreHex digits → FaultyLiteral (letter ∷ 39 ∷ digits) Unclosed
   digits_and_another_byte : (letter byte : ℕ) (digits rest : List ℕ) → IsTrue (is_x letter) → AreHex digits
@@ -44,8 +45,8 @@ pub data FaultyLiteral : List ℕ → LiteralFault → Type 0 where
   odd_digits : (letter : ℕ) (digits rest : List ℕ) → IsTrue (is_x letter) → AreHex digits
       → length digits % 2 ≡ 1 → FaultyLiteral (letter ∷ 39 ∷ digits ++ 39 ∷ rest) OddHex
   too_many_digits : (letter : ℕ) (digits rest : List ℕ) → IsTrue (is_x letter) → AreHex digits
-      → length digits % 2 ≡ 0 → 128 < length digits → FaultyLiteral (letter ∷ 39 ∷ digits ++ 39 ∷ rest) TooLong
-  too_long_run : (text digits rest : List ℕ) → HexRunAt text digits rest → 128 < length digits → FaultyLiteral text TooLong
+      → length digits % 2 ≡ 0 → text_digits < length digits → FaultyLiteral (letter ∷ 39 ∷ digits ++ 39 ∷ rest) TooLong
+  too_long_run : (text digits rest : List ℕ) → HexRunAt text digits rest → text_digits < length digits → FaultyLiteral text TooLong
   no_form : (text : List ℕ) → opens_text text ≡ false → opens_hex text ≡ false
       → ((digits rest : List ℕ) → HexRunAt text digits rest → ⊥) → FaultyLiteral text NotALiteral
 

@@ -1,6 +1,7 @@
 pub mod Bytes
 pub mod Faults
 pub mod Head
+pub mod Limits
 pub mod Literal
 pub mod Number
 pub mod Quoted

@@ -1,6 +1,6 @@
 -- Literals: a text literal, hexadecimal digits in quotes, and a run of hexadecimal digits.
 --     LiteralAt text bytes rest      the text begins with a literal of the bytes, and `rest` stands behind it
---     TextAt text found rest         the same of a literal of at most 64 bytes
+--     TextAt text found rest         the same of a literal of at most `text_bytes` bytes
 --     Between Spelled text at value next     what stands in the text from `at` up to `next` is spelled so
 --     literal_at text                the literal that a text begins with, and what stands behind it, or its fault
 --     literal_from text at           the same at a place, and the place behind the literal
@@ -9,6 +9,7 @@ use Rattle.std.specs.Prelude.{◌≡◌, ℕ, ◌-◌, ◌≤◌, ◌%◌, Bool,
 use Rattle.std.specs.Prelude.{drop, slice_index, Option, Some, None, Result, Ok, Err}
 use Rattle.hex.specs.Hex.{decode_of}
 use Rattle.xa_xid.specs.Bytes.{belongs, front, behind, only, run, after_run, StartsNo}
+use Rattle.xa_xid.specs.Limits.{text_bytes, text_digits}
 use Rattle.xa_xid.specs.Quoted.{QuotedAt, quoted}
 use Rattle.xa_xid.specs.Xid.{Text}
 use Rattle.xa_xid.specs.declared.byte_class.ByteClass.TheVariants.{Word, Hexadecimal}
@@ -52,19 +53,19 @@ pub data LiteralAt : List ℕ → List ℕ → List ℕ → Type 0 where
       → IsTrue (only (belongs Hexadecimal) (digit ∷ digits)) → StartsNo (belongs Word) rest
       → LiteralAt (48 ∷ 120 ∷ digit ∷ digits ++ rest) bytes rest
 
--- a literal of at most 64 bytes
+-- a literal of at most `text_bytes` bytes
 pub record TextAt (text : List ℕ) (found : Text) (rest : List ℕ) : Type 0 where
   pub literal : LiteralAt text found.items rest
-  pub fits : length found.items ≤ 64
+  pub fits : length found.items ≤ text_bytes
 
 -- a spelling said of two places in one text
 pub record Between {Value : Type 0} (Spelled : List ℕ → Value → List ℕ → Type 0) (text : List ℕ) (at : ℕ) (value : Value) (next : ℕ) : Type 0 where
   pub within : next ≤ length text
   pub spelled : Spelled (drop at text) value (drop next text)
 
--- at most 64 bytes (X/Open C193's lengths of gtrid and bqual)
+-- at most `text_bytes` bytes
 unfoldable pub kept : List ℕ → Option Text
-kept bytes = if nat_le (length bytes) 64 then Some (record { items = bytes }) else None
+kept bytes = if nat_le (length bytes) text_bytes then Some (record { items = bytes }) else None
 
 -- bytes that were read, where they are few enough
 abbrev pub sized : Option Text → List ℕ → Reading Text
@@ -86,7 +87,7 @@ hex_in_quotes_of digits [] = Err Unclosed
 hex_in_quotes_of digits (byte ∷ rest) =
     if not (byte == 39) then Err NotALiteral else
     if length digits % 2 == 1 then Err OddHex else
-    if nat_lt 128 (length digits) then Err TooLong else
+    if nat_lt text_digits (length digits) then Err TooLong else
     decoded digits rest
 
 -- the digits of a run that is `0x` and one or more hexadecimal digits
@@ -98,7 +99,7 @@ hex_digits_of _ = None
 -- such a run as a literal, and what stands behind it
 abbrev pub hex_run_of : Option (List ℕ) → List ℕ → Reading Text
 hex_run_of None rest = Err NotALiteral
-hex_run_of (Some digits) rest = if nat_lt 128 (length digits) then Err TooLong else decoded (evened digits) rest
+hex_run_of (Some digits) rest = if nat_lt text_digits (length digits) then Err TooLong else decoded (evened digits) rest
 
 -- the literal that a text begins with, or the first fault that holds
 unfoldable pub literal_at : List ℕ → Reading Text

@@ -6,6 +6,7 @@
 use Rattle.std.specs.Prelude.{◌≡◌, ℕ, ◌-◌, ◌≤◌, ◌<◌, ◌^◌, ◌==◌, if◌then◌else◌, List, [], ◌∷◌, ◌++◌, length, drop, codes, decimal, Option, Some, None, Result}
 use Rattle.std.specs.Prelude.{Ok, Err}
 use Rattle.hex.specs.Hex.{encode_lower, IsBytes}
+use Rattle.xa_xid.specs.Limits.{text_bytes}
 use Rattle.xa_xid.specs.Bytes.{unblank, StartsNo}
 use Rattle.xa_xid.specs.Literal.{TextAt, literal_at}
 use Rattle.xa_xid.specs.Number.{NumberAt, number_at}
@@ -107,7 +108,7 @@ xid_text xid = part_text xid.gtrid.items ++ (44 ∷ (part_text xid.bqual.items +
 -- the parts are bytes, and few enough: every identifier of a program is such
 pub record IsWritable (xid : Xid) : Type 0 where
   pub gtrid_bytes : IsBytes xid.gtrid.items
-  pub gtrid_fits : length xid.gtrid.items ≤ 64
+  pub gtrid_fits : length xid.gtrid.items ≤ text_bytes
   pub bqual_bytes : IsBytes xid.bqual.items
-  pub bqual_fits : length xid.bqual.items ≤ 64
+  pub bqual_fits : length xid.bqual.items ≤ text_bytes
   pub format_fits : xid.format_id < 2 ^ 64

@@ -3,6 +3,7 @@ ghost use Rattle.std.specs.Prelude.{◌≡◌, ◌<◌, ◌≤◌, ◌↔◌, le
 ghost use Rattle.std.specs.Cmp.{partial_equiv_from_equiv};
 ghost use Rattle.std.specs.Cmp.Lexicographic.{pointwise, nat_list_eq_equiv, nat_list_cmp_total, texts_po, texts_ties};
 ghost use Rattle.xa_xid.specs.Head.{head_of};
+ghost use Rattle.xa_xid.specs.Limits.{text_bytes};
 ghost use Rattle.xa_xid.specs.Xid.{bytes_cmp};
 
 use crate::laws::are_bytes;
@@ -110,7 +111,7 @@ impl Key {
     pub fn as_slice(&self) -> &[u8]
         ensures value { result.now ≡ self.now }
         ensures not_empty { 0 < length result.now }
-        ensures fits { length result.now ≤ 64 }
+        ensures fits { length result.now ≤ text_bytes }
     {
         self.bytes.as_slice()
     }

@@ -6,6 +6,7 @@ ghost use Rattle.xa_xid.specs.Xid.{Text, bytes_cmp, xid_cmp};
 ghost use Rattle.xa_xid.specs.Bytes.{belongs, StartsNo};
 ghost use Rattle.xa_xid.specs.Faults.{FaultyLiteral, FaultyNumber, FaultyXid};
 ghost use Rattle.xa_xid.specs.declared.literal_fault.LiteralFault.{LiteralFault};
+ghost use Rattle.xa_xid.specs.Limits.{text_bytes};
 ghost use Rattle.xa_xid.specs.Literal.{LiteralAt, TextAt, kept, literal_at, sized};
 ghost use Rattle.xa_xid.specs.Number.{NumberAt, number_at};
 ghost use Rattle.xa_xid.specs.declared.xid.Xid.{Xid};
@@ -49,7 +50,7 @@ pub fn order_of_keys(left_key: &Key, right_key: &Key) -> Ordering
 /// Takes no memory. Doesn't wait.
 pub fn literals_are_read_as_spelled()
     ensures sound { (text : List ℕ) (found : Text) (rest : List ℕ) → literal_at text ≡ Ok (found, rest)
-        → LiteralAt text found.items rest × (length found.items ≤ 64) }
+        → LiteralAt text found.items rest × (length found.items ≤ text_bytes) }
     ensures complete { (text bytes rest : List ℕ) → LiteralAt text bytes rest → literal_at text ≡ sized (kept bytes) rest }
     ensures only_one { (text : List ℕ) (found other : Text) (rest behind : List ℕ) → TextAt text found rest → TextAt text other behind
         → (found ≡ other) × (rest ≡ behind) }

@@ -3,6 +3,7 @@ ghost use Rattle.std.specs.Prelude.{◌≡◌, ◌↔◌, ℕ, ◌≤◌, ◌<�
 ghost use Rattle.xa_xid.specs.Bytes.{belongs, front, behind, run, after_run};
 ghost use Rattle.xa_xid.specs.Xid.{Text};
 ghost use Rattle.xa_xid.specs.Faults.{FaultyLiteral};
+ghost use Rattle.xa_xid.specs.Limits.{text_digits};
 ghost use Rattle.xa_xid.specs.Literal.{TextAt, Between, decoded, evened, hex_digits_of, hex_in_quotes_of, hex_run_of, literal_at, literal_from, opens_text, opens_hex};
 
 use crate::byte_class::text_from;
@@ -124,7 +125,7 @@ pub(crate) fn hex_digits(run: &[u8]) -> Option<&[u8]>
 
 /// An odd number of digits with a 0 in front.
 fn even_digits(digits: &[u8]) -> ArrayVec<u8, 128>
-    requires { length digits.now ≤ 128 }
+    requires { length digits.now ≤ text_digits }
     ensures { result.items ≡ evened digits.now }
 {
     let mut even = ArrayVec::new();
@@ -137,7 +138,7 @@ fn even_digits(digits: &[u8]) -> ArrayVec<u8, 128>
 
 /// The bytes of an even number of hexadecimal digits, with the text behind the literal.
 fn bytes_of<'a>(digits: &[u8], rest: &'a [u8]) -> Result<(Bytes, &'a [u8]), LiteralFault>
-    requires { length digits.now ≤ 128 }
+    requires { length digits.now ≤ text_digits }
     ensures value { MatchResult result
         (λ found. decoded digits.now rest.now ≡ Ok (found.0, found.1.now))
         (λ fault. decoded digits.now rest.now ≡ Err fault) }

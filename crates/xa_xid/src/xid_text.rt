@@ -3,6 +3,7 @@ ghost use Rattle.std.specs.Prelude.{◌≡◌, ℕ, ◌≤◌, ◌++◌, length,
 ghost use Rattle.hex.specs.Hex.{encode_lower};
 ghost use Rattle.xa_xid.specs.Bytes.{unblank};
 ghost use Rattle.xa_xid.specs.Faults.{FaultyXid};
+ghost use Rattle.xa_xid.specs.Limits.{text_bytes};
 ghost use Rattle.xa_xid.specs.Literal.{Between};
 ghost use Rattle.xa_xid.specs.declared.xid.Xid.{Xid};
 ghost use Rattle.xa_xid.specs.XidText.{XidAt, xid_at, xid_from, gtrid_next, bqual_next, format_id_next, comma_next, part_text, xid_text};
@@ -152,7 +153,7 @@ pub fn with_xid(text: Vec<u8>, xid: &Xid) -> Result<Vec<u8>, NoMemory>
 /// `bytes` are at most 64. May answer `NoMemory`, and the text is then dropped. Doesn't wait.
 /// Own rule: docs/STATEMENTS.md, 'Canonical form'.
 pub fn with_part(mut text: Vec<u8>, bytes: &[u8]) -> Result<Vec<u8>, NoMemory>
-    requires { length bytes.now ≤ 64 }
+    requires { length bytes.now ≤ text_bytes }
     ensures { IfOk result (λ longer. longer.items ≡ text.items ++ part_text bytes.now) }
 {
     if bytes.is_empty() {
@@ -166,7 +167,7 @@ pub fn with_part(mut text: Vec<u8>, bytes: &[u8]) -> Result<Vec<u8>, NoMemory>
 
 /// Two small hexadecimal digits for each byte.
 fn small_digits(bytes: &[u8]) -> ArrayVec<u8, 128>
-    requires { length bytes.now ≤ 64 }
+    requires { length bytes.now ≤ text_bytes }
     ensures { result.items ≡ encode_lower bytes.now }
 {
     let mut digits = ArrayVec::from([0; 128]);

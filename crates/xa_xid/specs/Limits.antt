@@ -1,0 +1,12 @@
+-- How long the texts of statements are at most.
+--     text_bytes       bytes of a gtrid, a bqual, a key or a value
+--     text_digits      hexadecimal digits of so many bytes
+use Rattle.std.specs.Prelude.{ℕ}
+
+-- of gtrid and bqual X/Open C193's length, of keys and values our own rule
+abbrev pub text_bytes : ℕ
+text_bytes = 64
+
+-- two digits spell a byte
+abbrev pub text_digits : ℕ
+text_digits = 128
