@@ -227,40 +227,32 @@ part_last bytes all fits =
     ap (λ t. bare (tokens_of t)) (sym (append-nil (part_text bytes))) ∙ part.tokens
     ∙ ap (λ ts. Value (Some (record { items = bytes })) part.number ∷ bare ts) (pieces-nil 0)
 
+-- XA and a word before an identifier at the end of a text
+xa_xid : (text : List ℕ) (word : Keyword) (xid : Xid) → (is : IsWritable xid)
+    → ((rest : List ℕ) → bare (tokens_of (text ++ rest)) ≡ Word word ∷ bare (tokens_of rest))
+    → bare (tokens_of (codes "XA " ++ (text ++ xid_text xid))) ≡ Word XA ∷ Word word ∷ (xid_tokens xid [] is tt).x
+xa_xid text word xid is next =
+    xa_word (text ++ xid_text xid) ∙ ap (λ ts. Word XA ∷ ts) (next (xid_text xid) ∙ ap (λ ts. Word word ∷ ts) (xid_last xid is))
+
 pub start_spelled : (xid : Xid) → IsWritable xid → Spells (statement_text (Start xid)) (Start xid)
 unfolding statement_text
-start_spelled xid is =
-    let x = xid_tokens xid [] is tt in
-    rw (xa_word (codes "START " ++ xid_text xid) ∙ ap (λ ts. Word XA ∷ ts) (start_word (xid_text xid) ∙ ap (λ ts. Word START ∷ ts) (xid_last xid is)))
-    (bare_row (start is_start x.form))
+start_spelled xid is = rw (xa_xid (codes "START ") START xid is start_word) (bare_row (start is_start (xid_tokens xid [] is tt).form))
 
 pub end_spelled : (xid : Xid) → IsWritable xid → Spells (statement_text (End xid)) (End xid)
 unfolding statement_text
-end_spelled xid is =
-    let x = xid_tokens xid [] is tt in
-    rw (xa_word (codes "END " ++ xid_text xid) ∙ ap (λ ts. Word XA ∷ ts) (end_word (xid_text xid) ∙ ap (λ ts. Word END ∷ ts) (xid_last xid is)))
-    (bare_row (end x.form))
+end_spelled xid is = rw (xa_xid (codes "END ") END xid is end_word) (bare_row (end (xid_tokens xid [] is tt).form))
 
 pub prepare_spelled : (xid : Xid) → IsWritable xid → Spells (statement_text (Prepare xid)) (Prepare xid)
 unfolding statement_text
-prepare_spelled xid is =
-    let x = xid_tokens xid [] is tt in
-    rw (xa_word (codes "PREPARE " ++ xid_text xid) ∙ ap (λ ts. Word XA ∷ ts) (prepare_word (xid_text xid) ∙ ap (λ ts. Word PREPARE ∷ ts) (xid_last xid is)))
-    (bare_row (prepare x.form))
+prepare_spelled xid is = rw (xa_xid (codes "PREPARE ") PREPARE xid is prepare_word) (bare_row (prepare (xid_tokens xid [] is tt).form))
 
 pub rollback_spelled : (xid : Xid) → IsWritable xid → Spells (statement_text (Rollback xid)) (Rollback xid)
 unfolding statement_text
-rollback_spelled xid is =
-    let x = xid_tokens xid [] is tt in
-    rw (xa_word (codes "ROLLBACK " ++ xid_text xid) ∙ ap (λ ts. Word XA ∷ ts) (rollback_word (xid_text xid) ∙ ap (λ ts. Word ROLLBACK ∷ ts) (xid_last xid is)))
-    (bare_row (rollback x.form))
+rollback_spelled xid is = rw (xa_xid (codes "ROLLBACK ") ROLLBACK xid is rollback_word) (bare_row (rollback (xid_tokens xid [] is tt).form))
 
 pub commit_spelled : (xid : Xid) (one_phase : Bool) → IsWritable xid → Spells (statement_text (Commit xid one_phase)) (Commit xid one_phase)
 unfolding statement_text
-commit_spelled xid false is =
-    let x = xid_tokens xid [] is tt in
-    rw (xa_word (codes "COMMIT " ++ xid_text xid) ∙ ap (λ ts. Word XA ∷ ts) (commit_word (xid_text xid) ∙ ap (λ ts. Word COMMIT ∷ ts) (xid_last xid is)))
-    (bare_row (commit x.form))
+commit_spelled xid false is = rw (xa_xid (codes "COMMIT ") COMMIT xid is commit_word) (bare_row (commit (xid_tokens xid [] is tt).form))
 commit_spelled xid true is =
     let words = codes " ONE PHASE" in
     let x = xid_tokens xid words is one_phase_no_word in

@@ -1,10 +1,10 @@
 -- A statement and its parts: the parts give the statement back.
-use Rattle.std.proofs.Common.{◌≡◌, ◌<◌, ◌≤◌, ◌^◌, true, false, cond, nat_eq, IsTrue, [], refl, ap, sym, ◌∙◌, arith, lit<, lit≤}
+use Rattle.std.proofs.Common.{◌≡◌, ℕ, ◌<◌, ◌≤◌, ◌^◌, true, false, cond, nat_eq, IsTrue, List, [], refl, ap, sym, ◌∙◌, arith, lit<, lit≤}
 use Rattle.xa_xid.specs.declared.xid.Xid.{Xid}
 use Rattle.xa_xid.specs.declared.statement.Statement.{Statement}
 use Rattle.xa_xid.specs.declared.statement.Statement.TheVariants.{Start, End, Prepare, Commit, Rollback, Recover, Unsupported, Get, Put, Del, Disconnect}
-use Rattle.xa_words.specs.Entry.{IsText, may_enter, KeepsLimits}
-use Rattle.xa_words.specs.Words.{Parts, parts_of, RowParts}
+use Rattle.xa_words.specs.Entry.{IsText, IsXid, may_enter, KeepsLimits}
+use Rattle.xa_words.specs.Words.{Parts, of_xid, of_texts, parts_of, RowParts}
 
 xid_of : Parts → Xid
 xid_of p = record { format_id = p.format_id; gtrid = record { items = p.first }; bqual = record { items = p.second } }
@@ -54,107 +54,50 @@ pub record Within (p : Parts) : Type 0 where
   pub none : 6 < p.kind → p.format_id ≡ 0
   pub row : 6 < p.kind → RowParts p
 
+-- a kind with an identifier
+xid_within : (kind : ℕ) (xid : Xid) → 0 < kind → kind ≤ 6 → IsXid xid → Within (of_xid kind xid)
+xid_within kind xid low high k =
+    record {
+      low = low;
+      high = omega arith;
+      format_id = k.format_id;
+      first = k.gtrid;
+      second = k.bqual;
+      none = λ h. absurd (omega arith);
+      row = λ h. absurd (omega arith);
+    }
+
+-- a kind with two texts
+texts_within : (kind : ℕ) (first second : List ℕ) → IsText first → IsText second → RowParts (of_texts kind first second) → Within (of_texts kind first second)
+texts_within kind first second one two row =
+    record {
+      low = omega (arith, row.low);
+      high = row.high;
+      format_id = omega arith;
+      first = one;
+      second = two;
+      none = λ h. refl;
+      row = λ h. row;
+    }
+
 pub within : (st : Statement) → IsTrue (may_enter st) → KeepsLimits st → Within (parts_of st)
-within (Start xid) may k =
-    record {
-      low = omega arith;
-      high = omega arith;
-      format_id = k.format_id;
-      first = k.gtrid;
-      second = k.bqual;
-      none = λ h. absurd (omega arith);
-      row = λ h. absurd (omega arith);
-    }
-within (End xid) may k =
-    record {
-      low = omega arith;
-      high = omega arith;
-      format_id = k.format_id;
-      first = k.gtrid;
-      second = k.bqual;
-      none = λ h. absurd (omega arith);
-      row = λ h. absurd (omega arith);
-    }
-within (Prepare xid) may k =
-    record {
-      low = omega arith;
-      high = omega arith;
-      format_id = k.format_id;
-      first = k.gtrid;
-      second = k.bqual;
-      none = λ h. absurd (omega arith);
-      row = λ h. absurd (omega arith);
-    }
-within (Commit xid false) may k =
-    record {
-      low = omega arith;
-      high = omega arith;
-      format_id = k.format_id;
-      first = k.gtrid;
-      second = k.bqual;
-      none = λ h. absurd (omega arith);
-      row = λ h. absurd (omega arith);
-    }
-within (Commit xid true) may k =
-    record {
-      low = omega arith;
-      high = omega arith;
-      format_id = k.format_id;
-      first = k.gtrid;
-      second = k.bqual;
-      none = λ h. absurd (omega arith);
-      row = λ h. absurd (omega arith);
-    }
-within (Rollback xid) may k =
-    record {
-      low = omega arith;
-      high = omega arith;
-      format_id = k.format_id;
-      first = k.gtrid;
-      second = k.bqual;
-      none = λ h. absurd (omega arith);
-      row = λ h. absurd (omega arith);
-    }
+within (Start xid) may k = xid_within 1 xid (omega arith) (omega arith) k
+within (End xid) may k = xid_within 2 xid (omega arith) (omega arith) k
+within (Prepare xid) may k = xid_within 3 xid (omega arith) (omega arith) k
+within (Commit xid false) may k = xid_within 4 xid (omega arith) (omega arith) k
+within (Commit xid true) may k = xid_within 5 xid (omega arith) (omega arith) k
+within (Rollback xid) may k = xid_within 6 xid (omega arith) (omega arith) k
 within (Recover convert) may k = cc
 within Unsupported may k = cc
 within (Get key) may k =
-    record {
-      low = omega arith;
-      high = omega arith;
-      format_id = omega arith;
-      first = k.text;
-      second = empty;
-      none = λ h. refl;
-      row = λ h. record { low = omega arith; high = omega arith; key = λ b. k.not_empty; no_key = λ e. absurd (omega arith); no_value = λ n. refl };
-    }
+    texts_within 7 key [] k.text empty
+    (record { low = omega arith; high = omega arith; key = λ b. k.not_empty; no_key = λ e. absurd (omega arith); no_value = λ n. refl })
 within (Put key value) may k =
-    record {
-      low = omega arith;
-      high = omega arith;
-      format_id = omega arith;
-      first = k.0.text;
-      second = k.1;
-      none = λ h. refl;
-      row =
-          λ h. record { low = omega arith; high = omega arith; key = λ b. k.0.not_empty; no_key = λ e. absurd (omega arith); no_value = λ n. absurd (n refl) };
-    }
+    texts_within 8 key value.items k.0.text k.1
+    (record { low = omega arith; high = omega arith; key = λ b. k.0.not_empty; no_key = λ e. absurd (omega arith); no_value = λ n. absurd (n refl) })
 within (Del key) may k =
-    record {
-      low = omega arith;
-      high = omega arith;
-      format_id = omega arith;
-      first = k.text;
-      second = empty;
-      none = λ h. refl;
-      row = λ h. record { low = omega arith; high = omega arith; key = λ b. k.not_empty; no_key = λ e. absurd (omega arith); no_value = λ n. refl };
-    }
+    texts_within 9 key [] k.text empty
+    (record { low = omega arith; high = omega arith; key = λ b. k.not_empty; no_key = λ e. absurd (omega arith); no_value = λ n. refl })
 within Disconnect may k =
-    record {
-      low = omega arith;
-      high = omega arith;
-      format_id = omega arith;
-      first = empty;
-      second = empty;
-      none = λ h. refl;
-      row = λ h. record { low = omega arith; high = omega arith; key = λ b. absurd (omega arith); no_key = λ e. refl; no_value = λ n. refl };
-    }
+    texts_within 10 [] [] empty empty
+    (record { low = omega arith; high = omega arith; key = λ b. absurd (omega arith); no_key = λ e. refl; no_value = λ n. refl })
