@@ -64,11 +64,13 @@ impl DecisionLog for ChainLog {
         ensures once { TriesOnce result (known_of pass.old) (known_of pass.new) }
     {
         let row = row_count(self.sessions, pass.newest);
+        // The history only grows, so a log that was seen full is still full.
         if row == self.capacity {
             return Err(AddFault::Full);
         }
         let own = cell_name(self.sessions, row, pass.number.get());
         self.write_cell(&mut pass.seat, own, pass.newest, entry);
+        // Others may have added since `pass.newest` was loaded: the exchange tests it.
         let found = self.exchange(&mut pass.seat, pass.newest, own, entry);
         if found != pass.newest {
             self.fill(&mut pass.seat, &mut pass.columns, row, found);
@@ -85,6 +87,7 @@ impl DecisionLog for ChainLog {
         let newest = self.table.meet(&mut first.seat, &mut second.seat);
         let second_count = row_count(self.sessions, second.newest);
         if second_count < row_count(self.sessions, first.newest) {
+            // `newest` was loaded where both passes are known, so what the second has seen ends there.
             self.fill(&mut second.seat, &mut second.columns, second_count, newest);
             second.newest = newest;
         }

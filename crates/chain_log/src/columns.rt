@@ -42,6 +42,7 @@ impl ChainLog {
         let mut name = newest;
         for row in (first..count).rev() {
             columns[row as usize] = cell_column(self.sessions, name);
+            // The cell is one of the history, so its link is still what it was, and names a cell of the history.
             name = self.load_word(seat, name, 0);
         }
     }

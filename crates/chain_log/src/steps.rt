@@ -2,15 +2,19 @@
 //!
 //! All are sequentially consistent, and between two steps of a pass any other pass may step. By role:
 //!
-//! 1. Who looks loads word 0 (`load_newest`). What the pass has seen stays a prefix of the history, which grows only at its end.
-//! 2. Who reads loads words of a cell whose name it found before (`load_word`). A cell of the history is never written again: its
+//! 1. Who looks loads word 0 (`load_newest`). What the pass has seen stays a prefix of the history, which grows only at its end. The
+//!    draft is given up, since the own cell may be another from then on.
+//! 2. Who has seen more, by a look, a lost exchange or a meeting, loads the link of each cell that is new to it, from the newest back
+//!    (`fill`, by `load_word`). A name that was seen once leads to the same cell ever after.
+//! 3. Who reads loads words of a cell whose name it found before (`load_word`). A cell of the history is never written again: its
 //!    session stores in later rows alone, and no other session stores in its column.
-//! 3. Who adds writes its own cell (`put_word`): it stores each word, but loads one that is to be 0 first, and leaves it where it is 0
-//!    already. Then it exchanges word 0 from the last name it has seen to its own (`exchange`). The cell was whole before it became
-//!    the newest. A name has one row and one column, so an equal name in word 0 means that exactly what the pass has seen is the
-//!    history; the exchange tests it and adds at one step.
-//! 4. Who meets joins two seats, loads word 0 there, and splits them (`LogTable::join`, `load_both`, `split`). Each pass has seen a
-//!    prefix of one history, so the longer begins with the shorter.
+//! 4. Who adds writes its own cell (`put_word`): it stores each word (`store_word`), but loads one that is to be 0 first
+//!    (`find_blank`), and leaves it where it is 0 already. Then it exchanges word 0 from the last name it has seen to its own
+//!    (`exchange`). The cell was whole before it became the newest. A name has one row and one column, so an equal name in word 0
+//!    means that exactly what the pass has seen is the history; the exchange tests it and adds at one step.
+//! 5. Who meets splits off an empty seat, joins two seats, loads word 0 there, and splits them (`LogTable::meet`). Each pass has seen
+//!    a prefix of one history, so the longer begins with the shorter.
+//! 6. Who opens splits the seat that knows the passes not yet issued, once for each session (`LogTable::issue`).
 ghost use Rattle.std.specs.Prelude.{◌≡◌, ◌≢◌, true, false, ◌<◌, ◌≤◌, ◌+◌, ℕ, List, ◌∷◌, length, slice_get, slice_index, Some};
 ghost use Rattle.xa_words.specs.Entry.{Entry, IsEntry};
 ghost use Rattle.xa_words.specs.Words.{words_of};
@@ -67,7 +71,7 @@ impl ChainLog {
         ensures other { result ≡ false → hand seat.new ≡ hand seat.old }
     {
         let word = cell_start(name) + index;
-        // Nobody else stores in this column, so a 0 that is found stays until this pass stores there.
+        // No other pass stores in this column, so a 0 that is found stays until this pass stores there.
         self.table.load::<FindBlank>(seat, word) == 0
     }
 
@@ -83,7 +87,7 @@ impl ChainLog {
         ensures stored { hand seat.new ≡ drafted (hand seat.old) index new }
     {
         let word = cell_start(name) + index;
-        // The own cell is in no history yet: what was added since stands in other columns, and nobody else stores in this one.
+        // The own cell is in no history yet: what was added since is in other columns, and no other pass stores in this one.
         self.table.store::<DraftWord>(seat, word, new)
     }
 

@@ -24,6 +24,7 @@ impl ChainLog {
     {
         let mut words = [0; WORDS];
         for index in 0..WORDS {
+            // The cell isn't written between these loads, so the words are those of one entry.
             words[index] = self.load_word(seat, name, 1 + index);
         }
         words

@@ -1,6 +1,6 @@
 //! The words of a log, and the only steps that its passes take on them.
 //!
-//! No other file reaches the table: so a view changes by these steps alone, and its counts as `Counts` says.
+//! No file but this one and its submodules reaches the table: so a view changes by these steps alone, and its counts as `Counts` says.
 ghost use Rattle.std.specs.Prelude.{◌≡◌, ◌<◌, [], length, IfOk};
 ghost use Rattle.atomic_table.specs.Table.{opening};
 

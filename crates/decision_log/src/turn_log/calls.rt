@@ -48,6 +48,7 @@ impl DecisionLog for TurnLog {
     }
 
     fn try_add(&self, pass: &mut TurnPass, entry: &Entry) -> Result<(), AddFault> {
+        // The history only grows, so a log that was seen full is still full.
         if pass.front == self.capacity {
             return Err(AddFault::Full);
         }
@@ -55,6 +56,7 @@ impl DecisionLog for TurnLog {
         if had != 0 {
             return Err(AddFault::Busy);
         }
+        // With the turn no other pass adds, so this count holds until the turn is given back.
         let front = self.load_count(&mut pass.seat);
         if front != pass.front {
             self.give_turn(&mut pass.seat);

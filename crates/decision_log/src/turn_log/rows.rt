@@ -26,6 +26,7 @@ impl TurnLog {
         let row = ROWS + place as usize * WORDS;
         let mut words = [0; WORDS];
         for index in 0..WORDS {
+            // The row is below the count and isn't written again, so the words are those of one entry.
             words[index] = self.load_word(seat, row + index);
         }
         words

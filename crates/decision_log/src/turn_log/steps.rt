@@ -5,10 +5,11 @@
 //! 1. Who looks loads the count (`load_count`). What the pass has seen stays a prefix of the history, which grows only at its end.
 //! 2. Who reads loads words of a row below the count (`load_word`). Such a row is never written again.
 //! 3. Who adds takes the turn (`take_turn`), loads the count, stores the words of the row at the count (`store_word`), stores the
-//!    count (`store_count`), and gives the turn back (`give_turn`). The count comes after the turn, so nobody can add between it
+//!    count (`store_count`), and gives the turn back (`give_turn`). The count comes after the turn, so no other pass adds between it
 //!    and the store of the count; that store comes after those of the words, so a row below the count is always whole.
-//! 4. Who meets joins two seats, loads the count there, and splits them (`LogTable::join`, `load_both`, `split`). Each pass has seen
-//!    a prefix of one history, so the longer begins with the shorter.
+//! 4. Who meets splits off an empty seat, joins two seats, loads the count there, and splits them (`LogTable::meet`). Each pass has
+//!    seen a prefix of one history, so the longer begins with the shorter.
+//! 5. Who opens splits the seat that knows the passes not yet issued, once for each session (`LogTable::issue`).
 ghost use Rattle.std.specs.Prelude.{◌≡◌, ◌≢◌, ◌<◌, ◌≤◌, ◌+◌, ℕ, List, length, slice_get, slice_index, Some};
 ghost use Rattle.xa_words.specs.Entry.{Entry, IsEntry};
 ghost use Rattle.xa_words.specs.Words.{words_of};
@@ -73,7 +74,7 @@ impl TurnLog {
         ensures seat { IsSeat self.now seat.new }
         ensures stored { (index : ℕ) → word ≡ row_at (length (hand seat.old).known.seen) + index → hand seat.new ≡ drafted (hand seat.old) index new }
     {
-        // The count was loaded with the turn, so it is still the same, and nobody else stores in its row.
+        // The count was loaded with the turn, so it is still the same, and no other pass stores in its row.
         self.table.store::<DraftWord>(seat, word, new)
     }
 
@@ -100,7 +101,7 @@ impl TurnLog {
         ensures seat { IsSeat self.now seat.new }
         ensures released { hand seat.new ≡ released (hand seat.old) }
     {
-        // The pass has the turn until this store: nobody else stores there while it isn't free.
+        // The pass has the turn until this store: no other pass stores there while it isn't free.
         self.table.store::<Release>(seat, TURN, 0)
     }
 }
