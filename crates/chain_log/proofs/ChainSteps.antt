@@ -20,7 +20,7 @@ use Rattle.decision_log.proofs.Drafts.{holds_nothing}
 use Rattle.decision_log.proofs.LogRules.{known, history, stepped, unmoved, load_step}
 use Rattle.chain_log.specs.Cells.{name_at, cell_at, name_before, newest_of}
 use Rattle.chain_log.specs.ChainRule.{own_cell, HasDraft, Knows, ChainRule}
-use Rattle.chain_log.specs.ChainPlays.{looked, Sees, Reads}
+use Rattle.chain_log.specs.ChainPlays.{with_look, Sees, Reads}
 use Rattle.chain_log.proofs.Names.{name_begins}
 
 abbrev pub Rules : Sizes → State Entry View → Type 0
@@ -63,7 +63,7 @@ look_step sizes slots id h =
     load_step sizes slots id 0 h (Sees 0 h)
     (λ words views r here.
     let k = (known r id h here).fact_is in
-    (looked h r.log, seen_keeps r id h (looked h r.log) here refl refl refl refl refl refl, (refl, r.log, refl, newest_by r h k.sessions, history r h k)))
+    (with_look h r.log, seen_keeps r id h (with_look h r.log) here refl refl refl refl refl refl, (refl, r.log, refl, newest_by r h k.sessions, history r h k)))
 
 pub read_step : (sizes : Sizes) (slots id word : ℕ) (h : Hand) → word ≢ 0 → Allows (Rules sizes) slots id (seated h) word (λ n. n) (Tells (Reads word h))
 read_step sizes slots id word h behind =

@@ -19,7 +19,7 @@ use Rattle.decision_log.specs.declared.view.View.{View}
 use Rattle.decision_log.specs.declared.view.View.TheVariants.{One}
 use Rattle.decision_log.specs.declared.sizes.Sizes.{Sizes}
 use Rattle.decision_log.specs.Seats.{seated}
-use Rattle.decision_log.specs.Draft.{Holds, drafted}
+use Rattle.decision_log.specs.Draft.{HasWordsAt, drafted}
 use Rattle.decision_log.proofs.Histories.{begins_append, begins_same, get_last, later_other, length_begins}
 use Rattle.decision_log.proofs.Drafts.{holds_beside, holds_one_more}
 use Rattle.decision_log.proofs.LogRules.{RuleOf, known, ranged, history, stepped, unmoved, appended, loaded, load_step, store_step, looked_log}
@@ -126,9 +126,9 @@ module _ {sizes : Sizes} {words : List ℕ} {views : List View} (r : ChainRule s
       let own_is : own_cell h ≡ cell_at (name_at sizes.sessions (length r.log) entry.session) =
       own_by h k.sessions ∙ ap (λ list. cell_at (name_at sizes.sessions (length list) h.known.number)) all
       ∙ ap (λ n. cell_at (name_at sizes.sessions (length r.log) n)) (sym own) in
-      let cell : Holds words (cell_at (name_at sizes.sessions (length r.log) entry.session)) (newest_of sizes.sessions r.log ∷ words_of entry) =
-      subst (λ at. Holds words at (newest_of sizes.sessions r.log ∷ words_of entry)) own_is
-      (subst (λ draft. Holds words (own_cell h) draft) whole k.own.draft) in
+      let cell : HasWordsAt words (cell_at (name_at sizes.sessions (length r.log) entry.session)) (newest_of sizes.sessions r.log ∷ words_of entry) =
+      subst (λ at. HasWordsAt words at (newest_of sizes.sessions r.log ∷ words_of entry)) own_is
+      (subst (λ draft. HasWordsAt words (own_cell h) draft) whole k.own.draft) in
       let link : (row : ℕ) → row ≤ length r.log → name_before sizes.sessions r.log row ≡ name_before sizes.sessions log' row =
       λ row low. name_begins sizes.sessions r.log log' row (begins_append r.log (entry ∷ [])) low in
       appended r words' id h (won h entry) entry here all is own room
@@ -142,11 +142,11 @@ module _ {sizes : Sizes} {words : List ℕ} {views : List View} (r : ChainRule s
             holds_beside words 0 new (cell_at (name_at sizes.sessions row other.session)) (name_before sizes.sessions log' row ∷ words_of other)
             (λ i less e. omega arith)
             (⊎_elim
-            (λ t. subst (λ name. Holds words (cell_at (name_at sizes.sessions row other.session)) (name ∷ words_of other))
+            (λ t. subst (λ name. HasWordsAt words (cell_at (name_at sizes.sessions row other.session)) (name ∷ words_of other))
             (link row (omega (arith, slice_get_within r.log row other t))) (r.spelled.cells row other t))
-            (λ t. subst (λ x. Holds words (cell_at (name_at sizes.sessions row x.session)) (name_before sizes.sessions log' row ∷ words_of x)) t.1
-            (subst (λ n. Holds words (cell_at (name_at sizes.sessions n entry.session)) (name_before sizes.sessions log' n ∷ words_of entry)) (sym t.0)
-            (subst (λ name. Holds words (cell_at (name_at sizes.sessions (length r.log) entry.session)) (name ∷ words_of entry))
+            (λ t. subst (λ x. HasWordsAt words (cell_at (name_at sizes.sessions row x.session)) (name_before sizes.sessions log' row ∷ words_of x)) t.1
+            (subst (λ n. HasWordsAt words (cell_at (name_at sizes.sessions n entry.session)) (name_before sizes.sessions log' n ∷ words_of entry)) (sym t.0)
+            (subst (λ name. HasWordsAt words (cell_at (name_at sizes.sessions (length r.log) entry.session)) (name ∷ words_of entry))
             (link (length r.log) (omega arith)) cell)))
             (get_last r.log entry row other at));
       })

@@ -7,7 +7,7 @@ use Rattle.xa_words.specs.Words.{words_of}
 use Rattle.xa_words.proofs.Spelling.{one_entry, length-words_of}
 use Rattle.decision_log.specs.declared.sizes.Sizes.{Sizes}
 use Rattle.decision_log.specs.declared.view.View.{View}
-use Rattle.decision_log.specs.Draft.{Holds}
+use Rattle.decision_log.specs.Draft.{HasWordsAt}
 use Rattle.decision_log.proofs.Histories.{there, take_next}
 use Rattle.chain_log.specs.Cells.{name_at, cell_at, name_before, newest_of}
 use Rattle.chain_log.specs.Chain.{Walk, Chain}
@@ -15,12 +15,12 @@ use Rattle.chain_log.specs.ChainRule.{ChainRule}
 use Rattle.chain_log.proofs.Names.{name_zero, name_next, name_low}
 
 -- the first of some words, and the others
-holds_first : (words : List ℕ) (at word : ℕ) (rest : List ℕ) → Holds words at (word ∷ rest) → slice_index words at ≡ word
+holds_first : (words : List ℕ) (at word : ℕ) (rest : List ℕ) → HasWordsAt words at (word ∷ rest) → slice_index words at ≡ word
 holds_first words at word rest holds =
     let here : at ≡ at + 0 = omega arith in
     ap (λ n. get_or words n 0) here ∙ holds 0 (omega arith)
 
-holds_rest : (words : List ℕ) (at word : ℕ) (rest : List ℕ) → Holds words at (word ∷ rest) → Holds words (at + 1) rest
+holds_rest : (words : List ℕ) (at word : ℕ) (rest : List ℕ) → HasWordsAt words at (word ∷ rest) → HasWordsAt words (at + 1) rest
 holds_rest words at word rest holds i below =
     let here : at + 1 + i ≡ at + suc i = omega arith in
     ap (λ n. get_or words n 0) here ∙ holds (suc i) (omega arith)

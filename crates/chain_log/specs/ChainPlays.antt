@@ -1,5 +1,5 @@
 -- What each step of a chain does to the pass that takes it, and what it tells.
---     looked, won, lost       the pass after a step
+--     with_look, won, lost    the pass after a step
 --     Sees, Reads, Finds, Drafts, Exchanges      the steps, each by its word, its operands, the pass before, what was found and the pass after
 use Rattle.std.specs.Prelude.{◌≡◌, ◌≢◌, ◌<◌, ◌+◌, ◌-◌, ℕ, List, [], ◌∷◌, ◌++◌, length, slice_get, slice_index, Some}
 use mathlib.Core.Option.{Option, none, some}
@@ -12,8 +12,8 @@ use Rattle.chain_log.specs.Cells.{name_at, cell_at, name_before, newest_of}
 use Rattle.chain_log.specs.ChainRule.{own_cell, try_word, newest_for}
 
 -- after a look that saw this history: the own cell is another now, and its draft is empty
-abbrev pub looked : Hand → List Entry → Hand
-looked h seen = record {
+abbrev pub with_look : Hand → List Entry → Hand
+with_look h seen = record {
   known = record { number = h.known.number; seen = seen; mine = h.known.mine; looks = h.known.looks + 1; tries = h.known.tries };
   sessions = h.sessions;
   capacity = h.capacity;
@@ -51,7 +51,7 @@ lost h seen = record {
 -- a load of word 0, the newest cell's name
 abbrev pub Sees : ℕ → Hand → ℕ → Hand → Type 0
 Sees word old found new =
-    (word ≡ 0) × (seen : List Entry) × (new ≡ looked old seen) × (found ≡ newest_of old.sessions seen) × HistoryIs old seen
+    (word ≡ 0) × (seen : List Entry) × (new ≡ with_look old seen) × (found ≡ newest_of old.sessions seen) × HistoryIs old seen
 
 -- a load of a word of a cell; one of the cell of an entry that was seen is its link or one of the entry's words
 abbrev pub Reads : ℕ → Hand → ℕ → Hand → Type 0

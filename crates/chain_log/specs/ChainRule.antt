@@ -12,7 +12,7 @@ use Rattle.xa_words.specs.Words.{words_of}
 use Rattle.decision_log.specs.declared.view.Hand.{Hand}
 use Rattle.decision_log.specs.declared.view.View.{View}
 use Rattle.decision_log.specs.declared.sizes.Sizes.{Sizes}
-use Rattle.decision_log.specs.Draft.{Holds}
+use Rattle.decision_log.specs.Draft.{HasWordsAt}
 use Rattle.decision_log.specs.LogRule.{KnowsLog, LogRule}
 use Rattle.chain_log.specs.Cells.{word_count, name_at, cell_at, name_before, newest_of}
 
@@ -33,13 +33,13 @@ pub record HasCells (sizes : Sizes) (words : List ℕ) (log : List Entry) : Type
   pub wide : length words ≡ word_count sizes.sessions sizes.capacity
   pub newest : slice_index words 0 ≡ newest_of sizes.sessions log
   pub cells : (row : ℕ) (entry : Entry) → slice_get log row ≡ Some entry
-      → Holds words (cell_at (name_at sizes.sessions row entry.session)) (name_before sizes.sessions log row ∷ words_of entry)
+      → HasWordsAt words (cell_at (name_at sizes.sessions row entry.session)) (name_before sizes.sessions log row ∷ words_of entry)
 
 -- a pass's draft is what its own cell begins with
 pub record HasDraft (words : List ℕ) (log : List Entry) (hand : Hand) : Type 0 where
   pub short : length hand.draft ≤ 22
   pub column : 0 < length hand.draft → hand.known.number ≤ hand.sessions
-  pub draft : Holds words (own_cell hand) hand.draft
+  pub draft : HasWordsAt words (own_cell hand) hand.draft
 
 -- what a pass knows is so
 abbrev pub Knows : Sizes → List ℕ → List Entry → Hand → Type 0

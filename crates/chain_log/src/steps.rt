@@ -22,7 +22,7 @@ ghost use Rattle.decision_log.specs.Draft.{drafted};
 ghost use Rattle.decision_log.specs.Observed.{HistoryIs};
 ghost use Rattle.decision_log.specs.Seats.{hand};
 ghost use Rattle.chain_log.specs.Cells.{name_at, name_before, newest_of};
-ghost use Rattle.chain_log.specs.ChainPlays.{looked, won, lost};
+ghost use Rattle.chain_log.specs.ChainPlays.{with_look, won, lost};
 ghost use Rattle.chain_log.specs.ChainSeat.{IsSeat, IsOurs};
 
 use crate::ChainLog;
@@ -37,7 +37,7 @@ impl ChainLog {
     pub(crate) fn load_newest(&self, seat: &mut Seat<Entry, View>) -> u64
         requires { IsSeat self.now seat.old }
         ensures seat { IsSeat self.now seat.new }
-        ensures seen { (seen : List Entry) × (hand seat.new ≡ looked (hand seat.old) seen) × (result ≡ newest_of (hand seat.old).sessions seen) × HistoryIs (hand seat.old) seen }
+        ensures seen { (seen : List Entry) × (hand seat.new ≡ with_look (hand seat.old) seen) × (result ≡ newest_of (hand seat.old).sessions seen) × HistoryIs (hand seat.old) seen }
     {
         // Nothing was loaded before that this load rests on.
         self.table.load::<SeeAll>(seat, NEWEST)

@@ -4,19 +4,19 @@ use Rattle.std.proofs.Common.{length-append}
 use mathlib.Core.Logic.{dite}
 use native.Mathlib.Decide.{ℕ_discrete}
 use Rattle.std.proofs.lemmas.List.{get_or-set_same, get_or-set_other, length-take-le, get_or_push}
-use Rattle.decision_log.specs.Draft.{Holds}
+use Rattle.decision_log.specs.Draft.{HasWordsAt}
 
-pub holds_nothing : (words : List ℕ) (at : ℕ) (draft : List ℕ) → draft ≡ [] → Holds words at draft
-holds_nothing words at draft blank = subst (λ d. Holds words at d) (sym blank) (λ i below. absurd (omega arith))
+pub holds_nothing : (words : List ℕ) (at : ℕ) (draft : List ℕ) → draft ≡ [] → HasWordsAt words at draft
+holds_nothing words at draft blank = subst (λ d. HasWordsAt words at d) (sym blank) (λ i below. absurd (omega arith))
 
 -- a word that isn't among them changes
-pub holds_beside : (words : List ℕ) (word new at : ℕ) (draft : List ℕ) → ((i : ℕ) → i < length draft → at + i ≢ word) → Holds words at draft
-    → Holds (set words word new) at draft
+pub holds_beside : (words : List ℕ) (word new at : ℕ) (draft : List ℕ) → ((i : ℕ) → i < length draft → at + i ≢ word) → HasWordsAt words at draft
+    → HasWordsAt (set words word new) at draft
 holds_beside words word new at draft out holds i below = get_or-set_other words word (at + i) new 0 (out i below) ∙ holds i below
 
 -- the next word is stored, or one again
-pub holds_one_more : (words : List ℕ) (at index new : ℕ) (draft : List ℕ) → index ≤ length draft → at + index < length words → Holds words at draft
-    → Holds (set words (at + index) new) at (take index draft ++ new ∷ [])
+pub holds_one_more : (words : List ℕ) (at index new : ℕ) (draft : List ℕ) → index ≤ length draft → at + index < length words → HasWordsAt words at draft
+    → HasWordsAt (set words (at + index) new) at (take index draft ++ new ∷ [])
 holds_one_more words at index new draft along within holds i below =
     let len : length (take index draft) ≡ index = length-take-le index draft along in
     dite (ℕ_discrete i index)

@@ -8,7 +8,7 @@ use mathlib.Core.Logic.{dite}
 use Rattle.xa_words.specs.Entry.{Entry}
 use Rattle.decision_log.specs.History.{Begins, entries_of}
 use Rattle.decision_log.specs.Known.{AllOf}
-use Rattle.decision_log.specs.Machine.{Machine, Event, Look, Add, Looks, Appends, Runs, opening, IsState}
+use Rattle.decision_log.specs.Machine.{Machine, Event, Look, Add, Looks, Appends, Runs, opening_machine, IsState}
 use Rattle.decision_log.specs.Reached.{EventsOf, IsReached}
 use Rattle.decision_log.proofs.Histories.{behind, length_begins, own_last, own_other, take_next, entry_at, entry_is, later_other}
 
@@ -146,7 +146,7 @@ module _ (sessions : ℕ) (target : Machine) (is : IsState target) (all : AllOf 
     pub events : List Event
     pub own : EventsOf sessions events
     pub machine : Machine
-    pub runs : Runs events (opening target.capacity) machine
+    pub runs : Runs events (opening_machine target.capacity) machine
     pub at : At count machine
 
   -- who adds the next entry has seen it
@@ -196,7 +196,7 @@ module _ (sessions : ℕ) (target : Machine) (is : IsState target) (all : AllOf 
         events = r.events ++ Add who entry ∷ round.events;
         own = events_append sessions r.events (Add who entry ∷ round.events) r.own (low, high, round.own);
         machine = round.new;
-        runs = runs_append r.events (Add who entry ∷ round.events) (opening target.capacity) r.machine round.new r.runs (added, add, round.runs);
+        runs = runs_append r.events (Add who entry ∷ round.events) (opening_machine target.capacity) r.machine round.new r.runs (added, add, round.runs);
         at = record {
           history = round.looked.history ∙ history;
           capacity = round.looked.capacity ∙ r.at.capacity;
@@ -228,7 +228,7 @@ module _ (sessions : ℕ) (target : Machine) (is : IsState target) (all : AllOf 
   reach zero within = record {
     events = [];
     own = tt;
-    machine = opening target.capacity;
+    machine = opening_machine target.capacity;
     runs = refl;
     at = record { history = refl; capacity = refl; seen = λ session first last. refl; mine = λ session first last. refl };
   }

@@ -12,7 +12,7 @@ use Rattle.decision_log.specs.declared.view.View.{View}
 use Rattle.decision_log.specs.declared.view.View.TheVariants.{One}
 use Rattle.decision_log.specs.declared.view.Turn.TheVariants.{Fresh}
 use Rattle.decision_log.specs.declared.sizes.Sizes.{Sizes}
-use Rattle.decision_log.specs.Draft.{Holds, drafted}
+use Rattle.decision_log.specs.Draft.{HasWordsAt, drafted}
 use Rattle.decision_log.specs.TurnPlays.{published}
 use Rattle.decision_log.specs.Atomic.{Atomic, Does, Counts}
 use Rattle.decision_log.specs.TurnRule.{row_at, turn_word, count_for, Knows, TurnRule}
@@ -23,14 +23,15 @@ use Rattle.decision_log.proofs.TurnStores.{draft_keeps, publish_keeps, fresh_has
 
 -- the rows from a place on have the words of these entries
 Spelled : List ℕ → ℕ → List Entry → Type 0
-Spelled words from list = (place : ℕ) (entry : Entry) → slice_get list place ≡ Some entry → IsEntry entry × Holds words (row_at (from + place)) (words_of entry)
+Spelled words from list =
+    (place : ℕ) (entry : Entry) → slice_get list place ≡ Some entry → IsEntry entry × HasWordsAt words (row_at (from + place)) (words_of entry)
 
 -- from the first place on
-first_rows : (words : List ℕ) (place : ℕ) (entry : Entry) → IsEntry entry × Holds words (row_at place) (words_of entry)
-    → IsEntry entry × Holds words (row_at (0 + place)) (words_of entry)
+first_rows : (words : List ℕ) (place : ℕ) (entry : Entry) → IsEntry entry × HasWordsAt words (row_at place) (words_of entry)
+    → IsEntry entry × HasWordsAt words (row_at (0 + place)) (words_of entry)
 first_rows words place entry is =
     let here : place ≡ 0 + place = omega arith in
-    subst (λ n. IsEntry entry × Holds words (row_at n) (words_of entry)) here is
+    subst (λ n. IsEntry entry × HasWordsAt words (row_at n) (words_of entry)) here is
 
 one_row : (words : List ℕ) (from : ℕ) (x y : Entry) (xs ys : List Entry) → Spelled words from (x ∷ xs) → Spelled words from (y ∷ ys) → x ≡ y
 unfolding Spelled
@@ -45,7 +46,7 @@ spelled_rest : (words : List ℕ) (from : ℕ) (x : Entry) (xs : List Entry) →
 unfolding Spelled
 spelled_rest words from x xs s place entry is =
     let here : from + suc place ≡ from + 1 + place = omega arith in
-    subst (λ n. IsEntry entry × Holds words (row_at n) (words_of entry)) here (s (suc place) entry is)
+    subst (λ n. IsEntry entry × HasWordsAt words (row_at n) (words_of entry)) here (s (suc place) entry is)
 
 one_list : (words : List ℕ) (from : ℕ) (xs ys : List Entry) → length xs ≡ length ys → Spelled words from xs → Spelled words from ys → xs ≡ ys
 one_list words from [] [] same s t = refl

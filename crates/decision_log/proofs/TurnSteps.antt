@@ -11,14 +11,14 @@ use Rattle.decision_log.specs.declared.sizes.Sizes.{Sizes}
 use Rattle.decision_log.specs.Seats.{seated}
 use Rattle.decision_log.specs.TurnRule.{HasTurn, TurnRule}
 use Rattle.decision_log.specs.Atomic.{Tells}
-use Rattle.decision_log.specs.TurnPlays.{looked_turn, looked, Sees, Reads}
+use Rattle.decision_log.specs.TurnPlays.{looked_turn, with_look, Sees, Reads}
 use Rattle.decision_log.proofs.Histories.{begins_itself, get_begins}
 use Rattle.decision_log.proofs.LogRules.{known, history, stepped, unmoved, load_step}
 
 abbrev pub Rules : Sizes → State Entry View → Type 0
 Rules sizes state = TurnRule sizes state.words state.views
 
-looked_has : (words : List ℕ) (log : List Entry) (h : Hand) (turn : Turn) → HasTurn words log h turn → HasTurn words log (looked h log) (looked_turn turn)
+looked_has : (words : List ℕ) (log : List Entry) (h : Hand) (turn : Turn) → HasTurn words log h turn → HasTurn words log (with_look h log) (looked_turn turn)
 looked_has words log h Without has = has
 looked_has words log h Won has = (refl, has.1)
 looked_has words log h Fresh has = (refl, has.1)
@@ -28,8 +28,8 @@ look_step sizes slots id h =
     load_step sizes slots id 0 h (Sees 0 h)
     (λ words views r here.
     let k = (known r id h here).fact_is in (
-      looked h r.log,
-      (stepped r words id h (looked h r.log) here r.spelled refl refl refl refl (begins_itself r.log) k.mine
+      with_look h r.log,
+      (stepped r words id h (with_look h r.log) here r.spelled refl refl refl refl (begins_itself r.log) k.mine
           (record { draft = k.own.draft; turn = looked_has words r.log h h.turn k.own.turn }) (λ g apart low other. other.own)).0,
       (refl, r.log, refl, r.spelled.count, history r h k),
     ))

@@ -21,7 +21,7 @@ use Rattle.decision_log.specs.declared.view.Turn.{Turn}
 use Rattle.decision_log.specs.declared.view.Turn.TheVariants.{Without, Won, Fresh}
 use Rattle.decision_log.specs.declared.sizes.Sizes.{Sizes}
 use Rattle.decision_log.specs.Seats.{seated}
-use Rattle.decision_log.specs.Draft.{Holds, drafted}
+use Rattle.decision_log.specs.Draft.{HasWordsAt, drafted}
 use Rattle.decision_log.specs.TurnRule.{row_at, HasRows, HasTurn, HasDraft, TurnRule}
 use Rattle.decision_log.specs.Atomic.{Tells}
 use Rattle.decision_log.specs.TurnPlays.{tried, published, released, Takes, Drafts, Publishes, Releases}
@@ -129,8 +129,8 @@ module _ {sizes : Sizes} {words : List ℕ} {views : List View} (r : TurnRule si
             λ place other at.
             holds_beside words 0 new (row_at place) (words_of other) (λ i less e. omega arith)
             (⊎_elim (λ t. r.spelled.rows place other t)
-            (λ t. subst (λ n. Holds words (row_at n) (words_of other)) (sym t.0)
-            (subst (λ draft. Holds words (row_at (length r.log)) draft) (whole ∙ ap words_of t.1) k.own.draft))
+            (λ t. subst (λ n. HasWordsAt words (row_at n) (words_of other)) (sym t.0)
+            (subst (λ draft. HasWordsAt words (row_at (length r.log)) draft) (whole ∙ ap words_of t.1) k.own.draft))
             (get_last r.log entry place other at));
       })
       refl refl refl refl refl (record { draft = holds_nothing words' (row_at (length log')) [] refl; turn = (ap (λ list. list ++ entry ∷ []) all, named) })

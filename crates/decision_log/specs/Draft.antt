@@ -1,13 +1,13 @@
 -- The words that a pass stores before they are an entry.
---     Holds           the words from a place on begin with a draft
+--     HasWordsAt      the words from a place on begin with a draft
 --     with_draft      a pass with these words stored
 --     drafted         a pass after one more store
 use Rattle.std.specs.Prelude.{◌≡◌, ◌<◌, ◌+◌, ℕ, List, [], ◌∷◌, ◌++◌, length, take, slice_index}
 use Rattle.decision_log.specs.declared.view.Hand.{Hand}
 
 -- the words from a place on begin with these
-abbrev pub Holds : List ℕ → ℕ → List ℕ → Type 0
-Holds words at draft = (i : ℕ) → i < length draft → slice_index words (at + i) ≡ slice_index draft i
+abbrev pub HasWordsAt : List ℕ → ℕ → List ℕ → Type 0
+HasWordsAt words at draft = (i : ℕ) → i < length draft → slice_index words (at + i) ≡ slice_index draft i
 
 -- a pass with these words stored
 abbrev pub with_draft : Hand → List ℕ → Hand

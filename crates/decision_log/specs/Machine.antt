@@ -4,7 +4,7 @@
 --     Event           a session looks, or it adds an entry
 --     Happens         one event, from one machine to the next
 --     Runs            any list of events
---     opening         the machine at the start
+--     opening_machine  the machine at the start
 --     IsState         what the sessions know fits the history
 use Rattle.std.specs.Prelude.{◌≡◌, ◌≢◌, ◌<◌, ◌≤◌, ℕ, List, [], ◌∷◌, ◌++◌, length}
 use Rattle.xa_words.specs.Entry.{Entry}
@@ -56,8 +56,8 @@ Runs [] old new = new ≡ old
 Runs (event ∷ events) old new = (next : Machine) × Happens event old next × Runs events next new
 
 -- nothing has happened
-abbrev pub opening : ℕ → Machine
-opening capacity = record { history = []; capacity = capacity; knows = λ session. record { seen = []; mine = [] } }
+abbrev pub opening_machine : ℕ → Machine
+opening_machine capacity = record { history = []; capacity = capacity; knows = λ session. record { seen = []; mine = [] } }
 
 -- each session has seen a prefix of the history, in which it has all of the history's entries of its number
 pub record IsState (machine : Machine) : Type 0 where

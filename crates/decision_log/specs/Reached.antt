@@ -3,7 +3,7 @@
 --     EventsOf        each event is of a session from 1 to a number
 --     IsReached       such events lead from the start to the machine's history, and to what these sessions know
 use Rattle.std.specs.Prelude.{◌≡◌, ◌≤◌, ℕ, List, [], ◌∷◌}
-use Rattle.decision_log.specs.Machine.{Machine, Event, Look, Add, Runs, opening}
+use Rattle.decision_log.specs.Machine.{Machine, Event, Look, Add, Runs, opening_machine}
 
 -- the session that looks or adds
 abbrev pub session_of : Event → ℕ
@@ -20,7 +20,7 @@ pub record IsReached (sessions : ℕ) (machine : Machine) : Type 0 where
   pub events : List Event
   pub own : EventsOf sessions events
   pub reached : Machine
-  pub runs : Runs events (opening machine.capacity) reached
+  pub runs : Runs events (opening_machine machine.capacity) reached
   pub history : reached.history ≡ machine.history
   pub capacity : reached.capacity ≡ machine.capacity
   pub seen : (session : ℕ) → 1 ≤ session → session ≤ sessions → (reached.knows session).seen ≡ (machine.knows session).seen

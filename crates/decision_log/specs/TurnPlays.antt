@@ -1,5 +1,5 @@
 -- What each step of a log with a turn does to the pass that takes it, and what it tells.
---     looked, tried, published, released      the pass after a step
+--     with_look, tried, published, released   the pass after a step
 --     Sees, Reads, Takes, Drafts, Publishes, Releases     the steps, each by its word, its operands, the pass before, what was found and the pass after
 use Rattle.std.specs.Prelude.{◌≡◌, ◌≢◌, ◌<◌, ◌+◌, ◌-◌, ℕ, List, [], ◌∷◌, ◌++◌, length, slice_get, slice_index, Some}
 use mathlib.Core.Option.{Option}
@@ -12,15 +12,15 @@ use Rattle.decision_log.specs.Draft.{drafted}
 use Rattle.decision_log.specs.Observed.{HistoryIs}
 use Rattle.decision_log.specs.TurnRule.{row_at, turn_word}
 
--- who has the turn and has looked is fresh
+-- who has the turn and has with_look is fresh
 abbrev pub looked_turn : Turn → Turn
 looked_turn Without = Without
 looked_turn Won = Fresh
 looked_turn Fresh = Fresh
 
 -- after a look that saw this history
-abbrev pub looked : Hand → List Entry → Hand
-looked h seen = record {
+abbrev pub with_look : Hand → List Entry → Hand
+with_look h seen = record {
   known = record { number = h.known.number; seen = seen; mine = h.known.mine; looks = h.known.looks + 1; tries = h.known.tries };
   sessions = h.sessions;
   capacity = h.capacity;
@@ -56,7 +56,7 @@ released h = record { known = h.known; sessions = h.sessions; capacity = h.capac
 -- a load of word 0, the count
 abbrev pub Sees : ℕ → Hand → ℕ → Hand → Type 0
 Sees word old found new =
-    (word ≡ 0) × (seen : List Entry) × (new ≡ looked old seen) × (found ≡ length seen) × HistoryIs old seen
+    (word ≡ 0) × (seen : List Entry) × (new ≡ with_look old seen) × (found ≡ length seen) × HistoryIs old seen
 
 -- a load of a word behind the count; one of a row that was seen is the entry's there
 abbrev pub Reads : ℕ → Hand → ℕ → Hand → Type 0

@@ -15,7 +15,7 @@ use Rattle.decision_log.specs.declared.view.View.{View}
 use Rattle.decision_log.specs.declared.view.Turn.{Turn}
 use Rattle.decision_log.specs.declared.view.Turn.TheVariants.{Without, Won, Fresh}
 use Rattle.decision_log.specs.declared.sizes.Sizes.{Sizes}
-use Rattle.decision_log.specs.Draft.{Holds}
+use Rattle.decision_log.specs.Draft.{HasWordsAt}
 use Rattle.decision_log.specs.LogRule.{KnowsLog, LogRule}
 
 -- the first word of the row of a place
@@ -34,7 +34,7 @@ count_for hand = length hand.known.seen
 pub record HasRows (sizes : Sizes) (words : List ℕ) (log : List Entry) : Type 0 where
   pub wide : length words ≡ row_at sizes.capacity
   pub count : slice_index words 0 ≡ length log
-  pub rows : (place : ℕ) (entry : Entry) → slice_get log place ≡ Some entry → Holds words (row_at place) (words_of entry)
+  pub rows : (place : ℕ) (entry : Entry) → slice_get log place ≡ Some entry → HasWordsAt words (row_at place) (words_of entry)
 
 -- without the turn there is no draft; with it the turn word is the pass's number; fresh, the pass has seen all
 abbrev pub HasTurn : List ℕ → List Entry → Hand → Turn → Type 0
@@ -44,7 +44,7 @@ HasTurn words log hand Fresh = (hand.known.seen ≡ log) × (slice_index words 1
 
 -- a pass's draft is in the row behind the history, and what the pass knows of the turn is so
 pub record HasDraft (words : List ℕ) (log : List Entry) (hand : Hand) : Type 0 where
-  pub draft : Holds words (row_at (length log)) hand.draft
+  pub draft : HasWordsAt words (row_at (length log)) hand.draft
   pub turn : HasTurn words log hand hand.turn
 
 -- what a pass knows is so

@@ -10,7 +10,7 @@ ghost use Rattle.decision_log.specs.declared.view.Turn.TheVariants.{Fresh};
 ghost use Rattle.decision_log.specs.declared.sizes.Sizes.{Sizes};
 ghost use Rattle.decision_log.specs.declared.view.View.{View};
 ghost use Rattle.decision_log.specs.History.{entries_of};
-ghost use Rattle.decision_log.specs.Machine.{Machine, Event, Runs, opening, IsState};
+ghost use Rattle.decision_log.specs.Machine.{Machine, Event, Runs, opening_machine, IsState};
 ghost use Rattle.decision_log.specs.Known.{AllOf};
 ghost use Rattle.decision_log.specs.Reached.{IsReached};
 ghost use Rattle.decision_log.specs.Passes.{HasPasses};
@@ -21,14 +21,14 @@ ghost use Rattle.decision_log.specs.TurnRule.{row_at, turn_word, count_for, Turn
 ///
 /// Takes no memory. Doesn't wait. Own rule: docs/LOG.md, 'What a log promises'.
 pub fn mine_is_the_own_part_of_seen()
-    ensures { (capacity : ℕ) (events : List Event) (machine : Machine) → Runs events (opening capacity) machine → (session : ℕ) → entries_of session (machine.knows session).seen ≡ (machine.knows session).mine }
+    ensures { (capacity : ℕ) (events : List Event) (machine : Machine) → Runs events (opening_machine capacity) machine → (session : ℕ) → entries_of session (machine.knows session).seen ≡ (machine.knows session).mine }
 {}
 
 /// Whatever happens, what each session knows fits the history.
 ///
 /// Takes no memory. Doesn't wait. Own rule: docs/LOG.md, 'What a log promises'.
 pub fn what_happens_leads_to_states()
-    ensures { (capacity : ℕ) (events : List Event) (machine : Machine) → Runs events (opening capacity) machine → IsState machine }
+    ensures { (capacity : ℕ) (events : List Event) (machine : Machine) → Runs events (opening_machine capacity) machine → IsState machine }
 {}
 
 /// What each session knows fits the history only where looks and adds lead there: the other way round, for sessions 1 to a number that all

@@ -18,12 +18,12 @@ use Rattle.xa_coordinator.specs.declared.vote.Vote.{Vote}
 use Rattle.xa_coordinator.specs.declared.vote.Vote.TheVariants.{Ready, OnePhase, No, Nothing}
 use Rattle.xa_coordinator.specs.Branch.{branch_xid}
 use Rattle.xa_coordinator.specs.Participants.{takes_part}
-use Rattle.xa_coordinator.specs.Agreement.{Adds, AgreesWith, Agrees}
+use Rattle.xa_coordinator.specs.Agreement.{AddsStatements, AgreesWith, Agrees}
 use Rattle.xa_coordinator.specs.Stores.{EachStore}
 use Rattle.xa_coordinator.specs.Told.{IsDone, IsUndone, IsUndoneBehind, IsStopped, IsMissing, IsUnfinished}
 use Rattle.xa_coordinator.specs.Outcomes.{branch_of, finish_statement, ends_in, IsClosed, Settles, SettlesIn, IsVoted, IsEnded, EndsAs, VotesAs, Allows}
 use Rattle.xa_coordinator.specs.Outcomes.{finish_for}
-use Rattle.xa_coordinator.specs.Outcomes.{is_listed}
+use Rattle.xa_coordinator.specs.Outcomes.{lists_store}
 use Rattle.xa_coordinator.specs.Decisions.{is_decided}
 use Rattle.xa_coordinator.specs.declared.prepared.Ballot.{Ballot}
 use Rattle.xa_coordinator.specs.declared.prepared.Ballot.TheVariants.{Ready as BallotReady, OnePhase as BallotOnePhase, No as BallotNo}
@@ -35,7 +35,7 @@ module _ (decisions : List Standing) (name : List ℕ) (store : ℕ) where
   nothing_agrees session = record { statements = []; adds = adds_nothing session; each = All-nil (AgreesWith decisions name store) }
 
   -- one statement
-  pub one_agrees : (statement : Statement) (old new : SessionView) → AgreesWith decisions name store statement → Adds (statement ∷ []) old new
+  pub one_agrees : (statement : Statement) (old new : SessionView) → AgreesWith decisions name store statement → AddsStatements (statement ∷ []) old new
       → Agrees decisions name store old new
   one_agrees statement old new is adds = record {
     statements = statement ∷ [];
@@ -45,7 +45,7 @@ module _ (decisions : List Standing) (name : List ℕ) (store : ℕ) where
 
   -- two
   pub two_agree : (first second : Statement) (old new : SessionView) → AgreesWith decisions name store first → AgreesWith decisions name store second
-      → Adds (first ∷ second ∷ []) old new → Agrees decisions name store old new
+      → AddsStatements (first ∷ second ∷ []) old new → Agrees decisions name store old new
   two_agree first second old new is also adds = record {
     statements = first ∷ second ∷ [];
     adds = adds;
@@ -54,13 +54,13 @@ module _ (decisions : List Standing) (name : List ℕ) (store : ℕ) where
         (All-cons (AgreesWith decisions name store) second [] also (All-nil (AgreesWith decisions name store)));
   }
 
-  none_agrees : (old new : SessionView) → Adds [] old new → Agrees decisions name store old new
+  none_agrees : (old new : SessionView) → AddsStatements [] old new → Agrees decisions name store old new
   none_agrees old new adds = record { statements = []; adds = adds; each = All-nil (AgreesWith decisions name store) }
 
   pub undone_agrees : (statement : Statement) (cause : Cause) (old new : SessionView) → IsUndone statement cause old new → Agrees decisions name store old new
   undone_agrees statement cause old new is = none_agrees old new is.adds
 
-  ended_agrees : (xid : Xid) (old mid new : SessionView) → IsDone (End xid) old mid → Adds [] mid new → Agrees decisions name store old new
+  ended_agrees : (xid : Xid) (old mid new : SessionView) → IsDone (End xid) old mid → AddsStatements [] mid new → Agrees decisions name store old new
   ended_agrees xid old mid new ends nothing = one_agrees (End xid) old new tt (adds_then (End xid ∷ []) [] old mid new ends.adds nothing)
 
   behind_agrees : (statement : Statement) (xid : Xid) (cause : Cause) (old new : SessionView) → IsUndoneBehind statement xid cause old new
@@ -132,7 +132,8 @@ module _ {S : Type 0} (view : S → SessionView) (decisions : List Standing) (tr
   ending_agrees branches closing RolledBack old new allows is store =
       at_weaker view store _ (Agrees decisions transaction.name.items store) (part_agrees branches closing allows store false) old new (is.1 store)
   ending_agrees branches closing (Hazard stores) old new allows is store =
-      at_weaker view store _ (Agrees decisions transaction.name.items store) (part_agrees branches closing allows store (is_listed stores.items store)) old new
+      at_weaker view store _ (Agrees decisions transaction.name.items store)
+      (part_agrees branches closing allows store (lists_store stores.items store)) old new
       (is.1 store)
   ending_agrees branches closing (Unfinished last cause) old new allows is store =
       from_ends view _ (Agrees decisions transaction.name.items) last _ old new is.1

@@ -9,14 +9,14 @@ use Rattle.xa_coordinator.specs.declared.closing.Closing.{Closing}
 use Rattle.xa_coordinator.specs.declared.closing.Closing.TheVariants.{InTwoPhases, InOnePhase, RollBack}
 use Rattle.xa_coordinator.specs.declared.closing.Found.{Found}
 use Rattle.xa_coordinator.specs.declared.closing.Found.TheVariants.{Closed, Missing}
-use Rattle.xa_coordinator.specs.Agreement.{Adds}
+use Rattle.xa_coordinator.specs.Agreement.{AddsStatements}
 use Rattle.xa_coordinator.specs.Outcomes.{ends_first, SaysAs, ClosesAs, PreparesAs}
-use Rattle.xa_coordinator.specs.Told.{Says, IsDone}
+use Rattle.xa_coordinator.specs.Told.{IsToldAs, IsDone}
 use Rattle.xa_coordinator.proofs.Telling.{adds_then}
 
 -- XA END and then XA PREPARE
 pub ended_prepared : (xid : Xid) (old mid new : SessionView) → IsDone (End xid) old mid → IsDone (Prepare xid) mid new
-    → Adds (End xid ∷ Prepare xid ∷ []) old new
+    → AddsStatements (End xid ∷ Prepare xid ∷ []) old new
 ended_prepared xid old mid new one two = adds_then (End xid ∷ []) (Prepare xid ∷ []) old mid new one.adds two.adds
 
 -- the statement alone
@@ -34,7 +34,7 @@ said_behind statement xid (Ok Missing) old mid new ends is = record { mid = mid;
 said_behind statement xid (Err cause) old mid new ends is = inr (is.0, record { mid = mid; ends = ends; undone = is.1 })
 
 -- XA PREPARE, by its answer, behind XA END
-pub prepared_behind : (xid : Xid) (said : Result (Unit {0}) Cause) (old mid new : SessionView) → IsDone (End xid) old mid → Says (Prepare xid) said mid new
+pub prepared_behind : (xid : Xid) (said : Result (Unit {0}) Cause) (old mid new : SessionView) → IsDone (End xid) old mid → IsToldAs (Prepare xid) said mid new
     → PreparesAs xid said old new
 prepared_behind xid (Ok _) old mid new ends is = ended_prepared xid old mid new ends is
 prepared_behind xid (Err cause) old mid new ends is = inr (record { mid = mid; ends = ends; undone = is })

@@ -11,7 +11,7 @@ use Rattle.xa_coordinator.specs.declared.transaction.Transaction.{Transaction}
 use Rattle.xa_coordinator.specs.Participants.{takes_part}
 use Rattle.xa_coordinator.specs.Stores.{AtStore, EachStore, ChangesAt, Reached}
 use Rattle.xa_coordinator.specs.Told.{IsMissing}
-use Rattle.xa_coordinator.specs.Outcomes.{Ascends, is_listed, branch_of, finish_statement, ends_in, IsClosed, Settles, SettlesIn, ClosesNext}
+use Rattle.xa_coordinator.specs.Outcomes.{Ascends, lists_store, branch_of, finish_statement, ends_in, IsClosed, Settles, SettlesIn, ClosesNext}
 use Rattle.xa_coordinator.specs.declared.open_branch.OpenBranch.{OpenBranch}
 use Rattle.xa_coordinator.proofs.Walk.{reached_skip, reached_next, reached_weaker, at_weaker}
 
@@ -53,31 +53,31 @@ listed_more participants place stores is takes = record {
 }
 
 -- a store that isn't below the list's end isn't in it
-not_listed : (participants : Participants) (place : ℕ) (stores : List ℕ) → IsListed participants place stores → is_listed stores place ≡ false
-unfolding is_listed
+not_listed : (participants : Participants) (place : ℕ) (stores : List ℕ) → IsListed participants place stores → lists_store stores place ≡ false
+unfolding lists_store
 not_listed participants place stores is =
     list_any_none (nat_eq place) stores
     (All-weaker (λ store. store < place) (λ store. nat_eq place store ≡ false)
     (λ store less. ne_eqb place store (λ same. absurd (omega arith))) stores is.below)
 
-last_listed : (stores : List ℕ) (place : ℕ) → is_listed (stores ++ place ∷ []) place ≡ true
-unfolding is_listed
+last_listed : (stores : List ℕ) (place : ℕ) → lists_store (stores ++ place ∷ []) place ≡ true
+unfolding lists_store
 last_listed stores place =
     list_any-append (nat_eq place) stores (place ∷ []) ∙ ap (λ b. list_any' stores place || (b || false)) (eq-eqb place place refl)
     ∙ or_true (list_any' stores place)
   where
     list_any' : List ℕ → ℕ → Bool
-    list_any' stores place = is_listed stores place
+    list_any' stores place = lists_store stores place
 
     or_true : (b : Bool) → (b || true) ≡ true
     or_true true = refl
     or_true false = refl
 
-same_listed : (stores : List ℕ) (place store : ℕ) → store < place → is_listed (stores ++ place ∷ []) store ≡ is_listed stores store
-unfolding is_listed
+same_listed : (stores : List ℕ) (place store : ℕ) → store < place → lists_store (stores ++ place ∷ []) store ≡ lists_store stores store
+unfolding lists_store
 same_listed stores place store less =
-    list_any-append (nat_eq store) stores (place ∷ []) ∙ ap (λ b. is_listed stores store || (b || false)) (ne_eqb store place (λ same. absurd (omega arith)))
-    ∙ or_false (is_listed stores store)
+    list_any-append (nat_eq store) stores (place ∷ []) ∙ ap (λ b. lists_store stores store || (b || false)) (ne_eqb store place (λ same. absurd (omega arith)))
+    ∙ or_false (lists_store stores store)
   where
     or_false : (b : Bool) → (b || false) ≡ b
     or_false true = refl
@@ -85,7 +85,7 @@ same_listed stores place store less =
 
 -- what holds of the stores that were passed, by the list
 abbrev pub SettledBy : List (Option OpenBranch) → Transaction → Closing → List ℕ → ℕ → SessionView → SessionView → Type 0
-SettledBy branches transaction closing stores store = SettlesIn branches transaction closing store (is_listed stores store)
+SettledBy branches transaction closing stores store = SettlesIn branches transaction closing store (lists_store stores store)
 
 module _ {S : Type 0} (view : S → SessionView) (branches : List (Option OpenBranch)) (transaction : Transaction) (closing : Closing) (stores : List ℕ)
     (place : ℕ) where
@@ -95,15 +95,16 @@ module _ {S : Type 0} (view : S → SessionView) (branches : List (Option OpenBr
   settled_skip old now out so_far =
       reached_skip view (SettledBy branches transaction closing stores) place old now so_far
       (λ a. subst (λ takes. Settles (ends_in branches transaction closing place) (finish_statement closing (branch_of transaction place))
-      (branch_of transaction place) takes (is_listed stores place) a a) (sym out) refl)
+      (branch_of transaction place) takes (lists_store stores place) a a) (sym out) refl)
 
-  settled_as : (stores' : List ℕ) (listed : Bool) → takes_part transaction.participants place ≡ true → is_listed stores' place ≡ listed → (a b : SessionView) →
+  settled_as : (stores' : List ℕ) (listed : Bool) → takes_part transaction.participants place ≡ true → lists_store stores' place ≡ listed
+      → (a b : SessionView) →
       Settles (ends_in branches transaction closing place) (finish_statement closing (branch_of transaction place))
       (branch_of transaction place) true listed a b
       → SettledBy branches transaction closing stores' place a b
   settled_as stores' listed takes is a b settled =
       subst (λ t. Settles (ends_in branches transaction closing place) (finish_statement closing (branch_of transaction place)) (branch_of transaction place) t
-      (is_listed stores' place) a b) (sym takes)
+      (lists_store stores' place) a b) (sym takes)
       (subst (λ l. Settles (ends_in branches transaction closing place) (finish_statement closing (branch_of transaction place))
       (branch_of transaction place) true l a b) (sym is) settled)
 
@@ -148,8 +149,8 @@ module _ {S : Type 0} (view : S → SessionView) (branches : List (Option OpenBr
       subst P (sym more) (listed_more transaction.participants place stores listed takes, settled_missing old now next takes so_far changes is)
 
 -- where none is listed
-pub none_listed : (stores : List ℕ) (store : ℕ) → length stores ≡ 0 → is_listed stores store ≡ false
-unfolding is_listed
+pub none_listed : (stores : List ℕ) (store : ℕ) → length stores ≡ 0 → lists_store stores store ≡ false
+unfolding lists_store
 none_listed [] store none = refl
 none_listed (x ∷ stores) store none = absurd (omega arith)
 

@@ -19,7 +19,7 @@ use Rattle.xa_session.specs.Answer.{IsAnswered, IsUnanswered, Fails, IsFinal}
 use Rattle.xa_session.specs.Replay.{state_after, state_at}
 use Rattle.xa_session.specs.declared.answer.Answer.{Answer}
 use Rattle.xa_coordinator.specs.OpenBranches.{seat_seen}
-use Rattle.xa_coordinator.specs.Recovery.{IsDisconnected, IsListed}
+use Rattle.xa_coordinator.specs.Recovery.{IsDisconnected, ListsPrepared}
 
 -- what DISCONNECT comes to
 pub disconnected_as : (answer : Answer) (old new : SessionView) → LockLaw new.base → StaysOfLog old new
@@ -57,7 +57,7 @@ disconnected_as answer old new law stays is = by (enters there old.known.number 
 -- what XA RECOVER comes to
 pub listed_as : (convert : Bool) (answer : Answer) (xids : List Xid) (old new : SessionView) → StaysOfLog old new
     → IsAnswered old.base (Recover convert) answer old.known new.known → answer.reply ≡ Recovered xids →
-    IsListed xids answer.place old new
+    ListsPrepared xids answer.place old new
 listed_as convert answer xids old new stays is reply =
     let there : State = state_at old.base new.known.seen answer.place in
     let outside : enters there old.known.number (Recover convert) ≡ false = recover_outside there old.known.number convert in

@@ -18,7 +18,7 @@ use Rattle.xa_server.specs.State.{State, is_prepared, prepared_xids}
 use Rattle.xa_session.specs.Replay.{state_after}
 use Rattle.xa_session.specs.View.{SessionView}
 use Rattle.xa_coordinator.specs.Branch.{branch_xid, IsBranchOf}
-use Rattle.xa_coordinator.specs.Recovery.{IsNamed, IsListed, NoneLeft}
+use Rattle.xa_coordinator.specs.Recovery.{IsNamed, ListsPrepared, NoneLeft}
 
 -- the prefix with one more
 pub take_next : (xs : List Xid) (place : ℕ) (x : Xid) → slice_get xs place ≡ Some x → take (place + 1) xs ≡ take place xs ++ x ∷ []
@@ -67,11 +67,11 @@ none_more name store xids place xid there out none =
     subst (All (λ x. IsNamed name store x → ⊥)) (sym (take_next xids place xid there)) (All-push (λ x. IsNamed name store x → ⊥) (take place xids) xid none out)
 
 -- what the list says of a branch is what is prepared
-pub listed_prepared : (xids : List Xid) (place : ℕ) (old new : SessionView) → IsListed xids place old new → (xid : Xid)
+pub listed_prepared : (xids : List Xid) (place : ℕ) (old new : SessionView) → ListsPrepared xids place old new → (xid : Xid)
     → is_prepared (state_after new.base new.known.seen) xid ≡ list_any (same_xid xid) xids
 listed_prepared xids place old new is xid = sym (ap (list_any (same_xid xid)) is.list ∙ prepared_exactly (state_after new.base new.known.seen) xid)
 
-pub none_left_there : (name : List ℕ) (store : ℕ) (xids : List Xid) (place : ℕ) (old new : SessionView) → IsListed xids place old new
+pub none_left_there : (name : List ℕ) (store : ℕ) (xids : List Xid) (place : ℕ) (old new : SessionView) → ListsPrepared xids place old new
     → ((number : ℕ) → number < 2 ^ 64 → list_any (same_xid (branch_xid name number store)) xids ≡ false) →
     NoneLeft name store new
 none_left_there name store xids place old new is none = λ number fits. listed_prepared xids place old new is (branch_xid name number store) ∙ none number fits

@@ -8,14 +8,14 @@ use Rattle.xa_coordinator.specs.declared.open_branch.Phase.TheVariants.{Active, 
 use Rattle.xa_coordinator.specs.declared.participants.Participants.{Participants}
 use Rattle.xa_coordinator.specs.Participants.{takes_part, OnlyTakesPart}
 use Rattle.xa_coordinator.specs.Stores.{ChangesAt}
-use Rattle.xa_coordinator.specs.OpenBranches.{is_active, works_for, is_working, IsWorking, KeepsOpen}
+use Rattle.xa_coordinator.specs.OpenBranches.{is_active, works_for, has_working_branch, IsWorking, KeepsOpen}
 
 abbrev branch_with : ℕ → Phase → OpenBranch
 branch_with number phase = record { number = number; phase = phase }
 
 -- the branch that takes work is open there
-pub working : (branches : List (Option OpenBranch)) (store number : ℕ) → is_working branches store number ≡ true → IsWorking branches store number
-unfolding is_working
+pub working : (branches : List (Option OpenBranch)) (store number : ℕ) → has_working_branch branches store number ≡ true → IsWorking branches store number
+unfolding has_working_branch
 working branches store number is = by (slice_get branches store) refl is
   where
     of_phase : (phase : Phase) (n : ℕ) → (is_active phase && (n == number)) ≡ true → branch_with n phase ≡ branch_with number Active
@@ -29,8 +29,8 @@ working branches store number is = by (slice_get branches store) refl is
 
 -- what is open in another store tells nothing of it
 pub working_kept : (old new : List (Option OpenBranch)) (store number : ℕ) → slice_get new store ≡ slice_get old store
-    → is_working new store number ≡ is_working old store number
-unfolding is_working
+    → has_working_branch new store number ≡ has_working_branch old store number
+unfolding has_working_branch
 working_kept old new store number same = ap (works_for number) same
 
 pub keeps_none : (participants : Participants) (branches : List (Option OpenBranch)) (place : ℕ) → KeepsOpen participants place branches branches

@@ -21,13 +21,14 @@ use Rattle.xa_coordinator.specs.declared.closing.Found.{Found}
 use Rattle.xa_coordinator.specs.declared.closing.Found.TheVariants.{Closed, Missing}
 use Rattle.xa_coordinator.specs.declared.standing.Standing.{Standing}
 use Rattle.xa_coordinator.specs.declared.tally.Tally.{Tally}
-use Rattle.xa_coordinator.specs.Agreement.{Adds, AgreesWith, Agrees}
+use Rattle.xa_coordinator.specs.Agreement.{AddsStatements, AgreesWith, Agrees}
 use Rattle.xa_coordinator.specs.Branch.{branch_xid, IsBranchOf}
 use Rattle.xa_coordinator.specs.Decisions.{is_decided}
 use Rattle.xa_coordinator.specs.Outcomes.{finish_statement, SaysAs, Allows}
 use Rattle.xa_coordinator.specs.Told.{IsUndone}
 use Rattle.xa_coordinator.specs.Work.{MayBe}
-use Rattle.xa_coordinator.specs.Recovery.{IsDisconnected, IsListed, IsNamed, NamedIn, none_named, one_named, one_foreign, finish_decided, SettlesOne, foreign}
+use Rattle.xa_coordinator.specs.Recovery.{IsDisconnected, ListsPrepared, IsNamed, NamedIn, none_named, one_named, one_foreign, finish_decided, SettlesOne}
+use Rattle.xa_coordinator.specs.Recovery.{foreign}
 use Rattle.xa_coordinator.specs.Recovery.{committed, rolled_back, missing, total, counted, Settled, nothing, one_more, IsFinished, IsSettled, IsClear}
 use Rattle.xa_coordinator.specs.Recovery.{is_commit, is_rollback, IsCounted, NoneLeft, IsRecovered, IsBroken, IsStillPrepared}
 use Rattle.xa_coordinator.proofs.Agreeing.{nothing_agrees, undone_agrees, closing_agrees}
@@ -69,9 +70,9 @@ module _ (decisions : List Standing) (name : List ℕ) (store : ℕ) where
       SaysAs (finish_statement (finish_decided decided) (branch_xid name number store)) (Ok found) old new
       → SettlesOne decisions name store xid tally old (counted tally decided found) new
   settles number xid named tally true is Closed old new said =
-      committed number named is new (subst (λ x. Adds (Commit x false ∷ []) old new) (sym named.is) said)
+      committed number named is new (subst (λ x. AddsStatements (Commit x false ∷ []) old new) (sym named.is) said)
   settles number xid named tally false is Closed old new said =
-      rolled_back number named is new (subst (λ x. Adds (Rollback x ∷ []) old new) (sym named.is) said)
+      rolled_back number named is new (subst (λ x. AddsStatements (Rollback x ∷ []) old new) (sym named.is) said)
   settles number xid named tally true is Missing old new said =
       missing number named new
       (subst (λ (b : Bool). IsUndone (finish_statement (finish_decided b) xid) (RefusedBy Nota) old new) (sym is)
@@ -113,7 +114,7 @@ module _ (decisions : List Standing) (name : List ℕ) (store : ℕ) where
 
   record IsAccount (xids : List Xid) (tally : Tally) (old new : SessionView) : Type 0 where
     statements : List Statement
-    adds : Adds statements old new
+    adds : AddsStatements statements old new
     each : All (AgreesWith decisions name store) statements
     committed : tally.committed ≡ count is_commit statements
     rolled_back : tally.rolled_back ≡ count is_rollback statements
@@ -207,7 +208,7 @@ module _ (decisions : List Standing) (name : List ℕ) (store : ℕ) where
   pub disconnected_agrees : (old new : SessionView) → IsDisconnected old new → Agrees decisions name store old new
   disconnected_agrees old new is = record { statements = is.statements; adds = is.adds; each = let_go_agrees is.statements is.is }
 
-  pub listed_agrees : (xids : List Xid) (place : ℕ) (old new : SessionView) → IsListed xids place old new → Agrees decisions name store old new
+  pub listed_agrees : (xids : List Xid) (place : ℕ) (old new : SessionView) → ListsPrepared xids place old new → Agrees decisions name store old new
   listed_agrees xids place old new is = record { statements = []; adds = is.adds; each = All-nil (AgreesWith decisions name store) }
 
   pub finished_agrees : (tally : Tally) (old new : SessionView) → IsFinished decisions name store tally old new → Agrees decisions name store old new
@@ -224,7 +225,8 @@ module _ (decisions : List Standing) (name : List ℕ) (store : ℕ) where
   recovered_agrees tally front old new is = record { statements = is.counted.statements; adds = is.counted.adds; each = is.counted.each }
 
   -- a list that was found stays the list at its place
-  list_kept : (xids : List Xid) (place : ℕ) (old found new : SessionView) (added : List Statement) → IsListed xids place old found → Adds added found new
+  list_kept : (xids : List Xid) (place : ℕ) (old found new : SessionView) (added : List Statement) → ListsPrepared xids place old found
+      → AddsStatements added found new
       → prepared_xids (state_at new.base new.known.seen place) ≡ xids
   list_kept xids place old found new added is adds =
       ap (λ b. prepared_xids (state_at b new.known.seen place)) adds.log.base
@@ -233,7 +235,7 @@ module _ (decisions : List Standing) (name : List ℕ) (store : ℕ) where
       ∙ sym is.list
 
   pub counted_store : (tally : Tally) (old finished new : SessionView) (last : List Xid) (front : ℕ) → IsSettled decisions name store tally old finished
-      → IsListed last front finished new → IsCounted decisions name store tally old new
+      → ListsPrepared last front finished new → IsCounted decisions name store tally old new
   counted_store tally old finished new last front is relisted =
       let sums = account is.rest.listing is.rest.xids tally finished is.rest.settled in
       let first = adds_then is.disconnected.statements [] old is.freed is.rest.listing is.disconnected.adds is.rest.listed.adds in
@@ -294,11 +296,11 @@ module _ (decisions : List Standing) (name : List ℕ) (store : ℕ) where
 
 module _ {S : Type 0} (view : S → SessionView) (decisions : List Standing) (name : List ℕ) (store : ℕ) where
   pub listed_finished : (result : Result Tally Cause) (xids : List Xid) (place : ℕ) (old mid new : List S) → length mid ≡ length old
-      → AtStore view store (IsListed xids place) old mid →
+      → AtStore view store (ListsPrepared xids place) old mid →
       IfOk result (λ tally. AtStore view store (λ a b. Settled decisions name store a xids tally b) mid new)
       → IfOk result (λ tally. AtStore view store (IsFinished decisions name store tally) old new)
   listed_finished (Ok tally) xids place old mid new count listed settled =
-      at_then view store (IsListed xids place) (λ a b. Settled decisions name store a xids tally b) (IsFinished decisions name store tally)
+      at_then view store (ListsPrepared xids place) (λ a b. Settled decisions name store a xids tally b) (IsFinished decisions name store tally)
       (λ a m b is then_settled. record { listing = m; xids = xids; place = place; listed = is; settled = then_settled }) old mid new count listed settled
   listed_finished (Err cause) xids place old mid new count listed settled = tt
 

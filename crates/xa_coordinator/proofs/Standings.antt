@@ -9,7 +9,7 @@ use Rattle.std.specs.Option.{option_map}
 use Rattle.std.proofs.lemmas.List.{take_all}
 use Rattle.xa_coordinator.specs.declared.standing.Standing.{Standing}
 use Rattle.xa_coordinator.specs.declared.standing.Standing.TheVariants.{Undecided, Decided, Closed}
-use Rattle.xa_coordinator.specs.Decisions.{standing_of, is_open, decides, may_be_decided, is_decided, with_decided, closed_of}
+use Rattle.xa_coordinator.specs.Decisions.{standing_of, is_not_closed, decides, may_be_decided, is_decided, with_decided, closed_of}
 use Rattle.xa_coordinator.proofs.Places.{get_set_same, get_set_other}
 
 -- a number that was given has its place in the list
@@ -17,7 +17,7 @@ pub record HasPlace (decisions : List Standing) (number : ℕ) : Type 0 where
   pub first : 0 < number
   pub within : number - 1 < length decisions
 
-in_list : (decisions : List Standing) (place : ℕ) (found : Option Standing) → slice_get decisions place ≡ found → is_open found ≡ true
+in_list : (decisions : List Standing) (place : ℕ) (found : Option Standing) → slice_get decisions place ≡ found → is_not_closed found ≡ true
     → place < length decisions
 in_list decisions place None is given = absurd (cc)
 in_list decisions place (Some standing) is given = slice_get_within decisions place standing is
@@ -26,7 +26,7 @@ pub given : (decisions : List Standing) (number : ℕ) → may_be_decided decisi
 unfolding standing_of
 given decisions number is = by (number == 0) refl is
   where
-    by : (b : Bool) → (number == 0) ≡ b → is_open (cond b None (slice_get decisions (number - 1))) ≡ true → HasPlace decisions number
+    by : (b : Bool) → (number == 0) ≡ b → is_not_closed (cond b None (slice_get decisions (number - 1))) ≡ true → HasPlace decisions number
     by true zeroth none = absurd (cc)
     by false other there =
         let apart = eqb-false number 0 other in

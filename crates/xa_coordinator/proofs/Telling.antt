@@ -21,9 +21,9 @@ use Rattle.xa_session.proofs.Views.{stays_itself, stays_through}
 use Rattle.xa_session.specs.View.{SessionView, StaysOfLog}
 use Rattle.xa_session.proofs.OwnSeats.{started, ended}
 use Rattle.xa_session.proofs.Seats.{law_seen, seat_unanswered, state_entered}
-use Rattle.xa_coordinator.specs.Agreement.{Adds}
+use Rattle.xa_coordinator.specs.Agreement.{AddsStatements}
 use Rattle.xa_coordinator.specs.Told.{IsOfBranch, IsDone, IsUndone, HasCause}
-use Rattle.xa_coordinator.specs.OpenBranches.{seat_seen, seat_in, opening}
+use Rattle.xa_coordinator.specs.OpenBranches.{seat_seen, seat_in, statement_into}
 use Rattle.xa_coordinator.specs.declared.open_branch.Phase.{Phase}
 use Rattle.xa_coordinator.specs.declared.open_branch.Phase.TheVariants.{Active, Idle}
 use Rattle.xa_coordinator.specs.declared.cause.Cause.{Cause}
@@ -67,7 +67,7 @@ is_done statement answer old new kind stays is accepted = record {
 -- after XA START or XA END
 pub seat_done : (old new : SessionView) (phase : Phase) (xid : Xid) → LockLaw new.base → entries_of old.known.number old.known.seen ≡ old.known.mine
     → entries_of new.known.number new.known.seen ≡ new.known.mine →
-    IsDone (opening phase xid) old new → seat_seen new ≡ seat_in phase xid
+    IsDone (statement_into phase xid) old new → seat_seen new ≡ seat_in phase xid
 seat_done old new phase xid law own_old own_new is =
     let stays : StaysOfLog old new = is.adds.log in
     let base : State = old.base in
@@ -76,19 +76,19 @@ seat_done old new phase xid law own_old own_new is =
     let law_base : LockLaw base = subst LockLaw stays.base law in
     let there : State = state_at base new.known.seen place in
     let kept : LockLaw there = law_seen base (take place new.known.seen) law_base in
-    let accepted = accepted_there base (opening phase xid) is.answer old.known new.known is.answered is.accepted in
-    let entering = entering_there base (opening phase xid) is.answer old.known new.known (of_branch phase xid) is.answered is.accepted in
+    let accepted = accepted_there base (statement_into phase xid) is.answer old.known new.known is.answered is.accepted in
+    let entering = entering_there base (statement_into phase xid) is.answer old.known new.known (of_branch phase xid) is.answered is.accepted in
     ap (λ b. seat_of (state_after b new.known.seen) new.known.number) stays.base
     ∙ ap (seat_of (state_after base new.known.seen)) is.answered.advances.number
-    ∙ ap (λ state. seat_of state number) (state_entered base (opening phase xid) is.answer old.known new.known is.answered entering)
+    ∙ ap (λ state. seat_of state number) (state_entered base (statement_into phase xid) is.answer old.known new.known is.answered entering)
     ∙ opened phase there kept number accepted
   where
-    of_branch : (phase : Phase) (xid : Xid) → IsOfBranch (opening phase xid)
+    of_branch : (phase : Phase) (xid : Xid) → IsOfBranch (statement_into phase xid)
     of_branch Active xid = tt
     of_branch Idle xid = tt
 
-    opened : (phase : Phase) (state : State) → LockLaw state → (session : ℕ) → is_refused (reply_to state session (opening phase xid)) ≡ false
-        → seat_of (after state session (opening phase xid)) session ≡ seat_in phase xid
+    opened : (phase : Phase) (state : State) → LockLaw state → (session : ℕ) → is_refused (reply_to state session (statement_into phase xid)) ≡ false
+        → seat_of (after state session (statement_into phase xid)) session ≡ seat_in phase xid
     opened Active state law session accepted = started state law session xid accepted
     opened Idle state law session accepted = ended state law session xid accepted
 
@@ -122,7 +122,8 @@ seat_refused statement cause old new law own_old own_new is =
 
 -- ---- one statement after another
 
-pub adds_then : (first second : List Statement) (old mid new : SessionView) → Adds first old mid → Adds second mid new → Adds (first ++ second) old new
+pub adds_then : (first second : List Statement) (old mid new : SessionView) → AddsStatements first old mid → AddsStatements second mid new
+    → AddsStatements (first ++ second) old new
 adds_then first second old mid new one two = record {
   log = stays_through old mid new one.log two.log;
   advances = advances_through old.known mid.known new.known one.advances two.advances;
@@ -133,7 +134,7 @@ adds_then first second old mid new one two = record {
       ∙ ap (λ list. old.known.mine ++ list) (sym (map-append (entry_of old.known.number) first second));
 }
 
-pub adds_nothing : (session : SessionView) → Adds [] session session
+pub adds_nothing : (session : SessionView) → AddsStatements [] session session
 adds_nothing session = record {
   log = stays_itself session;
   advances = (unanswered_itself session.known).advances;

@@ -17,7 +17,7 @@ use Rattle.xa_coordinator.specs.declared.work_fault.WorkFault.{WorkFault}
 use Rattle.xa_coordinator.specs.declared.work_fault.WorkFault.TheVariants.{Session, Refused, Lost}
 use Rattle.xa_coordinator.specs.declared.standing.Standing.{Standing}
 use Rattle.xa_coordinator.specs.declared.transaction.Transaction.{Transaction}
-use Rattle.xa_coordinator.specs.Agreement.{Adds, AgreesWith, Agrees}
+use Rattle.xa_coordinator.specs.Agreement.{AddsStatements, AgreesWith, Agrees}
 use Rattle.xa_coordinator.specs.OpenBranches.{seat_seen, IsWorking}
 use Rattle.xa_coordinator.specs.Outcomes.{branch_of}
 use Rattle.xa_coordinator.specs.Participants.{takes_part}
@@ -33,7 +33,7 @@ use Rattle.xa_coordinator.proofs.Walk.{at_then, at_weaker, at_same, only_at}
 record AddsMaybe (statement : Statement) (old new : SessionView) : Type 0 where
   added : List Statement
   is : MayBe statement added
-  adds : Adds added old new
+  adds : AddsStatements added old new
 
 may_start_adds : (xid : Xid) (old mid : SessionView) → MayStart xid old mid → AddsMaybe (Start xid) old mid
 may_start_adds xid old there (was_open seat) = record { added = []; is = inl refl; adds = adds_nothing old }
@@ -56,7 +56,7 @@ both : (xid : Xid) (row : Statement) (old mid new : SessionView) → AddsMaybe (
 both xid row old mid new one two =
     record { started = one.added; is_start = one.is; worked = two.added; is_row = two.is; adds = adds_then one.added two.added old mid new one.adds two.adds }
 
-none : (statement : Statement) (old new : SessionView) → Adds [] old new → AddsMaybe statement old new
+none : (statement : Statement) (old new : SessionView) → AddsStatements [] old new → AddsMaybe statement old new
 none statement old new adds = record { added = []; is = inl refl; adds = adds }
 
 worked_adds : (row : Statement) (reply : Reply) (xid : Xid) (old new : SessionView) → IsWorked row reply xid old new → AddsWork xid row old new

@@ -1,5 +1,5 @@
 -- What a call may add to the histories of stores.
---     Adds             the statements that a session added
+--     AddsStatements   the statements that a session added
 --     AgreesWith       a statement doesn't go against the decisions
 --     Agrees           a call added only statements that agree with the decisions
 use Rattle.std.specs.Prelude.{◌≡◌, ◌++◌, ℕ, true, false, List, map, All}
@@ -12,7 +12,7 @@ use Rattle.xa_coordinator.specs.Decisions.{is_decided}
 use Rattle.xa_coordinator.specs.declared.standing.Standing.{Standing}
 
 -- the session is of its log, has seen no less than before, and added these statements, in this order
-pub record Adds (statements : List Statement) (old new : SessionView) : Type 0 where
+pub record AddsStatements (statements : List Statement) (old new : SessionView) : Type 0 where
   pub log : StaysOfLog old new
   pub advances : Advances old.known new.known
   pub mine : new.known.mine ≡ old.known.mine ++ map (entry_of old.known.number) statements
@@ -35,5 +35,5 @@ AgreesWith decisions name store Disconnect = Unit {0}
 -- whatever was added agrees with the decisions
 pub record Agrees (decisions : List Standing) (name : List ℕ) (store : ℕ) (old new : SessionView) : Type 0 where
   pub statements : List Statement
-  pub adds : Adds statements old new
+  pub adds : AddsStatements statements old new
   pub each : All (AgreesWith decisions name store) statements

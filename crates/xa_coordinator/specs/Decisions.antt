@@ -20,17 +20,17 @@ decides (Some Decided) = true
 decides (Some Closed) = false
 
 -- the number was given, and no recovery has closed it
-abbrev pub is_open : Option Standing → Bool
-is_open None = false
-is_open (Some Undecided) = true
-is_open (Some Decided) = true
-is_open (Some Closed) = false
+abbrev pub is_not_closed : Option Standing → Bool
+is_not_closed None = false
+is_not_closed (Some Undecided) = true
+is_not_closed (Some Decided) = true
+is_not_closed (Some Closed) = false
 
 abbrev pub is_decided : List Standing → ℕ → Bool
 is_decided decisions number = decides (standing_of decisions number)
 
 abbrev pub may_be_decided : List Standing → ℕ → Bool
-may_be_decided decisions number = is_open (standing_of decisions number)
+may_be_decided decisions number = is_not_closed (standing_of decisions number)
 
 -- this number is decided, the others stand as they did
 unfoldable pub with_decided : List Standing → ℕ → List Standing

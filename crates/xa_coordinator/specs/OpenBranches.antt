@@ -2,10 +2,10 @@
 --     seat_seen        what a session has open, as far as it has seen
 --     seat_in          a session that has the branch open in this phase
 --     OpenThere        each branch that the coordinator has open is what the session of its store has open
---     opening          the statement that brings a branch into a phase
+--     statement_into   the statement that brings a branch into a phase
 --     LeavesOpen       a statement leaves this branch open
 --     HasOpen          the coordinator has a transaction's branch open
---     is_working       whether it has it open and ACTIVE
+--     has_working_branch  whether it has it open and ACTIVE
 --     IsWorking        it has it open and ACTIVE
 --     KeepsOpen        a call left what is open in the stores that it didn't speak to
 use Rattle.std.specs.Prelude.{◌≡◌, ◌≤◌, ◌==◌, ◌&&◌, ℕ, Bool, true, false, List, Option, Some, None, slice_get}
@@ -40,14 +40,14 @@ OpenThere view name stores branches =
     seat_seen (view session) ≡ seat_in branch.phase (branch_xid name branch.number store)
 
 -- the statement that brings a branch into this phase
-abbrev pub opening : Phase → Xid → Statement
-opening Active xid = Start xid
-opening Idle xid = End xid
+abbrev pub statement_into : Phase → Xid → Statement
+statement_into Active xid = Start xid
+statement_into Idle xid = End xid
 
 -- the statement, once it is carried out, leaves this branch open, or none that the coordinator keeps
 abbrev pub LeavesOpen : List ℕ → ℕ → Statement → Option OpenBranch → Type 0
 LeavesOpen name store statement None = Unit {0}
-LeavesOpen name store statement (Some branch) = statement ≡ opening branch.phase (branch_xid name branch.number store)
+LeavesOpen name store statement (Some branch) = statement ≡ statement_into branch.phase (branch_xid name branch.number store)
 
 -- the coordinator has the transaction's branch open in the store
 pub record HasOpen (branches : List (Option OpenBranch)) (store number : ℕ) : Type 0 where
@@ -66,8 +66,8 @@ works_for number (Some None) = false
 works_for number (Some (Some branch)) = is_active branch.phase && (branch.number == number)
 
 -- the coordinator has the transaction's branch open in the store, and ACTIVE
-unfoldable pub is_working : List (Option OpenBranch) → ℕ → ℕ → Bool
-is_working branches store number = works_for number (slice_get branches store)
+unfoldable pub has_working_branch : List (Option OpenBranch) → ℕ → ℕ → Bool
+has_working_branch branches store number = works_for number (slice_get branches store)
 
 -- what is open in the store is the transaction's branch, ACTIVE
 abbrev pub IsWorking : List (Option OpenBranch) → ℕ → ℕ → Type 0

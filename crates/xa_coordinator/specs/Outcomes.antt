@@ -4,7 +4,7 @@
 --     IsClosed         the branch was finished
 --     ClosesAs         what became of one branch that was to be finished
 --     PreparesAs       what became of one branch that was to be prepared
---     is_listed        whether a store is in a list
+--     lists_store      whether a store is in a list
 --     Settles, SettlesIn      a store whose turn has passed, when branches are finished
 --     IsVoted          a store whose turn has passed, when branches are prepared
 --     IsEnded          the store of the only participant, when it is ended alone
@@ -30,7 +30,7 @@ use Rattle.xa_coordinator.specs.declared.closing.Closing.{Closing}
 use Rattle.xa_coordinator.specs.declared.closing.Closing.TheVariants.{InTwoPhases, InOnePhase, RollBack}
 use Rattle.xa_coordinator.specs.declared.closing.Found.{Found}
 use Rattle.xa_coordinator.specs.declared.closing.Found.TheVariants.{Closed, Missing}
-use Rattle.xa_coordinator.specs.Agreement.{Adds}
+use Rattle.xa_coordinator.specs.Agreement.{AddsStatements}
 use Rattle.xa_coordinator.specs.Decisions.{is_decided}
 use Rattle.xa_coordinator.specs.declared.standing.Standing.{Standing}
 use Rattle.xa_coordinator.specs.declared.prepared.Ballot.{Ballot}
@@ -44,7 +44,7 @@ use Rattle.xa_coordinator.specs.declared.ending.Ending.TheVariants.{Committed, R
 use Rattle.xa_coordinator.specs.declared.vote.Vote.{Vote}
 use Rattle.xa_coordinator.specs.declared.vote.Vote.TheVariants.{Ready, OnePhase, No, Nothing}
 use Rattle.xa_coordinator.specs.declared.participants.Participants.{Participants}
-use Rattle.xa_coordinator.specs.OpenBranches.{is_working}
+use Rattle.xa_coordinator.specs.OpenBranches.{has_working_branch}
 use Rattle.xa_coordinator.specs.declared.open_branch.OpenBranch.{OpenBranch}
 use Rattle.xa_coordinator.specs.Told.{IsUndone, IsStopped, IsMissing, IsUnfinished}
 
@@ -62,12 +62,12 @@ ends_first RollBack working = working
 
 -- the branch was finished: the statement was added, behind XA END where that comes before it
 abbrev pub IsClosed : (ends : Bool) → Statement → Xid → SessionView → SessionView → Type 0
-IsClosed false statement xid old new = Adds (statement ∷ []) old new
-IsClosed true statement xid old new = Adds (End xid ∷ statement ∷ []) old new
+IsClosed false statement xid old new = AddsStatements (statement ∷ []) old new
+IsClosed true statement xid old new = AddsStatements (End xid ∷ statement ∷ []) old new
 
 -- one statement that was to finish a branch
 abbrev pub SaysAs : Statement → Result Found Cause → SessionView → SessionView → Type 0
-SaysAs statement (Ok Closed) old new = Adds (statement ∷ []) old new
+SaysAs statement (Ok Closed) old new = AddsStatements (statement ∷ []) old new
 SaysAs statement (Ok Missing) old new = IsUndone statement (RefusedBy Nota) old new
 SaysAs statement (Err cause) old new = (cause ≢ RefusedBy Nota) × IsUndone statement cause old new
 
@@ -79,12 +79,12 @@ ClosesAs ends statement xid (Err cause) old new = IsUnfinished ends statement xi
 
 -- a branch that was to be ended and prepared
 abbrev pub PreparesAs : Xid → Result (Unit {0}) Cause → SessionView → SessionView → Type 0
-PreparesAs xid (Ok _) old new = Adds (End xid ∷ Prepare xid ∷ []) old new
+PreparesAs xid (Ok _) old new = AddsStatements (End xid ∷ Prepare xid ∷ []) old new
 PreparesAs xid (Err cause) old new = IsStopped true (Prepare xid) xid cause old new
 
 -- the store is in the list
-unfoldable pub is_listed : List ℕ → ℕ → Bool
-is_listed stores store = list_any (nat_eq store) stores
+unfoldable pub lists_store : List ℕ → ℕ → Bool
+lists_store stores store = list_any (nat_eq store) stores
 
 -- a participant's branch was finished, or wasn't known there; another store's session is as it was
 abbrev pub Settles : (ends : Bool) → Statement → Xid → (takes_part listed : Bool) → SessionView → SessionView → Type 0
@@ -95,12 +95,12 @@ Settles ends statement xid true true old new = IsMissing ends statement xid old 
 -- a participant's branch was ended and prepared; another store's session is as it was
 abbrev pub IsVoted : Xid → (takes_part : Bool) → SessionView → SessionView → Type 0
 IsVoted xid false old new = new ≡ old
-IsVoted xid true old new = Adds (End xid ∷ Prepare xid ∷ []) old new
+IsVoted xid true old new = AddsStatements (End xid ∷ Prepare xid ∷ []) old new
 
 -- a participant's branch was ended; another store's session is as it was
 abbrev pub IsEnded : Xid → (takes_part : Bool) → SessionView → SessionView → Type 0
 IsEnded xid false old new = new ≡ old
-IsEnded xid true old new = Adds (End xid ∷ []) old new
+IsEnded xid true old new = AddsStatements (End xid ∷ []) old new
 
 -- each is less than all behind it
 abbrev pub Ascends : List ℕ → Type 0
@@ -125,7 +125,7 @@ branch_of transaction store = branch_xid transaction.name.items transaction.numb
 
 -- whether XA END comes before the statement that finishes a transaction's branch in a store
 abbrev pub ends_in : List (Option OpenBranch) → Transaction → Closing → ℕ → Bool
-ends_in branches transaction closing store = ends_first closing (is_working branches store transaction.number)
+ends_in branches transaction closing store = ends_first closing (has_working_branch branches store transaction.number)
 
 -- the branch of a store was finished, or wasn't known there, where the store takes part
 abbrev pub SettlesIn : List (Option OpenBranch) → Transaction → Closing → ℕ → (listed : Bool) → SessionView → SessionView → Type 0
@@ -141,7 +141,7 @@ EndsAs view branches transaction closing RolledBack old new =
     (commits closing ≡ false) × EachStore view (λ store. SettlesIn branches transaction closing store false) old new
 EndsAs view branches transaction closing (Hazard stores) old new =
     IsHazard transaction.participants stores.items
-    × EachStore view (λ store. SettlesIn branches transaction closing store (is_listed stores.items store)) old new
+    × EachStore view (λ store. SettlesIn branches transaction closing store (lists_store stores.items store)) old new
 EndsAs view branches transaction closing (Unfinished store cause) old new =
     (takes_part transaction.participants store ≡ true)
     × EndsAt view (λ other before after. (listed : Bool) × SettlesIn branches transaction closing other listed before after)

@@ -1,6 +1,6 @@
 -- Which stores take part in a global transaction.
 --     takes_part       whether a store takes part
---     Counts           how many take part, as far as a vote has to know
+--     IsTurnout        how many take part, as far as a vote has to know
 use Rattle.std.specs.Prelude.{◌≡◌, ◌<◌, ℕ, Bool, true, false, unwrap_or, slice_get}
 use Rattle.xa_coordinator.specs.declared.participants.Participants.{Participants}
 use Rattle.xa_coordinator.specs.declared.participants.Turnout.{Turnout}
@@ -24,7 +24,7 @@ pub record OnlyTakesPart (participants : Participants) (store : ℕ) : Type 0 wh
   pub others : (other : ℕ) → takes_part participants other ≡ true → other ≡ store
 
 -- how many stores take part: none, one, or more
-abbrev pub Counts : Participants → Turnout → Type 0
-Counts participants Nobody = (store : ℕ) → takes_part participants store ≡ false
-Counts participants (Single store) = OnlyTakesPart participants store
-Counts participants Several = TwoTakePart participants
+abbrev pub IsTurnout : Participants → Turnout → Type 0
+IsTurnout participants Nobody = (store : ℕ) → takes_part participants store ≡ false
+IsTurnout participants (Single store) = OnlyTakesPart participants store
+IsTurnout participants Several = TwoTakePart participants

@@ -1,6 +1,6 @@
 -- What a recovery does, in one store and in all.
 --     IsDisconnected   a session let go of what it had open
---     IsListed         XA RECOVER answered this list
+--     ListsPrepared    XA RECOVER answered this list
 --     IsNamed          a branch is of the coordinator's naming
 --     NamedIn          how many branches of a list are
 --     SettlesOne, Settled      what became of one listed branch;  of all
@@ -34,7 +34,7 @@ use Rattle.xa_coordinator.specs.declared.tally.Tally.{Tally}
 use Rattle.xa_coordinator.specs.declared.report.Report.{Report}
 use Rattle.xa_coordinator.specs.declared.recover_fault.RecoverFault.{RecoverFault}
 use Rattle.xa_coordinator.specs.declared.recover_fault.RecoverFault.TheVariants.{Session, StillPrepared, NoMemory, Refused}
-use Rattle.xa_coordinator.specs.Agreement.{Adds, AgreesWith, Agrees}
+use Rattle.xa_coordinator.specs.Agreement.{AddsStatements, AgreesWith, Agrees}
 use Rattle.xa_coordinator.specs.Branch.{branch_xid, IsBranchOf}
 use Rattle.xa_coordinator.specs.Decisions.{is_decided}
 use Rattle.xa_coordinator.specs.OpenBranches.{seat_seen}
@@ -47,12 +47,12 @@ use Rattle.xa_coordinator.specs.Work.{MayBe}
 pub record IsDisconnected (old new : SessionView) : Type 0 where
   pub statements : List Statement
   pub is : MayBe Disconnect statements
-  pub adds : Adds statements old new
+  pub adds : AddsStatements statements old new
   pub free : seat_seen new ≡ Free
 
 -- the list is that of the prepared branches at this place, the end of all that the session sees then, and it has looked
-pub record IsListed (xids : List Xid) (place : ℕ) (old new : SessionView) : Type 0 where
-  pub adds : Adds [] old new
+pub record ListsPrepared (xids : List Xid) (place : ℕ) (old new : SessionView) : Type 0 where
+  pub adds : AddsStatements [] old new
   pub looked : old.known.looks < new.known.looks
   pub front : place ≡ length new.known.seen
   pub list : xids ≡ prepared_xids (state_after new.base new.known.seen)
@@ -79,9 +79,10 @@ finish_decided false = RollBack
 pub data SettlesOne (decisions : List Standing) (name : List ℕ) (store : ℕ) (xid : Xid) (tally : Tally) (old : SessionView) : Tally → SessionView → Type 0 where
   foreign : (IsNamed name store xid → ⊥) → SettlesOne decisions name store xid tally old tally old
   committed : (number : ℕ) → IsBranchOf name number store xid → is_decided decisions number ≡ true → (new : SessionView)
-      → Adds (Commit xid false ∷ []) old new →
+      → AddsStatements (Commit xid false ∷ []) old new →
       SettlesOne decisions name store xid tally old (record tally { committed = tally.committed + 1 }) new
-  rolled_back : (number : ℕ) → IsBranchOf name number store xid → is_decided decisions number ≡ false → (new : SessionView) → Adds (Rollback xid ∷ []) old new →
+  rolled_back : (number : ℕ) → IsBranchOf name number store xid → is_decided decisions number ≡ false → (new : SessionView)
+      → AddsStatements (Rollback xid ∷ []) old new →
       SettlesOne decisions name store xid tally old (record tally { rolled_back = tally.rolled_back + 1 }) new
   missing : (number : ℕ) → IsBranchOf name number store xid → (new : SessionView)
       → IsUndone (finish_statement (finish_decided (is_decided decisions number)) xid) (CauseRefused Nota) old new →
@@ -109,7 +110,7 @@ pub record IsFinished (decisions : List Standing) (name : List ℕ) (store : ℕ
   pub listing : SessionView
   pub xids : List Xid
   pub place : ℕ
-  pub listed : IsListed xids place old listing
+  pub listed : ListsPrepared xids place old listing
   pub settled : Settled decisions name store listing xids tally new
 
 -- the session let go of what it had open, and then the prepared branches were finished
@@ -150,7 +151,7 @@ is_rollback Disconnect = false
 -- what a recovery added is counted, and with the missing branches that is what was prepared at one place, not before what had been seen
 pub record IsCounted (decisions : List Standing) (name : List ℕ) (store : ℕ) (tally : Tally) (old new : SessionView) : Type 0 where
   pub statements : List Statement
-  pub adds : Adds statements old new
+  pub adds : AddsStatements statements old new
   pub each : All (AgreesWith decisions name store) statements
   pub committed : tally.committed ≡ length (filter is_commit statements)
   pub rolled_back : tally.rolled_back ≡ length (filter is_rollback statements)
@@ -166,7 +167,7 @@ NoneLeft name store session = (number : ℕ) → number < 2 ^ 64 → is_prepared
 -- XA RECOVER was answered at this place, where no branch of this coordinator's naming is prepared
 pub record IsClear (name : List ℕ) (store front : ℕ) (old new : SessionView) : Type 0 where
   pub xids : List Xid
-  pub listed : IsListed xids front old new
+  pub listed : ListsPrepared xids front old new
   pub none_left : NoneLeft name store new
 
 -- what the recovery of a store came to, with the place of its last list

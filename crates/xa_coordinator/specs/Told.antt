@@ -2,7 +2,7 @@
 --     IsOfBranch       a statement that begins, ends, prepares or finishes a branch
 --     IsDone           it was carried out
 --     HasCause, IsUndone      why it wasn't;  and nothing was added
---     Says             whether it was, by the answer
+--     IsToldAs         whether it was, by the answer
 --     IsUndoneBehind   it wasn't, and XA END before it was
 --     IsStopped        it wasn't, or XA END before it wasn't
 --     IsMissing        the branch wasn't known
@@ -20,7 +20,7 @@ use Rattle.xa_session.specs.declared.answer.Answer.{Answer}
 use Rattle.xa_session.specs.View.{SessionView}
 use Rattle.xa_coordinator.specs.declared.cause.Cause.{Cause}
 use Rattle.xa_coordinator.specs.declared.cause.Cause.TheVariants.{Session, Refused as RefusedBy}
-use Rattle.xa_coordinator.specs.Agreement.{Adds}
+use Rattle.xa_coordinator.specs.Agreement.{AddsStatements}
 
 -- XA START, XA END, XA PREPARE, XA COMMIT and XA ROLLBACK
 abbrev pub IsOfBranch : Statement → Type 0
@@ -41,7 +41,7 @@ pub record IsDone (statement : Statement) (old new : SessionView) : Type 0 where
   pub answer : Answer
   pub answered : IsAnswered old.base statement answer old.known new.known
   pub accepted : is_refused answer.reply ≡ false
-  pub adds : Adds (statement ∷ []) old new
+  pub adds : AddsStatements (statement ∷ []) old new
 
 -- the statement was answered, at a place not before what had been seen, with this refusal
 pub record IsRefused (statement : Statement) (error : XaError) (old new : SessionView) : Type 0 where
@@ -55,13 +55,13 @@ HasCause statement (RefusedBy error) old new = IsRefused statement error old new
 
 -- the statement wasn't carried out, for this cause, and nothing was added
 pub record IsUndone (statement : Statement) (cause : Cause) (old new : SessionView) : Type 0 where
-  pub adds : Adds [] old new
+  pub adds : AddsStatements [] old new
   pub why : HasCause statement cause old new
 
 -- what became of the statement, by the answer
-abbrev pub Says : Statement → Result (Unit {0}) Cause → SessionView → SessionView → Type 0
-Says statement (Ok _) old new = IsDone statement old new
-Says statement (Err cause) old new = IsUndone statement cause old new
+abbrev pub IsToldAs : Statement → Result (Unit {0}) Cause → SessionView → SessionView → Type 0
+IsToldAs statement (Ok _) old new = IsDone statement old new
+IsToldAs statement (Err cause) old new = IsUndone statement cause old new
 
 -- XA END of the branch was carried out, and the statement behind it wasn't
 pub record IsUndoneBehind (statement : Statement) (xid : Xid) (cause : Cause) (old new : SessionView) : Type 0 where

@@ -7,7 +7,7 @@
 --     IsWorked         the branch was open or was started, and the row statement was answered
 --     IsCut            the branch was open or was started, and the row statement wasn't answered
 --     WorksWithin      what a row statement came to in an open branch
---     Keeps            the transaction is the same but for one store
+--     KeepsOthers      the transaction is the same but for one store
 --     WorksAs          what work came to, by the answer
 use Rattle.std.specs.Prelude.{◌≡◌, ◌≢◌, ◌⊎◌, ℕ, true, false, List, [], ◌∷◌, ◌++◌, Option, Result, Ok, Err}
 use Rattle.xa_xid.specs.declared.xid.Xid.{Xid}
@@ -24,8 +24,8 @@ use Rattle.xa_coordinator.specs.declared.cause.Cause.TheVariants.{Session as Cau
 use Rattle.xa_coordinator.specs.declared.work_fault.WorkFault.{WorkFault}
 use Rattle.xa_coordinator.specs.declared.work_fault.WorkFault.TheVariants.{Session, Refused, Lost}
 use Rattle.xa_coordinator.specs.declared.transaction.Transaction.{Transaction}
-use Rattle.xa_coordinator.specs.Agreement.{Adds}
-use Rattle.xa_coordinator.specs.OpenBranches.{seat_seen, HasOpen, is_working, IsWorking}
+use Rattle.xa_coordinator.specs.Agreement.{AddsStatements}
+use Rattle.xa_coordinator.specs.OpenBranches.{seat_seen, HasOpen, has_working_branch, IsWorking}
 use Rattle.xa_coordinator.specs.declared.open_branch.OpenBranch.{OpenBranch}
 use Rattle.xa_coordinator.specs.Outcomes.{branch_of}
 use Rattle.xa_coordinator.specs.Participants.{takes_part}
@@ -56,7 +56,7 @@ pub record AddsWork (xid : Xid) (row : Statement) (old new : SessionView) : Type
   pub is_start : MayBe (Start xid) started
   pub worked : List Statement
   pub is_row : MayBe row worked
-  pub adds : Adds (started ++ worked) old new
+  pub adds : AddsStatements (started ++ worked) old new
 
 -- the session had the branch open, ACTIVE, or was told to start it and did
 pub data MayStart (xid : Xid) (old : SessionView) : SessionView → Type 0 where
@@ -90,7 +90,7 @@ WorksWithin view xid store row (Err (Refused error)) before after = ⊥
 WorksWithin view xid store row (Err Lost) before after = ⊥
 
 -- the transaction is the same, and no other store comes to take part or ceases to
-pub record Keeps (store : ℕ) (old new : Transaction) : Type 0 where
+pub record KeepsOthers (store : ℕ) (old new : Transaction) : Type 0 where
   pub number : new.number ≡ old.number
   pub name : new.name ≡ old.name
   pub stores : new.stores ≡ old.stores
@@ -104,10 +104,10 @@ WorksAs view marks marks' old new store row (Ok reply) before after =
 WorksAs view marks marks' old new store row (Err (Session fault)) before after =
     ((takes_part new.participants store ≡ true) × IsWorking marks' store old.number
     × AtStore view store (IsCut row (CauseSession fault) (branch_of old store)) before after)
-    ⊎ ((new ≡ old) × (marks' ≡ marks) × (is_working marks store old.number ≡ false)
+    ⊎ ((new ≡ old) × (marks' ≡ marks) × (has_working_branch marks store old.number ≡ false)
     × AtStore view store (IsUndone (Start (branch_of old store)) (CauseSession fault)) before after)
 WorksAs view marks marks' old new store row (Err (Refused error)) before after =
-    (new ≡ old) × (marks' ≡ marks) × (is_working marks store old.number ≡ false)
+    (new ≡ old) × (marks' ≡ marks) × (has_working_branch marks store old.number ≡ false)
     × AtStore view store (IsUndone (Start (branch_of old store)) (CauseRefused error)) before after
 WorksAs view marks marks' old new store row (Err Lost) before after =
     (new ≡ old) × (marks' ≡ marks) × (takes_part old.participants store ≡ true) × (HasOpen marks store old.number → ⊥) × (after ≡ before)

@@ -2,10 +2,10 @@
 ghost use Rattle.std.specs.Prelude.{◌≡◌, ◌<◌, Some, None, true, false, OnOk, OnErr, slice_get, vec_len};
 ghost use Rattle.xa_session.specs.View.{SessionView};
 ghost use Rattle.xa_coordinator.specs.Branch.{branch_xid};
-ghost use Rattle.xa_coordinator.specs.OpenBranches.{HasOpen, is_working as is_working_in};
+ghost use Rattle.xa_coordinator.specs.OpenBranches.{HasOpen, has_working_branch as is_working_in};
 ghost use Rattle.xa_coordinator.specs.Outcomes.{finish_statement, ends_first, SaysAs, ClosesAs, PreparesAs};
 ghost use Rattle.xa_coordinator.specs.Stores.{AtStore, ChangesAt};
-ghost use Rattle.xa_coordinator.specs.Told.{Says};
+ghost use Rattle.xa_coordinator.specs.Told.{IsToldAs};
 ghost use Rattle.xa_xid.specs.declared.statement.Statement.{Statement};
 ghost use Rattle.xa_xid.specs.declared.statement.Statement.TheVariants.{Start, End, Prepare, Rollback};
 
@@ -18,7 +18,7 @@ use xa_xid::Statement;
 
 /// Whether the branch was found that a statement was to finish.
 fn found(said: Result<(), Cause>) -> Result<Found, Cause>
-    ensures { (statement : Statement) (old new : SessionView) → Says statement said old new → SaysAs statement result old new }
+    ensures { (statement : Statement) (old new : SessionView) → IsToldAs statement said old new → SaysAs statement result old new }
 {
     match said {
         Ok(()) => Ok(Found::Closed),
@@ -42,7 +42,7 @@ impl<S: Speak> Coordinator<S> {
         ensures marks { ChangesAt store self.old.branches self.new.branches }
         ensures mark { OnOk result (slice_get self.new.branches store ≡ Some (Some (record { number = number; phase = Phase.Active }))) }
         ensures unsaid { OnErr result (self.new.branches ≡ self.old.branches) }
-        ensures says { AtStore S.view store (Says (Start (branch_xid self.old.name.items number store)) result) self.old.stores.items self.new.stores.items }
+        ensures says { AtStore S.view store (IsToldAs (Start (branch_xid self.old.name.items number store)) result) self.old.stores.items self.new.stores.items }
     {
         let statement = Statement::Start(self.branch(number, store));
         let then = OpenBranch {
@@ -63,7 +63,7 @@ impl<S: Speak> Coordinator<S> {
         ensures name { self.new.name ≡ self.old.name }
         ensures frame { ChangesAt store self.old.stores.items self.new.stores.items }
         ensures marks { ChangesAt store self.old.branches self.new.branches }
-        ensures says { AtStore S.view store (Says (End (branch_xid self.old.name.items number store)) result) self.old.stores.items self.new.stores.items }
+        ensures says { AtStore S.view store (IsToldAs (End (branch_xid self.old.name.items number store)) result) self.old.stores.items self.new.stores.items }
     {
         let statement = Statement::End(self.branch(number, store));
         let then = OpenBranch {
@@ -79,7 +79,7 @@ impl<S: Speak> Coordinator<S> {
         ensures name { self.new.name ≡ self.old.name }
         ensures frame { ChangesAt store self.old.stores.items self.new.stores.items }
         ensures marks { ChangesAt store self.old.branches self.new.branches }
-        ensures says { AtStore S.view store (Says (Prepare (branch_xid self.old.name.items number store)) result) self.old.stores.items self.new.stores.items }
+        ensures says { AtStore S.view store (IsToldAs (Prepare (branch_xid self.old.name.items number store)) result) self.old.stores.items self.new.stores.items }
     {
         let statement = Statement::Prepare(self.branch(number, store));
         self.execute_at(rt, store, &statement, None)
@@ -149,7 +149,7 @@ impl<S: Speak> Coordinator<S> {
     }
 
     /// Whether the coordinator has the transaction's branch open in a store, and it takes work.
-    #[tactic(auto, unfolding(crate::specs::OpenBranches::is_working))]
+    #[tactic(auto, unfolding(crate::specs::OpenBranches::has_working_branch))]
     pub(crate) fn is_working(&self, store: u8, number: u64) -> bool
         requires { store < 16 }
         ensures { result ≡ is_working_in self.now.branches store number }

@@ -3,7 +3,7 @@ ghost use Rattle.std.specs.Prelude.{◌≡◌, ◌<◌, Some, OnOk, OnErr, slice
 ghost use Rattle.xa_coordinator.specs.Branch.{branch_xid as xid_of_branch};
 ghost use Rattle.xa_coordinator.specs.OpenBranches.{LeavesOpen};
 ghost use Rattle.xa_coordinator.specs.Stores.{AtStore, ChangesAt};
-ghost use Rattle.xa_coordinator.specs.Told.{IsOfBranch, Says};
+ghost use Rattle.xa_coordinator.specs.Told.{IsOfBranch, IsToldAs};
 
 use crate::branch_xid::branch_xid;
 use crate::execute_on::execute_on;
@@ -39,7 +39,7 @@ impl<S: Speak> Coordinator<S> {
         ensures marks { ChangesAt store self.old.branches self.new.branches }
         ensures mark { OnOk result (slice_get self.new.branches store ≡ Some then) }
         ensures unsaid { OnErr result (self.new.branches ≡ self.old.branches) }
-        ensures says { AtStore S.view store (Says statement.now result) self.old.stores.items self.new.stores.items }
+        ensures says { AtStore S.view store (IsToldAs statement.now result) self.old.stores.items self.new.stores.items }
     {
         match execute_on(rt, &mut self.stores[store as usize], statement) {
             Ok(()) => {

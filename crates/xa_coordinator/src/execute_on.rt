@@ -3,7 +3,7 @@ ghost use Rattle.std.specs.Prelude.{◌≡◌, false, MatchOption};
 ghost use Rattle.xa_server.specs.Locks.{LockLaw};
 ghost use Rattle.xa_server.specs.Step.{is_refused};
 ghost use Rattle.xa_server.specs.declared.reply.Reply.TheVariants.{Refused};
-ghost use Rattle.xa_coordinator.specs.Told.{IsOfBranch, Says};
+ghost use Rattle.xa_coordinator.specs.Told.{IsOfBranch, IsToldAs};
 
 use crate::{Cause, Speak};
 use std::sync::Wait;
@@ -32,7 +32,7 @@ pub(crate) fn execute_on<S: Speak, R: Wait>(
 ) -> Result<(), Cause>
     requires { IsOfBranch statement.now }
     ensures lawful { LockLaw (S.view session.new).base }
-    ensures says { Says statement.now result (S.view session.old) (S.view session.new) }
+    ensures says { IsToldAs statement.now result (S.view session.old) (S.view session.new) }
 {
     match session.execute(rt, statement) {
         Ok(answer) => match refusal(&answer.reply) {

@@ -6,7 +6,7 @@ ghost use Rattle.xa_coordinator.specs.Stores.{AtStore, EachStore, ChangesAt};
 ghost use Rattle.xa_coordinator.specs.Told.{IsUnfinished};
 ghost use Rattle.xa_coordinator.specs.Branch.{branch_xid};
 ghost use Rattle.arrayvec.specs.ArrayVec.{array_vec_len};
-ghost use Rattle.xa_coordinator.specs.OpenBranches.{is_working, KeepsOpen};
+ghost use Rattle.xa_coordinator.specs.OpenBranches.{has_working_branch, KeepsOpen};
 ghost use Rattle.xa_coordinator.specs.Outcomes.{EndsAs, ClosesNext, finish_statement, ends_first, asked_by_ending, finish_for as finish_of_vote};
 ghost use Rattle.xa_coordinator.specs.declared.standing.Standing.{Standing};
 
@@ -45,8 +45,8 @@ impl<S: Speak> Coordinator<S> {
         ensures name { self.new.name ≡ self.old.name }
         ensures frame { ChangesAt store self.old.stores.items self.new.stores.items }
         ensures marks { ChangesAt store self.old.branches self.new.branches }
-        ensures closed { OnOk result (ClosesNext S.view (ends_first closing (is_working self.old.branches store number)) (finish_statement closing (branch_xid self.old.name.items number store)) (branch_xid self.old.name.items number store) store missing.old.items missing.new.items self.old.stores.items self.new.stores.items) }
-        ensures stopped { IfErr result (λ cause. AtStore S.view store (IsUnfinished (ends_first closing (is_working self.old.branches store number)) (finish_statement closing (branch_xid self.old.name.items number store)) (branch_xid self.old.name.items number store) cause) self.old.stores.items self.new.stores.items) }
+        ensures closed { OnOk result (ClosesNext S.view (ends_first closing (has_working_branch self.old.branches store number)) (finish_statement closing (branch_xid self.old.name.items number store)) (branch_xid self.old.name.items number store) store missing.old.items missing.new.items self.old.stores.items self.new.stores.items) }
+        ensures stopped { IfErr result (λ cause. AtStore S.view store (IsUnfinished (ends_first closing (has_working_branch self.old.branches store number)) (finish_statement closing (branch_xid self.old.name.items number store)) (branch_xid self.old.name.items number store) cause) self.old.stores.items self.new.stores.items) }
     {
         match self.finish_open(rt, store, number, closing) {
             Ok(Found::Closed) => Ok(()),

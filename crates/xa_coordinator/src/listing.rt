@@ -2,7 +2,7 @@
 ghost use Rattle.std.specs.Prelude.{◌≡◌, ◌<◌, Some, None, false, IfOk, IfErr, OnOk, OnErr, slice_get, vec_len};
 ghost use Rattle.xa_coordinator.specs.OpenBranches.{seat_seen};
 ghost use Rattle.xa_coordinator.specs.Stores.{AtStore, ChangesAt};
-ghost use Rattle.xa_coordinator.specs.Recovery.{IsDisconnected, IsListed};
+ghost use Rattle.xa_coordinator.specs.Recovery.{IsDisconnected, ListsPrepared};
 ghost use Rattle.xa_coordinator.specs.Told.{IsUndone};
 ghost use Rattle.xa_xid.specs.declared.statement.Statement.TheVariants.{Recover as RecoverStatement, Disconnect as DisconnectStatement};
 
@@ -26,7 +26,7 @@ fn let_go<S: Speak, R: Wait>(rt: &R, session: &mut S) -> Result<(), Fault>
 /// The prepared branches of a session's store, and the place at which they are.
 fn list_prepared<S: Speak, R: Wait>(rt: &R, session: &mut S) -> Result<(XidList, u64), Fault>
     ensures seat { seat_seen (S.view session.new) ≡ seat_seen (S.view session.old) }
-    ensures listed { IfOk result (λ found. IsListed found.0 found.1 (S.view session.old) (S.view session.new)) }
+    ensures listed { IfOk result (λ found. ListsPrepared found.0 found.1 (S.view session.old) (S.view session.new)) }
     ensures undone { IfErr result (λ fault. IsUndone (RecoverStatement false) (Cause.Session fault) (S.view session.old) (S.view session.new)) }
 {
     match session.execute(rt, &Statement::Recover { convert: false }) {
@@ -68,7 +68,7 @@ impl<S: Speak> Coordinator<S> {
         ensures name { self.new.name ≡ self.old.name }
         ensures frame { ChangesAt store self.old.stores.items self.new.stores.items }
         ensures marks { self.new.branches ≡ self.old.branches }
-        ensures listed { IfOk result (λ found. AtStore S.view store (IsListed found.0 found.1) self.old.stores.items self.new.stores.items) }
+        ensures listed { IfOk result (λ found. AtStore S.view store (ListsPrepared found.0 found.1) self.old.stores.items self.new.stores.items) }
         ensures undone { IfErr result (λ fault. AtStore S.view store (IsUndone (RecoverStatement false) (Cause.Session fault)) self.old.stores.items self.new.stores.items) }
     {
         match list_prepared(rt, &mut self.stores[store as usize]) {

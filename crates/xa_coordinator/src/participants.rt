@@ -20,7 +20,7 @@ pub struct Participants {
 }
 
 impl Participants {
-    ghost use Rattle.xa_coordinator.specs.Participants.{takes_part, Counts};
+    ghost use Rattle.xa_coordinator.specs.Participants.{takes_part, IsTurnout};
 
     /// No store.
     #[tactic(auto, unfolding(crate::specs::Participants::takes_part))]
@@ -69,7 +69,7 @@ impl Participants {
 
     /// How many take part.
     pub(crate) fn turnout(&self) -> Turnout
-        ensures { Counts self.now result }
+        ensures { IsTurnout self.now result }
     {
         let Some(first) = self.next_from(0) else {
             return Turnout::Nobody;

@@ -2,12 +2,12 @@
 ghost use Rattle.std.specs.Prelude.{◌≡◌, ◌≢◌, ◌<◌, ℕ, List, Some, true, false, IfOk, IfErr, slice_get, vec_len};
 ghost use Rattle.xa_coordinator.specs.Agreement.{Agrees};
 ghost use Rattle.xa_coordinator.specs.Branch.{branch_xid};
-ghost use Rattle.xa_coordinator.specs.OpenBranches.{is_working};
+ghost use Rattle.xa_coordinator.specs.OpenBranches.{has_working_branch};
 ghost use Rattle.xa_coordinator.specs.Outcomes.{branch_of};
 ghost use Rattle.xa_coordinator.specs.Participants.{takes_part};
 ghost use Rattle.xa_coordinator.specs.Stores.{AtStore, EachStore, ChangesAt};
 ghost use Rattle.xa_coordinator.specs.Told.{IsUndone};
-ghost use Rattle.xa_coordinator.specs.Work.{IsRow, IsReplied, AddsWork, Keeps, WorksWithin, WorksAs};
+ghost use Rattle.xa_coordinator.specs.Work.{IsRow, IsReplied, AddsWork, KeepsOthers, WorksWithin, WorksAs};
 ghost use Rattle.xa_coordinator.specs.declared.standing.Standing.{Standing};
 ghost use Rattle.xa_coordinator.specs.declared.open_branch.Phase.TheVariants.{Active as PhaseActive};
 
@@ -57,7 +57,7 @@ impl<S: Speak> Coordinator<S> {
         ensures name { self.new.name ≡ self.old.name }
         ensures frame { ChangesAt store self.old.stores.items self.new.stores.items }
         ensures marks { self.new.branches ≡ self.old.branches }
-        ensures keeps { Keeps store transaction.old transaction.new }
+        ensures keeps { KeepsOthers store transaction.old transaction.new }
         ensures part { takes_part transaction.new.participants store ≡ true }
         ensures works { WorksWithin S.view (branch_of transaction.old store) store statement.now result self.old.stores.items self.new.stores.items }
     {
@@ -80,11 +80,11 @@ impl<S: Speak> Coordinator<S> {
         requires stores { transaction.old.stores ≡ vec_len self.old.stores }
         requires store { store < vec_len self.old.stores }
         requires row { IsRow statement.now }
-        requires idle { is_working self.old.branches store transaction.old.number ≡ false }
+        requires idle { has_working_branch self.old.branches store transaction.old.number ≡ false }
         ensures name { self.new.name ≡ self.old.name }
         ensures frame { ChangesAt store self.old.stores.items self.new.stores.items }
         ensures marks { ChangesAt store self.old.branches self.new.branches }
-        ensures keeps { Keeps store transaction.old transaction.new }
+        ensures keeps { KeepsOthers store transaction.old transaction.new }
         ensures works { WorksAs S.view self.old.branches self.new.branches transaction.old transaction.new store statement.now result self.old.stores.items self.new.stores.items }
     {
         match self.start_branch(rt, store, transaction.number) {
@@ -109,7 +109,7 @@ impl<S: Speak> Coordinator<S> {
         ensures name { self.new.name ≡ self.old.name }
         ensures frame { ChangesAt store self.old.stores.items self.new.stores.items }
         ensures marks { ChangesAt store self.old.branches self.new.branches }
-        ensures keeps { Keeps store transaction.old transaction.new }
+        ensures keeps { KeepsOthers store transaction.old transaction.new }
         ensures works { WorksAs S.view self.old.branches self.new.branches transaction.old transaction.new store statement.now result self.old.stores.items self.new.stores.items }
     {
         if self.is_working(store, transaction.number) {
@@ -145,7 +145,7 @@ impl<S: Speak> Coordinator<S> {
         ensures name { self.new.name ≡ self.old.name }
         ensures frame { ChangesAt store self.old.stores.items self.new.stores.items }
         ensures marks { ChangesAt store self.old.branches self.new.branches }
-        ensures keeps { Keeps store transaction.old transaction.new }
+        ensures keeps { KeepsOthers store transaction.old transaction.new }
         ensures works { WorksAs S.view self.old.branches self.new.branches transaction.old transaction.new store statement.now result self.old.stores.items self.new.stores.items }
         ensures adds { AtStore S.view store (AddsWork (branch_of transaction.old store) statement.now) self.old.stores.items self.new.stores.items }
         ensures agrees { (decisions : List Standing) → EachStore S.view (Agrees decisions self.old.name.items) self.old.stores.items self.new.stores.items }

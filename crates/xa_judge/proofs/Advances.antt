@@ -10,7 +10,7 @@ use Rattle.xa_judge.specs.declared.configuration.Configuration.{Configuration}
 use Rattle.xa_judge.specs.declared.advance.Advance.{Advance}
 use Rattle.xa_judge.specs.declared.advance.Advance.TheVariants.{Known, Impossible, TooMany}
 use Rattle.xa_judge.specs.Explained.{Config, observed}
-use Rattle.xa_judge.specs.Found.{Has, Grows, KeepsReach, settled, IsClosedBelow}
+use Rattle.xa_judge.specs.Found.{Has, Grows, KeepsReach, after_settling, IsClosedBelow}
 use Rattle.xa_judge.specs.Advances.{Continues, IsReturnOf, IsSeenFrom, IsAdvance}
 use Rattle.xa_judge.proofs.Waits.{First, CanWait, later}
 use Rattle.xa_judge.proofs.Growth.{has_still}
@@ -42,26 +42,26 @@ settled_first old closed session seen more grows is_closed now =
 
 advance_at : (old closed ready : List Configuration) (answers : List Answer) (session : ℕ) (seen : Seen) (limit : ℕ) (next : Advance) → Grows old closed
     → IsClosedBelow (length closed) session closed
-    → ((one : Config) → Has closed one → Has ready (settled one session)) → KeepsReach closed ready → IsSeenFrom ready answers (Return session seen) next
+    → ((one : Config) → Has closed one → Has ready (after_settling one session)) → KeepsReach closed ready → IsSeenFrom ready answers (Return session seen) next
     → IsAdvance old (Return session seen) limit next
 advance_at old closed ready answers session seen limit (Known list) grows is_closed settles reach leads = (
   leads.0,
   λ more now.
       let s = settled_first old closed session seen more grows is_closed now in
-      goes_on ready list.items (settled s.one session) (Return session seen) more leads.1 (settles s.one s.has) s.rest,
+      goes_on ready list.items (after_settling s.one session) (Return session seen) more leads.1 (settles s.one s.has) s.rest,
   λ base events trunk all. leads.2 base events trunk (reach base events trunk (grows.reach base events trunk all)),
 )
 advance_at old closed ready answers session seen limit (Impossible others) grows is_closed settles reach leads = λ more now.
     let s = settled_first old closed session seen more grows is_closed now in
-    leads (settled s.one session) s.rest.first (settles s.one s.has) s.rest.sees
+    leads (after_settling s.one session) s.rest.first (settles s.one s.has) s.rest.sees
 advance_at old closed ready answers session seen limit TooMany grows is_closed settles reach leads = absurd leads
 
 pub advance_return : (old closed ready : List Configuration) (answers : List Answer) (session : ℕ) (event : Event) (limit : ℕ) (next : Advance)
     → IsReturnOf session event → Grows old closed → IsClosedBelow (length closed) session closed
-    → ((one : Config) → Has closed one → Has ready (settled one session)) → KeepsReach closed ready → IsSeenFrom ready answers event next
+    → ((one : Config) → Has closed one → Has ready (after_settling one session)) → KeepsReach closed ready → IsSeenFrom ready answers event next
     → IsAdvance old event limit next
 advance_return old closed ready answers session (Call other request) limit next is grows is_closed settles reach leads = absurd is
 advance_return old closed ready answers session (Return other seen) limit next is grows is_closed settles reach leads =
     advance_at old closed ready answers other seen limit next grows (subst (λ n. IsClosedBelow (length closed) n closed) (sym is) is_closed)
-    (subst (λ n. (one : Config) → Has closed one → Has ready (settled one n)) (sym is) settles) reach leads
+    (subst (λ n. (one : Config) → Has closed one → Has ready (after_settling one n)) (sym is) settles) reach leads
 advance_return old closed ready answers session (Lost other) limit next is grows is_closed settles reach leads = absurd is

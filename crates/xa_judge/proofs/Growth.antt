@@ -10,8 +10,8 @@ use Rattle.xa_judge.specs.declared.moves.Act.{Act}
 use Rattle.xa_judge.specs.declared.moves.Move.{Move}
 use Rattle.xa_judge.specs.declared.moves.Move.TheVariants.{Event as Seeing, Effect}
 use Rattle.xa_judge.specs.declared.configuration.Configuration.{Configuration}
-use Rattle.xa_judge.specs.Explained.{Config, opening, effect_of, observed, Runs, IsSession}
-use Rattle.xa_judge.specs.Found.{config_of, configs, Has, Grows, Reaches, IsAdded}
+use Rattle.xa_judge.specs.Explained.{Config, opening_config, effect_of, observed, LeadsThrough, IsSession}
+use Rattle.xa_judge.specs.Found.{config_of, configs, Has, Grows, Reaches, AddsUnlessThere}
 use Rattle.xa_judge.proofs.Places.{map_append, get_front}
 use Rattle.xa_judge.proofs.Waits.{runs_effect, runs_event}
 
@@ -26,13 +26,13 @@ pub still_there : (old new : List Configuration) (place : ℕ) (one : Configurat
     → slice_get new place ≡ Some one
 still_there old new place one grows found = subst (λ l. slice_get l place ≡ Some one) (sym grows.parts) (get_front old grows.more place one found)
 
-pub has_added : (old new : List Configuration) (one : Configuration) → IsAdded old one new → Has new (config_of one)
+pub has_added : (old new : List Configuration) (one : Configuration) → AddsUnlessThere old one new → Has new (config_of one)
 has_added old new one (inl was) = subst (λ l. Has l (config_of one)) (sym was.1) was.0
 has_added old new one (inr is) =
     subst (λ l. Has l (config_of one)) (sym is)
     (subst (λ l. Contains l (config_of one)) (sym (map_append config_of old (one ∷ []))) (Contains-push (configs old) (config_of one)))
 
-pub has_kept : (old new : List Configuration) (one : Configuration) (other : Config) → IsAdded old one new → Has old other → Has new other
+pub has_kept : (old new : List Configuration) (one : Configuration) (other : Config) → AddsUnlessThere old one new → Has old other → Has new other
 has_kept old new one other (inl was) has = subst (λ l. Has l other) (sym was.1) has
 has_kept old new one other (inr is) has = subst (λ l. Has l other) (sym is) (has_more old (one ∷ []) other has)
 
@@ -52,8 +52,8 @@ pub reaches_effect : (base : State) (events : List Event) (trunk : List Move) (o
     → effect_of (config_of old) session act ≡ Some (config_of new) → new.path.items ≡ old.path.items ++ Effect session act ∷ [] → Reaches base events trunk new
 unfolding Reaches
 reaches_effect base events trunk old new session act reach is at path =
-    let more = runs_effect (opening base) (config_of old) (config_of new) events (trunk ++ old.path.items) session act reach is at in
-    subst (λ l. Runs (opening base) events l (config_of new))
+    let more = runs_effect (opening_config base) (config_of old) (config_of new) events (trunk ++ old.path.items) session act reach is at in
+    subst (λ l. LeadsThrough (opening_config base) events l (config_of new))
     (append_assoc trunk old.path.items (Effect session act ∷ []) ∙ ap (λ l. trunk ++ l) (sym path)) more
 
 -- and what an event leads to, by one event more
@@ -61,11 +61,11 @@ pub reaches_event : (base : State) (events : List Event) (trunk : List Move) (ol
     → observed (config_of old) event ≡ Some (config_of new) → new.path.items ≡ old.path.items ++ Seeing ∷ [] → Reaches base (events ++ event ∷ []) trunk new
 unfolding Reaches
 reaches_event base events trunk old new event reach at path =
-    let more = runs_event (opening base) (config_of old) (config_of new) events (trunk ++ old.path.items) event reach at in
-    subst (λ l. Runs (opening base) (events ++ event ∷ []) l (config_of new))
+    let more = runs_event (opening_config base) (config_of old) (config_of new) events (trunk ++ old.path.items) event reach at in
+    subst (λ l. LeadsThrough (opening_config base) (events ++ event ∷ []) l (config_of new))
     (append_assoc trunk old.path.items (Seeing ∷ []) ∙ ap (λ l. trunk ++ l) (sym path)) more
 
-pub all_added : (P : Configuration → Type 0) (old new : List Configuration) (one : Configuration) → IsAdded old one new → All P old → P one → All P new
+pub all_added : (P : Configuration → Type 0) (old new : List Configuration) (one : Configuration) → AddsUnlessThere old one new → All P old → P one → All P new
 all_added P old new one (inl was) all p = subst (λ l. All P l) (sym was.1) all
 all_added P old new one (inr is) all p = subst (λ l. All P l) (sym is) (All-push P old one all p)
 
@@ -78,7 +78,7 @@ all_at P list place one all found = at list place all found
 -- the list with what an effect of one of it leads to
 pub grows_added : (old new : List Configuration) (place : ℕ) (one next : Configuration) (session : ℕ) (act : Act) → slice_get old place ≡ Some one
     → IsSession session
-    → effect_of (config_of one) session act ≡ Some (config_of next) → next.path.items ≡ one.path.items ++ Effect session act ∷ [] → IsAdded old next new
+    → effect_of (config_of one) session act ≡ Some (config_of next) → next.path.items ≡ one.path.items ++ Effect session act ∷ [] → AddsUnlessThere old next new
     → Grows old new
 grows_added old new place one next session act found is at path added = record {
   more = parts.0;
@@ -88,7 +88,7 @@ grows_added old new place one next session act found is at path added = record {
       (reaches_effect base events trunk one next session act (all_at (Reaches base events trunk) old place one all found) is at path);
 }
   where
-    by : IsAdded old next new → (more : List Configuration) × (new ≡ old ++ more)
+    by : AddsUnlessThere old next new → (more : List Configuration) × (new ≡ old ++ more)
     by (inl was) = ([], was.1 ∙ sym (append-nil old))
     by (inr is) = (next ∷ [], is)
 

@@ -15,7 +15,8 @@ use Rattle.xa_judge.specs.declared.moves.Move.{Move}
 use Rattle.xa_judge.specs.declared.moves.Move.TheVariants.{Effect}
 use Rattle.xa_judge.specs.declared.configuration.Configuration.{Configuration}
 use Rattle.xa_judge.specs.Explained.{Config, effect_of, observed, IsSession}
-use Rattle.xa_judge.specs.Found.{config_of, configs, Has, Reaches, Grows, settled, IsAdded, IsSettledFrom, IsSeenAdded, IsAnsweredIn, IsAnswerAdded}
+use Rattle.xa_judge.specs.Found.{config_of, configs, Has, Reaches, Grows, after_settling, AddsUnlessThere, IsSettledFrom, IsSeenAdded, IsAnsweredIn}
+use Rattle.xa_judge.specs.Found.{IsAnswerAdded}
 use Rattle.xa_judge.specs.Found.{IsExpandedBelow, IsClosedBelow}
 use Rattle.xa_judge.proofs.Places.{map_append, get_within, place_mapped}
 use Rattle.xa_judge.proofs.Growth.{has_still, has_added, has_kept, still_there, all_added, reaches_effect, reaches_event, grows_added}
@@ -32,9 +33,9 @@ ReachesPastBoth event first rest list =
     (base : State) (events : List Event) (trunk : List Move) → All (Reaches base events trunk) first
     → All (Reaches base events trunk) rest × All (Reaches base (events ++ event ∷ []) trunk) list
 
--- each of the first list is still to come, or has settled
+-- each of the first list is still to come, or has after_settling
 abbrev pub SettlesBoth : ℕ → List Configuration → List Configuration → List Configuration → Type 0
-SettlesBoth session first rest list = (one : Config) → Has first one → Has rest one ⊎ Has list (settled one session)
+SettlesBoth session first rest list = (one : Config) → Has first one → Has rest one ⊎ Has list (after_settling one session)
 
 -- each of the first list is still to come, or what the event leads to from it is in the list
 abbrev pub SeesBoth : Event → List Configuration → List Configuration → List Configuration → Type 0
@@ -49,14 +50,14 @@ has_last rest known one c parts has =
     Contains-push_cases (configs rest) (config_of one) c (subst (λ l. Contains l c) (ap configs parts ∙ map_append config_of rest (one ∷ [])) has)
 
 pub settles_step : (session : ℕ) (first known rest list new : List Configuration) (one next : Configuration) → known ≡ rest ++ one ∷ []
-    → new ≡ list ++ next ∷ [] → config_of next ≡ settled (config_of one) session
+    → new ≡ list ++ next ∷ [] → config_of next ≡ after_settling (config_of one) session
     → SettlesBoth session first known list → SettlesBoth session first rest new
 settles_step session first known rest list new one next parts pushed is has = λ c was. elim (has c was) [
   | inl there ↦ elim (has_last rest known one c parts there) [
     | inl still ↦ inl still
-    | inr here ↦ inr (subst (λ d. Has new d) (is ∙ ap (λ d. settled d session) here) (has_pushed list new next pushed))
+    | inr here ↦ inr (subst (λ d. Has new d) (is ∙ ap (λ d. after_settling d session) here) (has_pushed list new next pushed))
   ]
-  | inr done ↦ inr (has_kept list new next (settled c session) (inr pushed) done)
+  | inr done ↦ inr (has_kept list new next (after_settling c session) (inr pushed) done)
 ]
 
 reaches_settled : (base : State) (events : List Event) (trunk : List Move) (session : ℕ) (one next : Configuration) → IsSettledFrom session one next
@@ -138,7 +139,7 @@ closed_more place returning old new within before grows here k one below found =
 pub effect_added : (old new : List Configuration) (place : ℕ) (one next : Configuration) (found : Option Configuration) (session : ℕ) (act : Act)
     → slice_get old place ≡ Some one → IsSession session
     → option_map config_of found ≡ effect_of (config_of one) session act → IfSome found (λ n. n.path.items ≡ one.path.items ++ Effect session act ∷ [])
-    → found ≡ Some next → IsAdded old next new
+    → found ≡ Some next → AddsUnlessThere old next new
     → Grows old new × ((other : Configuration) (config : Config) → slice_get old place ≡ Some other → effect_of (config_of other) session act ≡ Some config
     → Has new config)
 effect_added old new place one next found session act at is effect path some added = (

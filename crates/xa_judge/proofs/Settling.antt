@@ -16,8 +16,8 @@ use Rattle.xa_judge.specs.declared.moves.Act.TheVariants.{Statement, Disconnect}
 use Rattle.xa_judge.specs.declared.moves.Move.{Move}
 use Rattle.xa_judge.specs.declared.moves.Move.TheVariants.{Event as Seeing, Effect}
 use Rattle.xa_judge.specs.declared.configuration.Configuration.{Configuration}
-use Rattle.xa_judge.specs.Explained.{Config, effect_of, carried_out, disconnected, answer_to, next_state, Runs, IsSession}
-use Rattle.xa_judge.specs.Found.{config_of, Has, settled, settled_by, called_for, is_answered, answered_so, IsClosedBelow}
+use Rattle.xa_judge.specs.Explained.{Config, effect_of, carried_out, disconnected, answer_to, next_state, LeadsThrough, IsSession}
+use Rattle.xa_judge.specs.Found.{config_of, Has, after_settling, settled_by, called_for, call_is_answered, answered_so, IsClosedBelow}
 use Rattle.xa_judge.proofs.Places.{same_number, get_written, get_apart, mapped_place}
 use Rattle.xa_judge.proofs.Waits.{acted, may_answer, First, later, return_answered}
 
@@ -31,7 +31,7 @@ answered_may (Some Left) e = absurd (false≢true e)
 
 -- a session that can't be answered never returns
 pub dead : (old new : Config) (session : ℕ) (seen : Seen) (more : List Event) (moves : List Move) → may_answer (slice_get old.standings session) ≡ false
-    → Runs old (Return session seen ∷ more) moves new → ⊥
+    → LeadsThrough old (Return session seen ∷ more) moves new → ⊥
 dead old new session seen more (Seeing ∷ moves) none runs =
     false≢true (sym none ∙ answered_may (slice_get old.standings session) (return_answered old runs.0 session seen runs.1))
 dead old new session seen more (Effect other act ∷ moves) none runs =
@@ -50,11 +50,11 @@ dead old new session seen more [] none runs = runs
 pub record Settled (list : List Configuration) (session : ℕ) (seen : Seen) (more : List Event) : Type 0 where
   pub one : Config
   pub has : Has list one
-  pub rest : First (settled one session) (Return session seen) more
+  pub rest : First (after_settling one session) (Return session seen) more
 
 -- where the session was answered, nothing is left to settle
-settled_answered : (old : Config) (session : ℕ) → is_answered old session ≡ true → settled old session ≡ old
-unfolding settled
+settled_answered : (old : Config) (session : ℕ) → call_is_answered old session ≡ true → after_settling old session ≡ old
+unfolding after_settling
 settled_answered old session answered = ap (λ r. settled_by r old session) (by (slice_get old.standings session) answered)
   where
     by : (o : Option Standing) → answered_so o ≡ true → called_for o ≡ None
@@ -66,7 +66,7 @@ settled_answered old session answered = ap (λ r. settled_by r old session) (by 
     by (Some Left) e = absurd (false≢true e)
 
 settles_answered : (list : List Configuration) (session : ℕ) (seen : Seen) (more : List Event) (old new : Config) (moves : List Move) → Has list old
-    → is_answered old session ≡ true → Runs old (Return session seen ∷ more) moves new
+    → call_is_answered old session ≡ true → LeadsThrough old (Return session seen ∷ more) moves new
     → Settled list session seen more
 settles_answered list session seen more old new moves has answered runs = record {
   one = old;
@@ -79,8 +79,8 @@ settles_answered list session seen more old new moves has answered runs = record
 -- the session's own act: what it called for, or one after which it is never answered
 own_act : (list : List Configuration) (session : ℕ) (act : Act) (seen : Seen) (more : List Event) (old mid new : Config) (moves : List Move) → Has list old
     → effect_of old session act ≡ Some mid
-    → Runs mid (Return session seen ∷ more) moves new → Settled list session seen more
-unfolding effect_of carried_out disconnected settled
+    → LeadsThrough mid (Return session seen ∷ more) moves new → Settled list session seen more
+unfolding effect_of carried_out disconnected after_settling
 own_act list session act seen more old mid new moves has at runs = by act (slice_get old.standings session) refl at
   where
     by : (act : Act) (o : Option Standing) → slice_get old.standings session ≡ o → effect_of old session act ≡ Some mid → Settled list session seen more
@@ -90,10 +90,10 @@ own_act list session act seen more old mid new moves has at runs = by act (slice
         let answer = Answered (answer_to old.state session request) in
         let mid_is : record { state = next_state old.state session request; standings = set old.standings session answer } ≡ mid =
         same_Some _ mid (sym (ap (λ o. carried_out o old session) found) ∙ is) in
-        let here : is_answered mid session ≡ true =
+        let here : call_is_answered mid session ≡ true =
         ap answered_so (ap (λ (c : Config). slice_get c.standings session) (sym mid_is)
         ∙ get_written old.standings session (Called request) answer found) in
-        let same : settled old session ≡ mid = ap (λ r. settled_by r old session) (ap called_for found) ∙ mid_is in
+        let same : after_settling old session ≡ mid = ap (λ r. settled_by r old session) (ap called_for found) ∙ mid_is in
         record {
           one = old;
           has = has;
@@ -122,22 +122,22 @@ own_act list session act seen more old mid new moves has at runs = by act (slice
 
 -- the act of another session leads to one of a closed list
 other_act : (list : List Configuration) (returning session : ℕ) (act : Act) (old mid : Config) → IsClosedBelow (length list) returning list → Has list old
-    → IsSession session → session ≢ returning → is_answered old returning ≡ false
+    → IsSession session → session ≢ returning → call_is_answered old returning ≡ false
     → effect_of old session act ≡ Some mid → Has list mid
 other_act list returning session act old mid closed has is apart unanswered at =
     let place = mapped_place config_of list old has in
     let same : config_of place.1 ≡ old = place.4 in
-    closed place.0 place.1 place.2 place.3 session act mid (omega (arith, is.1)) is apart (ap (λ c. is_answered c returning) same ∙ unanswered)
+    closed place.0 place.1 place.2 place.3 session act mid (omega (arith, is.1)) is apart (ap (λ c. call_is_answered c returning) same ∙ unanswered)
     (ap (λ c. effect_of c session act) same ∙ at)
 
 -- a run that begins with an act, where one that begins behind an act of another session settles
 settles_effect : (list : List Configuration) (session other : ℕ) (act : Act) (seen : Seen) (more : List Event) (old new : Config) (moves : List Move)
     → IsClosedBelow (length list) session list → Has list old
-    → (runs : Runs old (Return session seen ∷ more) (Effect other act ∷ moves) new) → (Has list runs.0 → Settled list session seen more)
+    → (runs : LeadsThrough old (Return session seen ∷ more) (Effect other act ∷ moves) new) → (Has list runs.0 → Settled list session seen more)
     → Settled list session seen more
-settles_effect list session other act seen more old new moves closed has runs go_on = by (is_answered old session) refl
+settles_effect list session other act seen more old new moves closed has runs go_on = by (call_is_answered old session) refl
   where
-    by : (b : Bool) → is_answered old session ≡ b → Settled list session seen more
+    by : (b : Bool) → call_is_answered old session ≡ b → Settled list session seen more
     by true answered = settles_answered list session seen more old new (Effect other act ∷ moves) has answered runs
     by false unanswered = elim (same_number other session) [
       | inl e ↦ own_act list session act seen more old runs.0 new moves has (ap (λ n. effect_of old n act) (sym e) ∙ runs.2) runs.3
@@ -145,7 +145,7 @@ settles_effect list session other act seen more old new moves closed has runs go
     ]
 
 pub settles : (list : List Configuration) (session : ℕ) (seen : Seen) (more : List Event) (old new : Config) (moves : List Move)
-    → IsClosedBelow (length list) session list → Has list old → Runs old (Return session seen ∷ more) moves new
+    → IsClosedBelow (length list) session list → Has list old → LeadsThrough old (Return session seen ∷ more) moves new
     → Settled list session seen more
 settles list session seen more old new (Seeing ∷ moves) closed has runs =
     settles_answered list session seen more old new (Seeing ∷ moves) has (return_answered old runs.0 session seen runs.1) runs

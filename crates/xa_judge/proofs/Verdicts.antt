@@ -7,10 +7,10 @@ use Rattle.xa_server.specs.State.{State}
 use Rattle.xa_judge.specs.declared.event.Event.{Event}
 use Rattle.xa_judge.specs.declared.moves.Move.{Move}
 use Rattle.xa_judge.specs.declared.configuration.Configuration.{Configuration}
-use Rattle.xa_judge.specs.Explained.{Config, opening, Runs, Explained}
+use Rattle.xa_judge.specs.Explained.{Config, opening_config, LeadsThrough, Explained}
 use Rattle.xa_judge.specs.Found.{config_of, configs, Has, Reaches, KeepsReach, ReachesPast, IsShortened, IsOpening, IsPathOf}
 use Rattle.xa_judge.specs.Advances.{Continues}
-use Rattle.xa_judge.specs.Verdicts.{IsRefuted, IsWide, IsReached}
+use Rattle.xa_judge.specs.Verdicts.{IsRefuted, IsWide, IsReachedByMoves}
 use Rattle.xa_judge.proofs.Places.{get_within, length_map}
 use Rattle.xa_judge.proofs.Growth.{all_at}
 
@@ -44,14 +44,15 @@ explained_by base seen trunk list some all =
     (trunk ++ first.0.path.items, config_of first.0, all_at (Reaches base seen trunk) list 0 first.0 all first.1)
 
 pub legal : (base : State) (events : List Event) (trunk moves : List Move) (list : List Configuration)
-    → All (Reaches base (take (length events) events) trunk) list → IsPathOf trunk list moves → (new : Config) × Runs (opening base) events moves new
+    → All (Reaches base (take (length events) events) trunk) list → IsPathOf trunk list moves
+    → (new : Config) × LeadsThrough (opening_config base) events moves new
 unfolding Reaches
 legal base events trunk moves list all path =
     let reach : Reaches base (take (length events) events) trunk path.0 =
     all_at (Reaches base (take (length events) events) trunk) list 0 path.0 all path.1 in (
       config_of path.0,
-      subst (λ l. Runs (opening base) l moves (config_of path.0)) (take_all (length events) events (omega arith))
-          (subst (λ m. Runs (opening base) (take (length events) events) m (config_of path.0)) (sym path.2) reach),
+      subst (λ l. LeadsThrough (opening_config base) l moves (config_of path.0)) (take_all (length events) events (omega arith))
+          (subst (λ m. LeadsThrough (opening_config base) (take (length events) events) m (config_of path.0)) (sym path.2) reach),
     )
 
 pub refuted : (base : State) (events : List Event) (place : ℕ) (event : Event) (trunk : List Move) (list : List Configuration) → place < length events
@@ -82,7 +83,7 @@ wide base events limit place trunk list many within all over keeps = record {
   many = configs many;
   over = subst (λ n. limit < n) (sym (length_map config_of many)) over;
   reached =
-      All-map (IsReached base (take place events)) config_of many
+      All-map (IsReachedByMoves base (take place events)) config_of many
       (λ k d below. record { moves = trunk ++ (get_or many k d).path.items; runs = keeps base (take place events) trunk all k d below });
 }
 
@@ -90,13 +91,13 @@ pub opens_reached : (base : State) (list : List Configuration) → IsOpening bas
 unfolding Reaches
 opens_reached base list is = subst (λ l. All (Reaches base [] []) l) (sym is.1) (All-cons (Reaches base [] []) is.0 [] one (All-nil (Reaches base [] [])))
   where
-    one : Runs (opening base) [] ([] ++ is.0.path.items) (config_of is.0)
-    one = subst (λ m. Runs (opening base) [] m (config_of is.0)) (sym is.3) is.2
+    one : LeadsThrough (opening_config base) [] ([] ++ is.0.path.items) (config_of is.0)
+    one = subst (λ m. LeadsThrough (opening_config base) [] m (config_of is.0)) (sym is.3) is.2
 
 pub opens_complete : (base : State) (list : List Configuration) → IsOpening base list → IsComplete base [] list
 opens_complete base list is more explained = record {
-  one = opening base;
-  has = subst (λ l. Has l (opening base)) (sym is.1) (0, omega arith, is.2);
+  one = opening_config base;
+  has = subst (λ l. Has l (opening_config base)) (sym is.1) (0, omega arith, is.2);
   moves = explained.0;
   new = explained.1;
   runs = explained.2;
@@ -118,11 +119,12 @@ unfolding Reaches
 shortened trunk longer old [] new only next none was now same path parts = record {
   same = ap configs now ∙ ap (λ c. c ∷ []) same ∙ sym (ap configs was);
   reach = λ base events all.
-      let reach : Runs (opening base) events (trunk ++ only.path.items) (config_of only) =
+      let reach : LeadsThrough (opening_config base) events (trunk ++ only.path.items) (config_of only) =
       All-head (Reaches base events trunk) only [] (subst (λ l. All (Reaches base events trunk) l) was all) in
       let end : trunk ++ only.path.items ≡ longer ++ next.path.items = sym parts ∙ sym (append-nil longer) ∙ ap (λ l. longer ++ l) (sym path) in
-      let moved : Runs (opening base) events (longer ++ next.path.items) (config_of next) =
-      subst (λ d. Runs (opening base) events (longer ++ next.path.items) d) (sym same) (subst (λ m. Runs (opening base) events m (config_of only)) end reach) in
+      let moved : LeadsThrough (opening_config base) events (longer ++ next.path.items) (config_of next) =
+      subst (λ d. LeadsThrough (opening_config base) events (longer ++ next.path.items) d) (sym same)
+      (subst (λ m. LeadsThrough (opening_config base) events m (config_of only)) end reach) in
       subst (λ l. All (Reaches base events longer) l) (sym now) (All-cons (Reaches base events longer) next [] moved (All-nil (Reaches base events longer)));
 }
 shortened trunk longer old (x ∷ rest) new only next none was now same path parts = absurd (omega (arith, none))

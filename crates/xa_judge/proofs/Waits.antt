@@ -1,4 +1,4 @@
--- Runs: one more move at the end, and acts that can wait until an event is seen.
+-- LeadsThrough: one more move at the end, and acts that can wait until an event is seen.
 --     runs_effect, runs_event     one more move at the end
 --     Acted, Saw                  what an act, an event did to what one session is about
 --     CanWait, First, later       where acts can wait, the event is seen first
@@ -20,14 +20,15 @@ use Rattle.xa_judge.specs.declared.moves.Act.{Act}
 use Rattle.xa_judge.specs.declared.moves.Act.TheVariants.{Statement, Disconnect}
 use Rattle.xa_judge.specs.declared.moves.Move.{Move}
 use Rattle.xa_judge.specs.declared.moves.Move.TheVariants.{Event as Seeing, Effect}
-use Rattle.xa_judge.specs.Explained.{Config, with_standing, effect_of, carried_out, disconnected, observed, called, returned, lost, agrees, answer_to}
-use Rattle.xa_judge.specs.Explained.{next_state, Runs, IsSession}
-use Rattle.xa_judge.specs.Found.{is_answered, answered_so, called_for}
+use Rattle.xa_judge.specs.Explained.{Config, with_standing, effect_of, carried_out, disconnected, observed, called, returned, lost, shows_answer, answer_to}
+use Rattle.xa_judge.specs.Explained.{next_state, LeadsThrough, IsSession}
+use Rattle.xa_judge.specs.Found.{call_is_answered, answered_so, called_for}
 use Rattle.xa_judge.proofs.Places.{same_number, get_written, get_apart, set_apart}
 
-pub runs_effect : (old mid new : Config) (events : List Event) (moves : List Move) (session : ℕ) (act : Act) → Runs old events moves mid → IsSession session
+pub runs_effect : (old mid new : Config) (events : List Event) (moves : List Move) (session : ℕ) (act : Act) → LeadsThrough old events moves mid
+    → IsSession session
     → effect_of mid session act ≡ Some new
-    → Runs old events (moves ++ Effect session act ∷ []) new
+    → LeadsThrough old events (moves ++ Effect session act ∷ []) new
 runs_effect old mid new events (Effect other its ∷ moves) session act runs is at =
     (runs.0, runs.1, runs.2, runs_effect runs.0 mid new events moves session act runs.3 is at)
 runs_effect old mid new [] (Seeing ∷ moves) session act runs is at = absurd runs
@@ -36,8 +37,9 @@ runs_effect old mid new (event ∷ events) (Seeing ∷ moves) session act runs i
 runs_effect old mid new [] [] session act runs is at = let P : Config → Type 0 = λ c. effect_of c session act ≡ Some new in (new, is, subst P runs at, refl)
 runs_effect old mid new (event ∷ events) [] session act runs is at = absurd runs
 
-pub runs_event : (old mid new : Config) (events : List Event) (moves : List Move) (event : Event) → Runs old events moves mid → observed mid event ≡ Some new
-    → Runs old (events ++ event ∷ []) (moves ++ Seeing ∷ []) new
+pub runs_event : (old mid new : Config) (events : List Event) (moves : List Move) (event : Event) → LeadsThrough old events moves mid
+    → observed mid event ≡ Some new
+    → LeadsThrough old (events ++ event ∷ []) (moves ++ Seeing ∷ []) new
 runs_event old mid new events (Effect other its ∷ moves) event runs at = (runs.0, runs.1, runs.2, runs_event runs.0 mid new events moves event runs.3 at)
 runs_event old mid new [] (Seeing ∷ moves) event runs at = absurd runs
 runs_event old mid new (first ∷ events) (Seeing ∷ moves) event runs at = (runs.0, runs.1, runs_event runs.0 mid new events moves event runs.2 at)
@@ -191,7 +193,7 @@ saw_return None old new session seen found is = absurd (none-some new is)
 saw_return (Some Idle) old new session seen found is = absurd (none-some new is)
 saw_return (Some (Called request)) old new session seen found is = absurd (none-some new is)
 saw_return (Some (Answered answer)) old new session seen found is =
-    let agreed = cond_some (agrees seen answer) (with_standing old session Idle) new is in (
+    let agreed = cond_some (shows_answer seen answer) (with_standing old session Idle) new is in (
       record {
         before = Answered answer;
         next = Idle;
@@ -288,11 +290,11 @@ left_alone (Some Left) old mid new session found is at = none-some mid is
 -- acts that come before the event can wait until it is seen: before a return, once its session was answered
 abbrev pub CanWait : Config → Event → Type 0
 CanWait config (Call session request) = Unit {0}
-CanWait config (Return session seen) = is_answered config session ≡ true
+CanWait config (Return session seen) = call_is_answered config session ≡ true
 CanWait config (Lost session) = Unit {0}
 
 -- a session that was answered acts no more
-answered_apart : (old mid : Config) (session other : ℕ) (act : Act) → Acted old session act mid → is_answered old other ≡ true → session ≢ other
+answered_apart : (old mid : Config) (session other : ℕ) (act : Act) → Acted old session act mid → call_is_answered old other ≡ true → session ≢ other
 answered_apart old mid session other act a answered = λ e.
     false≢true (sym a.unanswered ∙ ap answered_so (sym a.found ∙ ap (slice_get old.standings) e) ∙ answered)
 
@@ -342,9 +344,9 @@ pub record First (old : Config) (event : Event) (more : List Event) : Type 0 whe
   pub sees : observed old event ≡ Some first
   pub moves : List Move
   pub new : Config
-  pub runs : Runs first more moves new
+  pub runs : LeadsThrough first more moves new
 
-pub later : (old new : Config) (event : Event) (more : List Event) (moves : List Move) → CanWait old event → Runs old (event ∷ more) moves new
+pub later : (old new : Config) (event : Event) (more : List Event) (moves : List Move) → CanWait old event → LeadsThrough old (event ∷ more) moves new
     → First old event more
 later old new event more (Seeing ∷ moves) waits runs = record { first = runs.0; sees = runs.1; moves = moves; new = new; runs = runs.2 }
 later old new event more (Effect session act ∷ moves) waits runs =
@@ -354,6 +356,6 @@ later old new event more (Effect session act ∷ moves) waits runs =
 later old new event more [] waits runs = absurd runs
 
 -- where a return was seen, its session was answered
-pub return_answered : (old new : Config) (session : ℕ) (seen : Seen) → observed old (Return session seen) ≡ Some new → is_answered old session ≡ true
+pub return_answered : (old new : Config) (session : ℕ) (seen : Seen) → observed old (Return session seen) ≡ Some new → call_is_answered old session ≡ true
 unfolding observed
 return_answered old new session seen at = (saw_return (slice_get old.standings session) old new session seen refl at).1

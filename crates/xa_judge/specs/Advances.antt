@@ -10,7 +10,7 @@ use Rattle.xa_judge.specs.declared.moves.Move.{Move}
 use Rattle.xa_judge.specs.declared.configuration.Configuration.{Configuration}
 use Rattle.xa_judge.specs.declared.advance.Advance.{Advance}
 use Rattle.xa_judge.specs.declared.advance.Advance.TheVariants.{Known, Impossible, TooMany}
-use Rattle.xa_judge.specs.Explained.{Config, observed, Runs}
+use Rattle.xa_judge.specs.Explained.{Config, observed, LeadsThrough}
 use Rattle.xa_judge.specs.Found.{Has, KeepsReach, ReachesPast}
 
 -- from one of these configurations, some moves lead through the events
@@ -19,7 +19,7 @@ pub record Continues (list : List Configuration) (events : List Event) : Type 0 
   pub has : Has list one
   pub moves : List Move
   pub new : Config
-  pub runs : Runs one events moves new
+  pub runs : LeadsThrough one events moves new
 
 -- the event is a return to this session
 abbrev pub IsReturnOf : ℕ → Event → Type 0

@@ -1,11 +1,11 @@
 -- Whether an order explains what clients saw. All of it is our own: docs/JUDGE.md.
 --     answer_to, next_state      what a request is answered, and the state after it
---     Config, opening            a state of the server, and what each session is about;  before all events
+--     Config, opening_config     a state of the server, and what each session is about;  before all events
 --     effect_of                  an act of a session takes effect
---     agrees                     a return shows this answer
+--     shows_answer               a return shows this answer
 --     observed                   an event is seen
---     Runs                       the moves lead through all of the events
---     Explained                  some moves do, from the opening
+--     LeadsThrough               the moves lead through all of the events
+--     Explained                  some moves do, from the opening_config
 use Rattle.std.specs.Prelude.{◌≡◌, ℕ, ◌≤◌, Bool, true, false, cond, ◌&&◌, ◌==◌, Option, Some, None, List, [], ◌∷◌, slice_get, slice_set}
 use Rattle.std.specs.Prelude.{replicate}
 use Rattle.std.specs.Cmp.Lexicographic.{pointwise}
@@ -49,8 +49,8 @@ pub record Config : Type 0 where
   pub standings : List Standing
 
 -- before all events; place 0 is no session's
-unfoldable pub opening : State → Config
-opening base = record { state = base; standings = replicate 17 Idle }
+unfoldable pub opening_config : State → Config
+opening_config base = record { state = base; standings = replicate 17 Idle }
 
 -- the session is about this from now on
 abbrev pub with_standing : Config → ℕ → Standing → Config
@@ -99,27 +99,27 @@ same_rows (row ∷ rows) [] = false
 same_rows (row ∷ rows) (xid ∷ xids) = same_xid row xid && same_rows rows xids
 
 -- a return shows this answer; of a refusal the number alone counts
-abbrev pub agrees : Seen → Answer → Bool
-agrees SeenOk (Replied Accepted) = true
-agrees SeenOk (Replied (Value value)) = false
-agrees SeenOk (Replied (Recovered xids)) = false
-agrees SeenOk (Replied (Refused error)) = false
-agrees (SeenValue seen) (Replied Accepted) = false
-agrees (SeenValue seen) (Replied (Value value)) = same_values seen value
-agrees (SeenValue seen) (Replied (Recovered xids)) = false
-agrees (SeenValue seen) (Replied (Refused error)) = false
-agrees (SeenRows rows) (Replied Accepted) = false
-agrees (SeenRows rows) (Replied (Value value)) = false
-agrees (SeenRows rows) (Replied (Recovered xids)) = same_rows rows.items xids
-agrees (SeenRows rows) (Replied (Refused error)) = false
-agrees (SeenError number) (Replied Accepted) = false
-agrees (SeenError number) (Replied (Value value)) = false
-agrees (SeenError number) (Replied (Recovered xids)) = false
-agrees (SeenError number) (Replied (Refused error)) = number == number_of error
-agrees SeenOk NotRead = false
-agrees (SeenValue seen) NotRead = false
-agrees (SeenRows rows) NotRead = false
-agrees (SeenError number) NotRead = number == 1064
+abbrev pub shows_answer : Seen → Answer → Bool
+shows_answer SeenOk (Replied Accepted) = true
+shows_answer SeenOk (Replied (Value value)) = false
+shows_answer SeenOk (Replied (Recovered xids)) = false
+shows_answer SeenOk (Replied (Refused error)) = false
+shows_answer (SeenValue seen) (Replied Accepted) = false
+shows_answer (SeenValue seen) (Replied (Value value)) = same_values seen value
+shows_answer (SeenValue seen) (Replied (Recovered xids)) = false
+shows_answer (SeenValue seen) (Replied (Refused error)) = false
+shows_answer (SeenRows rows) (Replied Accepted) = false
+shows_answer (SeenRows rows) (Replied (Value value)) = false
+shows_answer (SeenRows rows) (Replied (Recovered xids)) = same_rows rows.items xids
+shows_answer (SeenRows rows) (Replied (Refused error)) = false
+shows_answer (SeenError number) (Replied Accepted) = false
+shows_answer (SeenError number) (Replied (Value value)) = false
+shows_answer (SeenError number) (Replied (Recovered xids)) = false
+shows_answer (SeenError number) (Replied (Refused error)) = number == number_of error
+shows_answer SeenOk NotRead = false
+shows_answer (SeenValue seen) NotRead = false
+shows_answer (SeenRows rows) NotRead = false
+shows_answer (SeenError number) NotRead = number == 1064
 
 -- an idle session calls
 unfoldable pub called : Option Standing → Config → ℕ → Request → Option Config
@@ -135,7 +135,7 @@ unfoldable pub returned : Option Standing → Config → ℕ → Seen → Option
 returned None config session seen = None
 returned (Some Idle) config session seen = None
 returned (Some (Called request)) config session seen = None
-returned (Some (Answered answer)) config session seen = cond (agrees seen answer) (Some (with_standing config session Idle)) None
+returned (Some (Answered answer)) config session seen = cond (shows_answer seen answer) (Some (with_standing config session Idle)) None
 returned (Some (Gone request)) config session seen = None
 returned (Some Left) config session seen = None
 
@@ -159,13 +159,14 @@ abbrev pub IsSession : ℕ → Type 0
 IsSession session = (1 ≤ session) × (session ≤ 16)
 
 -- the moves lead from old through all of the events to new
-abbrev pub Runs : Config → List Event → List Move → Config → Type 0
-Runs old events (Effect session act ∷ moves) new = (mid : Config) × IsSession session × (effect_of old session act ≡ Some mid) × Runs mid events moves new
-Runs old [] (Seeing ∷ moves) new = ⊥
-Runs old (event ∷ events) (Seeing ∷ moves) new = (mid : Config) × (observed old event ≡ Some mid) × Runs mid events moves new
-Runs old [] [] new = new ≡ old
-Runs old (event ∷ events) [] new = ⊥
+abbrev pub LeadsThrough : Config → List Event → List Move → Config → Type 0
+LeadsThrough old events (Effect session act ∷ moves) new =
+    (mid : Config) × IsSession session × (effect_of old session act ≡ Some mid) × LeadsThrough mid events moves new
+LeadsThrough old [] (Seeing ∷ moves) new = ⊥
+LeadsThrough old (event ∷ events) (Seeing ∷ moves) new = (mid : Config) × (observed old event ≡ Some mid) × LeadsThrough mid events moves new
+LeadsThrough old [] [] new = new ≡ old
+LeadsThrough old (event ∷ events) [] new = ⊥
 
 -- some order explains the events
 abbrev pub Explained : State → List Event → Type 0
-Explained base events = (moves : List Move) × (new : Config) × Runs (opening base) events moves new
+Explained base events = (moves : List Move) × (new : Config) × LeadsThrough (opening_config base) events moves new

@@ -1,8 +1,8 @@
 -- The configurations that a judge keeps.
 --     config_of        a configuration as the definitions see it
 --     called_for       what a session has called for, where that has taken no effect yet
---     settled          the configuration once that has taken effect
---     is_answered      the session's call was answered
+--     after_settling   the configuration once that has taken effect
+--     call_is_answered  the session's call was answered
 --     Reaches          its path leads to it, behind the trunk
 --     AllReached       so it is with each of a list
 --     Has              a list has a configuration that stands so
@@ -21,7 +21,7 @@ use Rattle.xa_judge.specs.declared.moves.Act.TheVariants.{Statement}
 use Rattle.xa_judge.specs.declared.moves.Move.TheVariants.{Event as Seeing, Effect}
 use Rattle.xa_judge.specs.declared.moves.Move.{Move}
 use Rattle.xa_judge.specs.declared.configuration.Configuration.{Configuration}
-use Rattle.xa_judge.specs.Explained.{Config, opening, effect_of, observed, Runs, IsSession, answer_to, next_state}
+use Rattle.xa_judge.specs.Explained.{Config, opening_config, effect_of, observed, LeadsThrough, IsSession, answer_to, next_state}
 
 -- a configuration as the definitions see it
 abbrev pub config_of : Configuration → Config
@@ -48,8 +48,8 @@ settled_by (Some request) config session =
     }
 
 -- the configuration once what the session has called for has taken effect
-unfoldable pub settled : Config → ℕ → Config
-settled config session = settled_by (called_for (slice_get config.standings session)) config session
+unfoldable pub after_settling : Config → ℕ → Config
+after_settling config session = settled_by (called_for (slice_get config.standings session)) config session
 
 abbrev pub answered_so : Option Standing → Bool
 answered_so None = false
@@ -60,12 +60,12 @@ answered_so (Some (Gone request)) = false
 answered_so (Some Left) = false
 
 -- the session's call was answered
-abbrev pub is_answered : Config → ℕ → Bool
-is_answered config session = answered_so (slice_get config.standings session)
+abbrev pub call_is_answered : Config → ℕ → Bool
+call_is_answered config session = answered_so (slice_get config.standings session)
 
 -- the trunk and its path lead to it
 unfoldable pub Reaches : State → List Event → List Move → Configuration → Type 0
-Reaches base events trunk one = Runs (opening base) events (trunk ++ one.path.items) (config_of one)
+Reaches base events trunk one = LeadsThrough (opening_config base) events (trunk ++ one.path.items) (config_of one)
 
 -- the list has a configuration that stands so
 abbrev pub Has : List Configuration → Config → Type 0
@@ -87,15 +87,15 @@ IsSettledFrom session old new =
     × (new.path.items ≡ old.path.items ++ Effect session Statement ∷ []))
 
 -- the list is as it was, and things stood so in one of it; or it has this one more
-abbrev pub IsAdded : List Configuration → Configuration → List Configuration → Type 0
-IsAdded old one new = (Has old (config_of one) × (new ≡ old)) ⊎ (new ≡ old ++ one ∷ [])
+abbrev pub AddsUnlessThere : List Configuration → Configuration → List Configuration → Type 0
+AddsUnlessThere old one new = (Has old (config_of one) × (new ≡ old)) ⊎ (new ≡ old ++ one ∷ [])
 
 -- the event can't be seen, and the list is as it was; or what it leads to is added
 abbrev pub IsSeenAdded : Event → Configuration → List Configuration → List Configuration → Type 0
 IsSeenAdded event one old new =
     ((observed (config_of one) event ≡ None) × (new ≡ old))
     ⊎ ((next : Configuration) × (observed (config_of one) event ≡ Some (config_of next)) × (next.path.items ≡ one.path.items ++ Seeing ∷ [])
-    × IsAdded old next new)
+    × AddsUnlessThere old next new)
 
 -- the list is as it was, or has this answer more
 abbrev pub IsAnswerAdded : Option Standing → List Answer → List Answer → Type 0
@@ -109,7 +109,7 @@ pub record IsAnsweredIn (list : List Configuration) (session : ℕ) (answer : An
 
 -- the one configuration before all events
 abbrev pub IsOpening : State → List Configuration → Type 0
-IsOpening base list = (one : Configuration) × (list ≡ one ∷ []) × (config_of one ≡ opening base) × (one.path.items ≡ [])
+IsOpening base list = (one : Configuration) × (list ≡ one ∷ []) × (config_of one ≡ opening_config base) × (one.path.items ≡ [])
 
 -- the moves are the trunk and the path of the first configuration
 abbrev pub IsPathOf : List Move → List Configuration → List Move → Type 0
@@ -129,7 +129,7 @@ pub record Grows (old new : List Configuration) : Type 0 where
 -- what acts of other sessions below a number lead to from this configuration is in the list, unless the session was answered
 abbrev pub IsExpandedBelow : ℕ → Configuration → ℕ → List Configuration → Type 0
 IsExpandedBelow count one returning list =
-    (session : ℕ) (act : Act) (new : Config) → session < count → IsSession session → session ≢ returning → is_answered (config_of one) returning ≡ false
+    (session : ℕ) (act : Act) (new : Config) → session < count → IsSession session → session ≢ returning → call_is_answered (config_of one) returning ≡ false
     → effect_of (config_of one) session act ≡ Some new → Has list new
 
 -- so it is with each configuration before this place

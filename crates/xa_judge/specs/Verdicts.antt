@@ -12,7 +12,7 @@ use Rattle.xa_judge.specs.declared.event.Event.{Event}
 use Rattle.xa_judge.specs.declared.moves.Move.{Move}
 use Rattle.xa_judge.specs.declared.verdict.Verdict.{Verdict}
 use Rattle.xa_judge.specs.declared.verdict.Verdict.TheVariants.{Legal, Illegal, Undecided}
-use Rattle.xa_judge.specs.Explained.{Config, opening, Runs, Explained}
+use Rattle.xa_judge.specs.Explained.{Config, opening_config, LeadsThrough, Explained}
 
 -- an order explains the events before this place, and none explains those with the one at this place, nor all
 pub record IsRefuted (base : State) (events : List Event) (place : ℕ) : Type 0 where
@@ -22,19 +22,19 @@ pub record IsRefuted (base : State) (events : List Event) (place : ℕ) : Type 0
   pub whole : Explained base events → ⊥
 
 -- some moves lead through the events to this configuration
-pub record IsReached (base : State) (events : List Event) (config : Config) : Type 0 where
+pub record IsReachedByMoves (base : State) (events : List Event) (config : Config) : Type 0 where
   pub moves : List Move
-  pub runs : Runs (opening base) events moves config
+  pub runs : LeadsThrough (opening_config base) events moves config
 
 -- the events before this place lead to more configurations than are allowed
 pub record IsWide (base : State) (events : List Event) (limit place : ℕ) : Type 0 where
   pub within : place < length events
   pub many : List Config
   pub over : limit < length many
-  pub reached : All (IsReached base (take place events)) many
+  pub reached : All (IsReachedByMoves base (take place events)) many
 
 -- the verdict is right
 abbrev pub IsVerdict : State → List Event → ℕ → Verdict → Type 0
-IsVerdict base events limit (Legal moves) = (new : Config) × Runs (opening base) events moves.items new
+IsVerdict base events limit (Legal moves) = (new : Config) × LeadsThrough (opening_config base) events moves.items new
 IsVerdict base events limit (Illegal place answers) = IsRefuted base events place
 IsVerdict base events limit (Undecided place) = IsWide base events limit place

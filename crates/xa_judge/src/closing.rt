@@ -2,7 +2,7 @@
 ghost use Rattle.std.specs.Prelude.{◌≡◌, ◌<◌, ℕ, List, Some, true, false, slice_get, vec_len, length, IfOk, OnOk};
 ghost use Rattle.std.specs.List.{All};
 ghost use Rattle.xa_judge.specs.Explained.{Config, observed};
-ghost use Rattle.xa_judge.specs.Found.{Has, Grows, KeepsReach, ReachesPast, settled, IsClosedBelow, IsAnsweredIn, IsAnswerAdded, IsSeenAdded};
+ghost use Rattle.xa_judge.specs.Found.{Has, Grows, KeepsReach, ReachesPast, after_settling, IsClosedBelow, IsAnsweredIn, IsAnswerAdded, IsSeenAdded};
 
 use crate::answer::Answer;
 use crate::configuration::Configuration;
@@ -43,7 +43,7 @@ pub fn settle_all(
     mut known: Vec<Configuration>,
     session: SessionNo,
 ) -> Result<Vec<Configuration>, NoMemory>
-    ensures has { IfOk result (λ list. (one : Config) → Has known.items one → Has list.items (settled one session)) }
+    ensures has { IfOk result (λ list. (one : Config) → Has known.items one → Has list.items (after_settling one session)) }
     ensures reach { IfOk result (λ list. KeepsReach known.items list.items) }
 {
     let mut list = Vec::new(alloc);

@@ -4,8 +4,8 @@ ghost use Rattle.std.specs.Option.{option_copied, option_map};
 ghost use Rattle.std.specs.Prelude.{replicate};
 ghost use Rattle.xa_xid.specs.declared.statement.Statement.TheVariants.{Disconnect};
 ghost use Rattle.xa_server.specs.Step.{after};
-ghost use Rattle.xa_judge.specs.Explained.{opening, answer_to, next_state, effect_of, IsSession};
-ghost use Rattle.xa_judge.specs.Found.{config_of, called_for, is_answered, settled, IsSettledFrom};
+ghost use Rattle.xa_judge.specs.Explained.{opening_config, answer_to, next_state, effect_of, IsSession};
+ghost use Rattle.xa_judge.specs.Found.{config_of, called_for, call_is_answered, after_settling, IsSettledFrom};
 
 use crate::moves::{Act, Move};
 use crate::request::Request;
@@ -54,9 +54,9 @@ fn is_same_list(left: &[Standing], right: &[Standing]) -> bool
 
 impl Configuration {
     /// How things stand before all events.
-    #[tactic(auto, unfolding(crate::specs::Explained::opening))]
+    #[tactic(auto, unfolding(crate::specs::Explained::opening_config))]
     pub fn opening(alloc: Global, base: &Server) -> Result<Configuration, NoMemory>
-        ensures config { IfOk result (λ first. config_of first ≡ opening base.now) }
+        ensures config { IfOk result (λ first. config_of first ≡ opening_config base.now) }
         ensures path { IfOk result (λ first. first.path.items ≡ []) }
     {
         Ok(Configuration {
@@ -178,7 +178,7 @@ impl Configuration {
 
     /// Whether the session's call was answered.
     pub fn is_answered(&self, session: SessionNo) -> bool
-        ensures { result ≡ is_answered (config_of self.now) session }
+        ensures { result ≡ call_is_answered (config_of self.now) session }
     {
         match self.standing(session) {
             None => false,
@@ -191,9 +191,9 @@ impl Configuration {
     }
 
     /// How things stand once what the session has called for has taken effect; as they do, where it has called for nothing.
-    #[tactic(auto, unfolding(crate::specs::Found::settled))]
+    #[tactic(auto, unfolding(crate::specs::Found::after_settling))]
     pub fn settled(self, session: SessionNo) -> Result<Configuration, NoMemory>
-        ensures config { IfOk result (λ new. config_of new ≡ settled (config_of self) session) }
+        ensures config { IfOk result (λ new. config_of new ≡ after_settling (config_of self) session) }
         ensures reach { IfOk result (IsSettledFrom session self) }
     {
         match self.called_for(session) {

@@ -1,6 +1,6 @@
 //! What was seen.
 ghost use Rattle.std.specs.Prelude.{◌≡◌};
-ghost use Rattle.xa_judge.specs.Explained.{agrees};
+ghost use Rattle.xa_judge.specs.Explained.{shows_answer};
 
 use crate::answer::Answer;
 use crate::request::Request;
@@ -35,7 +35,7 @@ pub enum Event {
 impl Seen {
     /// Whether the server's reply shows so.
     fn shows_reply(&self, reply: &Reply) -> bool
-        ensures { result ≡ agrees self.now (Answer.Reply reply.now) }
+        ensures { result ≡ shows_answer self.now (Answer.Reply reply.now) }
     {
         match self {
             Seen::Ok => match reply {
@@ -67,7 +67,7 @@ impl Seen {
 
     /// Whether the answer shows so.
     pub(crate) fn shows(&self, answer: &Answer) -> bool
-        ensures { result ≡ agrees self.now answer.now }
+        ensures { result ≡ shows_answer self.now answer.now }
     {
         match answer {
             Answer::Reply(reply) => self.shows_reply(reply),

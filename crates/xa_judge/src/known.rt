@@ -2,7 +2,7 @@
 ghost use Rattle.std.specs.Prelude.{◌≡◌, ◌∷◌, ◌++◌, ◌≢◌, ◌<◌, ℕ, true, Some, slice_get, vec_len, IfOk, OnOk};
 ghost use Rattle.xa_judge.specs.declared.configuration.Configuration.{Configuration as Found};
 ghost use Rattle.xa_judge.specs.Explained.{Config, IsSession, effect_of};
-ghost use Rattle.xa_judge.specs.Found.{config_of, is_answered, Has, Grows, IsAdded, IsExpandedBelow};
+ghost use Rattle.xa_judge.specs.Found.{config_of, call_is_answered, Has, Grows, AddsUnlessThere, IsExpandedBelow};
 
 use crate::configuration::Configuration;
 use crate::mark_index::MarkIndex;
@@ -78,7 +78,7 @@ pub fn add(
     index: &mut MarkIndex,
     one: Configuration,
 ) -> Result<(), NoMemory>
-    ensures { OnOk result (IsAdded known.old.items one known.new.items) }
+    ensures { OnOk result (AddsUnlessThere known.old.items one known.new.items) }
 {
     if is_known(known.as_slice(), index, &one)? {
         return Ok(());

@@ -7,7 +7,7 @@ use Rattle.xa_coordinator.specs.declared.standing.Standing.{Standing}
 use Rattle.xa_coordinator.specs.declared.standing.Standing.TheVariants.{Decided}
 use Rattle.xa_coordinator.specs.Decisions.{with_decided}
 use Rattle.xa_coordinator.specs.Outcomes.{VotesAs}
-use Rattle.xa_coordinator.specs.Work.{Keeps}
+use Rattle.xa_coordinator.specs.Work.{KeepsOthers}
 use Rattle.xa_coordinator.specs.declared.transaction.Transaction.{Transaction}
 use Rattle.xa_coordinator.specs.declared.prepared.Prepared.{Prepared}
 use Rattle.xa_coordinator.specs.declared.prepared.Ballot.TheVariants.{Ready as BallotReady}
@@ -15,7 +15,7 @@ use Rattle.xa_coordinator.specs.declared.vote.Vote.{Vote}
 use Rattle.xa_coordinator.specs.declared.vote.Vote.TheVariants.{Ready as VoteReady, OnePhase as VoteOnePhase, No as VoteNo, Nothing as VoteNothing}
 use Rattle.xa_manager.specs.declared.stage.Stage.{Stage}
 use Rattle.xa_manager.specs.declared.stage.Stage.TheVariants.{Working, Ready, Over}
-use Rattle.xa_manager.specs.Ledger.{IsOf, transaction_in, with_stage}
+use Rattle.xa_manager.specs.Ledger.{IsTransactionOf, transaction_in, with_stage}
 use Rattle.xa_manager.specs.Answers.{Desk, stage_after}
 use Rattle.xa_manager.proofs.Stages.{Kept, AllReady, with_stage-last}
 
@@ -47,17 +47,17 @@ after_decision (Err b) old new number decided kept = ap length kept
 
 -- a vote keeps its transaction
 pub voted_kept : {S : Type 0} (view : S → SessionView) (transaction : Transaction) (vote : Vote) (old new : List S) (count number : ℕ)
-    → VotesAs view transaction vote old new → IsOf count number transaction
-    → (kept : Transaction) → transaction_in (stage_after vote) ≡ Some kept → IsOf count number kept
+    → VotesAs view transaction vote old new → IsTransactionOf count number transaction
+    → (kept : Transaction) → transaction_in (stage_after vote) ≡ Some kept → IsTransactionOf count number kept
 voted_kept view transaction (VoteReady prepared) old new count number votes is kept keeps =
     let same : kept ≡ transaction = let e = ap (λ (p : Prepared). p.transaction) votes.0 in cc in
-    let P : Transaction → Type 0 = λ t. IsOf count number t in subst P (sym same) is
+    let P : Transaction → Type 0 = λ t. IsTransactionOf count number t in subst P (sym same) is
 voted_kept view transaction (VoteOnePhase prepared) old new count number votes is kept keeps =
     let same : kept ≡ transaction = let e = ap (λ (p : Prepared). p.transaction) votes.0 in cc in
-    let P : Transaction → Type 0 = λ t. IsOf count number t in subst P (sym same) is
+    let P : Transaction → Type 0 = λ t. IsTransactionOf count number t in subst P (sym same) is
 voted_kept view transaction (VoteNo prepared store cause) old new count number votes is kept keeps =
     let same : kept ≡ transaction = let e = ap (λ (p : Prepared). p.transaction) votes.0 in cc in
-    let P : Transaction → Type 0 = λ t. IsOf count number t in subst P (sym same) is
+    let P : Transaction → Type 0 = λ t. IsTransactionOf count number t in subst P (sym same) is
 voted_kept view transaction VoteNothing old new count number votes is kept keeps = absurd (cc)
 
 -- a vote that is kept as Ready is of Ready
@@ -70,19 +70,19 @@ voted_ready view transaction (VoteNo prepared store cause) old new votes kept ke
 voted_ready view transaction VoteNothing old new votes kept keeps = absurd (cc)
 
 -- work keeps the transaction's number, name and count of stores
-pub worked_kept : (store count number : ℕ) (old new : Transaction) → Keeps store old new → IsOf count number old → (kept : Transaction)
-    → transaction_in (Working new) ≡ Some kept → IsOf count number kept
+pub worked_kept : (store count number : ℕ) (old new : Transaction) → KeepsOthers store old new → IsTransactionOf count number old → (kept : Transaction)
+    → transaction_in (Working new) ≡ Some kept → IsTransactionOf count number kept
 worked_kept store count number old new keeps is kept same =
     let e : new ≡ kept = cc in
-    let P : Transaction → Type 0 = λ t. IsOf count number t in
+    let P : Transaction → Type 0 = λ t. IsTransactionOf count number t in
     subst P e (record { number = keeps.number ∙ is.number; name = (let e = keeps.name in let f = is.name in cc); stores = keeps.stores ∙ is.stores })
 
 -- the transaction that has begun
-pub working_kept : (count number : ℕ) (transaction : Transaction) → IsOf count number transaction → (kept : Transaction)
-    → transaction_in (Working transaction) ≡ Some kept → IsOf count number kept
+pub working_kept : (count number : ℕ) (transaction : Transaction) → IsTransactionOf count number transaction → (kept : Transaction)
+    → transaction_in (Working transaction) ≡ Some kept → IsTransactionOf count number kept
 working_kept count number transaction is kept same =
     let e : transaction ≡ kept = cc in
-    let P : Transaction → Type 0 = λ t. IsOf count number t in
+    let P : Transaction → Type 0 = λ t. IsTransactionOf count number t in
     subst P e is
 
 pub begun_on : (stages : List Stage) (number : ℕ) (begun : Stage) (added now : List Stage) → number ≡ length stages + 1 → added ≡ stages ++ Over ∷ []

@@ -13,13 +13,13 @@ use Rattle.xa_manager.specs.declared.call.Call.{Call}
 use Rattle.xa_manager.specs.declared.response.Response.{Response}
 use Rattle.xa_manager.specs.Calls.{call_of}
 use Rattle.xa_manager.specs.Texts.{answer_text}
-use Rattle.xa_manager.specs.Answers.{Desk, Answers, IsRun, new_desk}
-use Rattle.xa_manager.specs.Written.{IsWhole, IsCut, MayBePart, AfterFault}
+use Rattle.xa_manager.specs.Answers.{Desk, Answers, AnswersRun, new_desk}
+use Rattle.xa_manager.specs.Written.{IsAllWritten, IsCutOff, MayBePart, AfterCallsFault}
 
 -- one line more
-pub run-more : (start now next : Desk) (done : List (List ℕ)) (text line : List ℕ) (response : Response) → IsRun start done text now
+pub run-more : (start now next : Desk) (done : List (List ℕ)) (text line : List ℕ) (response : Response) → AnswersRun start done text now
     → Answers now (call_of line) response next
-    → IsRun start (done ++ line ∷ []) (text ++ answer_text next.decisions response) next
+    → AnswersRun start (done ++ line ∷ []) (text ++ answer_text next.decisions response) next
 run-more start now next [] text line response run answered =
     let P : Desk → Type 0 = λ desk. Answers desk (call_of line) response next in (
       next,
@@ -44,7 +44,7 @@ pub record IsSoFar (start now : Desk) (lines left : List (List ℕ)) (old new : 
   pub done : List (List ℕ)
   pub parts : lines ≡ done ++ left
   pub text : List ℕ
-  pub run : IsRun start done text now
+  pub run : AnswersRun start done text now
   pub written : Appends old new text
 
 pub so_far_none : (start : Desk) (lines : List (List ℕ)) (old : Option (List ℕ)) → IsSoFar start start lines lines old old
@@ -62,15 +62,15 @@ so_far_more start now next lines left line response old mid new so answered appe
 }
 
 pub whole : (start now : Desk) (script : List ℕ) (left : List (List ℕ)) (old new : Option (List ℕ)) → IsSoFar start now (lines_of script) left old new
-    → left ≡ [] → IsWhole start script old new
+    → left ≡ [] → IsAllWritten start script old new
 whole start now script left old new so none =
     let all : so.done ≡ lines_of script = sym (so.parts ∙ ap (λ rest. so.done ++ rest) none ∙ append-nil so.done) in
-    let P : List (List ℕ) → Type 0 = λ lines. IsRun start lines so.text now in
+    let P : List (List ℕ) → Type 0 = λ lines. AnswersRun start lines so.text now in
     record { text = so.text; final = now; run = subst P all so.run; written = so.written }
 
 -- nothing of the next answer was written
 pub cut_before : (start now : Desk) (script line : List ℕ) (left : List (List ℕ)) (old new : Option (List ℕ))
-    → IsSoFar start now (lines_of script) (line ∷ left) old new → IsCut start script old new
+    → IsSoFar start now (lines_of script) (line ∷ left) old new → IsCutOff start script old new
 cut_before start now script line left old new so = record {
   done = so.done;
   rest = line ∷ left;
@@ -86,7 +86,7 @@ cut_before start now script line left old new so = record {
 -- a part of the next answer was written
 pub cut_within : (start now next : Desk) (script line : List ℕ) (left : List (List ℕ)) (response : Response) (old mid new : Option (List ℕ))
     → IsSoFar start now (lines_of script) (line ∷ left) old mid
-    → Answers now (call_of line) response next → AppendsPrefix mid new (answer_text next.decisions response) → IsCut start script old new
+    → Answers now (call_of line) response next → AppendsPrefix mid new (answer_text next.decisions response) → IsCutOff start script old new
 cut_within start now next script line left response old mid new so answered part = record {
   done = so.done;
   rest = line ∷ left;
@@ -104,7 +104,7 @@ none_begun : (now : Desk) (lines : List (List ℕ)) → MayBePart now lines []
 none_begun now [] = refl
 none_begun now (line ∷ lines) = inl refl
 
-pub cut_at_first : (stores : ℕ) (script : List ℕ) (old : Option (List ℕ)) → IsCut (new_desk stores) script old old
+pub cut_at_first : (stores : ℕ) (script : List ℕ) (old : Option (List ℕ)) → IsCutOff (new_desk stores) script old old
 cut_at_first stores script old = record {
   done = [];
   rest = lines_of script;
@@ -117,12 +117,12 @@ cut_at_first stores script old = record {
   written = Appends-nil old;
 }
 
-cut_if_known : (stores : ℕ) (input old : Option (List ℕ)) → IfSome input (λ script. IsCut (new_desk stores) script old old)
+cut_if_known : (stores : ℕ) (input old : Option (List ℕ)) → IfSome input (λ script. IsCutOff (new_desk stores) script old old)
 cut_if_known stores None old = tt
 cut_if_known stores (Some script) old = cut_at_first stores script old
 
 -- a script that wasn't read has no answer
-pub after_reading : (stores : ℕ) (fault : ScriptFault) (input old : Option (List ℕ)) → IsOfReading fault → AfterFault stores fault input old old
+pub after_reading : (stores : ℕ) (fault : ScriptFault) (input old : Option (List ℕ)) → IsOfReading fault → AfterCallsFault stores fault input old old
 after_reading stores Read input old is = Keeps-refl old
 after_reading stores TooLong input old is = Keeps-refl old
 after_reading stores Write input old is = cut_if_known stores input old

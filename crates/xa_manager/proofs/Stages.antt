@@ -16,7 +16,7 @@ use Rattle.xa_coordinator.proofs.Places.{get_set_is, get_set_other}
 use Rattle.xa_manager.specs.declared.stage.Stage.{Stage}
 use Rattle.xa_manager.specs.declared.stage.Stage.TheVariants.{Ready, Voted, Over}
 use Rattle.xa_manager.specs.Calls.{takes_rows}
-use Rattle.xa_manager.specs.Ledger.{stage_of, with_stage, transaction_in, IsOf}
+use Rattle.xa_manager.specs.Ledger.{stage_of, with_stage, transaction_in, IsTransactionOf}
 
 -- one that wasn't begun
 absent_past : (count number : ℕ) → (number ≡ 0) ⊎ (count < number) → number ≢ 0 → count ≤ number - 1
@@ -150,17 +150,17 @@ take-last stages last =
 abbrev pub Kept : ℕ → List Stage → Type 0
 Kept count stages =
     (number : ℕ) (stage : Stage) (transaction : Transaction) → stage_of stages number ≡ Some stage → transaction_in stage ≡ Some transaction
-    → IsOf count number transaction
+    → IsTransactionOf count number transaction
 
 abbrev pub AllReady : List Stage → Type 0
 AllReady stages = (number : ℕ) (prepared : Prepared) → stage_of stages number ≡ Some (Ready prepared) → prepared.ballot ≡ BallotReady
 
 pub kept_with : (count : ℕ) (stages : List Stage) (number : ℕ) (stage : Stage) → Kept count stages
-    → ((transaction : Transaction) → transaction_in stage ≡ Some transaction → IsOf count number transaction)
+    → ((transaction : Transaction) → transaction_in stage ≡ Some transaction → IsTransactionOf count number transaction)
     → Kept count (with_stage stages number stage)
 kept_with count stages number stage kept is other found transaction there keeps = elim (stage_of-with stages number other stage found there) [
   | inl same ↦
-      let P : ℕ → Type 0 = λ n. IsOf count n transaction in
+      let P : ℕ → Type 0 = λ n. IsTransactionOf count n transaction in
       subst P (sym same.0) (is transaction (ap transaction_in same.1 ∙ keeps))
   | inr before ↦ kept other found transaction before keeps
 ]
@@ -175,11 +175,11 @@ ready_with stages number stage ready is other prepared there = elim (stage_of-wi
 
 -- one transaction more is kept, where it is that of the next number
 pub kept_more : (count : ℕ) (stages : List Stage) (last : Stage) → Kept count stages
-    → ((transaction : Transaction) → transaction_in last ≡ Some transaction → IsOf count (length stages + 1) transaction)
+    → ((transaction : Transaction) → transaction_in last ≡ Some transaction → IsTransactionOf count (length stages + 1) transaction)
     → Kept count (stages ++ last ∷ [])
 kept_more count stages last kept is other found transaction there keeps = elim (stage_of-append stages last found other there) [
   | inl same ↦
-      let P : ℕ → Type 0 = λ n. IsOf count n transaction in
+      let P : ℕ → Type 0 = λ n. IsTransactionOf count n transaction in
       subst P (sym same.0) (is transaction (ap transaction_in same.1 ∙ keeps))
   | inr before ↦ kept other found transaction before keeps
 ]
@@ -201,7 +201,7 @@ ready_over stages number ready = ready_with stages number Over ready (λ prepare
 -- the transaction of a vote
 pub kept_voted : (count : ℕ) (stages : List Stage) (number : ℕ) (prepared : Prepared) → Kept count stages
     → (stage_of stages number ≡ Some (Ready prepared)) ⊎ (stage_of stages number ≡ Some (Voted prepared))
-    → IsOf count number prepared.transaction
+    → IsTransactionOf count number prepared.transaction
 kept_voted count stages number prepared kept (inl ready) = kept number (Ready prepared) prepared.transaction ready refl
 kept_voted count stages number prepared kept (inr voted) = kept number (Voted prepared) prepared.transaction voted refl
 

@@ -4,7 +4,7 @@
 --     poll_of, stage_after     what is told of a vote;  how far the transaction has come then
 --     Carries          a call was carried out, and this is what the coordinator or a session answered
 --     Answers          a call was refused and changed nothing, or was carried out
---     IsRun            what is written for lines, one after another
+--     AnswersRun       what is written for lines, one after another
 --     IsTranscript     what is written for a script
 use Rattle.std.specs.Prelude.{◌≡◌, ◌⊎◌, ◌<◌, ◌+◌, ℕ, true, false, nat_lt, if◌then◌else◌, Option, Some, None, Result, List, [], ◌∷◌, ◌++◌, length, map}
 use Rattle.xa_xid.specs.declared.statement.Statement.{Statement}
@@ -120,7 +120,7 @@ pub record IsSpent (old : Desk) (response : Response) (new : Desk) : Type 0 wher
   pub stands : new ≡ old
 
 -- a transaction worked in a store, and this is what the coordinator answered
-pub record IsWorked (old : Desk) (number store : ℕ) (response : Response) (new : Desk) : Type 0 where
+pub record AnswersWork (old : Desk) (number store : ℕ) (response : Response) (new : Desk) : Type 0 where
   pub before : Transaction
   pub after : Transaction
   pub answer : Result Reply WorkFault
@@ -130,7 +130,7 @@ pub record IsWorked (old : Desk) (number store : ℕ) (response : Response) (new
   pub stands : new ≡ with_progress old number (Working after)
 
 -- the stores of a transaction that took work voted, and this is the vote
-pub record IsVoted (old : Desk) (number : ℕ) (response : Response) (new : Desk) : Type 0 where
+pub record AnswersVote (old : Desk) (number : ℕ) (response : Response) (new : Desk) : Type 0 where
   pub before : Transaction
   pub vote : Vote
   pub works : stage_of old.stages number ≡ Some (Working before)
@@ -138,7 +138,7 @@ pub record IsVoted (old : Desk) (number : ℕ) (response : Response) (new : Desk
   pub stands : new ≡ with_progress old number (stage_after vote)
 
 -- a transaction with a vote of Ready is decided, or its number is closed
-pub record IsDecided (old : Desk) (number : ℕ) (response : Response) (new : Desk) : Type 0 where
+pub record AnswersDecide (old : Desk) (number : ℕ) (response : Response) (new : Desk) : Type 0 where
   pub prepared : Prepared
   pub ready : stage_of old.stages number ≡ Some (Ready prepared)
   pub outcome :
@@ -146,7 +146,7 @@ pub record IsDecided (old : Desk) (number : ℕ) (response : Response) (new : De
       ⊎ ((may_be_decided old.decisions number ≡ false) × (response ≡ Closed) × (new ≡ old))
 
 -- a transaction was finished, and this is how it ended
-pub record IsFinished (old : Desk) (number : ℕ) (response : Response) (new : Desk) : Type 0 where
+pub record AnswersFinish (old : Desk) (number : ℕ) (response : Response) (new : Desk) : Type 0 where
   pub prepared : Prepared
   pub ending : Ending
   pub votes : (stage_of old.stages number ≡ Some (Ready prepared)) ⊎ (stage_of old.stages number ≡ Some (VotedStage prepared))
@@ -162,20 +162,20 @@ pub record IsAbandoned (old : Desk) (number : ℕ) (response : Response) (new : 
   pub stands : new ≡ with_progress old number Over
 
 -- a coordinator recovered, and this is what recovery came to; every undecided number is closed
-pub record IsRecovered (old : Desk) (response : Response) (new : Desk) : Type 0 where
+pub record AnswersRecover (old : Desk) (response : Response) (new : Desk) : Type 0 where
   pub outcome : Result Report RecoverFault
   pub told : response ≡ Recovered outcome
   pub stands : new ≡ record old { decisions = map closed_of old.decisions }
 
 -- the stranger's session in a store was given a statement, and this is what it answered
-pub record IsReplied (old : Desk) (store : ℕ) (statement : Statement) (response : Response) (new : Desk) : Type 0 where
+pub record AnswersStatement (old : Desk) (store : ℕ) (statement : Statement) (response : Response) (new : Desk) : Type 0 where
   pub answer : Result Reply Fault
   pub known : store < old.stores
   pub told : response ≡ Replied (converts statement) answer
   pub stands : new ≡ old
 
 -- each store's stranger answered
-pub record IsShown (old : Desk) (response : Response) (new : Desk) : Type 0 where
+pub record AnswersShow (old : Desk) (response : Response) (new : Desk) : Type 0 where
   pub answers : Listing
   pub each : length answers.answers.items ≡ old.stores
   pub told : response ≡ Shown answers
@@ -186,32 +186,32 @@ abbrev pub Carries : Desk → Call → Response → Desk → Type 0
 Carries old SilentCall response new = (response ≡ Silent) × (new ≡ old)
 Carries old (UnreadCall place) response new = ⊥
 Carries old Begin response new = IsBegun old response new ⊎ IsSpent old response new
-Carries old (Work number store statement) response new = IsWorked old number store response new
-Carries old (Prepare number) response new = IsVoted old number response new
-Carries old (Decide number) response new = IsDecided old number response new
-Carries old (Finish number) response new = IsFinished old number response new
+Carries old (Work number store statement) response new = AnswersWork old number store response new
+Carries old (Prepare number) response new = AnswersVote old number response new
+Carries old (Decide number) response new = AnswersDecide old number response new
+Carries old (Finish number) response new = AnswersFinish old number response new
 Carries old (Abandon number) response new = IsAbandoned old number response new
 Carries old (Fail store calls) response new = (store < old.stores) × (response ≡ Limited) × (new ≡ old)
 Carries old Stop response new = (response ≡ Stopped) × (new ≡ old)
-Carries old Recover response new = IsRecovered old response new
-Carries old (At store statement) response new = IsReplied old store statement response new
-Carries old Show response new = IsShown old response new
+Carries old Recover response new = AnswersRecover old response new
+Carries old (At store statement) response new = AnswersStatement old store statement response new
+Carries old Show response new = AnswersShow old response new
 
 -- a call was refused, and nothing changed
-pub record IsRefused (old : Desk) (call : Call) (response : Response) (new : Desk) : Type 0 where
+pub record AnswersRefusal (old : Desk) (call : Call) (response : Response) (new : Desk) : Type 0 where
   pub told : refusal_of old.stores old.stages call ≡ Some response
   pub stands : new ≡ old
 
 -- a call was refused as it has to be, or was carried out
 abbrev pub Answers : Desk → Call → Response → Desk → Type 0
-Answers old call response new = IsRefused old call response new ⊎ Carries old call response new
+Answers old call response new = AnswersRefusal old call response new ⊎ Carries old call response new
 
 -- lines were answered one after another, and this was written
-abbrev pub IsRun : Desk → List (List ℕ) → List ℕ → Desk → Type 0
-IsRun old [] text new = (text ≡ []) × (new ≡ old)
-IsRun old (line ∷ lines) text new =
+abbrev pub AnswersRun : Desk → List (List ℕ) → List ℕ → Desk → Type 0
+AnswersRun old [] text new = (text ≡ []) × (new ≡ old)
+AnswersRun old (line ∷ lines) text new =
     (mid : Desk) × (response : Response) × (rest : List ℕ)
-    × Answers old (call_of line) response mid × (text ≡ answer_text mid.decisions response ++ rest) × IsRun mid lines rest new
+    × Answers old (call_of line) response mid × (text ≡ answer_text mid.decisions response ++ rest) × AnswersRun mid lines rest new
 
 -- no transaction has begun over so many stores
 abbrev pub new_desk : ℕ → Desk
@@ -219,4 +219,4 @@ new_desk stores = record { stores = stores; decisions = []; stages = [] }
 
 -- what is written for a script over so many stores
 abbrev pub IsTranscript : ℕ → List ℕ → List ℕ → Type 0
-IsTranscript stores script text = (final : Desk) × IsRun (new_desk stores) (lines_of script) text final
+IsTranscript stores script text = (final : Desk) × AnswersRun (new_desk stores) (lines_of script) text final

@@ -5,11 +5,11 @@
 --     IsWritten        a call that a line can tell
 use Rattle.std.specs.Prelude.{◌≡◌, ℕ, ◌==◌, Bool, true, false, bytes_eq, if◌then◌else◌, Option, Some, None, Result, Ok, Err, List, [], ◌∷◌, codes}
 use Rattle.xa_xid.specs.Literal.{Reading}
-use Rattle.xa_xid.specs.Number.{number_at}
+use Rattle.xa_xid.specs.Number.{number_ahead}
 use Rattle.xa_xid.specs.declared.statement.Statement.{Statement}
 use Rattle.xa_xid.specs.declared.statement.Statement.TheVariants.{Start, End, Prepare, Commit, Rollback, Recover, Unsupported, Get, Put, Del, Disconnect}
 use Rattle.xa_statement.specs.Reading.{read_of}
-use Rattle.xa_transcript.specs.Script.{is_empty, without_blanks, first_word, after_word}
+use Rattle.xa_transcript.specs.Script.{is_empty_line, without_blanks, first_word, after_word}
 use Rattle.xa_manager.specs.declared.call.Call.{Call}
 use Rattle.xa_manager.specs.declared.call.Call.TheVariants.{Silent, Unread, Begin, Work, Prepare as PrepareCall, Decide, Finish, Abandon, Fail, Stop}
 use Rattle.xa_manager.specs.declared.call.Call.TheVariants.{Recover as RecoverCall, At, Show}
@@ -23,8 +23,8 @@ whole (Ok (number, byte ∷ rest)) = None
 -- the number that a word names: decimal, below 2^64, without leading zeros
 unfoldable pub number_named : List ℕ → Option ℕ
 number_named [] = None
-number_named (first ∷ []) = whole (number_at (first ∷ []))
-number_named (first ∷ second ∷ rest) = if first == 48 then None else whole (number_at (first ∷ second ∷ rest))
+number_named (first ∷ []) = whole (number_ahead (first ∷ []))
+number_named (first ∷ second ∷ rest) = if first == 48 then None else whole (number_ahead (first ∷ second ∷ rest))
 
 -- GET, PUT and DEL
 abbrev pub takes_rows : Statement → Bool
@@ -46,7 +46,7 @@ behind text = without_blanks (after_word text)
 
 -- the number that is all of a text, but for blanks behind it
 unfoldable pub lone_number : List ℕ → Option ℕ
-lone_number text = if is_empty (behind text) then number_named (first_word text) else None
+lone_number text = if is_empty_line (behind text) then number_named (first_word text) else None
 
 -- a call that is all of its line
 abbrev pub alone : Call → List ℕ → Call

@@ -2,7 +2,7 @@
 --     stage_of         how far a transaction has come, where it was begun
 --     with_stage       the list with this one so far
 --     transaction_in   the transaction that is kept
---     IsOf             the transaction of a number
+--     IsTransactionOf  the transaction of a number
 use Rattle.std.specs.Prelude.{◌≡◌, ℕ, Option, Some, None, if◌then◌else◌, ◌==◌, ◌-◌, List, slice_get, slice_set, codes}
 use Rattle.xa_coordinator.specs.declared.transaction.Transaction.{Transaction}
 use Rattle.xa_manager.specs.declared.stage.Stage.{Stage}
@@ -24,7 +24,7 @@ transaction_in (Voted prepared) = Some prepared.transaction
 transaction_in Over = None
 
 -- the transaction of this number, of the coordinator `c` over so many stores
-pub record IsOf (count place : ℕ) (transaction : Transaction) : Type 0 where
+pub record IsTransactionOf (count place : ℕ) (transaction : Transaction) : Type 0 where
   pub number : transaction.number ≡ place
   pub name : transaction.name.items ≡ codes "c"
   pub stores : transaction.stores ≡ count

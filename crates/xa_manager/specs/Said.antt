@@ -1,6 +1,6 @@
 -- What was said to the sessions of a transaction manager, by what a call was answered.
 --     Floor            the sessions of a transaction manager, as contracts see them, beside its desk
---     floor            the same, of its parts
+--     floor_of         the same, of its parts
 --     IsQuiet          nothing was said to these sessions
 --     SaysWork         the coordinator worked in a store, and this is what the work came to
 --     SaysVote         the coordinator had the stores vote, and this is the vote
@@ -11,7 +11,7 @@
 --     RepliesAs        a session answered a statement so, or didn't for a fault
 --     SaysReply        a stranger's session was given a statement, and answered so
 --     SaysNothing      nothing was said to any session
---     Says             what was said, by the response
+--     SaidFor          what was said, by the response
 use Rattle.std.specs.Prelude.{◌≡◌, ◌⊎◌, ℕ, Some, Option, Result, Ok, Err, List, map, codes, IfOk, IfErr}
 use Rattle.xa_xid.specs.declared.statement.Statement.{Statement}
 use Rattle.xa_server.specs.declared.reply.Reply.{Reply}
@@ -51,8 +51,8 @@ pub record Floor (C T : Type 0) : Type 0 where
   pub strangers : List T
 
 -- the same, of its parts
-abbrev pub floor : {C T : Type 0} → Desk → List (Option OpenBranch) → List C → List T → Floor C T
-floor desk branches sessions strangers = record { desk = desk; branches = branches; sessions = sessions; strangers = strangers }
+abbrev pub floor_of : {C T : Type 0} → Desk → List (Option OpenBranch) → List C → List T → Floor C T
+floor_of desk branches sessions strangers = record { desk = desk; branches = branches; sessions = sessions; strangers = strangers }
 
 -- nothing was said to these sessions
 abbrev pub IsQuiet : {S : Type 0} → (S → SessionView) → List S → List S → Type 0
@@ -128,22 +128,22 @@ abbrev pub SaysNothing : {C T : Type 0} → (C → SessionView) → (T → Sessi
 SaysNothing view view' old new = IsQuiet view old.sessions new.sessions × IsQuiet view' old.strangers new.strangers
 
 -- what was said for a call that was answered so
-abbrev pub Says : {C T : Type 0} → (C → SessionView) → (T → SessionView) → Call → Response → Floor C T → Floor C T → Type 0
-Says view view' call Silent old new = SaysNothing view view' old new
-Says view view' call (Unread place) old new = SaysNothing view view' old new
-Says view view' call (UnknownStore store) old new = SaysNothing view view' old new
-Says view view' call (UnknownTransaction number) old new = SaysNothing view view' old new
-Says view view' call (WrongStage number) old new = SaysNothing view view' old new
-Says view view' call (Begun number) old new = SaysNothing view view' old new
-Says view view' call NumbersSpent old new = SaysNothing view view' old new
-Says view view' call (Worked answer) old new = SaysWork view call answer old new × IsQuiet view' old.strangers new.strangers
-Says view view' call (Voted poll) old new = SaysVote view call poll old new × IsQuiet view' old.strangers new.strangers
-Says view view' call Decided old new = SaysNothing view view' old new
-Says view view' call Closed old new = SaysNothing view view' old new
-Says view view' call (Ended ending) old new =
+abbrev pub SaidFor : {C T : Type 0} → (C → SessionView) → (T → SessionView) → Call → Response → Floor C T → Floor C T → Type 0
+SaidFor view view' call Silent old new = SaysNothing view view' old new
+SaidFor view view' call (Unread place) old new = SaysNothing view view' old new
+SaidFor view view' call (UnknownStore store) old new = SaysNothing view view' old new
+SaidFor view view' call (UnknownTransaction number) old new = SaysNothing view view' old new
+SaidFor view view' call (WrongStage number) old new = SaysNothing view view' old new
+SaidFor view view' call (Begun number) old new = SaysNothing view view' old new
+SaidFor view view' call NumbersSpent old new = SaysNothing view view' old new
+SaidFor view view' call (Worked answer) old new = SaysWork view call answer old new × IsQuiet view' old.strangers new.strangers
+SaidFor view view' call (Voted poll) old new = SaysVote view call poll old new × IsQuiet view' old.strangers new.strangers
+SaidFor view view' call Decided old new = SaysNothing view view' old new
+SaidFor view view' call Closed old new = SaysNothing view view' old new
+SaidFor view view' call (Ended ending) old new =
     (SaysFinish view call ending old new ⊎ SaysAbandon view call ending old new) × IsQuiet view' old.strangers new.strangers
-Says view view' call Limited old new = SaysNothing view view' old new
-Says view view' call Stopped old new = SaysNothing view view' old new
-Says view view' call (Recovered outcome) old new = SaysRecovery view call outcome old new × IsQuiet view' old.strangers new.strangers
-Says view view' call (Replied convert answer) old new = SaysReply view' call answer old new × IsQuiet view old.sessions new.sessions
-Says view view' call (Shown answers) old new = IsQuiet view old.sessions new.sessions
+SaidFor view view' call Limited old new = SaysNothing view view' old new
+SaidFor view view' call Stopped old new = SaysNothing view view' old new
+SaidFor view view' call (Recovered outcome) old new = SaysRecovery view call outcome old new × IsQuiet view' old.strangers new.strangers
+SaidFor view view' call (Replied convert answer) old new = SaysReply view' call answer old new × IsQuiet view old.sessions new.sessions
+SaidFor view view' call (Shown answers) old new = IsQuiet view old.sessions new.sessions

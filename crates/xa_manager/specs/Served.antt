@@ -1,11 +1,11 @@
 -- What a transaction manager answers to lines that come one after another.
 --     desk_of         how the manager of a server stands
---     Begins          nothing has begun
+--     DeskBegins      nothing has begun
 --     call_said       the call that a line is
 --     refused_text    what is told where memory is refused
 --     has_few_words   a response whose words take no memory
---     IsRefused       memory was refused for a call or for its answer
---     IsAnswer        how a line may be answered
+--     IsRefusedCall   memory was refused for a call or for its answer
+--     IsCallAnswer    how a line may be answered
 use Rattle.std.specs.Prelude.{◌≡◌, ◌⊎◌, ℕ, Bool, true, false, Option, Some, None, Result, Ok, Err, List, [], codes, vec_len}
 use Rattle.xa_server.specs.declared.reply.Reply.{Reply}
 use Rattle.xa_server.specs.declared.reply.Reply.TheVariants.{Ok as Done, Value, Recovered as Listed, Refused}
@@ -29,8 +29,8 @@ use Rattle.xa_manager.specs.Texts.{answer_text}
 use Rattle.xa_manager.specs.Answers.{Desk, Answers}
 
 -- nothing has begun
-abbrev pub Begins : Desk → Type 0
-Begins desk = (desk.decisions ≡ []) × (desk.stages ≡ [])
+abbrev pub DeskBegins : Desk → Type 0
+DeskBegins desk = (desk.decisions ≡ []) × (desk.stages ≡ [])
 
 -- the call that a line is; one that is too long isn't read
 abbrev pub call_said : Heard → Call
@@ -97,12 +97,13 @@ has_few_words (Shown listing) = false
 
 -- memory was refused for a call, and the transactions and decisions are as before; or it was carried out, and memory was refused for what is
 -- told of it, which is then a response of many words: so a transaction that begins, a decision, a limit and a stop aren't carried out
-pub record IsRefused (old : Desk) (call : Call) (text : List ℕ) (new : Desk) : Type 0 where
+pub record IsRefusedCall (old : Desk) (call : Call) (text : List ℕ) (new : Desk) : Type 0 where
   pub speaks : call ≡ Silent → ⊥
   pub told : text ≡ refused_text
   pub stands : (new ≡ old) ⊎ ((response : Response) × (has_few_words response ≡ false) × Answers old call response new)
 
 -- a call was refused or carried out, and what it came to is told; or memory was refused
-abbrev pub IsAnswer : Desk → Heard → List ℕ → Desk → Type 0
-IsAnswer old line text new =
-    ((response : Response) × Answers old (call_said line) response new × (text ≡ answer_text new.decisions response)) ⊎ IsRefused old (call_said line) text new
+abbrev pub IsCallAnswer : Desk → Heard → List ℕ → Desk → Type 0
+IsCallAnswer old line text new =
+    ((response : Response) × Answers old (call_said line) response new × (text ≡ answer_text new.decisions response))
+    ⊎ IsRefusedCall old (call_said line) text new

@@ -1,8 +1,8 @@
 -- What a transaction manager writes for a script.
 --     AreOf            passes of stores, one of each
---     IsWhole          all lines were answered, and all answers were written
---     IsCut            the first lines' answers were written, and a part of the next one's
---     AfterFault       what a fault leaves in the writer
+--     IsAllWritten     all lines were answered, and all answers were written
+--     IsCutOff         the first lines' answers were written, and a part of the next one's
+--     AfterCallsFault  what a fault leaves in the writer
 use Rattle.std.specs.Prelude.{◌≡◌, ◌⊎◌, ℕ, Option, List, [], ◌∷◌, ◌++◌, take, IfSome}
 use Rattle.std.specs.Io.KnownBytes.{Keeps, Appends}
 use Rattle.std.specs.List.{AllZip}
@@ -14,17 +14,17 @@ use Rattle.xa_transcript.specs.Script.{lines_of}
 use Rattle.xa_manager.specs.declared.response.Response.{Response}
 use Rattle.xa_manager.specs.Calls.{call_of}
 use Rattle.xa_manager.specs.Texts.{answer_text}
-use Rattle.xa_manager.specs.Answers.{Desk, new_desk, Answers, IsRun}
+use Rattle.xa_manager.specs.Answers.{Desk, new_desk, Answers, AnswersRun}
 
 -- each pass is of the store in its place
 abbrev pub AreOf : List Store → List Pass → Type 0
 AreOf stores passes = AllZip (λ store pass. log_of pass ≡ identity_of store.log) stores passes
 
 -- every line of the script was answered, and the writer got all answers
-pub record IsWhole (start : Desk) (script : List ℕ) (old new : Option (List ℕ)) : Type 0 where
+pub record IsAllWritten (start : Desk) (script : List ℕ) (old new : Option (List ℕ)) : Type 0 where
   pub text : List ℕ
   pub final : Desk
-  pub run : IsRun start (lines_of script) text final
+  pub run : AnswersRun start (lines_of script) text final
   pub written : Appends old new text
 
 -- the first n bytes of what answers a line, for some n
@@ -41,23 +41,23 @@ MayBePart now [] piece = piece ≡ []
 MayBePart now (line ∷ lines) piece = (piece ≡ []) ⊎ IsPart now line piece
 
 -- the first lines were answered, and the writer got their answers, and a part of the next one's
-pub record IsCut (start : Desk) (script : List ℕ) (old new : Option (List ℕ)) : Type 0 where
+pub record IsCutOff (start : Desk) (script : List ℕ) (old new : Option (List ℕ)) : Type 0 where
   pub done : List (List ℕ)
   pub rest : List (List ℕ)
   pub lines : lines_of script ≡ done ++ rest
   pub text : List ℕ
   pub final : Desk
-  pub run : IsRun start done text final
+  pub run : AnswersRun start done text final
   pub piece : List ℕ
   pub begun : MayBePart final rest piece
   pub written : Appends old new (text ++ piece)
 
 -- nothing where the script wasn't read; else the answers of its first lines, and a part of the next one's; calls have no fault of a race
-abbrev pub AfterFault : ℕ → ScriptFault → Option (List ℕ) → Option (List ℕ) → Option (List ℕ) → Type 0
-AfterFault stores Read input old new = Keeps old new
-AfterFault stores TooLong input old new = Keeps old new
-AfterFault stores Write input old new = IfSome input (λ script. IsCut (new_desk stores) script old new)
-AfterFault stores NoMemory input old new = IfSome input (λ script. IsCut (new_desk stores) script old new)
-AfterFault stores Full input old new = ⊥
-AfterFault stores GateShut input old new = ⊥
-AfterFault stores ThreadRefused input old new = ⊥
+abbrev pub AfterCallsFault : ℕ → ScriptFault → Option (List ℕ) → Option (List ℕ) → Option (List ℕ) → Type 0
+AfterCallsFault stores Read input old new = Keeps old new
+AfterCallsFault stores TooLong input old new = Keeps old new
+AfterCallsFault stores Write input old new = IfSome input (λ script. IsCutOff (new_desk stores) script old new)
+AfterCallsFault stores NoMemory input old new = IfSome input (λ script. IsCutOff (new_desk stores) script old new)
+AfterCallsFault stores Full input old new = ⊥
+AfterCallsFault stores GateShut input old new = ⊥
+AfterCallsFault stores ThreadRefused input old new = ⊥

@@ -3,7 +3,7 @@ ghost use Rattle.std.specs.Prelude.{◌≡◌, ◌≤◌, ◌<◌, ◌-◌, ◌^
 ghost use Rattle.xa_manager.specs.Answers.{Answers, poll_of, stage_after as stage_with};
 ghost use Rattle.xa_manager.specs.Calls.{takes_rows, IsWritten};
 ghost use Rattle.xa_manager.specs.Limits.{Passes, StartsAnew};
-ghost use Rattle.xa_manager.specs.Said.{Says, floor, reply_of};
+ghost use Rattle.xa_manager.specs.Said.{SaidFor, floor_of, reply_of};
 
 use crate::{Call, Listing, Manager, Poll, Response, Stage};
 use std::alloc::{AllocError, Global};
@@ -93,9 +93,9 @@ impl<C: Speak, T: Speak> Manager<C, T> {
         ensures answers { IfOk result (λ response. Answers (record { stores = vec_len self.old.coordinator.stores; decisions = self.old.decisions; stages = self.old.ledger })
             (Call.Begin) response
             (record { stores = vec_len self.new.coordinator.stores; decisions = self.new.decisions; stages = self.new.ledger })) }
-        ensures says { IfOk result (λ response. Says C.view T.view (Call.Begin) response
-            (floor (record { stores = vec_len self.old.coordinator.stores; decisions = self.old.decisions; stages = self.old.ledger }) self.old.coordinator.branches self.old.coordinator.stores.items self.old.strangers.items)
-            (floor (record { stores = vec_len self.new.coordinator.stores; decisions = self.new.decisions; stages = self.new.ledger }) self.new.coordinator.branches self.new.coordinator.stores.items self.new.strangers.items)) }
+        ensures says { IfOk result (λ response. SaidFor C.view T.view (Call.Begin) response
+            (floor_of (record { stores = vec_len self.old.coordinator.stores; decisions = self.old.decisions; stages = self.old.ledger }) self.old.coordinator.branches self.old.coordinator.stores.items self.old.strangers.items)
+            (floor_of (record { stores = vec_len self.new.coordinator.stores; decisions = self.new.decisions; stages = self.new.ledger }) self.new.coordinator.branches self.new.coordinator.stores.items self.new.strangers.items)) }
         ensures kept { OnErr result ((vec_len self.new.coordinator.stores ≡ vec_len self.old.coordinator.stores) × (self.new.decisions ≡ self.old.decisions) × (self.new.ledger ≡ self.old.ledger)) }
     {
         self.ledger.add(Stage::Over)?;
@@ -118,9 +118,9 @@ impl<C: Speak, T: Speak> Manager<C, T> {
         ensures answers { Answers (record { stores = vec_len self.old.coordinator.stores; decisions = self.old.decisions; stages = self.old.ledger })
             (Call.Work number store statement.now) result
             (record { stores = vec_len self.new.coordinator.stores; decisions = self.new.decisions; stages = self.new.ledger }) }
-        ensures says { Says C.view T.view (Call.Work number store statement.now) result
-            (floor (record { stores = vec_len self.old.coordinator.stores; decisions = self.old.decisions; stages = self.old.ledger }) self.old.coordinator.branches self.old.coordinator.stores.items self.old.strangers.items)
-            (floor (record { stores = vec_len self.new.coordinator.stores; decisions = self.new.decisions; stages = self.new.ledger }) self.new.coordinator.branches self.new.coordinator.stores.items self.new.strangers.items) }
+        ensures says { SaidFor C.view T.view (Call.Work number store statement.now) result
+            (floor_of (record { stores = vec_len self.old.coordinator.stores; decisions = self.old.decisions; stages = self.old.ledger }) self.old.coordinator.branches self.old.coordinator.stores.items self.old.strangers.items)
+            (floor_of (record { stores = vec_len self.new.coordinator.stores; decisions = self.new.decisions; stages = self.new.ledger }) self.new.coordinator.branches self.new.coordinator.stores.items self.new.strangers.items) }
     {
         if !self.has_store(store) {
             return Response::UnknownStore(store);
@@ -142,9 +142,9 @@ impl<C: Speak, T: Speak> Manager<C, T> {
         ensures answers { Answers (record { stores = vec_len self.old.coordinator.stores; decisions = self.old.decisions; stages = self.old.ledger })
             (Call.Prepare number) result
             (record { stores = vec_len self.new.coordinator.stores; decisions = self.new.decisions; stages = self.new.ledger }) }
-        ensures says { Says C.view T.view (Call.Prepare number) result
-            (floor (record { stores = vec_len self.old.coordinator.stores; decisions = self.old.decisions; stages = self.old.ledger }) self.old.coordinator.branches self.old.coordinator.stores.items self.old.strangers.items)
-            (floor (record { stores = vec_len self.new.coordinator.stores; decisions = self.new.decisions; stages = self.new.ledger }) self.new.coordinator.branches self.new.coordinator.stores.items self.new.strangers.items) }
+        ensures says { SaidFor C.view T.view (Call.Prepare number) result
+            (floor_of (record { stores = vec_len self.old.coordinator.stores; decisions = self.old.decisions; stages = self.old.ledger }) self.old.coordinator.branches self.old.coordinator.stores.items self.old.strangers.items)
+            (floor_of (record { stores = vec_len self.new.coordinator.stores; decisions = self.new.decisions; stages = self.new.ledger }) self.new.coordinator.branches self.new.coordinator.stores.items self.new.strangers.items) }
     {
         match self.ledger.take_working(number) {
             Ok(transaction) => {
@@ -162,9 +162,9 @@ impl<C: Speak, T: Speak> Manager<C, T> {
         ensures answers { Answers (record { stores = vec_len self.old.coordinator.stores; decisions = self.old.decisions; stages = self.old.ledger })
             (Call.Decide number) result
             (record { stores = vec_len self.new.coordinator.stores; decisions = self.new.decisions; stages = self.new.ledger }) }
-        ensures says { Says C.view T.view (Call.Decide number) result
-            (floor (record { stores = vec_len self.old.coordinator.stores; decisions = self.old.decisions; stages = self.old.ledger }) self.old.coordinator.branches self.old.coordinator.stores.items self.old.strangers.items)
-            (floor (record { stores = vec_len self.new.coordinator.stores; decisions = self.new.decisions; stages = self.new.ledger }) self.new.coordinator.branches self.new.coordinator.stores.items self.new.strangers.items) }
+        ensures says { SaidFor C.view T.view (Call.Decide number) result
+            (floor_of (record { stores = vec_len self.old.coordinator.stores; decisions = self.old.decisions; stages = self.old.ledger }) self.old.coordinator.branches self.old.coordinator.stores.items self.old.strangers.items)
+            (floor_of (record { stores = vec_len self.new.coordinator.stores; decisions = self.new.decisions; stages = self.new.ledger }) self.new.coordinator.branches self.new.coordinator.stores.items self.new.strangers.items) }
     {
         match self.ledger.take_ready(number) {
             Ok(prepared) => {
@@ -184,9 +184,9 @@ impl<C: Speak, T: Speak> Manager<C, T> {
         ensures answers { Answers (record { stores = vec_len self.old.coordinator.stores; decisions = self.old.decisions; stages = self.old.ledger })
             (Call.Finish number) result
             (record { stores = vec_len self.new.coordinator.stores; decisions = self.new.decisions; stages = self.new.ledger }) }
-        ensures says { Says C.view T.view (Call.Finish number) result
-            (floor (record { stores = vec_len self.old.coordinator.stores; decisions = self.old.decisions; stages = self.old.ledger }) self.old.coordinator.branches self.old.coordinator.stores.items self.old.strangers.items)
-            (floor (record { stores = vec_len self.new.coordinator.stores; decisions = self.new.decisions; stages = self.new.ledger }) self.new.coordinator.branches self.new.coordinator.stores.items self.new.strangers.items) }
+        ensures says { SaidFor C.view T.view (Call.Finish number) result
+            (floor_of (record { stores = vec_len self.old.coordinator.stores; decisions = self.old.decisions; stages = self.old.ledger }) self.old.coordinator.branches self.old.coordinator.stores.items self.old.strangers.items)
+            (floor_of (record { stores = vec_len self.new.coordinator.stores; decisions = self.new.decisions; stages = self.new.ledger }) self.new.coordinator.branches self.new.coordinator.stores.items self.new.strangers.items) }
     {
         match self.ledger.take_voted(number) {
             Ok(prepared) => {
@@ -201,9 +201,9 @@ impl<C: Speak, T: Speak> Manager<C, T> {
         ensures answers { Answers (record { stores = vec_len self.old.coordinator.stores; decisions = self.old.decisions; stages = self.old.ledger })
             (Call.Abandon number) result
             (record { stores = vec_len self.new.coordinator.stores; decisions = self.new.decisions; stages = self.new.ledger }) }
-        ensures says { Says C.view T.view (Call.Abandon number) result
-            (floor (record { stores = vec_len self.old.coordinator.stores; decisions = self.old.decisions; stages = self.old.ledger }) self.old.coordinator.branches self.old.coordinator.stores.items self.old.strangers.items)
-            (floor (record { stores = vec_len self.new.coordinator.stores; decisions = self.new.decisions; stages = self.new.ledger }) self.new.coordinator.branches self.new.coordinator.stores.items self.new.strangers.items) }
+        ensures says { SaidFor C.view T.view (Call.Abandon number) result
+            (floor_of (record { stores = vec_len self.old.coordinator.stores; decisions = self.old.decisions; stages = self.old.ledger }) self.old.coordinator.branches self.old.coordinator.stores.items self.old.strangers.items)
+            (floor_of (record { stores = vec_len self.new.coordinator.stores; decisions = self.new.decisions; stages = self.new.ledger }) self.new.coordinator.branches self.new.coordinator.stores.items self.new.strangers.items) }
     {
         match self.ledger.take_working(number) {
             Ok(transaction) => Response::Ended(self.coordinator.abandon(rt, transaction)),
@@ -216,9 +216,9 @@ impl<C: Speak, T: Speak> Manager<C, T> {
         ensures answers { Answers (record { stores = vec_len self.old.coordinator.stores; decisions = self.old.decisions; stages = self.old.ledger })
             (Call.Recover) result
             (record { stores = vec_len self.new.coordinator.stores; decisions = self.new.decisions; stages = self.new.ledger }) }
-        ensures says { Says C.view T.view (Call.Recover) result
-            (floor (record { stores = vec_len self.old.coordinator.stores; decisions = self.old.decisions; stages = self.old.ledger }) self.old.coordinator.branches self.old.coordinator.stores.items self.old.strangers.items)
-            (floor (record { stores = vec_len self.new.coordinator.stores; decisions = self.new.decisions; stages = self.new.ledger }) self.new.coordinator.branches self.new.coordinator.stores.items self.new.strangers.items) }
+        ensures says { SaidFor C.view T.view (Call.Recover) result
+            (floor_of (record { stores = vec_len self.old.coordinator.stores; decisions = self.old.decisions; stages = self.old.ledger }) self.old.coordinator.branches self.old.coordinator.stores.items self.old.strangers.items)
+            (floor_of (record { stores = vec_len self.new.coordinator.stores; decisions = self.new.decisions; stages = self.new.ledger }) self.new.coordinator.branches self.new.coordinator.stores.items self.new.strangers.items) }
     {
         Response::Recovered(self.coordinator.recover(rt, alloc, &mut self.decisions))
     }
@@ -228,9 +228,9 @@ impl<C: Speak, T: Speak> Manager<C, T> {
         ensures answers { Answers (record { stores = vec_len self.old.coordinator.stores; decisions = self.old.decisions; stages = self.old.ledger })
             (Call.At store statement.now) result
             (record { stores = vec_len self.new.coordinator.stores; decisions = self.new.decisions; stages = self.new.ledger }) }
-        ensures says { Says C.view T.view (Call.At store statement.now) result
-            (floor (record { stores = vec_len self.old.coordinator.stores; decisions = self.old.decisions; stages = self.old.ledger }) self.old.coordinator.branches self.old.coordinator.stores.items self.old.strangers.items)
-            (floor (record { stores = vec_len self.new.coordinator.stores; decisions = self.new.decisions; stages = self.new.ledger }) self.new.coordinator.branches self.new.coordinator.stores.items self.new.strangers.items) }
+        ensures says { SaidFor C.view T.view (Call.At store statement.now) result
+            (floor_of (record { stores = vec_len self.old.coordinator.stores; decisions = self.old.decisions; stages = self.old.ledger }) self.old.coordinator.branches self.old.coordinator.stores.items self.old.strangers.items)
+            (floor_of (record { stores = vec_len self.new.coordinator.stores; decisions = self.new.decisions; stages = self.new.ledger }) self.new.coordinator.branches self.new.coordinator.stores.items self.new.strangers.items) }
     {
         if !self.has_store(store) {
             return Response::UnknownStore(store);
@@ -246,9 +246,9 @@ impl<C: Speak, T: Speak> Manager<C, T> {
         ensures answers { IfOk result (λ response. Answers (record { stores = vec_len self.old.coordinator.stores; decisions = self.old.decisions; stages = self.old.ledger })
             (Call.Show) response
             (record { stores = vec_len self.new.coordinator.stores; decisions = self.new.decisions; stages = self.new.ledger })) }
-        ensures says { IfOk result (λ response. Says C.view T.view (Call.Show) response
-            (floor (record { stores = vec_len self.old.coordinator.stores; decisions = self.old.decisions; stages = self.old.ledger }) self.old.coordinator.branches self.old.coordinator.stores.items self.old.strangers.items)
-            (floor (record { stores = vec_len self.new.coordinator.stores; decisions = self.new.decisions; stages = self.new.ledger }) self.new.coordinator.branches self.new.coordinator.stores.items self.new.strangers.items)) }
+        ensures says { IfOk result (λ response. SaidFor C.view T.view (Call.Show) response
+            (floor_of (record { stores = vec_len self.old.coordinator.stores; decisions = self.old.decisions; stages = self.old.ledger }) self.old.coordinator.branches self.old.coordinator.stores.items self.old.strangers.items)
+            (floor_of (record { stores = vec_len self.new.coordinator.stores; decisions = self.new.decisions; stages = self.new.ledger }) self.new.coordinator.branches self.new.coordinator.stores.items self.new.strangers.items)) }
         ensures kept { OnErr result ((vec_len self.new.coordinator.stores ≡ vec_len self.old.coordinator.stores) × (self.new.decisions ≡ self.old.decisions) × (self.new.ledger ≡ self.old.ledger)) }
     {
         let answers = listed_by_each(rt, alloc, self.strangers.as_mut_slice())?;
@@ -262,9 +262,9 @@ impl<S: Speak, T: Speak> Manager<Fused<S>, T> {
         ensures answers { Answers (record { stores = vec_len self.old.coordinator.stores; decisions = self.old.decisions; stages = self.old.ledger })
             (Call.Fail store calls) result
             (record { stores = vec_len self.new.coordinator.stores; decisions = self.new.decisions; stages = self.new.ledger }) }
-        ensures says { Says (λ session. S.view session.inner) T.view (Call.Fail store calls) result
-            (floor (record { stores = vec_len self.old.coordinator.stores; decisions = self.old.decisions; stages = self.old.ledger }) self.old.coordinator.branches self.old.coordinator.stores.items self.old.strangers.items)
-            (floor (record { stores = vec_len self.new.coordinator.stores; decisions = self.new.decisions; stages = self.new.ledger }) self.new.coordinator.branches self.new.coordinator.stores.items self.new.strangers.items) }
+        ensures says { SaidFor (λ session. S.view session.inner) T.view (Call.Fail store calls) result
+            (floor_of (record { stores = vec_len self.old.coordinator.stores; decisions = self.old.decisions; stages = self.old.ledger }) self.old.coordinator.branches self.old.coordinator.stores.items self.old.strangers.items)
+            (floor_of (record { stores = vec_len self.new.coordinator.stores; decisions = self.new.decisions; stages = self.new.ledger }) self.new.coordinator.branches self.new.coordinator.stores.items self.new.strangers.items) }
         ensures limited { result ≡ Response.Limited → Passes store calls self.new.coordinator.stores.items }
     {
         if !self.has_store(store) {
@@ -279,9 +279,9 @@ impl<S: Speak, T: Speak> Manager<Fused<S>, T> {
         ensures answers { Answers (record { stores = vec_len self.old.coordinator.stores; decisions = self.old.decisions; stages = self.old.ledger })
             (Call.Stop) result
             (record { stores = vec_len self.new.coordinator.stores; decisions = self.new.decisions; stages = self.new.ledger }) }
-        ensures says { Says (λ session. S.view session.inner) T.view (Call.Stop) result
-            (floor (record { stores = vec_len self.old.coordinator.stores; decisions = self.old.decisions; stages = self.old.ledger }) self.old.coordinator.branches self.old.coordinator.stores.items self.old.strangers.items)
-            (floor (record { stores = vec_len self.new.coordinator.stores; decisions = self.new.decisions; stages = self.new.ledger }) self.new.coordinator.branches self.new.coordinator.stores.items self.new.strangers.items) }
+        ensures says { SaidFor (λ session. S.view session.inner) T.view (Call.Stop) result
+            (floor_of (record { stores = vec_len self.old.coordinator.stores; decisions = self.old.decisions; stages = self.old.ledger }) self.old.coordinator.branches self.old.coordinator.stores.items self.old.strangers.items)
+            (floor_of (record { stores = vec_len self.new.coordinator.stores; decisions = self.new.decisions; stages = self.new.ledger }) self.new.coordinator.branches self.new.coordinator.stores.items self.new.strangers.items) }
         ensures anew { StartsAnew self.new.coordinator.branches self.new.coordinator.stores.items }
     {
         allow_all(&mut self.coordinator, self.strangers.len() as u8);
@@ -305,9 +305,9 @@ impl<S: Speak, T: Speak> Manager<Fused<S>, T> {
         ensures answers { IfOk result (λ response. Answers (record { stores = vec_len self.old.coordinator.stores; decisions = self.old.decisions; stages = self.old.ledger })
             (call.now) response
             (record { stores = vec_len self.new.coordinator.stores; decisions = self.new.decisions; stages = self.new.ledger })) }
-        ensures says { IfOk result (λ response. Says (λ session. S.view session.inner) T.view (call.now) response
-            (floor (record { stores = vec_len self.old.coordinator.stores; decisions = self.old.decisions; stages = self.old.ledger }) self.old.coordinator.branches self.old.coordinator.stores.items self.old.strangers.items)
-            (floor (record { stores = vec_len self.new.coordinator.stores; decisions = self.new.decisions; stages = self.new.ledger }) self.new.coordinator.branches self.new.coordinator.stores.items self.new.strangers.items)) }
+        ensures says { IfOk result (λ response. SaidFor (λ session. S.view session.inner) T.view (call.now) response
+            (floor_of (record { stores = vec_len self.old.coordinator.stores; decisions = self.old.decisions; stages = self.old.ledger }) self.old.coordinator.branches self.old.coordinator.stores.items self.old.strangers.items)
+            (floor_of (record { stores = vec_len self.new.coordinator.stores; decisions = self.new.decisions; stages = self.new.ledger }) self.new.coordinator.branches self.new.coordinator.stores.items self.new.strangers.items)) }
         ensures limited { (store calls : ℕ) → call.now ≡ Call.Fail store calls → result ≡ Ok Response.Limited → Passes store calls self.new.coordinator.stores.items }
         ensures anew { call.now ≡ Call.Stop → StartsAnew self.new.coordinator.branches self.new.coordinator.stores.items }
         ensures kept { OnErr result ((vec_len self.new.coordinator.stores ≡ vec_len self.old.coordinator.stores) × (self.new.decisions ≡ self.old.decisions) × (self.new.ledger ≡ self.old.ledger)) }

@@ -1,6 +1,6 @@
 //! A transaction manager.
 ghost use Rattle.std.specs.Prelude.{◌≡◌, ◌≤◌, ℕ, Some, [], vec_len, length, codes};
-ghost use Rattle.xa_manager.specs.Ledger.{stage_of, transaction_in, IsOf};
+ghost use Rattle.xa_manager.specs.Ledger.{stage_of, transaction_in, IsTransactionOf};
 ghost use Rattle.xa_coordinator.specs.declared.prepared.Ballot.TheVariants.{Ready as BallotReady};
 ghost use Rattle.xa_coordinator.specs.declared.prepared.Prepared.{Prepared};
 ghost use Rattle.xa_coordinator.specs.declared.transaction.Transaction.{Transaction};
@@ -32,7 +32,7 @@ pub struct Manager<C: Speak, T: Speak> {
     ghost named: { coordinator.name.items ≡ codes "c" },
     ghost pairs: { vec_len strangers ≡ vec_len coordinator.stores },
     ghost counted: { length ledger ≡ length decisions },
-    ghost kept: { (number : ℕ) (stage : Stage) (transaction : Transaction) → stage_of ledger number ≡ Some stage → transaction_in stage ≡ Some transaction → IsOf (vec_len coordinator.stores) number transaction },
+    ghost kept: { (number : ℕ) (stage : Stage) (transaction : Transaction) → stage_of ledger number ≡ Some stage → transaction_in stage ≡ Some transaction → IsTransactionOf (vec_len coordinator.stores) number transaction },
     ghost ready: { (number : ℕ) (prepared : Prepared) → stage_of ledger number ≡ Some (StageReady prepared) → prepared.ballot ≡ BallotReady },
 }
 

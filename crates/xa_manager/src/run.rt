@@ -7,7 +7,7 @@ ghost use Rattle.xa_transcript.specs.Limits.{script_bytes};
 ghost use Rattle.xa_transcript.specs.Transcript.{ConsumesMoreThan, IsOfRun};
 ghost use Rattle.xa_manager.specs.Answers.{new_desk};
 ghost use Rattle.xa_manager.specs.Texts.{answer_text};
-ghost use Rattle.xa_manager.specs.Written.{AreOf, IsWhole, IsCut, AfterFault};
+ghost use Rattle.xa_manager.specs.Written.{AreOf, IsAllWritten, IsCutOff, AfterCallsFault};
 
 use crate::print::write_response;
 use crate::{CallServer, Manager, Response, read_call};
@@ -36,11 +36,11 @@ fn answer_lines<S: Speak + Drop, T: Speak + Drop, W: Write, R: Wait>(
     script: &[u8],
     writer: &mut W,
 ) -> Result<(), ScriptFault>
-    ensures all { OnOk result (IsWhole
+    ensures all { OnOk result (IsAllWritten
         (record { stores = vec_len manager.coordinator.stores; decisions = manager.decisions; stages = manager.ledger })
         script.now (W.contents writer.old) (W.contents writer.new)) }
     ensures fault { IfErr result IsOfRun }
-    ensures cut { OnErr result (IsCut
+    ensures cut { OnErr result (IsCutOff
         (record { stores = vec_len manager.coordinator.stores; decisions = manager.decisions; stages = manager.ledger })
         script.now (W.contents writer.old) (W.contents writer.new)) }
 {
@@ -168,9 +168,9 @@ fn over_stores<W: Write, R: Wait>(
 ) -> Result<(), ScriptFault>
     requires some { 1 ≤ count }
     requires most { count ≤ 16 }
-    ensures all { OnOk result (IsWhole (new_desk count) script.now (W.contents writer.old) (W.contents writer.new)) }
+    ensures all { OnOk result (IsAllWritten (new_desk count) script.now (W.contents writer.old) (W.contents writer.new)) }
     ensures fault { IfErr result IsOfRun }
-    ensures cut { OnErr result (IsCut (new_desk count) script.now (W.contents writer.old) (W.contents writer.new)) }
+    ensures cut { OnErr result (IsCutOff (new_desk count) script.now (W.contents writer.old) (W.contents writer.new)) }
 {
     let Ok((stores, firsts, seconds)) = open_stores(alloc, count, capacity) else {
         return Err(ScriptFault::NoMemory);
@@ -228,9 +228,9 @@ pub fn coordinate<R: Wait, I: Read, W: Write>(
     requires stores { (1 ≤ stores) × (stores ≤ 16) }
     requires capacity { IsCapacity capacity }
     ensures read { OnOk result (IsAtEnd (I.remaining reader.new)) }
-    ensures written { OnOk result (IfSome (I.remaining reader.old) (λ script. IsWhole (new_desk stores) script (W.contents writer.old) (W.contents writer.new))) }
+    ensures written { OnOk result (IfSome (I.remaining reader.old) (λ script. IsAllWritten (new_desk stores) script (W.contents writer.old) (W.contents writer.new))) }
     ensures short { OnOk result (IfSome (I.remaining reader.old) (λ script. length script ≤ script_bytes)) }
-    ensures fault { IfErr result (λ fault. AfterFault stores fault (I.remaining reader.old) (W.contents writer.old) (W.contents writer.new)) }
+    ensures fault { IfErr result (λ fault. AfterCallsFault stores fault (I.remaining reader.old) (W.contents writer.old) (W.contents writer.new)) }
     ensures too_long { result ≡ Err ScriptFault.TooLong → ConsumesMoreThan script_bytes (I.remaining reader.old) (I.remaining reader.new) }
 {
     match read_all(alloc, reader) {

@@ -4,7 +4,7 @@ use Rattle.xa_xid.specs.declared.statement.Statement.{Statement}
 use Rattle.xa_server.specs.State.{State}
 use Rattle.xa_statement.specs.Reading.{read_of}
 use Rattle.xa_transcript.specs.Script.{Line, Given, line_of}
-use Rattle.xa_transcript.specs.Transcript.{answer_of, state_after, answer_to as written_for, state_then}
+use Rattle.xa_transcript.specs.Transcript.{answer_of, state_after_line, answer_to as written_for, state_then}
 use Rattle.xa_judge.specs.declared.request.Request.{Request}
 use Rattle.xa_judge.specs.Explained.{next_state}
 use Rattle.xa_judge.specs.declared.moves.Move.{Move}
@@ -32,14 +32,15 @@ then_by : (state : State) (session : ℕ) (read : Result Statement ℕ) → stat
 then_by state session (Ok statement) = refl
 then_by state session (Err place) = refl
 
-then_given : (state : State) (session : ℕ) (text : List ℕ) → state_after state (Given session text) ≡ next_state state session (request_read (read_of text))
-unfolding state_after
+then_given : (state : State) (session : ℕ) (text : List ℕ)
+    → state_after_line state (Given session text) ≡ next_state state session (request_read (read_of text))
+unfolding state_after_line
 then_given state session text = then_by state session (read_of text)
 
 pub line_followed : (state : State) (line : List ℕ) (session : ℕ) (request : Request) → GivesRequest line session request
-    → state_after state (line_of line) ≡ next_state state session request
+    → state_after_line state (line_of line) ≡ next_state state session request
 line_followed state line session request gives =
-    ap (state_after state) gives.given ∙ then_given state session gives.text ∙ ap (next_state state session) (sym gives.asks)
+    ap (state_after_line state) gives.given ∙ then_given state session gives.text ∙ ap (next_state state session) (sym gives.asks)
 
 pub order_joined : (calls : List (List ℕ)) (noted : List Noted) (moves : List Move) → order_text calls noted moves ≡ joined (order_lines calls noted moves)
 unfolding order_text order_lines joined

@@ -20,8 +20,9 @@ use Rattle.xa_judge.specs.declared.moves.Act.{Act}
 use Rattle.xa_judge.specs.declared.moves.Act.TheVariants.{Statement as ItsStatement, Disconnect as ItsDisconnect}
 use Rattle.xa_judge.specs.declared.moves.Move.{Move}
 use Rattle.xa_judge.specs.declared.moves.Move.TheVariants.{Event as Seeing, Effect}
-use Rattle.xa_judge.specs.Explained.{Config, opening, with_standing, effect_of, carried_out, disconnected, observed, called, returned, lost, agrees, IsSession}
-use Rattle.xa_judge.specs.Explained.{Runs}
+use Rattle.xa_judge.specs.Explained.{Config, opening_config, with_standing, effect_of, carried_out, disconnected, observed, called, returned, lost}
+use Rattle.xa_judge.specs.Explained.{shows_answer, IsSession}
+use Rattle.xa_judge.specs.Explained.{LeadsThrough}
 use Rattle.xa_judge.proofs.Places.{same_number, get_written, get_apart, get_within}
 use Rattle.xa_record.specs.Lines.{Told, Calls, Returns, Leaves}
 use Rattle.xa_record.specs.Reading.{Noted}
@@ -200,7 +201,7 @@ return_by None calls config session seen mid found kept at = absurd (none-some m
 return_by (Some Idle) calls config session seen mid found kept at = absurd (none-some mid at)
 return_by (Some (Called request)) calls config session seen mid found kept at = absurd (none-some mid at)
 return_by (Some (Answered answer)) calls config session seen mid found kept at =
-    let shown = cond_some (agrees seen answer) (with_standing config session Idle) mid at in
+    let shown = cond_some (shows_answer seen answer) (with_standing config session Idle) mid at in
     subst (Kept calls) (ap (λ (c : Config). c.standings) shown.1) (kept_without calls config.standings session (Answered answer) Idle found refl kept)
 return_by (Some (Gone request)) calls config session seen mid found kept at = absurd (none-some mid at)
 return_by (Some Left) calls config session seen mid found kept at = absurd (none-some mid at)
@@ -231,7 +232,7 @@ seen_kept calls config (Leaves session) event mid well is kept at =
     lost_by (slice_get config.standings session) calls config session mid refl kept (sym (ap (observed config) is) ∙ at)
 
 pub are_effects : (calls : List (List ℕ)) (noted : List Noted) (events : List Event) (moves : List Move) (old new : Config) → AreWellCalled noted
-    → AreEvents noted events → Kept calls old.standings → Runs old events moves new
+    → AreEvents noted events → Kept calls old.standings → LeadsThrough old events moves new
     → AreEffects old events moves (order_lines calls noted moves)
 unfolding order_lines
 are_effects calls noted events (Effect session act ∷ moves) old new well are kept runs =
@@ -254,11 +255,11 @@ idle_open zero place request opened = absurd (none-some request opened)
 idle_open (suc count) zero request opened = absurd (none-some request opened)
 idle_open (suc count) (suc place) request opened = idle_open count place request opened
 
-none_kept : (base : State) → Kept no_calls (opening base).standings
-unfolding opening
+none_kept : (base : State) → Kept no_calls (opening_config base).standings
+unfolding opening_config
 none_kept base = record { long = refl; each = λ session request opened. absurd (idle_open 17 session request opened) }
 
 pub order_replayed : (base : State) (noted : List Noted) (events : List Event) (moves : List Move) (new : Config) → AreWellCalled noted → AreEvents noted events
-    → Runs (opening base) events moves new
-    → AreEffects (opening base) events moves (order_lines no_calls noted moves)
-order_replayed base noted events moves new well are runs = are_effects no_calls noted events moves (opening base) new well are (none_kept base) runs
+    → LeadsThrough (opening_config base) events moves new
+    → AreEffects (opening_config base) events moves (order_lines no_calls noted moves)
+order_replayed base noted events moves new well are runs = are_effects no_calls noted events moves (opening_config base) new well are (none_kept base) runs

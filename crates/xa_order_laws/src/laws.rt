@@ -4,9 +4,9 @@ ghost use Rattle.xa_server.specs.State.{State};
 ghost use Rattle.xa_judge.specs.declared.event.Event.{Event};
 ghost use Rattle.xa_judge.specs.declared.moves.Move.{Move};
 ghost use Rattle.xa_judge.specs.declared.request.Request.{Request};
-ghost use Rattle.xa_judge.specs.Explained.{Config, opening, Runs, next_state};
+ghost use Rattle.xa_judge.specs.Explained.{Config, opening_config, LeadsThrough, next_state};
 ghost use Rattle.xa_transcript.specs.Script.{line_of};
-ghost use Rattle.xa_transcript.specs.Transcript.{answer_of, state_after};
+ghost use Rattle.xa_transcript.specs.Transcript.{answer_of, state_after_line};
 ghost use Rattle.xa_record.specs.Reading.{Noted};
 ghost use Rattle.xa_record.specs.Events.{AreEvents};
 ghost use Rattle.xa_record.specs.VerdictText.{order_text, no_calls};
@@ -18,7 +18,7 @@ ghost use Rattle.xa_order_laws.specs.Replaying.{order_lines, joined, GivesReques
 pub fn order_is_replayed()
     ensures written { (calls : List (List ℕ)) (noted : List Noted) (moves : List Move) → order_text calls noted moves ≡ joined (order_lines calls noted moves) }
     ensures effects { (base : State) (noted : List Noted) (events : List Event) (moves : List Move) (new : Config) →
-        AreWellCalled noted → AreEvents noted events → Runs (opening base) events moves new → AreEffects (opening base) events moves (order_lines no_calls noted moves) }
+        AreWellCalled noted → AreEvents noted events → LeadsThrough (opening_config base) events moves new → AreEffects (opening_config base) events moves (order_lines no_calls noted moves) }
     ensures answers { (state : State) (line : List ℕ) (session : ℕ) (request : Request) → GivesRequest line session request → AnswersSo state session request (answer_of state (line_of line)) }
-    ensures states { (state : State) (line : List ℕ) (session : ℕ) (request : Request) → GivesRequest line session request → state_after state (line_of line) ≡ next_state state session request }
+    ensures states { (state : State) (line : List ℕ) (session : ℕ) (request : Request) → GivesRequest line session request → state_after_line state (line_of line) ≡ next_state state session request }
 {}

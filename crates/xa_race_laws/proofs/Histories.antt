@@ -19,22 +19,22 @@ use Rattle.xa_session.specs.Answer.{entry_of}
 use Rattle.xa_session.specs.declared.answer.Answer.{Answer}
 use Rattle.xa_store.specs.Legal.{Answered, entered}
 use Rattle.xa_judge.proofs.Places.{same_number}
-use Rattle.xa_race_laws.specs.Overlapping.{Line}
+use Rattle.xa_race_laws.specs.Overlapping.{RunLine}
 use Rattle.xa_race_laws.proofs.Tests.{same_test, apart_test}
 
-abbrev pub statements_in : List Line → List Statement
+abbrev pub statements_in : List RunLine → List Statement
 statements_in lines = map (λ line. line.statement) lines
 
-abbrev pub answers_in : List Line → List Answer
+abbrev pub answers_in : List RunLine → List Answer
 answers_in lines = map (λ line. line.answer) lines
 
 -- the session's lines that are left are answered from the place on, and are its entries from there on
-pub record Remains (base : State) (history : List Entry) (place session : ℕ) (lines : List Line) : Type 0 where
+pub record Remains (base : State) (history : List Entry) (place session : ℕ) (lines : List RunLine) : Type 0 where
   pub answered : Answered base history session place (statements_in lines) (answers_in lines)
   pub mine : entries_of session (drop place history) ≡ entered base history session (statements_in lines) (answers_in lines)
 
 -- the first line that is left enters, if it stands at the place
-abbrev pub Drained : State → List Entry → ℕ → ℕ → List Line → Type 0
+abbrev pub Drained : State → List Entry → ℕ → ℕ → List RunLine → Type 0
 Drained base history place session [] = Unit {0}
 Drained base history place session (line ∷ lines) = line.answer.place ≡ place → enters (state_at base history place) session line.statement ≡ true
 
@@ -111,7 +111,8 @@ fits base history session from (statement ∷ statements) (answer ∷ answers) a
     (λ place rest. fits base history session place statements answers rest)
 
 -- behind a line that doesn't enter
-pub skipped : (base : State) (history : List Entry) (place session : ℕ) (line : Line) (rest : List Line) → Remains base history place session (line ∷ rest)
+pub skipped : (base : State) (history : List Entry) (place session : ℕ) (line : RunLine) (rest : List RunLine)
+    → Remains base history place session (line ∷ rest)
     → line.answer.place ≡ place
     → enters (state_at base history place) session line.statement ≡ false → Remains base history place session rest
 skipped base history place session line rest left at out =
@@ -132,7 +133,7 @@ tails : (first second : Entry) (xs ys : List Entry) → first ∷ xs ≡ second 
 tails first second xs ys same = cc
 
 -- behind a line that enters
-pub entering : (base : State) (history : List Entry) (place session : ℕ) (line : Line) (rest : List Line) (entry : Entry)
+pub entering : (base : State) (history : List Entry) (place session : ℕ) (line : RunLine) (rest : List RunLine) (entry : Entry)
     → Remains base history place session (line ∷ rest) → line.answer.place ≡ place
     → enters (state_at base history place) session line.statement ≡ true → slice_get history place ≡ Some entry → entry.session ≡ session
     → Remains base history (suc place) session rest
@@ -152,14 +153,15 @@ entering base history place session line rest entry left at in' is own =
     }
 
 -- the line that enters at a place is the entry there
-pub enters_there : (base : State) (history : List Entry) (place session : ℕ) (line : Line) (rest : List Line) → Remains base history place session (line ∷ rest)
+pub enters_there : (base : State) (history : List Entry) (place session : ℕ) (line : RunLine) (rest : List RunLine)
+    → Remains base history place session (line ∷ rest)
     → line.answer.place ≡ place
     → enters (state_at base history place) session line.statement ≡ true → slice_get history place ≡ Some (entry_of session line.statement)
 enters_there base history place session line rest left at in' =
     sym (ap (slice_get history) at) ∙ left.answered.1.next (ap (λ (n : ℕ). enters (state_at base history n) session line.statement) at ∙ in')
 
 -- behind an entry of another session
-pub waiting : (base : State) (history : List Entry) (place session : ℕ) (lines : List Line) (entry : Entry) → Remains base history place session lines
+pub waiting : (base : State) (history : List Entry) (place session : ℕ) (lines : List RunLine) (entry : Entry) → Remains base history place session lines
     → Drained base history place session lines → slice_get history place ≡ Some entry
     → entry.session ≢ session → Remains base history (suc place) session lines
 waiting base history place session [] entry left drained is apart =
@@ -177,16 +179,16 @@ waiting base history place session (line ∷ rest) entry left drained is apart =
     after_place apart order = omega arith
 
 -- the session of the next entry has a line left, at the place
-pub record Due (place : ℕ) (lines : List Line) : Type 0 where
-  pub line : Line
-  pub rest : List Line
+pub record Due (place : ℕ) (lines : List RunLine) : Type 0 where
+  pub line : RunLine
+  pub rest : List RunLine
   pub is : lines ≡ line ∷ rest
   pub at : line.answer.place ≡ place
 
 some_left : (entry : Entry) (list : List Entry) → entry ∷ list ≡ [] → ⊥
 some_left entry list same = cc
 
-pub due : (base : State) (history : List Entry) (place session : ℕ) (lines : List Line) (entry : Entry) → Remains base history place session lines
+pub due : (base : State) (history : List Entry) (place session : ℕ) (lines : List RunLine) (entry : Entry) → Remains base history place session lines
     → slice_get history place ≡ Some entry → entry.session ≡ session → Due place lines
 due base history place session [] entry left is own = absurd (some_left entry _ (sym (own_from history place session entry is own) ∙ left.mine))
 due base history place session (line ∷ rest) entry left is own = elim (same_number line.answer.place place) [
@@ -202,7 +204,7 @@ due base history place session (line ∷ rest) entry left is own = elim (same_nu
         omega (arith, few, many)
 
 -- at the end of the history no line is left
-pub ended : (base : State) (history : List Entry) (place session : ℕ) (lines : List Line) → Remains base history place session lines
+pub ended : (base : State) (history : List Entry) (place session : ℕ) (lines : List RunLine) → Remains base history place session lines
     → Drained base history place session lines → place ≡ length history → lines ≡ []
 ended base history place session [] left drained end = refl
 ended base history place session (line ∷ rest) left drained end =

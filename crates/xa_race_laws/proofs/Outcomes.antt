@@ -18,7 +18,7 @@ use Rattle.xa_store.specs.declared.run.Run.{Run}
 use Rattle.xa_store.specs.declared.outcome.Outcome.{Outcome}
 use Rattle.xa_judge.specs.Explained.{IsSession}
 use Rattle.xa_judge.proofs.Places.{get_within}
-use Rattle.xa_race_laws.specs.Overlapping.{Line, Lines, AreFresh, AreLinesOf, IsExplainedOverlap}
+use Rattle.xa_race_laws.specs.Overlapping.{RunLine, Lines, AreFreshRuns, AreLinesOf, IsExplainedOverlap}
 use Rattle.xa_race_laws.proofs.Histories.{Remains, statements_in, answers_in, entries_of-other}
 use Rattle.xa_race_laws.proofs.Schedules.{overlap_explained}
 
@@ -41,7 +41,7 @@ none_of count session (entry ∷ list) within above =
     entries_of-other session entry list (λ same. absurd (omega arith)) ∙ none_of count session list (λ place other at. within (suc place) other at) above
 
 -- what a run's answers say of its lines
-run_remains : (base : State) (history : List Entry) (session : ℕ) (known : Known) (statements : List Statement) (answers : List Answer) (lines : List Line)
+run_remains : (base : State) (history : List Entry) (session : ℕ) (known : Known) (statements : List Statement) (answers : List Answer) (lines : List RunLine)
     → IsLegal base history known statements answers → known ≡ newcomer session
     → statements_in lines ≡ statements → answers_in lines ≡ answers → Remains base history 0 session lines
 run_remains base history session known statements answers lines legal fresh given told =
@@ -51,11 +51,11 @@ run_remains base history session known statements answers lines legal fresh give
     (subst (λ (a : List Answer). IsLegal base history (newcomer session) statements a) (sym told) new) in
     record { answered = own.answered; mine = own.mine }
 
-no_lines : (base : State) (history : List Entry) (session : ℕ) (lines : List Line) → lines ≡ [] → entries_of session history ≡ []
+no_lines : (base : State) (history : List Entry) (session : ℕ) (lines : List RunLine) → lines ≡ [] → entries_of session history ≡ []
     → Remains base history 0 session lines
 no_lines base history session lines none no_entry = subst (Remains base history 0 session) (sym none) (record { answered = tt; mine = no_entry })
 
-module _ (base : State) (runs : List Run) (outcome : Outcome) (lines : Lines) (legal : IsOutcome base runs outcome) (fresh : AreFresh runs)
+module _ (base : State) (runs : List Run) (outcome : Outcome) (lines : Lines) (legal : IsOutcome base runs outcome) (fresh : AreFreshRuns runs)
     (own : AllOf (length runs) outcome.history.items)
     (are : AreLinesOf runs (map (λ answers. answers.items) outcome.answers.items) lines) where
   entry_within : (place : ℕ) (entry : Entry) → slice_get outcome.history.items place ≡ Some entry → (1 ≤ entry.session) × (entry.session ≤ length runs)

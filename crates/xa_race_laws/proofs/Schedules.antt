@@ -14,9 +14,9 @@ use Rattle.xa_server.proofs.Entering.{unentered_leaves}
 use Rattle.xa_session.specs.Replay.{state_at}
 use Rattle.xa_session.specs.Answer.{entry_of}
 use Rattle.xa_session.proofs.Replaying.{state_at-next, state_after-nil}
-use Rattle.xa_judge.specs.Explained.{Config, opening, IsSession}
+use Rattle.xa_judge.specs.Explained.{Config, opening_config, IsSession}
 use Rattle.xa_judge.proofs.Places.{same_number, get_within}
-use Rattle.xa_race_laws.specs.Overlapping.{Line, Lines, with_lines, first_calls, over, IsExplainedOverlap}
+use Rattle.xa_race_laws.specs.Overlapping.{RunLine, Lines, with_lines, first_calls, over, IsExplainedOverlap}
 use Rattle.xa_race_laws.proofs.Tests.{lines_own, lines_other}
 use Rattle.xa_race_laws.proofs.Steps.{RunsOn, Stands, Goes, emits, Begun, begins, none_called, opening-state}
 use Rattle.xa_race_laws.proofs.Histories.{Remains, Drained, skipped, entering, enters_there, waiting, Due, due, ended}
@@ -30,7 +30,7 @@ module _ (base : State) (history : List Entry) where
     pub stands : Stands lines config
 
   -- the lines of one session were changed
-  remain_with : (next : ℕ) (lines : Lines) (session : ℕ) (rest : List Line) → Remains base history next session rest
+  remain_with : (next : ℕ) (lines : Lines) (session : ℕ) (rest : List RunLine) → Remains base history next session rest
       → ((other : ℕ) → IsSession other → other ≢ session → Remains base history next other (lines other))
       → (other : ℕ) → IsSession other → Remains base history next other (with_lines lines session rest other)
   remain_with next lines session rest own others other is = elim (same_number other session) [
@@ -39,12 +39,13 @@ module _ (base : State) (history : List Entry) where
     | inr apart ↦ subst (Remains base history next other) (sym (lines_other lines session other rest apart)) (others other is apart)
   ]
 
-  outside_with : (lines : Lines) (session : ℕ) (rest : List Line) → IsSession session → ((other : ℕ) → (IsSession other → ⊥) → lines other ≡ []) → (other : ℕ)
+  outside_with : (lines : Lines) (session : ℕ) (rest : List RunLine) → IsSession session → ((other : ℕ) → (IsSession other → ⊥) → lines other ≡ [])
+      → (other : ℕ)
       → (IsSession other → ⊥) → with_lines lines session rest other ≡ []
   outside_with lines session rest is outside other out =
       lines_other lines session other rest (λ same. out (subst (λ (n : ℕ). IsSession n) (sym same) is)) ∙ outside other out
 
-  reply_there : (place session : ℕ) (line : Line) (rest : List Line) (config : Config) → Remains base history place session (line ∷ rest)
+  reply_there : (place session : ℕ) (line : RunLine) (rest : List RunLine) (config : Config) → Remains base history place session (line ∷ rest)
       → line.answer.place ≡ place → config.state ≡ state_at base history place
       → line.answer.reply ≡ reply_to config.state session line.statement
   reply_there place session line rest config left at state =
@@ -57,7 +58,7 @@ module _ (base : State) (history : List Entry) where
       → ((other : ℕ) → other ≢ session → new other ≡ lines other) → Goes new later
 
   -- a line of a session that stands at the place and doesn't enter there is next
-  skip_one : (place session : ℕ) → IsSession session → (line : Line) (rest : List Line) (lines : Lines) (config : Config) → lines session ≡ line ∷ rest
+  skip_one : (place session : ℕ) → IsSession session → (line : RunLine) (rest : List RunLine) (lines : Lines) (config : Config) → lines session ≡ line ∷ rest
       → Ready place lines config → line.answer.place ≡ place
       → enters (state_at base history place) session line.statement ≡ false
       → ((new : Lines) (later : Config) → new session ≡ rest → Ready place new later → Leads place session new → Goes new later) → Leads place session lines
@@ -77,7 +78,7 @@ module _ (base : State) (history : List Entry) where
       })
       (λ last end there drained others. go last end there drained (λ other apart. others other apart ∙ lines_other lines session other rest apart)))
 
-  drain_by : (place session : ℕ) → IsSession session → (line : Line) (rest : List Line) (lines : Lines) (config : Config) → lines session ≡ line ∷ rest
+  drain_by : (place session : ℕ) → IsSession session → (line : RunLine) (rest : List RunLine) (lines : Lines) (config : Config) → lines session ≡ line ∷ rest
       → Ready place lines config
       → (enters_it : Bool) → enters (state_at base history place) session line.statement ≡ enters_it
       → ((new : Lines) (later : Config) → new session ≡ rest → Ready place new later → Leads place session new → Goes new later) → Leads place session lines
@@ -90,7 +91,7 @@ module _ (base : State) (history : List Entry) where
   ]
 
   -- the lines of a session that stand at the place and don't enter there are next
-  drain : (place session : ℕ) → IsSession session → (own : List Line) (lines : Lines) (config : Config) → lines session ≡ own → Ready place lines config
+  drain : (place session : ℕ) → IsSession session → (own : List RunLine) (lines : Lines) (config : Config) → lines session ≡ own → Ready place lines config
       → Leads place session lines → Goes lines config
   drain place session is [] lines config own ready go = go lines config ready (subst (Drained base history place session) (sym own) tt) (λ other apart. refl)
   drain place session is (line ∷ rest) lines config own ready go =
@@ -177,9 +178,9 @@ module _ (base : State) (history : List Entry) where
       → ((session : ℕ) → IsSession session → Remains base history 0 session (lines session))
       → ((session : ℕ) → (IsSession session → ⊥) → lines session ≡ []) → IsExplainedOverlap base lines
   overlap_explained lines sessions remain outside =
-      let begun : Begun 16 lines (opening base) = begins 16 (omega arith) lines (opening base) (none_called lines base) in
+      let begun : Begun 16 lines (opening_config base) = begins 16 (omega arith) lines (opening_config base) (none_called lines base) in
       let ready : Ready 0 lines begun.new =
       record { remain = remain; outside = outside; state = begun.state ∙ opening-state base ∙ sym (state_after-nil base); stands = begun.stands } in
       let all : Goes lines begun.new = goes (length history) 0 (omega arith) sessions lines begun.new ready in
-      let run : RunsOn (opening base) (first_calls 16 lines ++ all.events) = begun.back all.events all.run in
+      let run : RunsOn (opening_config base) (first_calls 16 lines ++ all.events) = begun.back all.events all.run in
       (all.events, all.overlap, (run.moves, run.new, run.runs))

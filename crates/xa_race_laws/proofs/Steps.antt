@@ -22,19 +22,20 @@ use Rattle.xa_judge.specs.declared.standing.Standing.TheVariants.{Idle, Called, 
 use Rattle.xa_judge.specs.declared.moves.Act.TheVariants.{Statement as ItsStatement}
 use Rattle.xa_judge.specs.declared.moves.Move.{Move}
 use Rattle.xa_judge.specs.declared.moves.Move.TheVariants.{Event as Seeing, Effect}
-use Rattle.xa_judge.specs.Explained.{Config, with_standing, opening, effect_of, carried_out, observed, called, returned, agrees, IsSession, Runs}
+use Rattle.xa_judge.specs.Explained.{Config, with_standing, opening_config, effect_of, carried_out, observed, called, returned, shows_answer, IsSession}
+use Rattle.xa_judge.specs.Explained.{LeadsThrough}
 use Rattle.xa_judge.proofs.Places.{same_number, get_written, get_apart}
-use Rattle.xa_race_laws.specs.Overlapping.{Line, Lines, with_lines, next_call, first_calls, Overlap, returned as returned_next}
+use Rattle.xa_race_laws.specs.Overlapping.{RunLine, Lines, with_lines, next_call, first_calls, Overlap, returned as returned_next}
 use Rattle.xa_race_laws.proofs.Tests.{lines_own, lines_other, get_replicate}
 
 -- some moves lead through the events
 pub record RunsOn (config : Config) (events : List Event) : Type 0 where
   pub moves : List Move
   pub new : Config
-  pub runs : Runs config events moves new
+  pub runs : LeadsThrough config events moves new
 
 -- what a session is about that has these lines left
-abbrev pub standing_of : List Line → Standing
+abbrev pub standing_of : List RunLine → Standing
 standing_of [] = Idle
 standing_of (line ∷ lines) = Called (Given line.statement)
 
@@ -49,7 +50,7 @@ pub record Goes (lines : Lines) (config : Config) : Type 0 where
   pub run : RunsOn config events
 
 -- the session's statement takes effect
-effect_now : (config : Config) (session : ℕ) (line : Line) → slice_get config.standings session ≡ Some (Called (Given line.statement))
+effect_now : (config : Config) (session : ℕ) (line : RunLine) → slice_get config.standings session ≡ Some (Called (Given line.statement))
     → effect_of config session ItsStatement
     ≡ Some (record {
       state = after config.state session line.statement;
@@ -59,65 +60,65 @@ unfolding effect_of carried_out
 effect_now config session line found = ap (λ (o : Option Standing). carried_out o config session) found
 
 -- its call returns
-return_now : (config : Config) (session : ℕ) (line : Line) (answer : Answer) → slice_get config.standings session ≡ Some (Answered answer)
-    → agrees line.seen answer ≡ true
+return_now : (config : Config) (session : ℕ) (line : RunLine) (answer : Answer) → slice_get config.standings session ≡ Some (Answered answer)
+    → shows_answer line.seen answer ≡ true
     → observed config (Return session line.seen) ≡ Some (with_standing config session Idle)
 unfolding observed returned
 return_now config session line answer found shows =
     ap (λ (o : Option Standing). returned o config session line.seen) found ∙ ap (λ b. cond b (Some (with_standing config session Idle)) None) shows
 
 -- an idle session calls
-call_now : (config : Config) (session : ℕ) (line : Line) → slice_get config.standings session ≡ Some Idle
+call_now : (config : Config) (session : ℕ) (line : RunLine) → slice_get config.standings session ≡ Some Idle
     → observed config (Call session (Given line.statement)) ≡ Some (with_standing config session (Called (Given line.statement)))
 unfolding observed called
 call_now config session line found = ap (λ (o : Option Standing). called o config session (Given line.statement)) found
 
 -- the session's standing was written, and the others stand as they did
-written_stands : (lines : Lines) (session : ℕ) (rest : List Line) (old new : Config) → Stands lines old
+written_stands : (lines : Lines) (session : ℕ) (rest : List RunLine) (old new : Config) → Stands lines old
     → slice_get new.standings session ≡ Some (standing_of rest)
     → ((other : ℕ) → session ≢ other → slice_get new.standings other ≡ slice_get old.standings other) → Stands (with_lines lines session rest) new
 written_stands lines session rest old new stands own others other is_other = elim (same_number session other) [
   | inl same ↦ subst (λ (n : ℕ). slice_get new.standings n ≡ Some (standing_of (with_lines lines session rest n))) same
-      (own ∙ ap (λ (l : List Line). Some (standing_of l)) (sym (lines_own lines session rest)))
+      (own ∙ ap (λ (l : List RunLine). Some (standing_of l)) (sym (lines_own lines session rest)))
   | inr apart ↦ others other apart ∙ stands other is_other
-      ∙ ap (λ (l : List Line). Some (standing_of l)) (sym (lines_other lines session other rest (λ e. apart (sym e))))
+      ∙ ap (λ (l : List RunLine). Some (standing_of l)) (sym (lines_other lines session other rest (λ e. apart (sym e))))
 ]
 
 -- how things stand once the session's statement has taken effect, and once its call has returned
-abbrev pub effected : Config → ℕ → Line → Config
+abbrev pub effected : Config → ℕ → RunLine → Config
 effected config session line =
     record {
       state = after config.state session line.statement;
       standings = set config.standings session (Answered (Replied (reply_to config.state session line.statement)));
     }
 
-abbrev pub idle_again : Config → ℕ → Line → Config
+abbrev pub idle_again : Config → ℕ → RunLine → Config
 idle_again config session line = with_standing (effected config session line) session Idle
 
-answered_there : (config : Config) (session : ℕ) (line : Line) → slice_get config.standings session ≡ Some (Called (Given line.statement))
+answered_there : (config : Config) (session : ℕ) (line : RunLine) → slice_get config.standings session ≡ Some (Called (Given line.statement))
     → slice_get (effected config session line).standings session ≡ Some (Answered (Replied (reply_to config.state session line.statement)))
 answered_there config session line found =
     get_written config.standings session (Called (Given line.statement)) (Answered (Replied (reply_to config.state session line.statement))) found
 
-idle_there : (config : Config) (session : ℕ) (line : Line) → slice_get config.standings session ≡ Some (Called (Given line.statement))
+idle_there : (config : Config) (session : ℕ) (line : RunLine) → slice_get config.standings session ≡ Some (Called (Given line.statement))
     → slice_get (idle_again config session line).standings session ≡ Some Idle
 idle_there config session line found =
     get_written (effected config session line).standings session (Answered (Replied (reply_to config.state session line.statement))) Idle
     (answered_there config session line found)
 
-others_there : (config : Config) (session : ℕ) (line : Line) (other : ℕ) → session ≢ other
+others_there : (config : Config) (session : ℕ) (line : RunLine) (other : ℕ) → session ≢ other
     → slice_get (idle_again config session line).standings other ≡ slice_get config.standings other
 others_there config session line other apart =
     get_apart (effected config session line).standings session other Idle apart
     ∙ get_apart config.standings session other (Answered (Replied (reply_to config.state session line.statement))) apart
 
 -- the session calls again where it has lines left, and things go on
-pub record GoesNext (lines : Lines) (session : ℕ) (rest : List Line) (config : Config) : Type 0 where
+pub record GoesNext (lines : Lines) (session : ℕ) (rest : List RunLine) (config : Config) : Type 0 where
   pub events : List Event
   pub overlap : Overlap (with_lines lines session rest) events
   pub run : RunsOn config (next_call session rest ++ events)
 
-goes_next : (lines : Lines) (session : ℕ) (line : Line) (rest : List Line) (config : Config) → Stands lines config
+goes_next : (lines : Lines) (session : ℕ) (line : RunLine) (rest : List RunLine) (config : Config) → Stands lines config
     → slice_get config.standings session ≡ Some (Called (Given line.statement))
     → ((new : Config) → new.state ≡ after config.state session line.statement → Stands (with_lines lines session rest) new
     → Goes (with_lines lines session rest) new)
@@ -142,15 +143,15 @@ goes_next lines session line (second ∷ rest) config stands found go =
     }
 
 -- a line of a session is next: its statement takes effect now, and its call returns
-pub emits : (lines : Lines) (session : ℕ) (line : Line) (rest : List Line) (config : Config) → IsSession session → lines session ≡ line ∷ rest
+pub emits : (lines : Lines) (session : ℕ) (line : RunLine) (rest : List RunLine) (config : Config) → IsSession session → lines session ≡ line ∷ rest
     → Stands lines config → line.answer.reply ≡ reply_to config.state session line.statement
     → ((new : Config) → new.state ≡ after config.state session line.statement → Stands (with_lines lines session rest) new
     → Goes (with_lines lines session rest) new) → Goes lines config
 emits lines session line rest config is left stands reply go =
     let found : slice_get config.standings session ≡ Some (Called (Given line.statement)) =
-    stands session is ∙ ap (λ (l : List Line). Some (standing_of l)) left in
+    stands session is ∙ ap (λ (l : List RunLine). Some (standing_of l)) left in
     let answer : Answer = Replied (reply_to config.state session line.statement) in
-    let shows : agrees line.seen answer ≡ true = ap (λ (r : Reply). agrees line.seen (Replied r)) (sym reply) ∙ line.shows in
+    let shows : shows_answer line.seen answer ≡ true = ap (λ (r : Reply). shows_answer line.seen (Replied r)) (sym reply) ∙ line.shows in
     let next : GoesNext lines session rest (idle_again config session line) = goes_next lines session line rest config stands found go in
     record {
       events = Return session line.seen ∷ (next_call session rest ++ next.events);
@@ -177,13 +178,13 @@ pub record HaveCalled (count : ℕ) (lines : Lines) (config : Config) : Type 0 w
   pub above : (session : ℕ) → IsSession session → count < session → slice_get config.standings session ≡ Some (standing_of (lines session))
 
 -- the session of this number has called for the first of its lines, where it has one
-pub record BegunOne (count : ℕ) (lines : Lines) (config : Config) (left : List Line) : Type 0 where
+pub record BegunOne (count : ℕ) (lines : Lines) (config : Config) (left : List RunLine) : Type 0 where
   pub new : Config
   pub state : new.state ≡ config.state
   pub called : HaveCalled count lines new
   pub back : (events : List Event) → RunsOn new events → RunsOn config (next_call (suc count) left ++ events)
 
-begins_one : (count : ℕ) → count < 16 → (lines : Lines) (config : Config) (left : List Line) → lines (suc count) ≡ left → HaveCalled (suc count) lines config
+begins_one : (count : ℕ) → count < 16 → (lines : Lines) (config : Config) (left : List RunLine) → lines (suc count) ≡ left → HaveCalled (suc count) lines config
     → BegunOne count lines config left
 begins_one count within lines config [] is have = record {
   new = config;
@@ -194,7 +195,7 @@ begins_one count within lines config [] is have = record {
   where
     above : (session : ℕ) → IsSession session → count < session → slice_get config.standings session ≡ Some (standing_of (lines session))
     above session own high = elim (same_number (suc count) session) [
-      | inl same ↦ have.below session own (omega arith) ∙ ap (λ (l : List Line). Some (standing_of l)) (sym (ap lines (sym same) ∙ is))
+      | inl same ↦ have.below session own (omega arith) ∙ ap (λ (l : List RunLine). Some (standing_of l)) (sym (ap lines (sym same) ∙ is))
       | inr apart ↦ have.above session own (omega arith)
     ]
 begins_one count within lines config (line ∷ rest) is have = record {
@@ -213,7 +214,7 @@ begins_one count within lines config (line ∷ rest) is have = record {
     above : (session : ℕ) → IsSession session → count < session → slice_get waits.standings session ≡ Some (standing_of (lines session))
     above session own high = elim (same_number (suc count) session) [
       | inl same ↦ subst (λ (n : ℕ). slice_get waits.standings n ≡ Some (standing_of (lines n))) same
-          (get_written config.standings (suc count) Idle (Called (Given line.statement)) there ∙ ap (λ (l : List Line). Some (standing_of l)) (sym is))
+          (get_written config.standings (suc count) Idle (Called (Given line.statement)) there ∙ ap (λ (l : List RunLine). Some (standing_of l)) (sym is))
       | inr apart ↦ get_apart config.standings (suc count) session (Called (Given line.statement)) apart ∙ have.above session own (omega arith)
     ]
 
@@ -246,13 +247,13 @@ begins (suc count) within lines config have =
     }
 
 -- before all calls every session is idle
-pub none_called : (lines : Lines) (base : State) → HaveCalled 16 lines (opening base)
-unfolding opening
+pub none_called : (lines : Lines) (base : State) → HaveCalled 16 lines (opening_config base)
+unfolding opening_config
 none_called lines base = record {
   below = λ session own low. get_replicate 17 session Idle (omega arith);
   above = λ session own high. absurd (omega arith);
 }
 
-pub opening-state : (base : State) → (opening base).state ≡ base
-unfolding opening
+pub opening-state : (base : State) → (opening_config base).state ≡ base
+unfolding opening_config
 opening-state base = refl

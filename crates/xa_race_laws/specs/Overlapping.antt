@@ -1,12 +1,12 @@
 -- The runs of a race, written down as a record of overlapping calls. All of it is our own: docs/JUDGE.md.
---     Line                  a statement of a run, its answer, and what the record shows of it
+--     RunLine               a statement of a run, its answer, and what the record shows of it
 --     Lines                 the lines of each session
 --     with_lines            the same, but for one session
 --     next_call             the call for the first of these lines
 --     first_calls           each session calls for its first line
 --     Overlap               events in which each session calls again as soon as its call has returned
 --     IsExplainedOverlap    so written down, the lines are explained
---     AreFresh              the sessions 1, 2 and so on, which have done nothing before
+--     AreFreshRuns          the sessions 1, 2 and so on, which have done nothing before
 --     AreLinesOf            the lines are those of the runs, answered so
 use Rattle.std.specs.Prelude.{◌≡◌, ℕ, zero, suc, ◌+◌, ◌<◌, ◌==◌, true, cond, Some, List, [], ◌∷◌, ◌++◌, length, map, slice_get}
 use Rattle.xa_xid.specs.declared.statement.Statement.{Statement}
@@ -20,25 +20,25 @@ use Rattle.xa_judge.specs.declared.answer.Answer.TheVariants.{Reply as Replied}
 use Rattle.xa_judge.specs.declared.event.Seen.{Seen}
 use Rattle.xa_judge.specs.declared.event.Event.{Event}
 use Rattle.xa_judge.specs.declared.event.Event.TheVariants.{Call, Return}
-use Rattle.xa_judge.specs.Explained.{agrees, IsSession, Explained}
+use Rattle.xa_judge.specs.Explained.{shows_answer, IsSession, Explained}
 
 -- a statement of a run, its answer in the race, and what the record shows as its return
-pub record Line : Type 0 where
+pub record RunLine : Type 0 where
   pub statement : Statement
   pub answer : Answer
   pub seen : Seen
-  pub shows : agrees seen (Replied answer.reply) ≡ true
+  pub shows : shows_answer seen (Replied answer.reply) ≡ true
 
 -- at each session's number, its lines in order
 abbrev pub Lines : Type 0
-Lines = ℕ → List Line
+Lines = ℕ → List RunLine
 
 -- the same, but these of one session
-abbrev pub with_lines : Lines → ℕ → List Line → Lines
+abbrev pub with_lines : Lines → ℕ → List RunLine → Lines
 with_lines lines session rest = λ other. cond (other == session) rest (lines other)
 
 -- the session calls for the first of these lines, where there is one
-abbrev pub next_call : ℕ → List Line → List Event
+abbrev pub next_call : ℕ → List RunLine → List Event
 next_call session [] = []
 next_call session (line ∷ lines) = Call session (Given line.statement) ∷ []
 
@@ -50,7 +50,7 @@ first_calls (suc count) lines = next_call (suc count) (lines (suc count)) ++ fir
 -- each session has called for the first of its lines: a call returns, and the session calls for the next, until all lines are done
 pub data Overlap : Lines → List Event → Type 0 where
   over : {lines : Lines} → ((session : ℕ) → lines session ≡ []) → Overlap lines []
-  returned : {lines : Lines} {session : ℕ} {line : Line} {rest : List Line} {events : List Event} → IsSession session → lines session ≡ line ∷ rest
+  returned : {lines : Lines} {session : ℕ} {line : RunLine} {rest : List RunLine} {events : List Event} → IsSession session → lines session ≡ line ∷ rest
       → Overlap (with_lines lines session rest) events
       → Overlap lines (Return session line.seen ∷ (next_call session rest ++ events))
 
@@ -59,8 +59,8 @@ abbrev pub IsExplainedOverlap : State → Lines → Type 0
 IsExplainedOverlap base lines = (events : List Event) × Overlap lines events × Explained base (first_calls 16 lines ++ events)
 
 -- the runs are of the sessions 1, 2 and so on, which have seen nothing and done nothing before
-abbrev pub AreFresh : List Run → Type 0
-AreFresh runs = (place : ℕ) (run : Run) → slice_get runs place ≡ Some run → known_of run.pass ≡ newcomer (place + 1)
+abbrev pub AreFreshRuns : List Run → Type 0
+AreFreshRuns runs = (place : ℕ) (run : Run) → slice_get runs place ≡ Some run → known_of run.pass ≡ newcomer (place + 1)
 
 -- the lines of each session are the statements of its run, with these answers; other sessions have none
 pub record AreLinesOf (runs : List Run) (answers : List (List Answer)) (lines : Lines) : Type 0 where

@@ -5,7 +5,7 @@ use Rattle.xa_transcript.specs.Script.{lines_of}
 use Rattle.xa_record.specs.declared.line_fault.LineFault.{LineFault}
 use Rattle.xa_record.specs.declared.presence.Presence.{Presence}
 use Rattle.xa_record.specs.Lines.{Told}
-use Rattle.xa_record.specs.Reading.{Noted, Notes, session_of, presence_after, cause_of, noted, noted_if, noted_line, noted_lines}
+use Rattle.xa_record.specs.Reading.{Noted, Notes, session_of, presence_after, cause_of, note_of, noted_if, noted_line, noted_lines}
 
 -- one line was cut off
 pub noted_lines-line : (notes : Notes) (number : ℕ) (text line rest : List ℕ) → lines_of text ≡ line ∷ lines_of rest
@@ -23,11 +23,11 @@ noted_lines-end notes number (x ∷ xs) empty = absurd (let none : length (x ∷
 abbrev pub made : Notes → List Noted → List Presence → Notes
 made notes list presence = record notes { told = list; presence = presence }
 
--- what happens was noted, with what is then said of its session
+-- what happens was note_of, with what is then said of its session
 pub noted-so : (notes : Notes) (number : ℕ) (told : Told) (list : List Noted) (presence : List Presence)
     → cause_of (slice_get notes.presence (session_of told)) told ≡ None
     → list ≡ notes.told ++ record { number = number; told = told } ∷ [] → presence ≡ slice_set notes.presence (session_of told) (presence_after told)
-    → made notes list presence ≡ noted notes number told
+    → made notes list presence ≡ note_of notes number told
 unfolding noted_if
 noted-so notes number told list presence no_fault one two =
     ap (λ (l : List Noted). made notes l presence) one ∙ ap (made notes (notes.told ++ record { number = number; told = told } ∷ [])) two

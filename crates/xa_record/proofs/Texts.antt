@@ -11,7 +11,7 @@ use Rattle.xa_xid.specs.Xid.{bytes_cmp}
 use Rattle.xa_judge.specs.declared.answer.Answer.{Answer}
 use Rattle.xa_record.specs.declared.happening.Noted.{Noted as NotedRead}
 use Rattle.xa_record.specs.Kept.{noted_kept}
-use Rattle.xa_record.specs.VerdictText.{answer_text, with_answers, texts_of, answers_text, number_of_line, number_at}
+use Rattle.xa_record.specs.VerdictText.{answer_text, with_answers, texts_of, answers_text, number_of_line, line_number_at}
 
 -- answers one after another
 with_answers-append : (texts : List (List ℕ)) (answers more : List Answer)
@@ -74,10 +74,10 @@ written-whole whole out texts is none = sym (is ∙ ap (λ t. out ++ answers_tex
 
 -- the number of the line, in the list as the program keeps it
 pub number_at-within : (noted : List NotedRead) (place : ℕ) (one : NotedRead) → place < length noted → one ≡ get_or noted place one
-    → one.number ≡ number_at (map noted_kept noted) place
+    → one.number ≡ line_number_at (map noted_kept noted) place
 number_at-within noted place one within at =
     sym (ap number_of_line (slice_get-map noted_kept noted place ∙ ap (option_map noted_kept) (slice_get_read noted (length noted) place one refl within at)))
 
 -- there is no such line
-pub number_at-past : (noted : List NotedRead) (place : ℕ) → length noted ≤ place → 0 ≡ number_at (map noted_kept noted) place
+pub number_at-past : (noted : List NotedRead) (place : ℕ) → length noted ≤ place → 0 ≡ line_number_at (map noted_kept noted) place
 number_at-past noted place past = sym (ap number_of_line (slice_get-map noted_kept noted place ∙ ap (option_map noted_kept) (slice_get_past noted place past)))

@@ -53,8 +53,8 @@ abbrev pub AppendsJudgedPrefix : ℕ → List ℕ → Option (List ℕ) → Opti
 AppendsJudgedPrefix limit written old new = (outcome : Outcome) × (text : List ℕ) × IsJudged written limit outcome text × AppendsPrefix old new text
 
 -- a fault by which a record isn't read
-abbrev pub IsOfReading : ScriptFault → Type 0
-IsOfReading fault = (fault ≡ Read) ⊎ (fault ≡ TooLong) ⊎ (fault ≡ NoMemory)
+abbrev pub IsFaultOfReading : ScriptFault → Type 0
+IsFaultOfReading fault = (fault ≡ Read) ⊎ (fault ≡ TooLong) ⊎ (fault ≡ NoMemory)
 
 -- what a fault leaves in the writer: a prefix where a write failed, else nothing; judging has no fault of a race
 abbrev pub AfterJudgeFault : ℕ → ScriptFault → Option (List ℕ) → Option (List ℕ) → Option (List ℕ) → Type 0

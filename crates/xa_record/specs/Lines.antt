@@ -4,10 +4,10 @@
 --     LineSaid         what a line says
 --     is_remark        it is blank, or its first byte that isn't is `#`
 --     trimmed          a text without the blanks at its end
---     line_said        what this line says
+--     reading_of_line  what this line says
 use Rattle.std.specs.Prelude.{ℕ, ◌==◌, nat_lt, Bool, true, bytes_eq, if◌then◌else◌, Option, Some, None, Ok, Err, List, [], ◌∷◌, codes, reverse}
 use Rattle.xa_xid.specs.Bytes.{unblank}
-use Rattle.xa_xid.specs.Literal.{Reading, literal_at}
+use Rattle.xa_xid.specs.Literal.{Reading, literal_ahead}
 use Rattle.xa_xid.specs.Xid.{Text}
 use Rattle.xa_xid.specs.declared.xid.Xid.{Xid}
 use Rattle.xa_transcript.specs.Script.{Line, Blank, Bad as BadLine, Given, line_of, without_blanks, first_word}
@@ -81,7 +81,7 @@ unfoldable pub return_said : ℕ → List ℕ → List ℕ → LineSaid
 return_said session word text =
     if bytes_eq word (codes "OK") then alone (Says (Returns session ShowsOk)) text else
     if bytes_eq word (codes "NONE") then alone (Says (Returns session (ShowsValue None))) text else
-    if bytes_eq word (codes "VALUE") then value_said session (literal_at text) else
+    if bytes_eq word (codes "VALUE") then value_said session (literal_ahead text) else
     if bytes_eq word (codes "ROWS") then rows_said session (number_named (first_word text)) (behind_word text) else
     if bytes_eq word (codes "ERROR") then error_said session (leading_number text) else Bad
 
@@ -103,5 +103,5 @@ filled_said BadLine = Bad
 filled_said (Given session text) = session_said session (first_word text) (behind_word text)
 
 -- what a line says
-unfoldable pub line_said : List ℕ → LineSaid
-line_said line = if is_remark line then Nothing else filled_said (line_of line)
+unfoldable pub reading_of_line : List ℕ → LineSaid
+reading_of_line line = if is_remark line then Nothing else filled_said (line_of line)

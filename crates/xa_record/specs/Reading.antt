@@ -5,7 +5,7 @@
 --     fault_text          what is written for a faulty line
 --     Awaited             rows that are still to come, and the faulty lines among those that came
 --     Notes               what was read so far
---     noted               the notes once this has happened
+--     note_of             the notes once this has happened
 --     noted_line          the notes after a line
 --     notes_of            the notes after these lines
 --     faults_in, told_in  what is written for the faulty lines of a record;  what happens in it, each with its line's number
@@ -16,7 +16,7 @@ use Rattle.xa_record.specs.declared.line_fault.LineFault.{LineFault}
 use Rattle.xa_record.specs.declared.line_fault.LineFault.TheVariants.{NotALine, NotARow, RowsMissing, OpenCall, NoOpenCall, Lost as WasLost}
 use Rattle.xa_record.specs.declared.presence.Presence.{Presence}
 use Rattle.xa_record.specs.declared.presence.Presence.TheVariants.{Idle, Open, Lost}
-use Rattle.xa_record.specs.Lines.{ShowsRows, Told, Calls, Returns, Leaves, LineSaid, Nothing, Bad, Says, Awaits, line_said, is_remark}
+use Rattle.xa_record.specs.Lines.{ShowsRows, Told, Calls, Returns, Leaves, LineSaid, Nothing, Bad, Says, Awaits, reading_of_line, is_remark}
 use Rattle.xa_record.specs.Rows.{row_said}
 
 -- the session to which this happens
@@ -97,12 +97,12 @@ noted_if None notes number told =
 noted_if (Some fault) notes number told = blamed notes number fault
 
 -- this happens on the line of this number, or the line is faulty
-abbrev pub noted : Notes → ℕ → Told → Notes
-noted notes number told = noted_if (cause_of (slice_get notes.presence (session_of told)) told) notes number told
+abbrev pub note_of : Notes → ℕ → Told → Notes
+note_of notes number told = noted_if (cause_of (slice_get notes.presence (session_of told)) told) notes number told
 
 -- all rows have come: the call returns them, and behind its line come the faulty lines among its rows
 abbrev pub returned : Notes → Awaited → Notes
-returned notes awaited = blamed_too (noted notes awaited.number (Returns awaited.session (ShowsRows awaited.rows))) awaited.faults
+returned notes awaited = blamed_too (note_of notes awaited.number (Returns awaited.session (ShowsRows awaited.rows))) awaited.faults
 
 -- where all rows have come, the call returns them; else the others are still to come
 abbrev pub awaiting : Notes → Awaited → Notes
@@ -122,11 +122,11 @@ noted_row notes awaited number line =
 unfoldable pub noted_said : Notes → ℕ → LineSaid → Notes
 noted_said notes number Nothing = notes
 noted_said notes number Bad = blamed notes number NotALine
-noted_said notes number (Says told) = noted notes number told
+noted_said notes number (Says told) = note_of notes number told
 noted_said notes number (Awaits session count) = awaiting notes (record { session = session; number = number; missing = count; rows = []; faults = [] })
 
 abbrev pub noted_by : Option Awaited → Notes → ℕ → List ℕ → Notes
-noted_by None notes number line = noted_said notes number (line_said line)
+noted_by None notes number line = noted_said notes number (reading_of_line line)
 noted_by (Some awaited) notes number line = noted_row notes awaited number line
 
 -- the notes after the line of this number

@@ -8,10 +8,10 @@ use Rattle.hex.specs.declared.error.FromHexError.{FromHexError}
 use Rattle.xa_xid.specs.Bytes.{belongs, front, only}
 use Rattle.xa_xid.specs.Limits.{text_bytes}
 use Rattle.xa_xid.specs.Literal.{Reading}
-use Rattle.xa_xid.specs.Number.{number_at}
+use Rattle.xa_xid.specs.Number.{number_ahead}
 use Rattle.xa_xid.specs.declared.byte_class.ByteClass.TheVariants.{Decimal}
 use Rattle.xa_xid.specs.declared.xid.Xid.{Xid}
-use Rattle.xa_transcript.specs.Script.{is_empty, without_blanks, first_word, after_word}
+use Rattle.xa_transcript.specs.Script.{is_empty_line, without_blanks, first_word, after_word}
 
 -- the text behind a word and the blanks after it
 abbrev pub behind_word : List ℕ → List ℕ
@@ -23,7 +23,7 @@ number_read (Err fault) = None
 
 -- the number that a text's first digits are, below 2^64
 unfoldable pub leading_number : List ℕ → Option ℕ
-leading_number text = number_read (number_at (front (belongs Decimal) text))
+leading_number text = number_read (number_ahead (front (belongs Decimal) text))
 
 -- the number that a word is: decimal digits alone, below 2^64
 unfoldable pub number_named : List ℕ → Option ℕ
@@ -56,7 +56,7 @@ xid_with (Some format_id) (Some gtrid) (Some bqual) (Some digits) = xid_written 
 -- the identifier of four words, behind which nothing stands
 unfoldable pub row_of : List ℕ → List ℕ → List ℕ → List ℕ → Option Xid
 row_of first second third fourth =
-    if is_empty (behind_word fourth) then xid_with (number_named (first_word first)) (number_named (first_word second)) (number_named (first_word third))
+    if is_empty_line (behind_word fourth) then xid_with (number_named (first_word first)) (number_named (first_word second)) (number_named (first_word third))
     (digits_named (first_word fourth)) else None
 
 -- the identifier that a line is written as, from its first byte on that isn't a blank

@@ -3,7 +3,7 @@
 --     order_text         the effects of an order as a script
 --     answer_text        what could have been answered
 --     texts_of           the texts of answers, each once, ascending by their bytes
---     number_at          the number of the line on which something happens
+--     line_number_at     the number of the line on which something happens
 --     verdict_text       what is written for a verdict
 --     outcome_of         which of the four ends it is
 use Rattle.std.specs.Prelude.{ℕ, true, Option, Some, None, Result, Ok, Err, List, [], ◌∷◌, ◌++◌, codes, decimal, slice_get, slice_set, replicate}
@@ -103,8 +103,8 @@ number_of_line None = 0
 number_of_line (Some noted) = noted.number
 
 -- the number of the line on which something happens
-abbrev pub number_at : List Noted → ℕ → ℕ
-number_at noted place = number_of_line (slice_get noted place)
+abbrev pub line_number_at : List Noted → ℕ → ℕ
+line_number_at noted place = number_of_line (slice_get noted place)
 
 -- the first line of a verdict that names a line
 abbrev pub line_text : List ℕ → ℕ → List ℕ
@@ -113,8 +113,8 @@ line_text word number = word ++ codes " line " ++ decimal number ++ codes "\n"
 -- what is written for a verdict
 abbrev pub verdict_text : List Noted → Verdict → List ℕ
 verdict_text noted (Legal moves) = codes "LEGAL\n" ++ order_text no_calls noted moves.items
-verdict_text noted (Illegal place answers) = line_text (codes "ILLEGAL") (number_at noted place) ++ answers_text (texts_of answers.items)
-verdict_text noted (Undecided place) = line_text (codes "UNDECIDED") (number_at noted place)
+verdict_text noted (Illegal place answers) = line_text (codes "ILLEGAL") (line_number_at noted place) ++ answers_text (texts_of answers.items)
+verdict_text noted (Undecided place) = line_text (codes "UNDECIDED") (line_number_at noted place)
 
 -- which of the four ends it is
 abbrev pub outcome_of : Verdict → Outcome

@@ -2,9 +2,9 @@
 ghost use Rattle.std.specs.Prelude.{◌≡◌};
 ghost use Rattle.xa_transcript.specs.Script.{first_word};
 ghost use Rattle.xa_record.specs.Rows.{behind_word as behind_word_of, leading_number as leading_number_of, number_named};
-ghost use Rattle.xa_record.specs.Lines.{alone, begins_remark, is_remark as is_remark_line, trimmed as trimmed_text, value_said, rows_said, error_said, return_said, loss_said, session_said, line_said, Says, Awaits, Calls, Returns, Leaves};
+ghost use Rattle.xa_record.specs.Lines.{alone, begins_remark, is_remark as is_remark_line, trimmed as trimmed_text, value_said, rows_said, error_said, return_said, loss_said, session_said, reading_of_line, Says, Awaits, Calls, Returns, Leaves};
 ghost use Rattle.xa_record.specs.Kept.{shown_kept, line_kept};
-ghost use Rattle.xa_xid.specs.Literal.{literal_at};
+ghost use Rattle.xa_xid.specs.Literal.{literal_ahead};
 
 use crate::happening::Happening;
 use crate::rows::{behind_word, leading_number, number_in};
@@ -63,7 +63,7 @@ fn alone(session: SessionNo, seen: Seen, rest: &[u8]) -> RecordLine<'static>
 
 /// What `VALUE` says, with the text behind it.
 fn value(session: SessionNo, text: &[u8]) -> RecordLine<'static>
-    ensures { line_kept result ≡ value_said session (literal_at text.now) }
+    ensures { line_kept result ≡ value_said session (literal_ahead text.now) }
 {
     match literal_of(text) {
         Ok((value, rest)) => alone(session, Seen::Value(Some(value)), skip_blanks(rest)),
@@ -155,9 +155,9 @@ fn session_line<'a>(session: SessionNo, sign: &[u8], text: &'a [u8]) -> RecordLi
 ///
 /// The line is without its line feed. Takes no memory. Doesn't wait.
 /// Own rule: docs/JUDGE.md, 'Records'.
-#[tactic(auto, unfolding(crate::specs::Lines::line_said))]
+#[tactic(auto, unfolding(crate::specs::Lines::reading_of_line))]
 pub fn read_record_line(line: &[u8]) -> RecordLine<'_>
-    ensures { line_kept result ≡ line_said line.now }
+    ensures { line_kept result ≡ reading_of_line line.now }
 {
     if is_remark(line) {
         return RecordLine::Nothing;

@@ -1,7 +1,7 @@
 //! What was read of a record.
 ghost use Rattle.std.specs.Prelude.{◌≡◌, OnOk, slice_get, option_copied};
 ghost use Rattle.std.specs.Option.{option_map};
-ghost use Rattle.xa_record.specs.Reading.{no_notes, blamed, blamed_too, noted, returned, awaiting, with_row, noted_row, noted_said, noted_line, ended_by};
+ghost use Rattle.xa_record.specs.Reading.{no_notes, blamed, blamed_too, note_of, returned, awaiting, with_row, noted_row, noted_said, noted_line, ended_by};
 ghost use Rattle.xa_record.specs.Kept.{told_kept, awaited_kept, line_kept, notes_kept};
 
 use crate::happening::{Happening, Noted};
@@ -66,7 +66,7 @@ impl<'a> Notes<'a> {
     /// This happens on the line of this number, or the line is faulty.
     #[tactic(auto, unfolding(crate::specs::Reading::noted_if))]
     fn note(&mut self, number: u64, happening: Happening<'a>) -> Result<(), NoMemory>
-        ensures { OnOk result (notes_kept self.new ≡ noted (notes_kept self.old) number (told_kept happening.entry)) }
+        ensures { OnOk result (notes_kept self.new ≡ note_of (notes_kept self.old) number (told_kept happening.entry)) }
     {
         let session = happening.session();
         match happening.fault(self.presence_of(session)) {

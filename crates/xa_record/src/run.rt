@@ -2,7 +2,7 @@
 ghost use Rattle.std.specs.Prelude.{◌≡◌, ◌≤◌, length, vec_len, IfOk, IfErr, OnOk, OnErr, IfSome, Err};
 ghost use Rattle.std.specs.Io.KnownBytes.{Appends, Consumes, IsAtEnd};
 ghost use Rattle.xa_transcript.specs.Transcript.{AppendsPrefix, ConsumesMoreThan};
-ghost use Rattle.xa_record.specs.Judged.{record_bytes, AppendsJudged, AfterJudgeFault, IsOfReading};
+ghost use Rattle.xa_record.specs.Judged.{record_bytes, AppendsJudged, AfterJudgeFault, IsFaultOfReading};
 
 use crate::judging::{Judged, judge_text};
 use crate::outcome::Outcome;
@@ -21,7 +21,7 @@ fn read_record<R: Read>(alloc: Global, reader: &mut R) -> Result<Vec<u8>, Script
     ensures all { IfOk result (λ text. Consumes (R.remaining reader.old) (R.remaining reader.new) text.items) }
     ensures end { OnOk result (IsAtEnd (R.remaining reader.new)) }
     ensures short { IfOk result (λ text. vec_len text ≤ record_bytes) }
-    ensures fault { IfErr result IsOfReading }
+    ensures fault { IfErr result IsFaultOfReading }
     ensures too_long { result ≡ Err ScriptFault.TooLong → ConsumesMoreThan record_bytes (R.remaining reader.old) (R.remaining reader.new) }
 {
     let mut text = Vec::new(alloc);

@@ -1,7 +1,7 @@
 //! Writes verdicts.
 ghost use Rattle.std.specs.Prelude.{◌≡◌, ◌++◌, [], OnOk, IfOk, map};
 ghost use Rattle.xa_record.specs.Kept.{noted_kept};
-ghost use Rattle.xa_record.specs.VerdictText.{answer_text as text_of_answer, texts_of, answers_text, line_text, number_at, verdict_text as text_of_verdict};
+ghost use Rattle.xa_record.specs.VerdictText.{answer_text as text_of_answer, texts_of, answers_text, line_text, line_number_at, verdict_text as text_of_verdict};
 
 use crate::happening::Noted;
 use crate::order::push_order;
@@ -49,7 +49,7 @@ fn push_texts(out: &mut Vec<u8>, texts: &BTreeSet<Vec<u8>>) -> Result<(), NoMemo
 
 /// The number of the line on which this happens.
 fn number_of(noted: &[Noted], place: usize) -> u64
-    ensures { result ≡ number_at (map noted_kept noted.now) place }
+    ensures { result ≡ line_number_at (map noted_kept noted.now) place }
 {
     if place < noted.len() {
         noted[place].number
@@ -60,7 +60,7 @@ fn number_of(noted: &[Noted], place: usize) -> u64
 
 /// Appends a word, `line` and the number of the line on which this happens.
 fn push_line(out: &mut Vec<u8>, word: &[u8], noted: &[Noted], place: usize) -> Result<(), NoMemory>
-    ensures { OnOk result (out.new.items ≡ out.old.items ++ line_text word.now (number_at (map noted_kept noted.now) place)) }
+    ensures { OnOk result (out.new.items ≡ out.old.items ++ line_text word.now (line_number_at (map noted_kept noted.now) place)) }
 {
     out.extend_from_slice(word)?;
     out.extend_from_slice(b" line ")?;

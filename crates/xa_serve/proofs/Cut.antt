@@ -7,7 +7,7 @@ use Rattle.std.specs.List.{flat_map}
 use Rattle.std.proofs.lemmas.List.Elements.{All-nil, All-head, All-tail, All-push}
 use Rattle.std.proofs.lemmas.Grind.{flat_map-append}
 use Rattle.xa_transcript.specs.Script.{lines_of}
-use Rattle.xa_serve.specs.Heard.{Whole, TooLong, heard_line, longer, is_nothing, HasNoFeed, with_feed, IsCut}
+use Rattle.xa_serve.specs.Heard.{Whole, TooLong, heard_line, longer, is_nothing, HasNoFeed, with_feed, IsCutIntoLines}
 
 -- the first line, where a line feed ends it
 lines_of-feed : (line rest : List ℕ) → HasNoFeed line → lines_of (line ++ 10 ∷ rest) ≡ line ∷ lines_of rest
@@ -41,12 +41,12 @@ pub lines_of-nothing : lines_of [] ≡ []
 unfolding lines_of
 lines_of-nothing = refl
 
-pub cut_none : IsCut [] [] []
+pub cut_none : IsCutIntoLines [] [] []
 cut_none = record { whole = refl; each = All-nil HasNoFeed; last = All-nil (λ b. (b == 10) ≡ false) }
 
 -- one byte more of a line
-pub cut_more : (bytes : List ℕ) (lines : List (List ℕ)) (begun : List ℕ) (byte : ℕ) → (byte == 10) ≡ false → IsCut bytes lines begun
-    → IsCut (bytes ++ byte ∷ []) lines (begun ++ byte ∷ [])
+pub cut_more : (bytes : List ℕ) (lines : List (List ℕ)) (begun : List ℕ) (byte : ℕ) → (byte == 10) ≡ false → IsCutIntoLines bytes lines begun
+    → IsCutIntoLines (bytes ++ byte ∷ []) lines (begun ++ byte ∷ [])
 cut_more bytes lines begun byte other cut = record {
   whole = ap (λ xs. xs ++ byte ∷ []) cut.whole ∙ append_assoc (flat_map with_feed lines) begun (byte ∷ []);
   each = cut.each;
@@ -54,7 +54,8 @@ cut_more bytes lines begun byte other cut = record {
 }
 
 -- a line feed
-pub cut_feed : (bytes : List ℕ) (lines : List (List ℕ)) (begun : List ℕ) → IsCut bytes lines begun → IsCut (bytes ++ 10 ∷ []) (lines ++ begun ∷ []) []
+pub cut_feed : (bytes : List ℕ) (lines : List (List ℕ)) (begun : List ℕ) → IsCutIntoLines bytes lines begun
+    → IsCutIntoLines (bytes ++ 10 ∷ []) (lines ++ begun ∷ []) []
 cut_feed bytes lines begun cut =
     let one : flat_map with_feed (begun ∷ []) ≡ begun ++ 10 ∷ [] = append-nil (with_feed begun) in
     record {
@@ -65,13 +66,13 @@ cut_feed bytes lines begun cut =
     }
 
 -- the lines of what was cut
-pub lines_of-cut : (bytes : List ℕ) (lines : List (List ℕ)) (begun rest : List ℕ) → IsCut bytes lines begun
+pub lines_of-cut : (bytes : List ℕ) (lines : List (List ℕ)) (begun rest : List ℕ) → IsCutIntoLines bytes lines begun
     → lines_of (bytes ++ rest) ≡ lines ++ lines_of (begun ++ rest)
 lines_of-cut bytes lines begun rest cut =
     ap (λ xs. lines_of (xs ++ rest)) cut.whole ∙ ap lines_of (append_assoc (flat_map with_feed lines) begun rest)
     ∙ lines_of-feeds lines (begun ++ rest) cut.each
 
-pub lines_of-cut_feed : (bytes : List ℕ) (lines : List (List ℕ)) (begun rest : List ℕ) → IsCut bytes lines begun
+pub lines_of-cut_feed : (bytes : List ℕ) (lines : List (List ℕ)) (begun rest : List ℕ) → IsCutIntoLines bytes lines begun
     → lines_of (bytes ++ 10 ∷ rest) ≡ (lines ++ begun ∷ []) ++ lines_of rest
 lines_of-cut_feed bytes lines begun rest cut =
     lines_of-cut bytes lines begun (10 ∷ rest) cut ∙ ap (λ xs. lines ++ xs) (lines_of-feed begun rest cut.last)

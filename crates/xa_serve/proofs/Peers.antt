@@ -4,8 +4,8 @@ use Rattle.std.proofs.Common.{drop, get_or, refl, sym, subst, ◌∙◌, inl, in
 use Rattle.std.specs.Prelude.{OnOk, OnErr, IfErr, IfSome}
 use Rattle.std.proofs.Math.Seq.{drop-cons}
 use Rattle.xa_serve.specs.Heard.{Heard, Whole, longer, is_nothing}
-use Rattle.xa_serve.specs.Exchange.{Exchange, IsFresh, Tells, Flushes, Hears}
-use Rattle.xa_serve.specs.Served.{IsAnswered, IsServed, IsBegunAnswer, AfterFault}
+use Rattle.xa_serve.specs.Exchange.{Exchange, IsFresh, WritesText, Flushes, Hears}
+use Rattle.xa_serve.specs.Served.{AwaitsMore, IsServed, IsBegunAnswer, AfterServing}
 use Rattle.xa_serve.specs.UnderWay.{IsUnderWay, UnderWay, IsReady, IsAllAnswered}
 use Rattle.xa_serve.specs.declared.stage.Stage.TheVariants.{Open, Ended}
 use Rattle.xa_transcript.specs.declared.script_fault.ScriptFault.{ScriptFault}
@@ -15,7 +15,7 @@ use Rattle.xa_serve.proofs.Under as under
 module _ {S : Type 0} (Begins : S → Type 0) (Answers : S → Heard → List ℕ → S → Type 0) where
   -- a line is answered, with what became of telling so
   abbrev pub Answered : {A E : Type 0} → Option Exchange → Option Exchange → Result A E → Heard → S → S → Type 0
-  Answered old new result line server after = (answer : List ℕ) × Answers server line answer after × Tells old new result answer
+  Answered old new result line server after = (answer : List ℕ) × Answers server line answer after × WritesText old new result answer
 
   -- what was given begins the answers
   abbrev pub IsBegunAt : Option Exchange → Type 0
@@ -92,12 +92,12 @@ module _ {S : Type 0} (Begins : S → Type 0) (Answers : S → Heard → List �
   ready_fresh None line server fresh nothing begins = tt
   ready_fresh (Some e) line server fresh nothing begins = under.fresh Begins Answers e line server fresh nothing begins
 
-  pub ready_ok : (reads : ℕ) (o : Option Exchange) (line : Heard) (server : S) → Ready reads o line server → IfSome o (IsAnswered Begins Answers)
+  pub ready_ok : (reads : ℕ) (o : Option Exchange) (line : Heard) (server : S) → Ready reads o line server → IfSome o (AwaitsMore Begins Answers)
   ready_ok reads None line server r = tt
   ready_ok reads (Some e) line server r = under.ready_answered Begins Answers reads e line server r
 
   pub hear_err : {E : Type 0} (reads : ℕ) (old new : Option Exchange) (e : E) (piece : List ℕ) (line : Heard) (server : S) → Hears old new (Err e) piece
-      → Ready reads old line server → IfSome new (AfterFault Begins Answers Read)
+      → Ready reads old line server → IfSome new (AfterServing Begins Answers Read)
   hear_err reads None None e piece line server h r = tt
   hear_err reads None (Some new) e piece line server h r = absurd h
   hear_err reads (Some old) None e piece line server h r = absurd h
@@ -142,27 +142,27 @@ module _ {S : Type 0} (Begins : S → Type 0) (Answers : S → Heard → List �
 
   pub served_err : {A : Type 0} (old new : Option Exchange) (result : Result A ScriptFault) → IfErr result (λ fault. fault ≡ Write) → Flushes old new result
       → IfSome old (IsAllAnswered Begins Answers)
-      → IfErr result (λ fault. IfSome new (AfterFault Begins Answers fault))
+      → IfErr result (λ fault. IfSome new (AfterServing Begins Answers fault))
   served_err old new (Ok x) of_write f all = tt
   served_err None None (Err e) of_write f all = tt
   served_err None (Some new) (Err e) of_write f all = absurd f
   served_err (Some old) None (Err e) of_write f all = absurd f
   served_err (Some old) (Some new) (Err e) of_write f all =
-      let P : ScriptFault → Type 0 = λ fault. AfterFault Begins Answers fault new in
+      let P : ScriptFault → Type 0 = λ fault. AfterServing Begins Answers fault new in
       subst P (sym of_write) (under.unserved Begins Answers old new f.0 f.1 all)
 
-  pub write_fault : (o : Option Exchange) (fault : ScriptFault) → fault ≡ Write → IsBegunAt o → IfSome o (AfterFault Begins Answers fault)
-  write_fault o fault is begun = let P : ScriptFault → Type 0 = λ f. IfSome o (AfterFault Begins Answers f) in subst P (sym is) begun
+  pub write_fault : (o : Option Exchange) (fault : ScriptFault) → fault ≡ Write → IsBegunAt o → IfSome o (AfterServing Begins Answers fault)
+  write_fault o fault is begun = let P : ScriptFault → Type 0 = λ f. IfSome o (AfterServing Begins Answers f) in subst P (sym is) begun
 
   pub spent : (reads : ℕ) (o : Option Exchange) (line : Heard) (server : S) → 2 ^ 64 - 1 ≤ reads → Ready reads o line server
-      → IfSome o (AfterFault Begins Answers Read)
+      → IfSome o (AfterServing Begins Answers Read)
   spent reads None line server all r = tt
   spent reads (Some e) line server all r =
       let a = under.ready_answered Begins Answers reads e line server r in let counted = r.1.counted in (a.1, inr (omega arith))
 
   -- a write fault that is passed on
   pub passed_on : {A : Type 0} (o : Option Exchange) (answer : Result A ScriptFault) (passed fault : ScriptFault) → answer ≡ Err passed → passed ≡ fault
-      → fault ≡ Write → IsBegunAt o → IfErr answer (λ f. IfSome o (AfterFault Begins Answers f))
+      → fault ≡ Write → IsBegunAt o → IfErr answer (λ f. IfSome o (AfterServing Begins Answers f))
   passed_on {A} o answer passed fault is same of_write begun =
-      let P : Result A ScriptFault → Type 0 = λ r. IfErr r (λ f. IfSome o (AfterFault Begins Answers f)) in
+      let P : Result A ScriptFault → Type 0 = λ r. IfErr r (λ f. IfSome o (AfterServing Begins Answers f)) in
       subst P (sym is) (write_fault o passed (same ∙ of_write) begun)

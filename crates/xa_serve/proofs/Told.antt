@@ -7,15 +7,16 @@ use Rattle.std.proofs.lemmas.List.Elements.{All-head, All-tail}
 use Rattle.std.proofs.lemmas.Bool.Decides.{nat_tests}
 use Rattle.xa_server.specs.State.{State, no_state}
 use Rattle.xa_transcript.specs.Script.{Line, Blank, Bad, Given, line_of, lines_of}
-use Rattle.xa_transcript.specs.Transcript.{answer_of, answer_to, state_after, state_then, run_text}
+use Rattle.xa_transcript.specs.Transcript.{answer_of, answer_to, state_after_line, state_then, run_text}
 use Rattle.xa_transcript.specs.Printed.{answer_text, syntax_text}
 use Rattle.xa_statement.specs.Reading.{read_of}
 use Rattle.xa_transcript.specs.declared.script_fault.ScriptFault.{ScriptFault}
 use Rattle.xa_transcript.specs.declared.script_fault.ScriptFault.TheVariants.{Read, TooLong as ScriptTooLong, Write, NoMemory, Full, GateShut, ThreadRefused}
 use Rattle.xa_serve.specs.Heard.{Heard, Whole, TooLong, heard_line}
 use Rattle.xa_serve.specs.Exchange.{Exchange}
-use Rattle.xa_serve.specs.Served.{AnswersAll, AreAnswers, IsServed, AfterFault}
-use Rattle.xa_serve.specs.Statements.{said, refused_text, IsEmpty, IsRefusal, IsAnswer, text_of, state_of, served_text, IsTold, AfterFaultOfStatements, IsShort}
+use Rattle.xa_serve.specs.Served.{AnswersAll, AreAnswers, IsServed, AfterServing}
+use Rattle.xa_serve.specs.Statements.{said, refused_text, HoldsNothing, IsRefusal, IsLineAnswer, text_of, state_of, served_text, IsToldAll}
+use Rattle.xa_serve.specs.Statements.{AfterFaultOfStatements, IsShort}
 
 -- a line for whose statement memory is refused or isn't
 record IsMarked (mark : Bool) (old : State) (line : Line) (text : List ℕ) (new : State) : Type 0 where
@@ -27,11 +28,11 @@ refusal_marked Blank old new text r same = absurd r
 refusal_marked Bad old new text r same = absurd r
 refusal_marked (Given session statement) old new text r same = record { text_is = r; state_is = same }
 
-mark_of : (old new : State) (line : Heard) (text : List ℕ) → IsAnswer old line text new → (mark : Bool) × IsMarked mark old (said line) text new
+mark_of : (old new : State) (line : Heard) (text : List ℕ) → IsLineAnswer old line text new → (mark : Bool) × IsMarked mark old (said line) text new
 mark_of old new line text (inl a) = (false, record { text_is = a.0; state_is = a.1 })
 mark_of old new line text (inr r) = (true, refusal_marked (said line) old new text r.0 r.1)
 
-marks_of : (lines later : List (List ℕ)) (first last : State) (text : List ℕ) → AnswersAll IsAnswer first lines text last
+marks_of : (lines later : List (List ℕ)) (first last : State) (text : List ℕ) → AnswersAll IsLineAnswer first lines text last
     → (marks : List Bool) × (served_text marks first (lines ++ later) ≡ text ++ served_text [] last later)
 unfolding AnswersAll served_text
 marks_of [] later first last text a = ([], ap (λ s. served_text [] s later) (sym a.1) ∙ ap (λ t. t ++ served_text [] last later) (sym a.0))
@@ -50,14 +51,15 @@ unfolding served_text
 nothing_later state = refl
 
 -- the answers to lines, with those that come later
-part_told : (lines later : List (List ℕ)) (text : List ℕ) → AreAnswers IsEmpty IsAnswer lines text
+part_told : (lines later : List (List ℕ)) (text : List ℕ) → AreAnswers HoldsNothing IsLineAnswer lines text
     → (marks : List Bool) × (unsaid : List ℕ) × (served_text marks no_state (lines ++ later) ≡ text ++ unsaid)
 part_told lines later text a =
     let m = marks_of lines later a.first a.last text a.answers in
     (m.0, served_text [] a.last later, ap (λ s. served_text m.0 s (lines ++ later)) (sym a.begins) ∙ m.1)
 
 -- the answers to lines
-all_told : (lines : List (List ℕ)) (text : List ℕ) → AreAnswers IsEmpty IsAnswer lines text → (marks : List Bool) × (text ≡ served_text marks no_state lines)
+all_told : (lines : List (List ℕ)) (text : List ℕ) → AreAnswers HoldsNothing IsLineAnswer lines text
+    → (marks : List Bool) × (text ≡ served_text marks no_state lines)
 all_told lines text a =
     let m = marks_of lines [] a.first a.last text a.answers in
     let whole : served_text m.0 no_state lines ≡ text =
@@ -65,15 +67,16 @@ all_told lines text a =
     ∙ ap (λ t. text ++ t) (nothing_later a.last) ∙ append-nil text in
     (m.0, sym whole)
 
-pub served_told : (o : Option Exchange) → IfSome o (IsServed IsEmpty IsAnswer) → IfSome o IsTold
+pub served_told : (o : Option Exchange) → IfSome o (IsServed HoldsNothing IsLineAnswer) → IfSome o IsToldAll
 served_told None s = tt
 served_told (Some exchange) s = (s.0, all_told (lines_of exchange.heard) exchange.told s.2)
 
-pub served_ok : {A E : Type 0} (result : Result A E) (o : Option Exchange) → OnOk result (IfSome o (IsServed IsEmpty IsAnswer)) → OnOk result (IfSome o IsTold)
+pub served_ok : {A E : Type 0} (result : Result A E) (o : Option Exchange) → OnOk result (IfSome o (IsServed HoldsNothing IsLineAnswer))
+    → OnOk result (IfSome o IsToldAll)
 served_ok (Ok x) o s = served_told o s
 served_ok (Err e) o s = tt
 
-after_fault : (fault : ScriptFault) (exchange : Exchange) → AfterFault IsEmpty IsAnswer fault exchange → AfterFaultOfStatements fault exchange
+after_fault : (fault : ScriptFault) (exchange : Exchange) → AfterServing HoldsNothing IsLineAnswer fault exchange → AfterFaultOfStatements fault exchange
 after_fault Read exchange a =
     let t = all_told a.0.lines exchange.told a.0.answers in
     (record { lines = a.0.lines; begun = a.0.begun; marks = t.0; cut = a.0.cut; told = t.1 }, a.1)
@@ -86,7 +89,8 @@ after_fault Full exchange a = a
 after_fault GateShut exchange a = a
 after_fault ThreadRefused exchange a = a
 
-pub served_fault : {A : Type 0} (result : Result A ScriptFault) (o : Option Exchange) → IfErr result (λ fault. IfSome o (AfterFault IsEmpty IsAnswer fault))
+pub served_fault : {A : Type 0} (result : Result A ScriptFault) (o : Option Exchange)
+    → IfErr result (λ fault. IfSome o (AfterServing HoldsNothing IsLineAnswer fault))
     → IfErr result (λ fault. IfSome o (AfterFaultOfStatements fault))
 served_fault (Ok x) o a = tt
 served_fault (Err fault) None a = tt
@@ -106,23 +110,24 @@ unfolding served_text run_text
 served_text-short state [] short = refl
 served_text-short state (line ∷ lines) short =
     let e = said_short line (All-head IsShort line lines short) in
-    let more = served_text-short (state_after state (line_of line)) lines (All-tail IsShort line lines short) in
+    let more = served_text-short (state_after_line state (line_of line)) lines (All-tail IsShort line lines short) in
     rw e (ap (λ t. answer_of state (line_of line) ++ t) more)
 
 -- the answers of the server to a line that is blank, that is bad, or that gives a statement
-pub blank_answered : (state : State) (line : Line) (text : List ℕ) → Blank ≡ line → text ≡ [] → (text ≡ answer_of state line) × (state ≡ state_after state line)
-unfolding answer_of state_after
+pub blank_answered : (state : State) (line : Line) (text : List ℕ) → Blank ≡ line → text ≡ []
+    → (text ≡ answer_of state line) × (state ≡ state_after_line state line)
+unfolding answer_of state_after_line
 blank_answered state line text is none = (rw (← is) none, rw (← is) refl)
 
 pub bad_answered : (state : State) (line : Line) (text : List ℕ) → Bad ≡ line → text ≡ answer_text (codes "-") (syntax_text 0)
-    → (text ≡ answer_of state line) × (state ≡ state_after state line)
-unfolding answer_of state_after
+    → (text ≡ answer_of state line) × (state ≡ state_after_line state line)
+unfolding answer_of state_after_line
 bad_answered state line text is told = (rw (← is) told, rw (← is) refl)
 
 pub given_answered : (old new : State) (session : ℕ) (statement : List ℕ) (line : Line) (text : List ℕ) → Given session statement ≡ line
     → text ≡ answer_to old session (read_of statement) → new ≡ state_then old session (read_of statement)
-    → (text ≡ answer_of old line) × (new ≡ state_after old line)
-unfolding answer_of state_after
+    → (text ≡ answer_of old line) × (new ≡ state_after_line old line)
+unfolding answer_of state_after_line
 given_answered old new session statement line text is told then = (rw (← is) told, rw (← is) then)
 
 -- the text of the answer to a bad line

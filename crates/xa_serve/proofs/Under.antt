@@ -5,9 +5,9 @@ use Rattle.std.proofs.lemmas.List.{length-take}
 use Rattle.std.proofs.lemmas.Bool.Decides.{nat_tests}
 use Rattle.std.proofs.lemmas.List.{take-append-drop}
 use Rattle.xa_transcript.specs.Script.{lines_of}
-use Rattle.xa_serve.specs.Heard.{Heard, Whole, heard_line, longer, is_nothing, IsCut}
+use Rattle.xa_serve.specs.Heard.{Heard, Whole, heard_line, longer, is_nothing, IsCutIntoLines}
 use Rattle.xa_serve.specs.Exchange.{Exchange, IsFresh, with_heard}
-use Rattle.xa_serve.specs.Served.{AnswersAll, AreAnswers, IsAnswerSoFar, IsAnswered, IsServed, IsBegunAnswer}
+use Rattle.xa_serve.specs.Served.{AnswersAll, AreAnswers, IsAnswerSoFar, AwaitsMore, IsServed, IsBegunAnswer}
 use Rattle.xa_serve.specs.UnderWay.{IsUnderWay, IsReady, IsAllAnswered}
 use Rattle.xa_serve.specs.declared.stage.Stage.{Stage}
 use Rattle.xa_serve.specs.declared.stage.Stage.TheVariants.{Open, Ended, Deaf}
@@ -166,7 +166,7 @@ module _ {S : Type 0} (Begins : S → Type 0) (Answers : S → Heard → List �
   so_far : (stage : Stage) (reads : ℕ) (exchange : Exchange) (text : List ℕ) (line : Heard) (server : S) → text ≡ exchange.given
       → IsUnderWay Begins Answers stage reads exchange [] line server → IsAnswerSoFar Begins Answers exchange.heard text
   so_far stage reads exchange text line server is u =
-      let P : List ℕ → Type 0 = λ xs. IsCut xs u.lines u.begun in
+      let P : List ℕ → Type 0 = λ xs. IsCutIntoLines xs u.lines u.begun in
       let Q : List ℕ → Type 0 = λ xs. AreAnswers Begins Answers u.lines xs in
       record {
         lines = u.lines;
@@ -176,7 +176,7 @@ module _ {S : Type 0} (Begins : S → Type 0) (Answers : S → Heard → List �
       }
 
   pub ready_answered : (reads : ℕ) (exchange : Exchange) (line : Heard) (server : S) → IsReady Begins Answers Open reads exchange line server
-      → IsAnswered Begins Answers exchange
+      → AwaitsMore Begins Answers exchange
   ready_answered reads exchange line server r = (r.1.stage_is, so_far Open reads exchange exchange.told line server r.0 r.1)
 
   -- the peer is deaf from now on

@@ -2,8 +2,8 @@
 --     Exchange        what was heard, and what was said
 --     IsFresh         nothing has passed yet
 --     Hears           what a read does to it
---     Tells, Flushes  what a write and a flush do to it
---     Keeps           nothing passes
+--     WritesText, Flushes  what a write and a flush do to it
+--     PassesNothing   nothing passes
 -- A peer that doesn't say what has passed is promised nothing; one that doesn't say it now won't say it later.
 use Rattle.std.specs.Prelude.{◌≡◌, ℕ, ◌==◌, cond, Option, Some, None, Result, MatchResult, List, [], ◌++◌, take, ⊤}
 use Rattle.xa_serve.specs.declared.stage.Stage.{Stage}
@@ -35,11 +35,11 @@ Hears (Some old) None result piece = ⊥
 Hears (Some old) (Some new) result piece = MatchResult result (λ n. new ≡ with_heard old n piece) (λ _. new ≡ record old { stage = Deaf })
 
 -- a write adds all of the text to what is given, or at a fault a prefix of it
-abbrev pub Tells : {A E : Type 0} → Option Exchange → Option Exchange → Result A E → List ℕ → Type 0
-Tells None None result text = ⊤
-Tells None (Some new) result text = ⊥
-Tells (Some old) None result text = ⊥
-Tells (Some old) (Some new) result text =
+abbrev pub WritesText : {A E : Type 0} → Option Exchange → Option Exchange → Result A E → List ℕ → Type 0
+WritesText None None result text = ⊤
+WritesText None (Some new) result text = ⊥
+WritesText (Some old) None result text = ⊥
+WritesText (Some old) (Some new) result text =
     MatchResult result (λ _. new ≡ record old { given = old.given ++ text }) (λ _. (n : ℕ) × (new ≡ record old { given = old.given ++ take n text }))
 
 -- a flush says all that was given; at a fault it isn't known how much
@@ -51,8 +51,8 @@ Flushes (Some old) (Some new) result =
     MatchResult result (λ _. new ≡ record old { told = old.given }) (λ _. (told : List ℕ) × (new ≡ record old { told = told }))
 
 -- nothing passes
-abbrev pub Keeps : Option Exchange → Option Exchange → Type 0
-Keeps None None = ⊤
-Keeps None (Some new) = ⊥
-Keeps (Some old) None = ⊥
-Keeps (Some old) (Some new) = new ≡ old
+abbrev pub PassesNothing : Option Exchange → Option Exchange → Type 0
+PassesNothing None None = ⊤
+PassesNothing None (Some new) = ⊥
+PassesNothing (Some old) None = ⊥
+PassesNothing (Some old) (Some new) = new ≡ old

@@ -3,7 +3,7 @@
 --     heard_line      what is kept of a line
 --     longer          a line with one byte more
 --     is_nothing      nothing of a line has come
---     IsCut           bytes are these whole lines, and what has come of the next
+--     IsCutIntoLines  bytes are these whole lines, and what has come of the next
 --     held_by         the line that has come in part
 use Rattle.std.specs.Prelude.{◌≡◌, ℕ, nat_le, ◌==◌, Bool, true, false, cond, List, [], ◌∷◌, ◌++◌, length, All}
 use Rattle.std.specs.List.{flat_map}
@@ -41,7 +41,7 @@ abbrev pub with_feed : List ℕ → List ℕ
 with_feed line = line ++ 10 ∷ []
 
 -- the bytes are these lines, each with its line feed, and then what has come of the next
-pub record IsCut (bytes : List ℕ) (lines : List (List ℕ)) (begun : List ℕ) : Type 0 where
+pub record IsCutIntoLines (bytes : List ℕ) (lines : List (List ℕ)) (begun : List ℕ) : Type 0 where
   pub whole : bytes ≡ flat_map with_feed lines ++ begun
   pub each : All HasNoFeed lines
   pub last : HasNoFeed begun

@@ -4,7 +4,7 @@
 --     piece_of        the greatest number of bytes that it says at a time
 --     reads_left_in   how many more reads it takes before it faults
 --     room_in         how many more bytes it takes before it faults
---     IsOpen          it may say more
+--     MaySayMore      it may say more
 use Rattle.std.specs.Prelude.{◌≡◌, ℕ, List}
 use Rattle.xa_serve.specs.Exchange.{Exchange}
 use Rattle.xa_serve.specs.declared.recorded.Recorded.{Recorded}
@@ -27,5 +27,5 @@ abbrev pub room_in : Recorded → ℕ
 room_in peer = peer.room
 
 -- it may say more
-abbrev pub IsOpen : Recorded → Type 0
-IsOpen peer = peer.stage ≡ Open
+abbrev pub MaySayMore : Recorded → Type 0
+MaySayMore peer = peer.stage ≡ Open

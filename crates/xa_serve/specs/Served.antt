@@ -1,14 +1,14 @@
 -- What is served for what is heard. A server is seen by two facts: `Begins state`, that it may begin so, and
 -- `Answers old line text new`, that it may answer the line with the text, and is then so.
 --     AnswersAll      the texts of lines, one after another
---     IsAnswered      all whole lines are answered, and the peer was told so
+--     AwaitsMore      all whole lines are answered, and the peer was told so
 --     IsServed        all lines are, and nothing more is to be heard
---     AfterFault      what a fault leaves
+--     AfterServing    what a fault leaves
 use Rattle.std.specs.Prelude.{◌≡◌, ◌⊎◌, ◌≤◌, ℕ, ◌-◌, ◌^◌, List, [], ◌∷◌, ◌++◌, length}
 use Rattle.xa_transcript.specs.Script.{lines_of}
 use Rattle.xa_transcript.specs.declared.script_fault.ScriptFault.{ScriptFault}
 use Rattle.xa_transcript.specs.declared.script_fault.ScriptFault.TheVariants.{Read, TooLong as ScriptTooLong, Write, NoMemory, Full, GateShut, ThreadRefused}
-use Rattle.xa_serve.specs.Heard.{Heard, heard_line, IsCut}
+use Rattle.xa_serve.specs.Heard.{Heard, heard_line, IsCutIntoLines}
 use Rattle.xa_serve.specs.Exchange.{Exchange, IsFresh}
 use Rattle.xa_serve.specs.declared.stage.Stage.TheVariants.{Open, Ended, Deaf}
 
@@ -29,12 +29,12 @@ pub record AreAnswers {S : Type 0} (Begins : S → Type 0) (Answers : S → Hear
 pub record IsAnswerSoFar {S : Type 0} (Begins : S → Type 0) (Answers : S → Heard → List ℕ → S → Type 0) (heard text : List ℕ) : Type 0 where
   pub lines : List (List ℕ)
   pub begun : List ℕ
-  pub cut : IsCut heard lines begun
+  pub cut : IsCutIntoLines heard lines begun
   pub answers : AreAnswers Begins Answers lines text
 
 -- more may be heard: all whole lines are answered, and the peer was told so
-abbrev pub IsAnswered : {S : Type 0} → (S → Type 0) → (S → Heard → List ℕ → S → Type 0) → Exchange → Type 0
-IsAnswered Begins Answers exchange = (exchange.stage ≡ Open) × IsAnswerSoFar Begins Answers exchange.heard exchange.told
+abbrev pub AwaitsMore : {S : Type 0} → (S → Type 0) → (S → Heard → List ℕ → S → Type 0) → Exchange → Type 0
+AwaitsMore Begins Answers exchange = (exchange.stage ≡ Open) × IsAnswerSoFar Begins Answers exchange.heard exchange.told
 
 -- nothing more is to be heard: all lines are answered, and the peer was told so
 abbrev pub IsServed : {S : Type 0} → (S → Type 0) → (S → Heard → List ℕ → S → Type 0) → Exchange → Type 0
@@ -51,12 +51,12 @@ pub record IsBegunAnswer {S : Type 0} (Begins : S → Type 0) (Answers : S → H
 
 -- what a fault leaves. After a read fault all whole lines are answered, and the peer is deaf, or gave more reads than are
 -- counted; after a write fault the answers are begun; without memory nothing has passed
-abbrev pub AfterFault : {S : Type 0} → (S → Type 0) → (S → Heard → List ℕ → S → Type 0) → ScriptFault → Exchange → Type 0
-AfterFault Begins Answers Read exchange =
+abbrev pub AfterServing : {S : Type 0} → (S → Type 0) → (S → Heard → List ℕ → S → Type 0) → ScriptFault → Exchange → Type 0
+AfterServing Begins Answers Read exchange =
     IsAnswerSoFar Begins Answers exchange.heard exchange.told × ((exchange.stage ≡ Deaf) ⊎ (2 ^ 64 - 1 ≤ length exchange.heard))
-AfterFault Begins Answers Write exchange = IsBegunAnswer Begins Answers exchange.heard exchange.given
-AfterFault Begins Answers NoMemory exchange = IsFresh exchange
-AfterFault Begins Answers ScriptTooLong exchange = ⊥
-AfterFault Begins Answers Full exchange = ⊥
-AfterFault Begins Answers GateShut exchange = ⊥
-AfterFault Begins Answers ThreadRefused exchange = ⊥
+AfterServing Begins Answers Write exchange = IsBegunAnswer Begins Answers exchange.heard exchange.given
+AfterServing Begins Answers NoMemory exchange = IsFresh exchange
+AfterServing Begins Answers ScriptTooLong exchange = ⊥
+AfterServing Begins Answers Full exchange = ⊥
+AfterServing Begins Answers GateShut exchange = ⊥
+AfterServing Begins Answers ThreadRefused exchange = ⊥

@@ -1,17 +1,17 @@
 -- What the sequential server answers to lines of statements.
 --     said            what a line says
 --     refused_text    the answer where memory is refused for a statement
---     IsEmpty, IsAnswer       how it begins, and how it may answer a line
---     IsTold, AfterFaultOfStatements      what is told to a peer that ends, and what a fault leaves
+--     HoldsNothing, IsLineAnswer  how it begins, and how it may answer a line
+--     IsToldAll, AfterFaultOfStatements   what is told to a peer that ends, and what a fault leaves
 --     served_text     the answers to lines, where it is known for which memory was refused
 use Rattle.std.specs.Prelude.{◌≡◌, ◌⊎◌, ◌≤◌, ℕ, ◌-◌, ◌^◌, Bool, true, false, List, [], ◌∷◌, ◌++◌, length, codes, decimal}
 use Rattle.xa_server.specs.State.{State, no_state}
 use Rattle.xa_transcript.specs.Script.{Line, Blank, Bad, Given, line_of, lines_of}
 use Rattle.xa_transcript.specs.Printed.{answer_text}
-use Rattle.xa_transcript.specs.Transcript.{answer_of, state_after}
+use Rattle.xa_transcript.specs.Transcript.{answer_of, state_after_line}
 use Rattle.xa_transcript.specs.declared.script_fault.ScriptFault.{ScriptFault}
 use Rattle.xa_transcript.specs.declared.script_fault.ScriptFault.TheVariants.{Read, TooLong as ScriptTooLong, Write, NoMemory, Full, GateShut, ThreadRefused}
-use Rattle.xa_serve.specs.Heard.{Heard, Whole, TooLong, heard_line, IsCut}
+use Rattle.xa_serve.specs.Heard.{Heard, Whole, TooLong, heard_line, IsCutIntoLines}
 use Rattle.xa_serve.specs.Exchange.{Exchange, IsFresh}
 use Rattle.xa_serve.specs.declared.stage.Stage.TheVariants.{Ended, Deaf}
 use Rattle.xa_serve.specs.declared.TheConstants.{LINE_BYTES}
@@ -26,8 +26,8 @@ abbrev pub refused_text : ℕ → List ℕ
 refused_text session = answer_text (decimal session) (codes "ERROR 1037 (HY001): out of memory")
 
 -- the server holds nothing yet
-abbrev pub IsEmpty : State → Type 0
-IsEmpty state = state ≡ no_state
+abbrev pub HoldsNothing : State → Type 0
+HoldsNothing state = state ≡ no_state
 
 -- only for a statement memory may be refused
 abbrev pub IsRefusal : Line → List ℕ → Type 0
@@ -36,8 +36,8 @@ IsRefusal Bad text = ⊥
 IsRefusal (Given session statement) text = text ≡ refused_text session
 
 -- a line is answered as a script's is; or memory is refused for its statement, and nothing changes
-abbrev pub IsAnswer : State → Heard → List ℕ → State → Type 0
-IsAnswer old line text new = ((text ≡ answer_of old (said line)) × (new ≡ state_after old (said line))) ⊎ (IsRefusal (said line) text × (new ≡ old))
+abbrev pub IsLineAnswer : State → Heard → List ℕ → State → Type 0
+IsLineAnswer old line text new = ((text ≡ answer_of old (said line)) × (new ≡ state_after_line old (said line))) ⊎ (IsRefusal (said line) text × (new ≡ old))
 
 -- the answer to a line, if memory is refused for its statement or isn't
 abbrev pub text_of : Bool → State → Line → List ℕ
@@ -49,9 +49,9 @@ text_of false state line = answer_of state line
 -- the state after it
 abbrev pub state_of : Bool → State → Line → State
 state_of true state (Given session statement) = state
-state_of true state Blank = state_after state Blank
-state_of true state Bad = state_after state Bad
-state_of false state line = state_after state line
+state_of true state Blank = state_after_line state Blank
+state_of true state Bad = state_after_line state Bad
+state_of false state line = state_after_line state line
 
 -- whether memory is refused for the next statement; behind the marks it isn't
 abbrev pub next_mark : List Bool → Bool
@@ -70,15 +70,15 @@ served_text marks state (line ∷ lines) =
     ++ served_text (later_marks marks) (state_of (next_mark marks) state (said (heard_line line))) lines
 
 -- nothing more is to be heard; what was told are the answers to all lines, for some of whose statements memory was refused
-abbrev pub IsTold : Exchange → Type 0
-IsTold exchange = (exchange.stage ≡ Ended) × ((marks : List Bool) × (exchange.told ≡ served_text marks no_state (lines_of exchange.heard)))
+abbrev pub IsToldAll : Exchange → Type 0
+IsToldAll exchange = (exchange.stage ≡ Ended) × ((marks : List Bool) × (exchange.told ≡ served_text marks no_state (lines_of exchange.heard)))
 
 -- the text answers the whole lines of what was heard
 pub record IsToldSoFar (heard text : List ℕ) : Type 0 where
   pub lines : List (List ℕ)
   pub begun : List ℕ
   pub marks : List Bool
-  pub cut : IsCut heard lines begun
+  pub cut : IsCutIntoLines heard lines begun
   pub told : text ≡ served_text marks no_state lines
 
 -- the text begins the answers to what was heard

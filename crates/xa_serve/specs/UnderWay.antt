@@ -3,7 +3,7 @@
 --     IsAllAnswered           none waits, and nothing more is to be heard
 --     IsReady                 none waits, and the peer was told all
 use Rattle.std.specs.Prelude.{◌≡◌, ◌≤◌, ℕ, length, Option, Some, None, List, [], ◌++◌, ⊤}
-use Rattle.xa_serve.specs.Heard.{Heard, heard_line, IsCut}
+use Rattle.xa_serve.specs.Heard.{Heard, heard_line, IsCutIntoLines}
 use Rattle.xa_serve.specs.Exchange.{Exchange}
 use Rattle.xa_serve.specs.Served.{AnswersAll, AreAnswers}
 use Rattle.xa_transcript.specs.Script.{lines_of}
@@ -19,7 +19,7 @@ pub record IsUnderWay {S : Type 0} (Begins : S → Type 0) (Answers : S → Hear
   pub begun : List ℕ
   pub first : S
   pub parts : exchange.heard ≡ done ++ waiting
-  pub cut : IsCut done lines begun
+  pub cut : IsCutIntoLines done lines begun
   pub held : line ≡ heard_line begun
   pub begins : Begins first
   pub answers : AnswersAll Answers first lines exchange.given server

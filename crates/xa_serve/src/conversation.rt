@@ -2,8 +2,8 @@
 ghost use Rattle.std.specs.Prelude.{◌≡◌, ◌≤◌, ◌∷◌, [], ℕ, List, IfErr, IfSome, OnOk, OnErr};
 ghost use Rattle.xa_serve.specs.Answer.{bytes_of};
 ghost use Rattle.xa_serve.specs.Heard.{held_by, Whole};
-ghost use Rattle.xa_serve.specs.Exchange.{Exchange, IsFresh, Tells, Flushes};
-ghost use Rattle.xa_serve.specs.Served.{IsServed, IsBegunAnswer, AfterFault};
+ghost use Rattle.xa_serve.specs.Exchange.{Exchange, IsFresh, WritesText, Flushes};
+ghost use Rattle.xa_serve.specs.Served.{IsServed, IsBegunAnswer, AfterServing};
 ghost use Rattle.xa_serve.specs.declared.stage.Stage.{Stage};
 ghost use Rattle.xa_serve.specs.UnderWay.{UnderWay, IsAllAnswered};
 
@@ -30,7 +30,7 @@ fn answer_begun<S: LineServer, P: Peer<S>>(
     peer: &mut P,
     line: &mut BegunLine,
 ) -> Result<(), ScriptFault>
-    ensures answer { (answer : List ℕ) × S.answers server.old (held_by line.old) answer server.new × Tells (P.exchange peer.old) (P.exchange peer.new) result answer }
+    ensures answer { (answer : List ℕ) × S.answers server.old (held_by line.old) answer server.new × WritesText (P.exchange peer.old) (P.exchange peer.new) result answer }
     ensures next { held_by line.new ≡ Whole [] }
     ensures fault { IfErr result (λ fault. fault ≡ ScriptFault.Write) }
 {
@@ -114,7 +114,7 @@ pub fn serve<S: LineServer, P: Peer<S>>(
     requires begins { S.begins server.old }
     requires fresh { IfSome (P.exchange peer.old) IsFresh }
     ensures ok { OnOk result (IfSome (P.exchange peer.new) (IsServed S.begins S.answers)) }
-    ensures fault { IfErr result (λ fault. IfSome (P.exchange peer.new) (AfterFault S.begins S.answers fault)) }
+    ensures fault { IfErr result (λ fault. IfSome (P.exchange peer.new) (AfterServing S.begins S.answers fault)) }
 {
     let Ok(mut line) = BegunLine::new(alloc) else {
         return Err(ScriptFault::NoMemory);

@@ -9,8 +9,8 @@ use std::io;
 ///
 /// Own rule: docs/BEHAVIOR.md, 'Serving'.
 pub trait Peer<S: LineServer> {
-    ghost use Rattle.xa_serve.specs.Exchange.{Exchange, Hears, Tells, Flushes};
-    ghost use Rattle.xa_serve.specs.Served.{IsAnswered};
+    ghost use Rattle.xa_serve.specs.Exchange.{Exchange, Hears, WritesText, Flushes};
+    ghost use Rattle.xa_serve.specs.Served.{AwaitsMore};
 
     // What has passed so far, where it is known.
     ghost exchange: { Self → Option Exchange } = { λ _. None };
@@ -20,13 +20,13 @@ pub trait Peer<S: LineServer> {
     /// May wait for the peer.
     fn hear(&mut self, piece: &mut [u8]) -> io::Result<usize>
         requires room { 0 < length piece.old }
-        requires answered { IfSome (exchange self.old) (IsAnswered S.begins S.answers) }
+        requires answered { IfSome (exchange self.old) (AwaitsMore S.begins S.answers) }
         ensures bound { ReadsAtMost result piece.new }
         ensures heard { Hears (exchange self.old) (exchange self.new) result piece.new };
 
     /// Gives all of the text to be said to the peer.
     fn tell(&mut self, text: &[u8]) -> io::Result<()>
-        ensures { Tells (exchange self.old) (exchange self.new) result text.now };
+        ensures { WritesText (exchange self.old) (exchange self.new) result text.now };
 
     /// Says all that was given. May wait for the peer.
     fn flush(&mut self) -> io::Result<()>

@@ -84,13 +84,13 @@ impl<'a> Recorded<'a> {
 }
 
 impl<'a, S: LineServer> Peer<S> for Recorded<'a> {
-    ghost use Rattle.xa_serve.specs.Recorded.{exchange_of, rest_of, piece_of, reads_left_in, room_in, IsOpen};
-    ghost use Rattle.xa_serve.specs.Exchange.{Hears, Tells, Flushes};
+    ghost use Rattle.xa_serve.specs.Recorded.{exchange_of, rest_of, piece_of, reads_left_in, room_in, MaySayMore};
+    ghost use Rattle.xa_serve.specs.Exchange.{Hears, WritesText, Flushes};
 
     ghost exchange = { λ peer. Some (exchange_of peer) };
 
     fn hear(&mut self, piece: &mut [u8]) -> io::Result<usize>
-        requires open { IsOpen self.old }
+        requires open { MaySayMore self.old }
         ensures bound { ReadsAtMost result piece.new }
         ensures heard { Hears (Some (exchange_of self.old)) (Some (exchange_of self.new)) result piece.new }
         ensures bytes { ReadConsumes (Some (rest_of self.old)) (Some (rest_of self.new)) result piece.new }
@@ -115,7 +115,7 @@ impl<'a, S: LineServer> Peer<S> for Recorded<'a> {
     }
 
     fn tell(&mut self, text: &[u8]) -> io::Result<()>
-        ensures told { Tells (Some (exchange_of self.old)) (Some (exchange_of self.new)) result text.now }
+        ensures told { WritesText (Some (exchange_of self.old)) (Some (exchange_of self.new)) result text.now }
         ensures room { OnOk result (room_in self.old ≡ room_in self.new + length text.now) }
         ensures kept { (rest_of self.new ≡ rest_of self.old) × (piece_of self.new ≡ piece_of self.old) × (reads_left_in self.new ≡ reads_left_in self.old) }
     {

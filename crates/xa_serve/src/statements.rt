@@ -6,7 +6,7 @@ ghost use Rattle.xa_transcript.specs.Script.{Given};
 ghost use Rattle.xa_transcript.specs.Transcript.{answer_to, state_then};
 ghost use Rattle.xa_serve.specs.Answer.{bytes_of};
 ghost use Rattle.xa_serve.specs.Exchange.{IsFresh};
-ghost use Rattle.xa_serve.specs.Statements.{refused_text, IsTold, AfterFaultOfStatements};
+ghost use Rattle.xa_serve.specs.Statements.{refused_text, IsToldAll, AfterFaultOfStatements};
 
 use crate::{Answer, LineServer, Peer, serve};
 use arrayvec::ArrayVec;
@@ -44,11 +44,11 @@ fn refusal(session: SessionNo) -> Answer
 }
 
 impl LineServer for Server {
-    ghost use Rattle.xa_serve.specs.Statements.{IsEmpty, IsAnswer};
+    ghost use Rattle.xa_serve.specs.Statements.{HoldsNothing, IsLineAnswer};
 
-    ghost begins = { IsEmpty };
+    ghost begins = { HoldsNothing };
 
-    ghost answers = { IsAnswer };
+    ghost answers = { IsLineAnswer };
 
     fn answer(&mut self, alloc: Global, line: &[u8]) -> Answer {
         match read_line(line) {
@@ -80,7 +80,7 @@ impl LineServer for Server {
 /// Own rule: docs/BEHAVIOR.md, 'Serving'.
 pub fn serve_statements<P: Peer<Server>>(alloc: Global, peer: &mut P) -> Result<(), ScriptFault>
     requires { IfSome (P.exchange peer.old) IsFresh }
-    ensures told { OnOk result (IfSome (P.exchange peer.new) IsTold) }
+    ensures told { OnOk result (IfSome (P.exchange peer.new) IsToldAll) }
     ensures fault { IfErr result (λ fault. IfSome (P.exchange peer.new) (AfterFaultOfStatements fault)) }
 {
     let mut server = Server::new(alloc);

@@ -4,7 +4,7 @@ use Rattle.std.specs.Option.{IsSome}
 use Rattle.xa_words.specs.Entry.{Entry}
 use Rattle.xa_xid.specs.declared.statement.Statement.{Statement}
 use Rattle.xa_xid.specs.declared.statement.Statement.TheVariants.{Start, End, Prepare, Commit, Rollback, Recover, Unsupported, Get, Put, Del, Disconnect}
-use Rattle.xa_words.specs.Entry.{may_enter as makes_entry}
+use Rattle.xa_words.specs.Entry.{may_be_entry as makes_entry}
 use Rattle.xa_server.specs.State.{State, seat_of, prepared_xids}
 use Rattle.xa_server.specs.Replies.{table, reply_to}
 use Rattle.xa_server.specs.declared.seat.Seat.{Seat}

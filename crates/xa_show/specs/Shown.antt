@@ -11,7 +11,7 @@ use Rattle.xa_server.specs.Overview.{keys_about}
 use Rattle.xa_server.specs.State.{State, no_state}
 use Rattle.xa_transcript.specs.Script.{Line, Blank, Bad, Given}
 use Rattle.xa_serve.specs.Heard.{Heard, Whole, TooLong}
-use Rattle.xa_serve.specs.Statements.{said, IsAnswer}
+use Rattle.xa_serve.specs.Statements.{said, IsLineAnswer}
 use Rattle.xa_show.specs.Listing.{listing}
 use Rattle.xa_show.specs.declared.shown.Shown.{Shown}
 
@@ -50,7 +50,7 @@ listing_after old (Given session text) new = listing new (keys_asked old (Given 
 -- the answer that serving gives, and behind it the listing, or nothing where memory is refused for that
 pub record IsAnswerShown (old : State) (line : Heard) (text : List ℕ) (new : State) : Type 0 where
   pub answer : List ℕ
-  pub is : IsAnswer old line answer new
+  pub is : IsLineAnswer old line answer new
   pub shown : (text ≡ answer ++ listing_after old (said line) new) ⊎ (text ≡ answer)
 
 -- a remark is said again, or nothing where memory is refused for that, and changes nothing

@@ -4,7 +4,7 @@ ghost use Rattle.xa_transcript.specs.Script.{line_of};
 ghost use Rattle.xa_serve.specs.Answer.{bytes_of};
 ghost use Rattle.xa_serve.specs.Exchange.{IsFresh};
 ghost use Rattle.xa_serve.specs.Heard.{Whole, TooLong};
-ghost use Rattle.xa_serve.specs.Served.{IsServed, AfterFault};
+ghost use Rattle.xa_serve.specs.Served.{IsServed, AfterServing};
 ghost use Rattle.xa_serve.specs.Statements.{said};
 ghost use Rattle.xa_show.specs.Listing.{listing};
 ghost use Rattle.xa_show.specs.Shown.{is_remark as is_remark_line, remark_text, is_blank as is_blank_line, keys_asked as keys_asked_at, IsAnswerShown, BeginsEmpty, Shows};
@@ -166,7 +166,7 @@ impl LineServer for Shown {
 pub fn show_statements<P: Peer<Shown>>(alloc: Global, peer: &mut P) -> Result<(), ScriptFault>
     requires { IfSome (P.exchange peer.old) IsFresh }
     ensures told { OnOk result (IfSome (P.exchange peer.new) (IsServed BeginsEmpty Shows)) }
-    ensures fault { IfErr result (λ fault. IfSome (P.exchange peer.new) (AfterFault BeginsEmpty Shows fault)) }
+    ensures fault { IfErr result (λ fault. IfSome (P.exchange peer.new) (AfterServing BeginsEmpty Shows fault)) }
 {
     let mut server = Shown::new(alloc);
     serve(alloc, &mut server, peer)

@@ -7,8 +7,8 @@ use Rattle.std.proofs.lemmas.Fmt.{decimal_is_IsNumeral}
 use Rattle.std.specs.Str.Parse.{IsNumeral}
 use Rattle.hex.specs.Hex.{IsBytes, encode_lower}
 use Rattle.xa_xid.specs.Bytes.{belongs, front, behind, run, after_run, unblank, StartsNo}
-use Rattle.xa_xid.specs.Literal.{literal_at}
-use Rattle.xa_xid.specs.Number.{number_at}
+use Rattle.xa_xid.specs.Literal.{literal_ahead}
+use Rattle.xa_xid.specs.Number.{number_ahead}
 use Rattle.xa_xid.specs.Xid.{Text}
 use Rattle.xa_xid.specs.XidText.{IsWritable, part_text, xid_text}
 use Rattle.xa_xid.specs.declared.byte_class.ByteClass.TheVariants.{Word as word_byte}
@@ -25,7 +25,7 @@ use Rattle.xa_statement.specs.declared.token.Token.TheVariants.{Word, Comma, Val
 use Rattle.xa_statement.specs.Canonical.{statement_text, IsKey}
 use Rattle.xa_statement.specs.Grammar.{XidTokens, gtrid_bqual_format, is_start, start, end, prepare, commit, commit_one, rollback, recover, recover_convert}
 use Rattle.xa_statement.specs.Grammar.{get, put, del, disconnect, bare_row, Spells}
-use Rattle.xa_statement.specs.Token.{is_word, statement_word, clause_word, keyword_of, part_of, run_token, run_at, quoted_at, opens_quoted, token_at, pieces}
+use Rattle.xa_statement.specs.Token.{is_word, statement_word, clause_word, keyword_of, part_of, run_token, run_at, quoted_piece, opens_quoted, token_at, pieces}
 use Rattle.xa_statement.specs.Token.{tokens_of, bare}
 use Rattle.xa_statement.proofs.Pieces.{IsUnblank, first_token, tokens-unblank, pieces-nil}
 
@@ -125,7 +125,7 @@ no_quote byte (second ∷ text) low high =
 
 -- a run that begins with a digit
 digit_token : (byte : ℕ) (body rest : List ℕ) → 48 ≤ byte → byte ≤ 57 → Passes (belongs word_byte) (byte ∷ body) → StartsNo (belongs word_byte) rest
-    → token_at (byte ∷ body ++ rest) ≡ (Value (part_of (literal_at (byte ∷ body ++ rest))) (part_of (number_at (byte ∷ body ++ rest))), rest)
+    → token_at (byte ∷ body ++ rest) ≡ (Value (part_of (literal_ahead (byte ∷ body ++ rest))) (part_of (number_ahead (byte ∷ body ++ rest))), rest)
 unfolding token_at
 digit_token byte body rest low high word s =
     let text = byte ∷ body ++ rest in
@@ -133,7 +133,7 @@ digit_token byte body rest low high word s =
     let left : after_run text ≡ rest = behind-append (belongs word_byte) (byte ∷ body) rest word s in
     let none : keyword_of (run text) ≡ None = ap keyword_of cut ∙ digit_no_word byte body low high in
     let quote : opens_quoted text ≡ false = no_quote byte (body ++ rest) low high in
-    let ran : run_at text ≡ (Value (part_of (literal_at text)) (part_of (number_at text)), rest) =
+    let ran : run_at text ≡ (Value (part_of (literal_ahead text)) (part_of (number_ahead text)), rest) =
     ap (λ k. (run_token k text, after_run text)) none ∙ ap (λ r. (run_token None text, r)) left in
     rw (ne_eqb byte 44 (λ e. omega arith), ne_eqb byte 59 (λ e. omega arith), quote, word.0) ran
 
@@ -147,13 +147,13 @@ unfolding token_at
 part_token [] rest all fits s = record {
   number = None;
   tokens = token_next (part_text [] ++ rest) (39 ∷ 39 ∷ rest) rest 88 (Value (Some (record { items = [] })) None)
-      (part_unblank [] rest) (ap quoted_at (part_back [] rest all fits s)) (part_unblank [] rest);
+      (part_unblank [] rest) (ap quoted_piece (part_back [] rest all fits s)) (part_unblank [] rest);
 }
 part_token (byte ∷ bytes) rest all fits s =
     let text = part_text (byte ∷ bytes) ++ rest in
     let body = 120 ∷ encode_lower (byte ∷ bytes) in
-    let number = part_of (number_at text) in
-    let literal : part_of (literal_at text) ≡ Some (record { items = byte ∷ bytes }) = ap part_of (part_back (byte ∷ bytes) rest all fits s) in
+    let number = part_of (number_ahead text) in
+    let literal : part_of (literal_ahead text) ≡ Some (record { items = byte ∷ bytes }) = ap part_of (part_back (byte ∷ bytes) rest all fits s) in
     let cut : token_at text ≡ (Value (Some (record { items = byte ∷ bytes })) number, rest) =
     digit_token 48 body rest (omega arith) (omega arith) (part_word byte bytes all) s ∙ ap (λ l. (Value l number, rest)) literal in
     record {
@@ -168,13 +168,13 @@ pub record NumberToken (n : ℕ) (digits rest : List ℕ) : Type 0 where
   pub tokens : bare (tokens_of (digits ++ rest)) ≡ Value literal (Some n) ∷ bare (tokens_of rest)
 
 digits_token : (n : ℕ) (digits rest : List ℕ) → IsNumeral 10 digits → Passes (belongs word_byte) digits → StartsNo (belongs word_byte) rest
-    → unblank (digits ++ rest) ≡ digits ++ rest → number_at (digits ++ rest) ≡ Ok (n, rest) → NumberToken n digits rest
+    → unblank (digits ++ rest) ≡ digits ++ rest → number_ahead (digits ++ rest) ≡ Ok (n, rest) → NumberToken n digits rest
 digits_token n [] rest is word s blank e = absurd (omega (arith, is.0))
 digits_token n (digit ∷ digits) rest is word s blank e =
     let text = digit ∷ digits ++ rest in
-    let literal = part_of (literal_at text) in
+    let literal = part_of (literal_ahead text) in
     let range = decimal_byte digit is.1.0 in
-    let number : part_of (number_at text) ≡ Some n = ap part_of e in
+    let number : part_of (number_ahead text) ≡ Some n = ap part_of e in
     let cut : token_at text ≡ (Value literal (Some n), rest) =
     digit_token digit digits rest range.0 range.1 word s ∙ ap (λ v. (Value literal v, rest)) number in
     record { literal = literal; tokens = token_next text (digits ++ rest) rest digit (Value literal (Some n)) blank cut blank }

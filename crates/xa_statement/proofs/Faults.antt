@@ -13,7 +13,7 @@ use Rattle.xa_statement.specs.declared.syntax_fault.SyntaxFault.{SyntaxFault}
 use Rattle.xa_statement.specs.declared.token.Token.{Token}
 use Rattle.xa_statement.specs.FaultPlace.{FaultAt, at_token, at_end}
 use Rattle.xa_statement.specs.Grammar.{Spells, MayGoOn}
-use Rattle.xa_statement.specs.Machine.{step, finish}
+use Rattle.xa_statement.specs.Machine.{after_token, finish}
 use Rattle.xa_statement.specs.Reading.{read_from, read_end, placed_in, read_of, seen_of}
 use Rattle.xa_statement.specs.Token.{Piece, pieces, tokens_of, first_piece, token_at, bare}
 use Rattle.xa_statement.proofs.Fronts.{Front, next}
@@ -42,7 +42,7 @@ run_on [] back state last e =
     let same : state ≡ last = cc in ap (λ s. read_from s back) same
 run_on (piece ∷ front) back state last e =
     read_from-cons state piece (front ++ back)
-    ∙ run_next (step state piece.0) piece.1 front back last (sym (walk-cons state piece.0 (bare front)) ∙ e) (λ s w. run_on front back s last w)
+    ∙ run_next (after_token state piece.0) piece.1 front back last (sym (walk-cons state piece.0 (bare front)) ∙ e) (λ s w. run_on front back s last w)
 
 -- where a reading stops at a token
 record StopsAt (state : State) (text : List Piece) (left : ℕ) : Type 0 where
@@ -52,7 +52,7 @@ record StopsAt (state : State) (text : List Piece) (left : ℕ) : Type 0 where
   last : State
   cut : text ≡ front ++ (token, left) ∷ back
   led : walk state (bare front) ≡ Some last
-  stops : step last token ≡ None
+  stops : after_token last token ≡ None
 
 -- where a reading ends with no statement
 record StopsEnd (state : State) (text : List Piece) (left : ℕ) : Type 0 where
@@ -69,7 +69,7 @@ ended_ok : (found : Option Statement) (statement : Statement) → read_end found
 ended_ok None statement e = absurd (ok_is_err statement 0 (sym e))
 ended_ok (Some other) statement e = let same : other ≡ statement = cc in ap (λ st. Some st) same
 
-later_stop : (state next : State) (piece : Piece) (more : List Piece) (left : ℕ) → step state piece.0 ≡ Some next
+later_stop : (state next : State) (piece : Piece) (more : List Piece) (left : ℕ) → after_token state piece.0 ≡ Some next
     → StopsAt next more left ⊎ StopsEnd next more left → StopsAt state (piece ∷ more) left ⊎ StopsEnd state (piece ∷ more) left
 later_stop state next piece more left e (inl s) = inl (record {
   front = piece ∷ s.front;
@@ -87,7 +87,7 @@ later_stop state next piece more left e (inr s) = inr (record {
   none_left = s.none_left;
 })
 
-stop_here : (state : State) (piece : Piece) (more : List Piece) (left : ℕ) → step state piece.0 ≡ None → piece.1 ≡ left
+stop_here : (state : State) (piece : Piece) (more : List Piece) (left : ℕ) → after_token state piece.0 ≡ None → piece.1 ≡ left
     → StopsAt state (piece ∷ more) left
 stop_here state piece more left stops same = record {
   front = [];
@@ -99,7 +99,7 @@ stop_here state piece more left stops same = record {
   stops = stops;
 }
 
-err_next : (reached : Option State) (state : State) (piece : Piece) (more : List Piece) (left : ℕ) → step state piece.0 ≡ reached
+err_next : (reached : Option State) (state : State) (piece : Piece) (more : List Piece) (left : ℕ) → after_token state piece.0 ≡ reached
     → from_next reached piece.1 more ≡ Err left
     → ((s : State) → read_from s more ≡ Err left → StopsAt s more left ⊎ StopsEnd s more left)
     → StopsAt state (piece ∷ more) left ⊎ StopsEnd state (piece ∷ more) left
@@ -111,7 +111,7 @@ err_stops [] state left e =
     let none = ended_err (finish state) left (sym (read_from-nil state) ∙ e) in
     inr (record { last = state; led = walk-nil state; unfinished = none.0; none_left = none.1 })
 err_stops (piece ∷ more) state left e =
-    err_next (step state piece.0) state piece more left refl (sym (read_from-cons state piece more) ∙ e) (λ s r. err_stops more s left r)
+    err_next (after_token state piece.0) state piece more left refl (sym (read_from-cons state piece more) ∙ e) (λ s r. err_stops more s left r)
 
 -- what is left from a token on is no more than the text
 abbrev Within : ℕ → List Piece → Type 0
@@ -157,7 +157,7 @@ ok_led : (text : List Piece) (state : State) (statement : Statement) → read_fr
     → (last : State) × (walk state (bare text) ≡ Some last)
 ok_led [] state statement e = (state, walk-nil state)
 ok_led (piece ∷ more) state statement e =
-    let led = ok_next (step state piece.0) piece.1 more statement (sym (read_from-cons state piece more) ∙ e) (λ s r. ok_led more s statement r) in
+    let led = ok_next (after_token state piece.0) piece.1 more statement (sym (read_from-cons state piece more) ∙ e) (λ s r. ok_led more s statement r) in
     (led.0, walk-cons state piece.0 (bare more) ∙ led.1)
 
 pub ok_sound : (text : List ℕ) (statement : Statement) → read_from AtFirst (tokens_of text) ≡ Ok statement → Spells text statement
@@ -201,7 +201,7 @@ err_sound text left e = fault_of text left (err_stops (tokens_of text) AtFirst l
 
 -- the machine has no next state at the token of a fault
 stops_there : (tokens : List Token) (token : Token) (last : State) → walk AtFirst tokens ≡ Some last → (MayGoOn (tokens ++ token ∷ []) → ⊥)
-    → (reached : Option State) → step last token ≡ reached → step last token ≡ None
+    → (reached : Option State) → after_token last token ≡ reached → after_token last token ≡ None
 stops_there tokens token last led never None e = e
 stops_there tokens token last led never (Some s) e =
     absurd (never (goes_on s (tokens ++ token ∷ []) (rw e at (next last token tokens (led_on tokens last led)))))
@@ -211,7 +211,7 @@ fault_read : (text : List ℕ) (place left : ℕ) (front back : List Piece) (tok
     → (found : ℕ) × ((read_from AtFirst (tokens_of text) ≡ Err found) × (place ≡ length text - found))
 fault_read text place left front back token cut may never sum =
     let led = viable (bare front) may in
-    let stops : step led.0 token ≡ None = stops_there (bare front) token led.0 led.1 never (step led.0 token) refl in
+    let stops : after_token led.0 token ≡ None = stops_there (bare front) token led.0 led.1 never (after_token led.0 token) refl in
     let read : read_from AtFirst (tokens_of text) ≡ Err left =
     ap (read_from AtFirst) cut ∙ run_on front ((token, left) ∷ back) AtFirst led.0 led.1 ∙ read_from-stop led.0 (token, left) back stops in
     (left, (read, omega arith))

@@ -23,7 +23,7 @@ use Rattle.xa_statement.specs.declared.state.State.TheVariants.{Whole, Ended}
 use Rattle.xa_statement.specs.Grammar.{XidTokens, gtrid, gtrid_bqual, gtrid_bqual_format, StartWord, is_start, is_begin, is_join, is_resume, Row, start}
 use Rattle.xa_statement.specs.Grammar.{start_clause, end, end_suspend, end_suspend_for, prepare, commit, commit_one, rollback, recover, recover_convert, get}
 use Rattle.xa_statement.specs.Grammar.{put, del, disconnect, Says, ended_row}
-use Rattle.xa_statement.specs.Machine.{step, unended, ended, statement_of, xid_word, key_state, after_word, after_comma, after_value}
+use Rattle.xa_statement.specs.Machine.{after_token, unended, ended, statement_of, xid_word, key_state, after_word, after_comma, after_value}
 
 -- the words that lead to a verb
 abbrev pub VerbWord : Verb → Keyword → Type 0
@@ -238,8 +238,8 @@ semicolon_next None tokens row = tt
 semicolon_next (Some statement) tokens row = ended_row row
 
 -- one token more
-pub next : (state : State) (token : Token) (tokens : List Token) → Front state tokens → FrontOf (step state token) (tokens ++ token ∷ [])
-unfolding step
+pub next : (state : State) (token : Token) (tokens : List Token) → Front state tokens → FrontOf (after_token state token) (tokens ++ token ∷ [])
+unfolding after_token
 next state (Word word) tokens f = word_next state word tokens f
 next state Comma tokens f = comma_next state tokens f
 next state Semicolon tokens f = semicolon_next (unended state) tokens (row_of state tokens f)

@@ -4,20 +4,20 @@ use Rattle.std.proofs.Common.{sym, ◌∙◌, ap, arith}
 use Rattle.std.proofs.Math.Nat.{le_refl}
 use Rattle.std.proofs.lemmas.Bool.{cond_both}
 use Rattle.xa_xid.specs.Bytes.{belongs, behind, unblank}
-use Rattle.xa_xid.specs.Literal.{Reading, literal_at}
+use Rattle.xa_xid.specs.Literal.{Reading, literal_ahead}
 use Rattle.xa_xid.specs.Xid.{Text}
 use Rattle.xa_xid.specs.declared.byte_class.ByteClass.TheVariants.{Word as word_byte, Blank as blank_byte}
 use Rattle.xa_xid.proofs.Cuts.{behind-passes, behind-stops, behind-nil}
 use Rattle.xa_xid.proofs.Shorter.{behind-short, ShortReading, literal-short}
 use Rattle.xa_statement.specs.declared.token.Token.{Token}
 use Rattle.xa_statement.specs.declared.token.Token.TheVariants.{Comma, Semicolon, Value}
-use Rattle.xa_statement.specs.Token.{token_at, quoted_at, run_at, opens_quoted, pieces, tokens_of, first_piece, Piece}
+use Rattle.xa_statement.specs.Token.{token_at, quoted_piece, run_at, opens_quoted, pieces, tokens_of, first_piece, Piece}
 
 -- what is left behind a token is at most so long
 abbrev Leaves : ℕ → Token × List ℕ → Type 0
 Leaves most cut = length cut.1 ≤ most
 
-leaves_quoted : (most : ℕ) (reading : Reading Text) → ShortReading most reading → Leaves most (quoted_at reading)
+leaves_quoted : (most : ℕ) (reading : Reading Text) → ShortReading most reading → Leaves most (quoted_piece reading)
 leaves_quoted most (Ok found) short = short
 leaves_quoted most (Err fault) short = omega arith
 
@@ -27,12 +27,12 @@ token-short byte text =
     let most = length text in
     let stray : Token × List ℕ = (Value None None, []) in
     let word : Token × List ℕ = if belongs word_byte byte then run_at (byte ∷ text) else stray in
-    let quoted : Token × List ℕ = if opens_quoted (byte ∷ text) then quoted_at (literal_at (byte ∷ text)) else word in
+    let quoted : Token × List ℕ = if opens_quoted (byte ∷ text) then quoted_piece (literal_ahead (byte ∷ text)) else word in
     let semicolon : Token × List ℕ = if byte == 59 then (Semicolon, text) else quoted in
     cond_both (byte == 44) (Comma, text) semicolon (Leaves most) (λ _. le_refl most)
     (λ _. cond_both (byte == 59) (Semicolon, text) quoted (Leaves most) (λ _. le_refl most)
-    (λ _. cond_both (opens_quoted (byte ∷ text)) (quoted_at (literal_at (byte ∷ text))) word (Leaves most)
-    (λ opens. leaves_quoted most (literal_at (byte ∷ text)) (literal-short byte text opens))
+    (λ _. cond_both (opens_quoted (byte ∷ text)) (quoted_piece (literal_ahead (byte ∷ text))) word (Leaves most)
+    (λ opens. leaves_quoted most (literal_ahead (byte ∷ text)) (literal-short byte text opens))
     (λ _. cond_both (belongs word_byte byte) (run_at (byte ∷ text)) stray (Leaves most)
     (λ is. rw (behind-passes (belongs word_byte) byte text is) (behind-short (belongs word_byte) text))
     (λ _. omega arith))))

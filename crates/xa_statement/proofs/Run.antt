@@ -8,7 +8,7 @@ use Rattle.xa_xid.specs.declared.statement.Statement.{Statement}
 use Rattle.xa_xid.proofs.Shorter.{behind-short}
 use Rattle.xa_statement.specs.declared.state.State.{State}
 use Rattle.xa_statement.specs.declared.state.State.TheVariants.{AtFirst}
-use Rattle.xa_statement.specs.Machine.{step, finish}
+use Rattle.xa_statement.specs.Machine.{after_token, finish}
 use Rattle.xa_statement.specs.Reading.{read_from, read_end, placed_in, read_of, seen_of}
 use Rattle.xa_statement.specs.Token.{Piece, token_at, tokens_of}
 use Rattle.xa_statement.proofs.Pieces.{IsUnblank, unblank-unblank, first_token, tokens-unblank, token-short, pieces-nil}
@@ -18,18 +18,18 @@ abbrev pub from_next : Option State → ℕ → List Piece → Result Statement 
 from_next None left more = Err left
 from_next (Some next) left more = read_from next more
 
-pub read_from-stop : (state : State) (piece : Piece) (more : List Piece) → step state piece.0 ≡ None → read_from state (piece ∷ more) ≡ Err piece.1
+pub read_from-stop : (state : State) (piece : Piece) (more : List Piece) → after_token state piece.0 ≡ None → read_from state (piece ∷ more) ≡ Err piece.1
 unfolding read_from
 read_from-stop state piece more e = rw (e, read_from) refl
 
-pub read_from-go : (state next : State) (piece : Piece) (more : List Piece) → step state piece.0 ≡ Some next
+pub read_from-go : (state next : State) (piece : Piece) (more : List Piece) → after_token state piece.0 ≡ Some next
     → read_from state (piece ∷ more) ≡ read_from next more
 unfolding read_from
 read_from-go state next piece more e = rw (e, read_from) refl
 
-pub read_from-cons : (state : State) (piece : Piece) (more : List Piece) → read_from state (piece ∷ more) ≡ from_next (step state piece.0) piece.1 more
+pub read_from-cons : (state : State) (piece : Piece) (more : List Piece) → read_from state (piece ∷ more) ≡ from_next (after_token state piece.0) piece.1 more
 read_from-cons state piece more =
-    elim (step state piece.0) as (λ o. step state piece.0 ≡ o → read_from state (piece ∷ more) ≡ from_next o piece.1 more) [
+    elim (after_token state piece.0) as (λ o. after_token state piece.0 ≡ o → read_from state (piece ∷ more) ≡ from_next o piece.1 more) [
       | None ↦ λ e. read_from-stop state piece more e
       | Some next ↦ λ e. read_from-go state next piece more e
     ] refl
@@ -53,7 +53,7 @@ read_start text rest e = rw e (record {
 
 -- the first token of a rest that isn't empty
 pub step_of : (state : State) (rest : List ℕ) → 0 < length rest → IsUnblank rest
-    → read_from state (tokens_of rest) ≡ from_next (step state (token_at rest).0) (length rest) (tokens_of (token_at rest).1)
+    → read_from state (tokens_of rest) ≡ from_next (after_token state (token_at rest).0) (length rest) (tokens_of (token_at rest).1)
 step_of state [] some is = absurd (omega arith)
 step_of state (byte ∷ rest) some is = ap (read_from state) (first_token byte rest is) ∙ read_from-cons state _ _
 
@@ -63,7 +63,7 @@ rest-short (byte ∷ rest) some =
     let tail = (token_at (byte ∷ rest)).1 in
     omega (arith, token-short byte rest, behind-short (belongs blank_byte) tail)
 
-pub read_step : (text rest later : List ℕ) (state next : State) → 0 < length rest → step state (token_at rest).0 ≡ Some next
+pub read_step : (text rest later : List ℕ) (state next : State) → 0 < length rest → after_token state (token_at rest).0 ≡ Some next
     → later ≡ unblank (token_at rest).1 → ReadBefore text state rest → ReadBefore text next later
 read_step text rest later state next some steps e before =
     let shorter : length (unblank (token_at rest).1) < length rest = rest-short rest some in
@@ -82,7 +82,7 @@ pub seen : (text : List ℕ) (found : Result Statement ℕ) → read_from AtFirs
 unfolding read_of
 seen text found e = ap (λ r. seen_of (placed_in text r)) e
 
-pub read_stop : (text rest : List ℕ) (state : State) → 0 < length rest → step state (token_at rest).0 ≡ None → ReadBefore text state rest
+pub read_stop : (text rest : List ℕ) (state : State) → 0 < length rest → after_token state (token_at rest).0 ≡ None → ReadBefore text state rest
     → Err (record { at = length text - length rest }) ≡ seen_of (read_of text)
 read_stop text rest state some stops before =
     sym (seen text (Err (length rest))

@@ -14,7 +14,7 @@ use Rattle.xa_statement.specs.declared.state.State.TheVariants.{AtFirst, AfterXa
 use Rattle.xa_statement.specs.declared.state.State.TheVariants.{AfterSuspend, AfterFor, AfterOne, AfterRecover, AfterConvert, WantsKey, AfterKey, WantsValue}
 use Rattle.xa_statement.specs.declared.state.State.TheVariants.{Whole, Ended}
 use Rattle.xa_statement.specs.Grammar.{Says, bare_row, MayGoOn}
-use Rattle.xa_statement.specs.Machine.{step, finish, unended, statement_of}
+use Rattle.xa_statement.specs.Machine.{after_token, finish, unended, statement_of}
 use Rattle.xa_statement.proofs.Walk.{walk, walk_on, walk-nil, walk-cons, walk_then, walk-append, walk-stop, answer, said_read}
 use Rattle.xa_statement.proofs.Fronts.{Front, FrontOf, RowOf, row_of, next}
 
@@ -29,7 +29,7 @@ pub reach : (more : List Token) (state : State) (tokens : List Token) → Front 
 reach [] state tokens f = rw (walk-nil state, append-nil tokens) f
 reach (token ∷ more) state tokens f =
     rw (walk-cons state token more)
-    (reach_on (step state token) token more tokens (next state token tokens f) (λ s g. reach more s (tokens ++ token ∷ []) g))
+    (reach_on (after_token state token) token more tokens (next state token tokens f) (λ s g. reach more s (tokens ++ token ∷ []) g))
 
 -- a statement that there may be is said
 abbrev pub SaysOf : Option Statement → List Token → Type 0
@@ -74,7 +74,7 @@ any_key = Value (Some one_byte) None
 
 -- each state can become a statement
 pub goes_on : (state : State) (tokens : List Token) → Front state tokens → MayGoOn tokens
-unfolding walk step finish
+unfolding walk after_token finish
 goes_on AtFirst ts f = way AtFirst ts (Word DISCONNECT ∷ []) Disconnect refl f
 goes_on AfterXa ts f = way AfterXa ts (Word RECOVER ∷ []) (Recover false) refl f
 goes_on (WantsGtrid verb) ts f = way (WantsGtrid verb) ts (any_literal ∷ []) (statement_of verb (xid_of no_text no_text 1)) refl f
@@ -111,7 +111,7 @@ viable tokens m =
     (ap answer (sym (walk-append tokens m.more AtFirst)) ∙ said_read (tokens ++ m.more) m.statement m.says)
 
 -- and none where it has no next one
-pub stuck : (tokens : List Token) (token : Token) (s : State) → walk AtFirst tokens ≡ Some s → step s token ≡ None → MayGoOn (tokens ++ token ∷ []) → ⊥
+pub stuck : (tokens : List Token) (token : Token) (s : State) → walk AtFirst tokens ≡ Some s → after_token s token ≡ None → MayGoOn (tokens ++ token ∷ []) → ⊥
 stuck tokens token s e stops m =
     let reached = viable (tokens ++ token ∷ []) m in
     let none : walk AtFirst (tokens ++ token ∷ []) ≡ None = walk_then tokens (token ∷ []) AtFirst s e ∙ walk-stop s token [] stops in

@@ -18,12 +18,12 @@ use Rattle.xa_statement.specs.declared.state.State.TheVariants.{Whole, Ended}
 use Rattle.xa_statement.specs.Grammar.{XidTokens, gtrid, gtrid_bqual, gtrid_bqual_format, StartWord, is_start, is_begin, JoinWord, is_join, is_resume, Row}
 use Rattle.xa_statement.specs.Grammar.{start, start_clause, end, end_suspend, end_suspend_for, prepare, commit, commit_one, rollback, recover, recover_convert}
 use Rattle.xa_statement.specs.Grammar.{get, put, del, disconnect, Says, bare_row, ended_row}
-use Rattle.xa_statement.specs.Machine.{step, finish, unended, ended, statement_of, xid_word, key_state, after_key}
+use Rattle.xa_statement.specs.Machine.{after_token, finish, unended, ended, statement_of, xid_word, key_state, after_key}
 
 -- the state after tokens
 unfoldable pub walk : State → List Token → Option State
 walk state [] = Some state
-walk state (token ∷ more) = elim (step state token) [ None ↦ None | Some next ↦ walk next more ]
+walk state (token ∷ more) = elim (after_token state token) [ None ↦ None | Some next ↦ walk next more ]
 
 -- the same from a state that there may be
 abbrev pub walk_on : Option State → List Token → Option State
@@ -39,17 +39,17 @@ pub walk-nil : (state : State) → walk state [] ≡ Some state
 unfolding walk
 walk-nil state = refl
 
-pub walk-stop : (state : State) (token : Token) (more : List Token) → step state token ≡ None → walk state (token ∷ more) ≡ None
+pub walk-stop : (state : State) (token : Token) (more : List Token) → after_token state token ≡ None → walk state (token ∷ more) ≡ None
 unfolding walk
 walk-stop state token more e = rw (e, walk) refl
 
-pub walk-go : (state next : State) (token : Token) (more : List Token) → step state token ≡ Some next → walk state (token ∷ more) ≡ walk next more
+pub walk-go : (state next : State) (token : Token) (more : List Token) → after_token state token ≡ Some next → walk state (token ∷ more) ≡ walk next more
 unfolding walk
 walk-go state next token more e = rw (e, walk) refl
 
-pub walk-cons : (state : State) (token : Token) (more : List Token) → walk state (token ∷ more) ≡ walk_on (step state token) more
+pub walk-cons : (state : State) (token : Token) (more : List Token) → walk state (token ∷ more) ≡ walk_on (after_token state token) more
 walk-cons state token more =
-    elim (step state token) as (λ o. step state token ≡ o → walk state (token ∷ more) ≡ walk_on o more) [
+    elim (after_token state token) as (λ o. after_token state token ≡ o → walk state (token ∷ more) ≡ walk_on o more) [
       | None ↦ λ e. walk-stop state token more e
       | Some next ↦ λ e. walk-go state next token more e
     ] refl
@@ -63,7 +63,7 @@ pub walk-append : (front back : List Token) (state : State) → walk state (fron
 walk-append [] back state = ap (λ o. walk_on o back) (sym (walk-nil state))
 walk-append (token ∷ front) back state =
     walk-cons state token (front ++ back)
-    ∙ walk_on-append (step state token) front back (λ s. walk-append front back s)
+    ∙ walk_on-append (after_token state token) front back (λ s. walk-append front back s)
     ∙ ap (λ o. walk_on o back) (sym (walk-cons state token front))
 
 pub walk_then : (front back : List Token) (state next : State) → walk state front ≡ Some next → walk state (front ++ back) ≡ walk next back
@@ -75,10 +75,10 @@ pub record XidRead (verb : Verb) (xid : Xid) (tokens : List Token) : Type 0 wher
   pub reached : walk (WantsGtrid verb) tokens ≡ Some state
   pub open_end : unended state ≡ Some (statement_of verb xid)
   pub closed_end : finish state ≡ Some (statement_of verb xid)
-  pub goes : (word : Keyword) → step state (Word word) ≡ xid_word verb xid word
+  pub goes : (word : Keyword) → after_token state (Word word) ≡ xid_word verb xid word
 
 xid_read : (verb : Verb) (tokens : List Token) (xid : Xid) → XidTokens tokens xid → XidRead verb xid tokens
-unfolding walk step finish
+unfolding walk after_token finish
 xid_read verb _ _ (gtrid g m) = record { state = AfterGtrid verb g; reached = refl; open_end = refl; closed_end = refl; goes = λ word. refl }
 xid_read verb _ _ (gtrid_bqual g b m n) = record { state = AfterBqual verb g b; reached = refl; open_end = refl; closed_end = refl; goes = λ word. refl }
 xid_read verb _ _ (gtrid_bqual_format g b m n l f) =
@@ -107,7 +107,7 @@ clause_step verb x more xid word next form e =
     ∙ walk-go read.state next (Word word) more (read.goes word ∙ e)
 
 start_read : (word : Keyword) (x : List Token) → StartWord word → walk AtFirst (Word XA ∷ Word word ∷ x) ≡ walk (WantsGtrid Starts) x
-unfolding walk step
+unfolding walk after_token
 start_read _ x is_start = refl
 start_read _ x is_begin = refl
 
@@ -130,7 +130,7 @@ key_next [] some verb = absurd (omega arith)
 key_next (byte ∷ items) some verb = refl
 
 pub row_read : (tokens : List Token) (statement : Statement) → Row tokens statement → RowRead tokens statement
-unfolding walk step finish
+unfolding walk after_token finish
 row_read _ _ (start {word} {parts = x} {xid} is form) = plain_row Starts _ x xid (start_read word x is) form
 row_read _ _ (start_clause {word} {clause} {parts = x} {xid} is form join) =
     whole_row _ Unsupported (start_read word (x ++ Word clause ∷ []) is
@@ -151,8 +151,8 @@ row_read _ _ (put key value m n some) = whole_row _ (Put key.items value) (rw (k
 row_read _ _ (del key m some) = whole_row _ (Del key.items) (rw (key_next key.items some Deletes, walk) refl)
 row_read _ _ disconnect = whole_row _ Disconnect refl
 
-semicolon_step : (state : State) (statement : Statement) → unended state ≡ Some statement → step state Semicolon ≡ Some (Ended statement)
-unfolding step
+semicolon_step : (state : State) (statement : Statement) → unended state ≡ Some statement → after_token state Semicolon ≡ Some (Ended statement)
+unfolding after_token
 semicolon_step state statement e = ap ended e
 
 -- each statement's tokens are answered by it

@@ -4,8 +4,8 @@ use Rattle.std.proofs.Common.{sym, ◌∙◌, ap, arith, IsTrue}
 use Rattle.std.proofs.lemmas.Bool.{eq-eqb, eqb-true, eqb-false}
 use Rattle.std.proofs.lemmas.List.{append-nil}
 use Rattle.xa_xid.specs.Bytes.{front, behind, unblank}
-use Rattle.xa_xid.specs.Literal.{literal_at, sized, text_literal_of}
-use Rattle.xa_xid.specs.Quoted.{quoted, onto}
+use Rattle.xa_xid.specs.Literal.{literal_ahead, sized, text_literal_of}
+use Rattle.xa_xid.specs.Quoted.{read_in_quotes, onto}
 use Rattle.xa_xid.specs.Xid.{Text}
 use Rattle.xa_xid.specs.declared.quoted.Mode.TheVariants.{Plain, Quote}
 use Rattle.xa_xid.specs.declared.statement.Statement.{Statement}
@@ -23,22 +23,22 @@ use Rattle.xa_statement.specs.declared.state.RowVerb.TheVariants.{Gets, Puts, De
 use Rattle.xa_statement.specs.declared.token.Keyword.{Keyword}
 use Rattle.xa_statement.specs.declared.token.Token.{Token}
 use Rattle.xa_statement.specs.declared.token.Token.TheVariants.{Word, Comma, Semicolon, Value}
-use Rattle.xa_statement.specs.Machine.{step, unended, ended, finish, statement_of, after_word, after_key, key_state}
+use Rattle.xa_statement.specs.Machine.{after_token, unended, ended, finish, statement_of, after_word, after_key, key_state}
 use Rattle.xa_statement.specs.Reading.{read_from, read_end, read_of, seen_of}
-use Rattle.xa_statement.specs.Token.{token_at, quoted_at, tokens_of}
-use Rattle.xa_statement.specs.Ways.{Goes, Takes, TakesLiteral, TakesNumber, Leads, Ends, plain_in, heads, Closes}
+use Rattle.xa_statement.specs.Token.{token_at, quoted_piece, tokens_of}
+use Rattle.xa_statement.specs.Ways.{Goes, TakesToken, TakesLiteral, TakesNumber, Leads, Ends, plain_in, heads, Closes}
 use Rattle.xa_statement.proofs.Pieces.{unblank-unblank, tokens-unblank}
 use Rattle.xa_statement.proofs.Run.{from_next, step_of, read_all, seen}
 
 -- a token that stands first behind blanks
-pub takes : (token : Token) (text found rest : List ℕ) → found ≡ unblank text → 0 < length found → token_at found ≡ (token, rest) → Takes token text rest
+pub takes : (token : Token) (text found rest : List ℕ) → found ≡ unblank text → 0 < length found → token_at found ≡ (token, rest) → TakesToken token text rest
 takes token text found rest is some first =
     let here : token_at (unblank text) ≡ (token, rest) = ap token_at (sym is) ∙ first in
     let left : 0 < length (unblank text) = rw (sym is) some in
     λ state next steps.
     ap (read_from state) (sym (tokens-unblank text))
     ∙ step_of state (unblank text) left (unblank-unblank text)
-    ∙ ap (λ cut. from_next (step state cut.0) (length (unblank text)) (tokens_of cut.1)) here
+    ∙ ap (λ cut. from_next (after_token state cut.0) (length (unblank text)) (tokens_of cut.1)) here
     ∙ ap (λ o. from_next o (length (unblank text)) (tokens_of rest)) steps
 
 comma_first : (rest : List ℕ) → token_at (44 ∷ rest) ≡ (Comma, rest)
@@ -49,8 +49,8 @@ semicolon_first : (rest : List ℕ) → token_at (59 ∷ rest) ≡ (Semicolon, r
 unfolding token_at
 semicolon_first rest = refl
 
-takes_semicolon : (state : State) (said : Statement) → unended state ≡ Some said → step state Semicolon ≡ Some (Ended said)
-unfolding step
+takes_semicolon : (state : State) (said : Statement) → unended state ≡ Some said → after_token state Semicolon ≡ Some (Ended said)
+unfolding after_token
 takes_semicolon state said un = ap ended un
 
 ended_said : (said : Statement) → finish (Ended said) ≡ Some said
@@ -61,7 +61,7 @@ at_end : (text : List ℕ) (state : State) (said : Statement) → unblank text �
 at_end text state said none fin =
     ap (read_from state) (sym (tokens-unblank text)) ∙ read_all state (unblank text) (ap length none) ∙ ap read_end fin
 
-pub takes_comma : (text found rest : List ℕ) → found ≡ unblank text → found ≡ 44 ∷ rest → Takes Comma text rest
+pub takes_comma : (text found rest : List ℕ) → found ≡ unblank text → found ≡ 44 ∷ rest → TakesToken Comma text rest
 takes_comma text found rest is first = takes Comma text (44 ∷ rest) rest (sym first ∙ is) (omega arith) (comma_first rest)
 
 false_is_true : false ≡ true → ⊥
@@ -112,31 +112,32 @@ other quote byte plain =
     ] refl plain
 
 quoted_front : (quote : ℕ) (body : List ℕ)
-    → quoted quote Plain body ≡ onto (front (plain_in quote) body) (quoted quote Plain (behind (plain_in quote) body))
+    → read_in_quotes quote Plain body ≡ onto (front (plain_in quote) body) (read_in_quotes quote Plain (behind (plain_in quote) body))
 quoted_front quote [] = rw (front-nil (plain_in quote), behind-nil (plain_in quote), quoted-nil-plain quote) refl
 quoted_front quote (byte ∷ body) =
     let p = plain_in quote in
-    elim (p byte) as (λ b. p byte ≡ b → quoted quote Plain (byte ∷ body) ≡ onto (front p (byte ∷ body)) (quoted quote Plain (behind p (byte ∷ body)))) [
+    elim (p byte) as (λ b. p byte ≡ b
+    → read_in_quotes quote Plain (byte ∷ body) ≡ onto (front p (byte ∷ body)) (read_in_quotes quote Plain (behind p (byte ∷ body)))) [
       | true ↦ λ e. rw (front-passes p byte body e, behind-passes p byte body e)
           (plain_byte quote byte body (other quote byte e).0 (other quote byte e).1 ∙ ap (onto (byte ∷ [])) (quoted_front quote body) ∙ onto_onto byte _ _)
       | false ↦ λ e. rw (front-stops p byte body e, behind-stops p byte body e) (sym (onto_nil _))
     ] refl
 
-quote_ends : (quote : ℕ) (rest : List ℕ) → heads quote rest ≡ false → quoted quote Quote rest ≡ Some ([], rest)
+quote_ends : (quote : ℕ) (rest : List ℕ) → heads quote rest ≡ false → read_in_quotes quote Quote rest ≡ Some ([], rest)
 quote_ends quote [] none = quoted-nil-quote quote
 quote_ends quote (byte ∷ rest) none = quote_closes quote byte rest (eqb-false byte quote none)
 
 quoted_whole : (quote : ℕ) (body rest : List ℕ) → Closes quote (behind (plain_in quote) body) rest
-    → quoted quote Plain body ≡ Some (front (plain_in quote) body, rest)
+    → read_in_quotes quote Plain body ≡ Some (front (plain_in quote) body, rest)
 quoted_whole quote body rest closes =
     let plain = front (plain_in quote) body in
     quoted_front quote body
-    ∙ ap (λ left. onto plain (quoted quote Plain left)) closes.0
+    ∙ ap (λ left. onto plain (read_in_quotes quote Plain left)) closes.0
     ∙ ap (onto plain) (plain_quote quote quote rest refl ∙ quote_ends quote rest closes.1)
     ∙ ap (λ bytes. Some (bytes, rest)) (append-nil plain)
 
 plain_read : (quote : ℕ) (body rest : List ℕ) (text : Text) → Closes quote (behind (plain_in quote) body) rest
-    → text.items ≡ front (plain_in quote) body → length text.items ≤ 64 → text_literal_of (quoted quote Plain body) ≡ Ok (text, rest)
+    → text.items ≡ front (plain_in quote) body → length text.items ≤ 64 → text_literal_of (read_in_quotes quote Plain body) ≡ Ok (text, rest)
 plain_read quote body rest text closes items fits =
     ap text_literal_of (quoted_whole quote body rest closes ∙ ap (λ bytes. Some (bytes, rest)) (sym items))
     ∙ ap (λ found. sized found rest) (kept-fits text.items fits)
@@ -144,31 +145,31 @@ plain_read quote body rest text closes items fits =
 -- the same, as it is put into an empty text
 pub plain_taken : (quote : ℕ) (body plain closing rest : List ℕ) (old text : Text) → plain ≡ front (plain_in quote) body
     → closing ≡ behind (plain_in quote) body → Closes quote closing rest → old.items ≡ [] → text.items ≡ old.items ++ plain
-    → length old.items + length plain ≤ 64 → text_literal_of (quoted quote Plain body) ≡ Ok (text, rest)
+    → length old.items + length plain ≤ 64 → text_literal_of (read_in_quotes quote Plain body) ≡ Ok (text, rest)
 plain_taken quote body plain closing rest old text is_front is_behind closes none items fits =
     let held : text.items ≡ plain = items ∙ ap (λ xs. xs ++ plain) none in
     let few : length text.items ≤ 64 = rw held (omega (arith, fits)) in
     plain_read quote body rest text (sym is_behind ∙ closes.0, closes.1) (held ∙ is_front) few
 
 -- a literal in quotes, at a place in a text
-pub single_first : (body rest : List ℕ) (text : Text) → text_literal_of (quoted 39 Plain body) ≡ Ok (text, rest)
+pub single_first : (body rest : List ℕ) (text : Text) → text_literal_of (read_in_quotes 39 Plain body) ≡ Ok (text, rest)
     → token_at (39 ∷ body) ≡ (Value (Some text) None, rest)
-unfolding token_at literal_at
-single_first body rest text read = ap quoted_at read
+unfolding token_at literal_ahead
+single_first body rest text read = ap quoted_piece read
 
-pub double_first : (body rest : List ℕ) (text : Text) → text_literal_of (quoted 34 Plain body) ≡ Ok (text, rest)
+pub double_first : (body rest : List ℕ) (text : Text) → text_literal_of (read_in_quotes 34 Plain body) ≡ Ok (text, rest)
     → token_at (34 ∷ body) ≡ (Value (Some text) None, rest)
-unfolding token_at literal_at
-double_first body rest text read = ap quoted_at read
+unfolding token_at literal_ahead
+double_first body rest text read = ap quoted_piece read
 
 -- a word leads on
-pub goes_word : (text rest : List ℕ) (state next : State) (word : Keyword) → after_word state word ≡ Some next → Takes (Word word) text rest
+pub goes_word : (text rest : List ℕ) (state next : State) (word : Keyword) → after_word state word ≡ Some next → TakesToken (Word word) text rest
     → Goes state text next rest
-unfolding step
+unfolding after_token
 goes_word text rest state next word steps first = first state next steps
 
 pub goes_known : (text rest : List ℕ) (state next : State) (found word : Keyword) → found ≡ word → after_word state word ≡ Some next
-    → Takes (Word found) text rest → Goes state text next rest
+    → TakesToken (Word found) text rest → Goes state text next rest
 goes_known text rest state next found word is steps first = goes_word text rest state next found (ap (after_word state) is ∙ steps) first
 
 pub goes_then : (text rest end : List ℕ) (state next : State) (said : Statement) → Goes state text next rest → Leads next rest said end
@@ -178,23 +179,23 @@ goes_then text rest end state next said goes leads = (leads.0, (goes ∙ leads.1
 -- the parts of an xid
 pub gtrid_leads : (verb : Verb) (text rest : List ℕ) (found : Text) → TakesLiteral text found rest
     → Leads (WantsGtrid verb) text (statement_of verb (xid_of found no_text 1)) rest
-unfolding step finish
+unfolding after_token finish
 gtrid_leads verb text rest found first = (AfterGtrid verb found, (first.1 (WantsGtrid verb) (AfterGtrid verb found) refl, (refl, refl)))
 
-pub gtrid_goes : (verb : Verb) (text middle rest : List ℕ) (found : Text) → TakesLiteral text found middle → Takes Comma middle rest
+pub gtrid_goes : (verb : Verb) (text middle rest : List ℕ) (found : Text) → TakesLiteral text found middle → TakesToken Comma middle rest
     → Goes (WantsGtrid verb) text (WantsBqual verb found) rest
-unfolding step
+unfolding after_token
 gtrid_goes verb text middle rest found first comma =
     first.1 (WantsGtrid verb) (AfterGtrid verb found) refl ∙ comma (AfterGtrid verb found) (WantsBqual verb found) refl
 
 pub bqual_leads : (verb : Verb) (gtrid : Text) (text rest : List ℕ) (found : Text) → TakesLiteral text found rest
     → Leads (WantsBqual verb gtrid) text (statement_of verb (xid_of gtrid found 1)) rest
-unfolding step finish
+unfolding after_token finish
 bqual_leads verb gtrid text rest found first = (AfterBqual verb gtrid found, (first.1 (WantsBqual verb gtrid) (AfterBqual verb gtrid found) refl, (refl, refl)))
 
-pub bqual_goes : (verb : Verb) (gtrid : Text) (text middle rest : List ℕ) (found : Text) → TakesLiteral text found middle → Takes Comma middle rest
+pub bqual_goes : (verb : Verb) (gtrid : Text) (text middle rest : List ℕ) (found : Text) → TakesLiteral text found middle → TakesToken Comma middle rest
     → Goes (WantsBqual verb gtrid) text (WantsFormatId verb gtrid found) rest
-unfolding step
+unfolding after_token
 bqual_goes verb gtrid text middle rest found first comma =
     first.1 (WantsBqual verb gtrid) (AfterBqual verb gtrid found) refl ∙ comma (AfterBqual verb gtrid found) (WantsFormatId verb gtrid found) refl
 
@@ -208,14 +209,14 @@ pub bqual_said : (verb : Verb) (gtrid : Text) (text rest : List ℕ) (found : Te
 bqual_said verb gtrid text rest found number one first = rw one (bqual_leads verb gtrid text rest found first)
 
 format_steps : (verb : Verb) (gtrid bqual : Text) (literal : Option Text) (number : ℕ)
-    → step (WantsFormatId verb gtrid bqual) (Value literal (Some number)) ≡ Some (AfterXid verb (xid_of gtrid bqual number))
-unfolding step
+    → after_token (WantsFormatId verb gtrid bqual) (Value literal (Some number)) ≡ Some (AfterXid verb (xid_of gtrid bqual number))
+unfolding after_token
 format_steps verb gtrid bqual None number = refl
 format_steps verb gtrid bqual (Some text) number = refl
 
 pub format_leads : (verb : Verb) (gtrid bqual : Text) (text rest : List ℕ) (number : ℕ) → TakesNumber text number rest
     → Leads (WantsFormatId verb gtrid bqual) text (statement_of verb (xid_of gtrid bqual number)) rest
-unfolding step finish
+unfolding after_token finish
 format_leads verb gtrid bqual text rest number first =
     let next : State = AfterXid verb (xid_of gtrid bqual number) in
     (next, (first.1 (WantsFormatId verb gtrid bqual) next (format_steps verb gtrid bqual first.0 number), (refl, refl)))
@@ -227,7 +228,7 @@ key_some verb (byte ∷ bytes) some = refl
 
 key_goes : (verb : RowVerb) (text rest : List ℕ) (key : Text) → TakesLiteral text key rest → 0 < length key.items
     → Goes (WantsKey verb) text (after_key verb key.items) rest
-unfolding step
+unfolding after_token
 key_goes verb text rest key first some = first.1 (WantsKey verb) (after_key verb key.items) (key_some verb key.items some)
 
 pub get_leads : (text rest : List ℕ) (key : Text) → TakesLiteral text key rest → 0 < length key.items → Leads (WantsKey Gets) text (Get key.items) rest
@@ -238,9 +239,9 @@ pub del_leads : (text rest : List ℕ) (key : Text) → TakesLiteral text key re
 unfolding finish
 del_leads text rest key first some = (Whole (Del key.items), (key_goes Deletes text rest key first some, (refl, refl)))
 
-pub row_leads : (text behind_key behind_comma rest : List ℕ) (key value : Text) → TakesLiteral text key behind_key → Takes Comma behind_key behind_comma
+pub row_leads : (text behind_key behind_comma rest : List ℕ) (key value : Text) → TakesLiteral text key behind_key → TakesToken Comma behind_key behind_comma
     → TakesLiteral behind_comma value rest → 0 < length key.items → Leads (WantsKey Puts) text (Put key.items value) rest
-unfolding step finish
+unfolding after_token finish
 row_leads text behind_key behind_comma rest key value first comma last some =
     let said : State = Whole (Put key.items value) in
     let at_value = key_goes Puts text behind_key key first some ∙ comma (AfterKey key.items) (WantsValue key.items) refl in

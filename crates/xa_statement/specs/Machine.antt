@@ -1,5 +1,5 @@
 -- How far a statement is read after each token: a machine whose states carry what was read.
---     step state token       the state after one token more
+--     after_token state token  the state after one token more
 --     finish state           the statement, where the tokens so far are one
 use Rattle.std.specs.Prelude.{ℕ, true, false, Option, Some, None, List, [], ◌∷◌}
 use Rattle.xa_xid.specs.Xid.{Text}
@@ -106,11 +106,11 @@ ended None = None
 ended (Some statement) = Some (Ended statement)
 
 -- the state after one token more; none where no statement's tokens go on so
-unfoldable pub step : State → Token → Option State
-step state (Word word) = after_word state word
-step state Comma = after_comma state
-step state Semicolon = ended (unended state)
-step state (Value literal number) = after_value state literal number
+unfoldable pub after_token : State → Token → Option State
+after_token state (Word word) = after_word state word
+after_token state Comma = after_comma state
+after_token state Semicolon = ended (unended state)
+after_token state (Value literal number) = after_value state literal number
 
 -- the statement, where the tokens so far are one
 unfoldable pub finish : State → Option Statement

@@ -7,7 +7,7 @@ use Rattle.xa_xid.specs.declared.statement.Statement.{Statement}
 use Rattle.xa_statement.specs.declared.state.State.{State}
 use Rattle.xa_statement.specs.declared.state.State.TheVariants.{AtFirst}
 use Rattle.xa_statement.specs.declared.syntax_fault.SyntaxFault.{SyntaxFault}
-use Rattle.xa_statement.specs.Machine.{step, finish}
+use Rattle.xa_statement.specs.Machine.{after_token, finish}
 use Rattle.xa_statement.specs.Token.{Piece, tokens_of}
 
 -- a statement, or a fault with nothing left
@@ -18,7 +18,7 @@ read_end (Some statement) = Ok statement
 -- the statement, or how many bytes the text has from the faulty token on
 unfoldable pub read_from : State → List Piece → Result Statement ℕ
 read_from state [] = read_end (finish state)
-read_from state (piece ∷ more) = elim (step state piece.0) [ None ↦ Err piece.1 | Some next ↦ read_from next more ]
+read_from state (piece ∷ more) = elim (after_token state piece.0) [ None ↦ Err piece.1 | Some next ↦ read_from next more ]
 
 -- the place of what is left of a text
 abbrev pub placed_in : List ℕ → Result Statement ℕ → Result Statement ℕ

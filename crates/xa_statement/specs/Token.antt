@@ -7,8 +7,8 @@
 use Rattle.std.specs.Prelude.{ℕ, Bool, ◌==◌, ◌||◌, if◌then◌else◌, List, [], ◌∷◌, length, map, codes, zero, suc, Option, Some, None, Ok, Err, bytes_eq}
 use Rattle.std.specs.Char.{to_ascii_lowercase}
 use Rattle.xa_xid.specs.Bytes.{belongs, run, after_run, unblank}
-use Rattle.xa_xid.specs.Literal.{Reading, literal_at, opens_text, opens_hex}
-use Rattle.xa_xid.specs.Number.{number_at}
+use Rattle.xa_xid.specs.Literal.{Reading, literal_ahead, opens_text, opens_hex}
+use Rattle.xa_xid.specs.Number.{number_ahead}
 use Rattle.xa_xid.specs.Xid.{Text}
 use Rattle.xa_xid.specs.declared.byte_class.ByteClass.TheVariants.{Word as word_byte}
 use Rattle.xa_statement.specs.declared.token.Keyword.{Keyword}
@@ -67,14 +67,14 @@ part_of (Ok (answer, rest)) = Some answer
 part_of (Err fault) = None
 
 -- a literal in quotes; where a faulty one ends can't be observed, since no statement has one
-abbrev pub quoted_at : Reading Text → Token × List ℕ
-quoted_at (Ok (text, rest)) = (Value (Some text) None, rest)
-quoted_at (Err fault) = (Value None None, [])
+abbrev pub quoted_piece : Reading Text → Token × List ℕ
+quoted_piece (Ok (text, rest)) = (Value (Some text) None, rest)
+quoted_piece (Err fault) = (Value None None, [])
 
 -- a run that is no word, as a literal and as a number
 abbrev pub run_token : Option Keyword → List ℕ → Token
 run_token (Some word) text = Word word
-run_token None text = Value (part_of (literal_at text)) (part_of (number_at text))
+run_token None text = Value (part_of (literal_ahead text)) (part_of (number_ahead text))
 
 -- a run of word bytes
 abbrev pub run_at : List ℕ → Token × List ℕ
@@ -90,7 +90,7 @@ token_at [] = (Value None None, [])
 token_at (byte ∷ text) =
     if byte == 44 then (Comma, text) else
     if byte == 59 then (Semicolon, text) else
-    if opens_quoted (byte ∷ text) then quoted_at (literal_at (byte ∷ text)) else
+    if opens_quoted (byte ∷ text) then quoted_piece (literal_ahead (byte ∷ text)) else
     if belongs word_byte byte then run_at (byte ∷ text) else
     (Value None None, [])
 

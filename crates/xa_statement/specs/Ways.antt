@@ -1,6 +1,6 @@
 -- What reading a part of a text comes to, whatever was read before it.
 --     Goes state text next rest      reading `text` from the first state on is reading `rest` from the second one on
---     Takes token text rest          the token stands first in the text, and `rest` stands behind it
+--     TakesToken token text rest     the token stands first in the text, and `rest` stands behind it
 --     TakesLiteral text found rest   the same of a literal
 --     Leads state text said rest     reading comes to `rest` and a state of a whole statement
 --     Ends text                      nothing stands in the text but blanks and at most one ;
@@ -10,7 +10,7 @@ use Rattle.xa_xid.specs.declared.statement.Statement.{Statement}
 use Rattle.xa_statement.specs.declared.state.State.{State}
 use Rattle.xa_statement.specs.declared.token.Token.{Token}
 use Rattle.xa_statement.specs.declared.token.Token.TheVariants.{Value}
-use Rattle.xa_statement.specs.Machine.{step, unended, finish}
+use Rattle.xa_statement.specs.Machine.{after_token, unended, finish}
 use Rattle.xa_statement.specs.Reading.{read_from}
 use Rattle.xa_statement.specs.Token.{tokens_of}
 
@@ -32,16 +32,16 @@ abbrev pub Goes : State → List ℕ → State → List ℕ → Type 0
 Goes state text next rest = read_from state (tokens_of text) ≡ read_from next (tokens_of rest)
 
 -- the token stands first, behind blanks
-abbrev pub Takes : Token → List ℕ → List ℕ → Type 0
-Takes token text rest = (state next : State) → step state token ≡ Some next → Goes state text next rest
+abbrev pub TakesToken : Token → List ℕ → List ℕ → Type 0
+TakesToken token text rest = (state next : State) → after_token state token ≡ Some next → Goes state text next rest
 
 -- a literal stands first, whatever number it may be
 abbrev pub TakesLiteral : List ℕ → Text → List ℕ → Type 0
-TakesLiteral text found rest = (number : Option ℕ) × Takes (Value (Some found) number) text rest
+TakesLiteral text found rest = (number : Option ℕ) × TakesToken (Value (Some found) number) text rest
 
 -- a number stands first, whatever literal it may be
 abbrev pub TakesNumber : List ℕ → ℕ → List ℕ → Type 0
-TakesNumber text number rest = (literal : Option Text) × Takes (Value literal (Some number)) text rest
+TakesNumber text number rest = (literal : Option Text) × TakesToken (Value literal (Some number)) text rest
 
 -- reading comes to a state of a whole statement
 abbrev pub Leads : State → List ℕ → Statement → List ℕ → Type 0

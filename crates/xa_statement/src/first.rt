@@ -1,19 +1,19 @@
 //! The first token of a text, of the kind that is wanted there.
 ghost use Rattle.std.specs.Prelude.{◌≡◌, ◌<◌, ℕ, Option, Some, [], ◌∷◌, None, Ok, length, IfSome, IsTrue};
 ghost use Rattle.xa_xid.specs.Bytes.{front, behind};
-ghost use Rattle.xa_xid.specs.Literal.{literal_at, text_literal_of};
-ghost use Rattle.xa_xid.specs.Quoted.{quoted};
+ghost use Rattle.xa_xid.specs.Literal.{literal_ahead, text_literal_of};
+ghost use Rattle.xa_xid.specs.Quoted.{read_in_quotes};
 ghost use Rattle.xa_xid.specs.declared.quoted.Mode.TheVariants.{Plain};
 ghost use Rattle.xa_statement.specs.declared.token.Token.TheVariants.{Word, Comma, Value};
 ghost use Rattle.xa_statement.specs.Token.{token_at, run_at, part_of};
-ghost use Rattle.xa_statement.specs.Ways.{Takes, TakesLiteral, TakesNumber, Ends, plain_in, heads, Closes};
+ghost use Rattle.xa_statement.specs.Ways.{TakesToken, TakesLiteral, TakesNumber, Ends, plain_in, heads, Closes};
 
 use crate::token::{Keyword, Token, begins_quoted, number_part, token_of, word_of_run};
 use xa_xid::{ByteClass, Bytes, skip_blanks};
 
 /// The word that stands first, and the text behind it.
 pub(crate) fn first_word(text: &[u8]) -> Option<(Keyword, &[u8])>
-    ensures { IfSome result (λ found. Takes (Word found.0) text.now found.1.now) }
+    ensures { IfSome result (λ found. TakesToken (Word found.0) text.now found.1.now) }
 {
     let (word, rest) = word_in_front(skip_blanks(text))?;
     Some((word, rest))
@@ -66,7 +66,7 @@ pub(crate) fn first_number(text: &[u8]) -> Option<(u64, &[u8])>
 #[tactic(auto, unfolding(crate::specs::Token::token_at))]
 fn number_in_front(text: &[u8]) -> Option<(u64, &[u8])>
     ensures some { IfSome result (λ found. 0 < length text.now) }
-    ensures token { IfSome result (λ found. token_at text.now ≡ (Value (part_of (literal_at text.now)) (Some found.0), found.1.now)) }
+    ensures token { IfSome result (λ found. token_at text.now ≡ (Value (part_of (literal_ahead text.now)) (Some found.0), found.1.now)) }
 {
     if text.is_empty() {
         return None;
@@ -88,7 +88,7 @@ fn number_in_front(text: &[u8]) -> Option<(u64, &[u8])>
 
 /// A run of word bytes that is a number.
 fn number_run(text: &[u8]) -> Option<(u64, &[u8])>
-    ensures { IfSome result (λ found. run_at text.now ≡ (Value (part_of (literal_at text.now)) (Some found.0), found.1.now)) }
+    ensures { IfSome result (λ found. run_at text.now ≡ (Value (part_of (literal_ahead text.now)) (Some found.0), found.1.now)) }
 {
     let (run, rest) = ByteClass::Word.split(text);
     match (word_of_run(run), number_part(text)) {
@@ -109,7 +109,7 @@ fn behind_byte(byte: u8, text: &[u8]) -> Option<&[u8]>
 
 /// The text behind a comma that stands first.
 pub(crate) fn behind_comma(text: &[u8]) -> Option<&[u8]>
-    ensures { IfSome result (λ rest. Takes Comma text.now rest.now) }
+    ensures { IfSome result (λ rest. TakesToken Comma text.now rest.now) }
 {
     let rest = behind_byte(b',', skip_blanks(text))?;
     Some(rest)
@@ -183,7 +183,7 @@ fn take_plain<'a>(bytes: &mut Bytes, text: &'a [u8]) -> Option<&'a [u8]>
 /// The same from behind the opening quote on.
 fn take_quoted<'a>(quote: u8, bytes: &mut Bytes, body: &'a [u8]) -> Option<&'a [u8]>
     requires { bytes.now.items ≡ [] }
-    ensures { IfSome result (λ rest. text_literal_of (quoted quote Plain body.now) ≡ Ok (bytes.new, rest.now)) }
+    ensures { IfSome result (λ rest. text_literal_of (read_in_quotes quote Plain body.now) ≡ Ok (bytes.new, rest.now)) }
 {
     let (plain, closing) = split_plain(quote, body);
     let rest = behind_quote(quote, closing)?;

@@ -1,6 +1,6 @@
 //! How far a statement was read, and what each token leads to.
 ghost use Rattle.std.specs.Prelude.{◌≡◌};
-ghost use Rattle.xa_statement.specs.Machine.{after_word, xid_word, after_comma, after_value, step, unended, finish, statement_of, after_key};
+ghost use Rattle.xa_statement.specs.Machine.{after_word, xid_word, after_comma, after_value, after_token, unended, finish, statement_of, after_key};
 ghost use Rattle.xa_xid.specs.XidText.{xid_of};
 
 use crate::token::{Keyword, Token};
@@ -67,9 +67,9 @@ pub enum State {
 
 impl State {
     /// The state after one token more, or `None` where no statement's tokens go on so.
-    #[tactic(auto, unfolding(crate::specs::Machine::step))]
+    #[tactic(auto, unfolding(crate::specs::Machine::after_token))]
     pub fn step(self, token: Token) -> Option<State>
-        ensures { result ≡ step self token }
+        ensures { result ≡ after_token self token }
     {
         match token {
             Token::Word(word) => self.after_word(word),

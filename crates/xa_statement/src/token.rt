@@ -1,8 +1,8 @@
 //! Tokens, cut from the front of a text.
 ghost use Rattle.std.specs.Prelude.{◌≡◌, ◌<◌, ◌≤◌, length};
-ghost use Rattle.xa_statement.specs.Token.{is_word, statement_word, clause_word, keyword_of, opens_quoted, quoted_at, run_at, part_of, token_at};
-ghost use Rattle.xa_xid.specs.Literal.{literal_at};
-ghost use Rattle.xa_xid.specs.Number.{number_at};
+ghost use Rattle.xa_statement.specs.Token.{is_word, statement_word, clause_word, keyword_of, opens_quoted, quoted_piece, run_at, part_of, token_at};
+ghost use Rattle.xa_xid.specs.Literal.{literal_ahead};
+ghost use Rattle.xa_xid.specs.Number.{number_ahead};
 
 use xa_xid::{ByteClass, Bytes, literal_of, number_of};
 
@@ -87,7 +87,7 @@ pub(crate) fn begins_quoted(text: &[u8]) -> bool
 
 /// A literal in quotes.
 fn quoted_token(text: &[u8]) -> (Token, &[u8])
-    ensures { (result.0, result.1.now) ≡ quoted_at (literal_at text.now) }
+    ensures { (result.0, result.1.now) ≡ quoted_piece (literal_ahead text.now) }
 {
     match literal_of(text) {
         Ok((bytes, rest)) => (Token::Value(Some(bytes), None), rest),
@@ -108,7 +108,7 @@ fn run_token(text: &[u8]) -> (Token, &[u8])
 
 /// What the text begins with as a literal.
 fn literal_part(text: &[u8]) -> Option<Bytes>
-    ensures { result ≡ part_of (literal_at text.now) }
+    ensures { result ≡ part_of (literal_ahead text.now) }
 {
     match literal_of(text) {
         Ok((bytes, _)) => Some(bytes),
@@ -118,7 +118,7 @@ fn literal_part(text: &[u8]) -> Option<Bytes>
 
 /// What the text begins with as a number.
 pub(crate) fn number_part(text: &[u8]) -> Option<u64>
-    ensures { result ≡ part_of (number_at text.now) }
+    ensures { result ≡ part_of (number_ahead text.now) }
 {
     match number_of(text) {
         Ok((number, _)) => Some(number),

@@ -6,7 +6,7 @@ use Rattle.decision_log.specs.declared.known.Known.{Known}
 use Rattle.decision_log.specs.History.{Begins, entries_of}
 use Rattle.decision_log.specs.Calls.{MeetsFirst, MeetsSecond}
 use Rattle.decision_log.proofs.Histories.{begins_itself, begins_through, length_begins}
-use Rattle.xa_store.specs.Gathered.{Keeps, last_known}
+use Rattle.xa_store.specs.Gathered.{AddsNothing, last_known}
 
 -- a pass that others met keeps its lists, and so does one that nobody met
 pub meets_nobody : (known : Known) → MeetsFirst known known
@@ -16,10 +16,10 @@ pub meets_again : (old now new : Known) → MeetsFirst old now → MeetsFirst no
 meets_again old now new m n =
     record { number = n.number ∙ m.number; seen = n.seen ∙ m.seen; mine = n.mine ∙ m.mine; looks = omega (arith, m.looks, n.looks); tries = n.tries ∙ m.tries }
 
-pub keeps_itself : (known : Known) → Keeps known known
+pub keeps_itself : (known : Known) → AddsNothing known known
 keeps_itself known = record { number = refl; seen = begins_itself known.seen; mine = refl; looks = omega arith; tries = refl }
 
-pub keeps_again : (old now new : Known) → Keeps old now → Keeps now new → Keeps old new
+pub keeps_again : (old now new : Known) → AddsNothing old now → AddsNothing now new → AddsNothing old new
 keeps_again old now new k l =
     record {
       number = l.number ∙ k.number;
@@ -30,7 +30,7 @@ keeps_again old now new k l =
     }
 
 -- the last of two that meet
-met_keeps : (first old new : Known) → MeetsSecond first old new → Keeps old new
+met_keeps : (first old new : Known) → MeetsSecond first old new → AddsNothing old new
 met_keeps first old new m = record { number = m.number; seen = m.seen; mine = m.mine; looks = m.looks; tries = m.tries }
 
 pub zip_itself : {S : Type 0} (R : S → S → Type 0) → ((s : S) → R s s) → (list : List S) → AllZip R list list
@@ -70,7 +70,7 @@ zip_weaker R Q weaker (a ∷ before) [] zip = absurd zip
 zip_weaker R Q weaker (a ∷ before) (b ∷ now) zip = (weaker a b zip.0, zip_weaker R Q weaker before now zip.1)
 
 -- a pass that another met keeps all that it had
-pub meets_keeps : (old new : Known) → MeetsFirst old new → Keeps old new
+pub meets_keeps : (old new : Known) → MeetsFirst old new → AddsNothing old new
 meets_keeps old new m =
     record {
       number = m.number;
@@ -89,7 +89,7 @@ module _ {S : Type 0} (known : S → Known) (R : S → S → Type 0) where
   -- the first so many have met the last
   pub record Round (before now : List S) (old new : Known) (index : ℕ) : Type 0 where
     pub kept : AllZip R before now
-    pub last : Keeps old new
+    pub last : AddsNothing old new
     pub seen : AllWithin (λ s. Begins (known s).seen new.seen) now 0 index
     pub whole : All (λ s. Begins (known s).seen old.seen) before
         → (new.seen ≡ old.seen) × AllWithin (λ s. entries_of (known s).number new.seen ≡ (known s).mine) now 0 index

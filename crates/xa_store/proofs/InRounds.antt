@@ -14,10 +14,10 @@ use Rattle.decision_log.specs.History.{entries_of}
 use Rattle.xa_session.specs.Replay.{state_after}
 use Rattle.xa_session.specs.declared.answer.Answer.{Answer}
 use Rattle.xa_store.specs.Passes.{Pass, log_of, known_of}
-use Rattle.xa_store.specs.Gathered.{IsTakenIn, Keeps, last_known}
+use Rattle.xa_store.specs.Gathered.{IsTakenIn, AddsNothing, last_known}
 use Rattle.xa_store.specs.Spread.{AllThree}
 use Rattle.xa_store.specs.Legal.{IsLegal}
-use Rattle.xa_store.specs.Rounds.{later, Gains, GoesOn, AllGain, AllLegalSoFar, AllAnswered, AreFresh, CanShut, StopsInRound, BlamesRounds}
+use Rattle.xa_store.specs.Rounds.{later, Gains, AreLegalAtLast, AllGain, AllLegalSoFar, AllAnswered, AreFresh, CanShut, StopsInRound, BlamesRounds}
 use Rattle.xa_store.specs.declared.progress.Progress.{Progress}
 use Rattle.xa_store.specs.declared.run.Run.{Run}
 use Rattle.xa_store.specs.declared.race_fault.RaceFault.{RaceFault}
@@ -177,7 +177,7 @@ all_gain base before history from (pass ∷ passes) (old ∷ olds) (new ∷ news
 
 -- what a session was answered in a round, in the history that all have seen in the end
 pub gains_in : (base : State) (before : ℕ) (history : List Entry) (known after last : Known) (old new : Progress)
-    → entries_of after.number after.seen ≡ after.mine → GoesOn base before known after old new → Keeps after last → IsTakenIn history last
+    → entries_of after.number after.seen ≡ after.mine → AreLegalAtLast base before known after old new → AddsNothing after last → IsTakenIn history last
     → Gains base before history known old new
 gains_in base before history known after last old new part goes keeps taken =
     let gains = goes.gains in

@@ -10,7 +10,7 @@ use Rattle.decision_log.specs.History.{entries_of}
 use Rattle.xa_session.specs.Answer.{IsAnswered, IsUnanswered}
 use Rattle.xa_session.specs.declared.answer.Answer.{Answer}
 use Rattle.xa_store.specs.Gathered.{IsTakenIn}
-use Rattle.xa_store.specs.Rounds.{later, GoesOn}
+use Rattle.xa_store.specs.Rounds.{later, AreLegalAtLast}
 use Rattle.xa_store.specs.declared.progress.Progress.{Progress}
 use Rattle.xa_store.proofs.Legality.{IsOnTheWay, sets_out, goes_on, legal_longer}
 
@@ -64,7 +64,7 @@ round_goes_on base count old now new statements before after statement answer pa
 
 pub round_ends : (base : State) (count : ℕ) (old now : Known) (told told' : Progress) → told'.lines.items ≡ told.lines.items
     → IsOnTheRound base count old now told.lines.items told.answers.items told'.answers.items
-    → GoesOn base count old now told told'
+    → AreLegalAtLast base count old now told told'
 round_ends base count old now told told' lines round = record {
   number = round.way.number;
   gains = record { lines = lines; answers = round.answers; more = round.more; legal = round.way.legal };
@@ -73,7 +73,8 @@ round_ends base count old now told told' lines round = record {
 -- a statement for which there was no room has added nothing
 pub round_stays : (base : State) (count : ℕ) (old now new : Known) (told told' : Progress) → told'.lines.items ≡ told.lines.items
     → entries_of now.number now.seen ≡ now.mine → entries_of new.number new.seen ≡ new.mine
-    → IsOnTheRound base count old now told.lines.items told.answers.items told'.answers.items → IsUnanswered now new → GoesOn base count old new told told'
+    → IsOnTheRound base count old now told.lines.items told.answers.items told'.answers.items → IsUnanswered now new
+    → AreLegalAtLast base count old new told told'
 round_stays base count old now new told told' lines part part' round unanswered =
     let taken : IsTakenIn new.seen now = record {
       seen = unanswered.advances.seen;

@@ -9,7 +9,7 @@ use Rattle.decision_log.specs.History.{entries_of}
 use Rattle.decision_log.proofs.Histories.{begins_through}
 use Rattle.xa_store.specs.Passes.{log_of, known_of}
 use Rattle.xa_session.specs.declared.answer.Answer.{Answer}
-use Rattle.xa_store.specs.Gathered.{IsTakenIn, Keeps}
+use Rattle.xa_store.specs.Gathered.{IsTakenIn, AddsNothing}
 use Rattle.xa_store.specs.Legal.{IsLegal, Stops, Blames}
 use Rattle.xa_store.specs.Spread.{HasAnswered}
 use Rattle.xa_store.specs.declared.run.Run.{Run}
@@ -18,7 +18,7 @@ use Rattle.xa_store.specs.declared.race_fault.RaceFault.TheVariants.{GateShut, F
 use Rattle.xa_store.proofs.Legality.{legal_longer}
 
 -- what is taken in of a pass was taken in of it before it saw more
-pub taken_before : (history : List Entry) (old new : Known) → Keeps old new → IsTakenIn history new → IsTakenIn history old
+pub taken_before : (history : List Entry) (old new : Known) → AddsNothing old new → IsTakenIn history new → IsTakenIn history old
 taken_before history old new keeps taken = record {
   seen = begins_through old.seen new.seen history keeps.seen taken.seen;
   mine = ap (λ n. entries_of n history) (sym keeps.number) ∙ taken.mine ∙ keeps.mine;
@@ -27,7 +27,7 @@ taken_before history old new keeps taken = record {
 -- a run's answers are legal in a history that has all that its pass knows in the end
 pub legal_in : (gate : ℕ → ℕ → Bool → Type 0) (base : State) (history : List Entry) (old new last : Known) (statements : List Statement) (answers : List Answer)
     → entries_of new.number new.seen ≡ new.mine → HasAnswered gate base old new statements answers
-    → Keeps new last → IsTakenIn history last → IsLegal base history old statements answers
+    → AddsNothing new last → IsTakenIn history last → IsLegal base history old statements answers
 legal_in gate base history old new last statements answers part answered keeps taken =
     legal_longer base history old new statements answers answered.number part (taken_before history new last keeps taken) answered.legal
 

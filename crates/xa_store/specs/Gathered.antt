@@ -1,6 +1,6 @@
 -- What one session has seen and others have, once they have met.
 --     IsTakenIn       a history has what a session has seen, and just the entries that it knows as its own
---     Keeps           what a session still has: it may have seen more
+--     AddsNothing     what a session still has: it may have seen more
 --     last_known      what the last session of a list knows
 use Rattle.std.specs.Prelude.{◌≡◌, ◌≤◌, List, [], ◌∷◌}
 use Rattle.xa_words.specs.Entry.{Entry}
@@ -14,7 +14,7 @@ pub record IsTakenIn (history : List Entry) (known : Known) : Type 0 where
   pub mine : entries_of known.number history ≡ known.mine
 
 -- the session has added nothing, and what it sees begins with what it had seen
-pub record Keeps (old new : Known) : Type 0 where
+pub record AddsNothing (old new : Known) : Type 0 where
   pub number : new.number ≡ old.number
   pub seen : Begins old.seen new.seen
   pub mine : new.mine ≡ old.mine

@@ -8,7 +8,7 @@
 --     IsOutcome       what a race gives
 --     LetsIn          a gate can let a session give its statements
 --     Halts           why a session's statement isn't answered
---     IsReached       the statements in front of a place were answered
+--     IsReachedInRun  the statements in front of a place were answered
 --     IsShutAt        the gate can shut a run at a statement
 --     IsFullAt        a run's statement has no room in the history
 --     Stops           why a run stops
@@ -91,7 +91,7 @@ Halts gate base capacity statement place NoMemory old new = Unit {0}
 Halts gate base capacity statement place ThreadRefused old new = ⊥
 
 -- the run is this session's, and its statements in front of this line, but not this one, were answered as the history explains
-pub record IsReached (base : State) (history : List Entry) (before : Known) (statements : List Statement) (session line : ℕ) : Type 0 where
+pub record IsReachedInRun (base : State) (history : List Entry) (before : Known) (statements : List Statement) (session line : ℕ) : Type 0 where
   pub number : session ≡ before.number
   pub below : line < length statements
   pub answers : List Answer
@@ -100,13 +100,13 @@ pub record IsReached (base : State) (history : List Entry) (before : Known) (sta
 -- once the statements in front of this one were answered, the gate can shut the run
 pub record IsShutAt (gate : ℕ → ℕ → Bool → Type 0) (base : State) (before : Known) (statements : List Statement) (session line : ℕ) : Type 0 where
   pub history : List Entry
-  pub reached : IsReached base history before statements session line
+  pub reached : IsReachedInRun base history before statements session line
   pub shut : gate session line false
 
 -- once the statements in front of this one were answered, it enters a history that is as long as the log can be
 pub record IsFullAt (base : State) (capacity : ℕ) (before : Known) (statements : List Statement) (session line : ℕ) : Type 0 where
   pub history : List Entry
-  pub reached : IsReached base history before statements session line
+  pub reached : IsReachedInRun base history before statements session line
   pub statement : Statement
   pub given : slice_get statements line ≡ Some statement
   pub enters : enters (state_after base history) session statement ≡ true

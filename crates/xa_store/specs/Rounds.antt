@@ -1,7 +1,7 @@
 -- Races in rounds: each round has a log of its own, and one history explains the answers of all rounds.
 --     later           an answer whose place counts over all rounds
 --     Gains           what a session was answered in one round
---     GoesOn          the same of what its pass knows, before the round and after it
+--     AreLegalAtLast  the same of what its pass knows, before the round and after it
 --     HasGoneOn       the same of a session that is on the log and the base that it was on
 --     AllGain         what the sessions, each of which knew nothing at first, were answered in one round
 --     AllLegalSoFar   what they were answered so far
@@ -36,7 +36,7 @@ pub record Gains (base : State) (before : ℕ) (history : List Entry) (known : K
   pub legal : IsLegal base history known (take (length answers) (drop (length old.answers.items) old.lines.items)) answers
 
 -- they are legal in what the session has seen in the end
-pub record GoesOn (base : State) (before : ℕ) (known after : Known) (old new : Progress) : Type 0 where
+pub record AreLegalAtLast (base : State) (before : ℕ) (known after : Known) (old new : Progress) : Type 0 where
   pub number : after.number ≡ known.number
   pub gains : Gains base before after.seen known old new
 
@@ -46,7 +46,7 @@ pub record HasGoneOn {Pass : Type 0} (belongs_to : Pass → LogIdentity) (known 
     (pass' : Pass) (new : Progress) : Type 0 where
   pub same_base : base' ≡ base
   pub same_log : belongs_to pass' ≡ belongs_to pass
-  pub goes_on : GoesOn base before (known pass) (known pass') old new
+  pub goes_on : AreLegalAtLast base before (known pass) (known pass') old new
 
 -- the sessions from this number on
 abbrev pub AllGain : State → ℕ → List Entry → ℕ → List Progress → List Progress → Type 0

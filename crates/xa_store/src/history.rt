@@ -2,7 +2,7 @@
 ghost use Rattle.std.specs.Prelude.{◌≡◌, ◌<◌, IfOk, length, map};
 ghost use Rattle.std.specs.List.{All, AllZip};
 ghost use Rattle.xa_store.specs.Passes.{identity_of, log_of, known_of};
-ghost use Rattle.xa_store.specs.Gathered.{IsTakenIn, Keeps, last_known};
+ghost use Rattle.xa_store.specs.Gathered.{IsTakenIn, AddsNothing, last_known};
 
 use crate::meeting::{copy_seen, meet_all};
 use crate::{Log, Store};
@@ -25,7 +25,7 @@ impl Store {
         sessions: &mut Vec<Session<'_, Log>>,
     ) -> Result<Vec<Entry>, NoMemory>
         requires { All (λ session. log_of session.pass ≡ identity_of self.now.log) sessions.old.items }
-        ensures keeps { AllZip (λ old new. (new.base.now ≡ old.base.now) × (log_of new.pass ≡ log_of old.pass) × Keeps (known_of old.pass) (known_of new.pass)) sessions.old.items sessions.new.items }
+        ensures keeps { AllZip (λ old new. (new.base.now ≡ old.base.now) × (log_of new.pass ≡ log_of old.pass) × AddsNothing (known_of old.pass) (known_of new.pass)) sessions.old.items sessions.new.items }
         ensures last { IfOk result (λ list. list.items ≡ (last_known (map (λ session. known_of session.pass) sessions.new.items)).seen) }
         ensures looked { 0 < length sessions.old.items → (last_known (map (λ session. known_of session.pass) sessions.old.items)).looks < (last_known (map (λ session. known_of session.pass) sessions.new.items)).looks }
         ensures whole { IfOk result (λ list. All (λ session. IsTakenIn list.items (known_of session.pass)) sessions.new.items) }

@@ -3,7 +3,7 @@ ghost use Rattle.std.specs.Prelude.{◌≡◌, ◌<◌, length, map, IfOk, IfErr
 ghost use Rattle.std.specs.List.{All, AllZip};
 ghost use Rattle.decision_log.specs.Known.{AllOf};
 ghost use Rattle.xa_store.specs.Passes.{identity_of, log_of, known_of};
-ghost use Rattle.xa_store.specs.Gathered.{IsTakenIn, Keeps, last_known};
+ghost use Rattle.xa_store.specs.Gathered.{IsTakenIn, AddsNothing, last_known};
 ghost use Rattle.xa_store.specs.Renewal.{AreGathered};
 ghost use Rattle.xa_store.specs.Spread.{AllThree};
 ghost use Rattle.xa_store.specs.Rounds.{AllGain, AreFresh, BlamesRounds};
@@ -54,7 +54,7 @@ fn wind_up_round(
     returned: Returned<'_, Log>,
 ) -> Result<Ended, NoMemory>
     requires { All (λ session. log_of session.pass ≡ identity_of store.now.log) returned.sessions.items }
-    ensures passes { IfOk result (λ ended. AllZip (λ session pass. (log_of pass ≡ log_of session.pass) × Keeps (known_of session.pass) (known_of pass)) returned.entry.sessions.items ended.passes.items) }
+    ensures passes { IfOk result (λ ended. AllZip (λ session pass. (log_of pass ≡ log_of session.pass) × AddsNothing (known_of session.pass) (known_of pass)) returned.entry.sessions.items ended.passes.items) }
     ensures progress { IfOk result (λ ended. ended.progress ≡ returned.entry.progress) }
     ensures last { IfOk result (λ ended. ended.history.items ≡ (last_known (map known_of ended.passes.items)).seen) }
     ensures whole { IfOk result (λ ended. All (λ pass. IsTakenIn ended.history.items (known_of pass)) ended.passes.items) }

@@ -3,7 +3,7 @@ ghost use Rattle.std.specs.Prelude.{◌≡◌, ◌<◌, IfOk, vec_capacity};
 ghost use Rattle.std.specs.List.{All, AllZip};
 ghost use Rattle.decision_log.specs.History.{Begins, entries_of};
 ghost use Rattle.decision_log.specs.Calls.{MeetsFirst};
-ghost use Rattle.xa_store.specs.Gathered.{IsTakenIn, Keeps};
+ghost use Rattle.xa_store.specs.Gathered.{IsTakenIn, AddsNothing};
 
 use decision_log::DecisionLog;
 use std::alloc::Global;
@@ -19,7 +19,7 @@ pub(crate) fn meet_each<L: DecisionLog>(others: &mut Vec<Session<'_, L>>, last: 
     ensures room { vec_capacity others.new ≡ vec_capacity others.old }
     ensures base { last.new.base.now ≡ last.old.base.now }
     ensures belongs { L.belongs_to last.new.pass ≡ L.belongs_to last.old.pass }
-    ensures last { Keeps (L.known last.old.pass) (L.known last.new.pass) }
+    ensures last { AddsNothing (L.known last.old.pass) (L.known last.new.pass) }
     ensures seen { All (λ session. Begins (L.known session.pass).seen (L.known last.new.pass).seen) others.new.items }
     ensures whole { All (λ session. Begins (L.known session.pass).seen (L.known last.old.pass).seen) others.old.items → ((L.known last.new.pass).seen ≡ (L.known last.old.pass).seen) × All (λ session. entries_of (L.known session.pass).number (L.known last.new.pass).seen ≡ (L.known session.pass).mine) others.new.items }
 {
@@ -39,7 +39,7 @@ pub(crate) fn meet_all<L: DecisionLog>(others: &mut Vec<Session<'_, L>>, last: &
     ensures room { vec_capacity others.new ≡ vec_capacity others.old }
     ensures base { last.new.base.now ≡ last.old.base.now }
     ensures belongs { L.belongs_to last.new.pass ≡ L.belongs_to last.old.pass }
-    ensures last { Keeps (L.known last.old.pass) (L.known last.new.pass) }
+    ensures last { AddsNothing (L.known last.old.pass) (L.known last.new.pass) }
     ensures looked { (L.known last.old.pass).looks < (L.known last.new.pass).looks }
     ensures taken_in { All (λ session. IsTakenIn (L.known last.new.pass).seen (L.known session.pass)) others.new.items }
     ensures own { IsTakenIn (L.known last.new.pass).seen (L.known last.new.pass) }

@@ -2,7 +2,7 @@
 ghost use Rattle.std.specs.Prelude.{◌≡◌, length, map, IfOk, IfErr, OnOk};
 ghost use Rattle.std.specs.List.{All, AllZip};
 ghost use Rattle.xa_store.specs.Passes.{identity_of, log_of, known_of};
-ghost use Rattle.xa_store.specs.Gathered.{IsTakenIn, Keeps, last_known};
+ghost use Rattle.xa_store.specs.Gathered.{IsTakenIn, AddsNothing, last_known};
 ghost use Rattle.xa_store.specs.Legal.{IsOutcome, LetsIn, Blames};
 
 use crate::spread::{AllEnded, Started, run_all};
@@ -48,7 +48,7 @@ pub(crate) fn count_speakers(runs: &[Run]) -> u64 {
 fn outcome_of(alloc: Global, store: &Store, ended: AllEnded<'_, Log>) -> Result<Outcome, NoMemory>
     requires { All (λ session. log_of session.pass ≡ identity_of store.now.log) ended.sessions.items }
     ensures answers { IfOk result (λ outcome. outcome.answers ≡ ended.entry.answers) }
-    ensures passes { IfOk result (λ outcome. AllZip (λ session pass. (log_of pass ≡ log_of session.pass) × Keeps (known_of session.pass) (known_of pass)) ended.entry.sessions.items outcome.passes.items) }
+    ensures passes { IfOk result (λ outcome. AllZip (λ session pass. (log_of pass ≡ log_of session.pass) × AddsNothing (known_of session.pass) (known_of pass)) ended.entry.sessions.items outcome.passes.items) }
     ensures last { IfOk result (λ outcome. outcome.history.items ≡ (last_known (map known_of outcome.passes.items)).seen) }
     ensures whole { IfOk result (λ outcome. All (λ pass. IsTakenIn outcome.history.items (known_of pass)) outcome.passes.items) }
 {

@@ -5,7 +5,7 @@ use Rattle.std.specs.List.{prefix_len}
 use Rattle.std.proofs.lemmas.List.{drop-drop}
 use Rattle.std.proofs.lemmas.Grind.{common_steps}
 use Rattle.xa_transcript.specs.Script.{Blank, Bad, Given, lines_of, with_first, line_of, line_given, filled_line, without_blanks, first_word, after_word}
-use Rattle.xa_transcript.specs.Script.{session_named, is_empty}
+use Rattle.xa_transcript.specs.Script.{session_named, is_empty_line}
 
 -- how many bytes stand before the first line feed
 abbrev pub first_length : List ℕ → ℕ
@@ -37,18 +37,18 @@ lines_of-cut [] h = absurd (omega arith)
 lines_of-cut (byte ∷ []) h = last_cut (byte == 10) byte
 lines_of-cut (byte ∷ next ∷ rest) h = cut_at (byte == 10) byte (first_length (next ∷ rest)) (next ∷ rest) (lines_of-cut (next ∷ rest) (omega arith))
 
-empty_is : (text : List ℕ) → (length text == 0) ≡ is_empty text
+empty_is : (text : List ℕ) → (length text == 0) ≡ is_empty_line text
 empty_is [] = refl
 empty_is (x ∷ xs) = grind (arith, common_steps)
 
 pub line_of-blank : (line text : List ℕ) → text ≡ without_blanks line → (length text == 0) ≡ true → Blank ≡ line_of line
 unfolding line_of
-line_of-blank line text is empty = let e : is_empty (without_blanks line) ≡ true = ap is_empty (sym is) ∙ sym (empty_is text) ∙ empty in rw e refl
+line_of-blank line text is empty = let e : is_empty_line (without_blanks line) ≡ true = ap is_empty_line (sym is) ∙ sym (empty_is text) ∙ empty in rw e refl
 
 pub line_of-filled : (line text : List ℕ) → text ≡ without_blanks line → (length text == 0) ≡ false → line_of line ≡ filled_line text
 unfolding line_of
 line_of-filled line text is filled =
-    let e : is_empty (without_blanks line) ≡ false = ap is_empty (sym is) ∙ sym (empty_is text) ∙ filled in rw (e, is) refl
+    let e : is_empty_line (without_blanks line) ≡ false = ap is_empty_line (sym is) ∙ sym (empty_is text) ∙ filled in rw (e, is) refl
 
 pub filled-bad : (line text word : List ℕ) → line_of line ≡ filled_line text → word ≡ first_word text → session_named word ≡ None → Bad ≡ line_of line
 filled-bad line text word is at none = sym (is ∙ ap (λ s. line_given s (without_blanks (after_word text))) (ap session_named (sym at) ∙ none))

@@ -8,7 +8,7 @@ use Rattle.std.specs.Io.KnownBytes.{Appends}
 use Rattle.std.proofs.KnownBytes.{Appends-trans, Appends-nil}
 use Rattle.xa_server.specs.State.{State}
 use Rattle.xa_transcript.specs.Script.{lines_of, line_of}
-use Rattle.xa_transcript.specs.Transcript.{AppendsPrefix, IsWrittenUpTo, answer_of, state_after, run_text}
+use Rattle.xa_transcript.specs.Transcript.{AppendsPrefix, IsWrittenUpTo, answer_of, state_after_line, run_text}
 
 -- bytes that the whole begins with
 prefix_from : (old new : Option (List ℕ)) (whole bytes rest : List ℕ) → Appends old new bytes → whole ≡ bytes ++ rest → AppendsPrefix old new whole
@@ -44,7 +44,7 @@ written_none old whole = record { written = []; appended = Appends-nil old; part
 
 -- what is left of the transcript, when one more line was cut off, and answered
 pub run_text-line : (state next : State) (text line rest answer : List ℕ) → lines_of text ≡ line ∷ lines_of rest → answer ≡ answer_of state (line_of line)
-    → next ≡ state_after state (line_of line)
+    → next ≡ state_after_line state (line_of line)
     → run_text state (lines_of text) ≡ answer ++ run_text next (lines_of rest)
 unfolding run_text
 run_text-line state next text line rest answer cut is after = rw (cut, is, after) refl

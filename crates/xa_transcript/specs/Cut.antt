@@ -2,7 +2,7 @@
 --     left_in, taken_by           the bytes that a reader has yet to give;  those that a writer took
 --     reads_left_in, room_in      how many more reads or bytes it takes before it faults
 --     piece_of, piece_into        the greatest number of bytes at a time
---     goes_on, goes_on_writing    whether it faults once and then goes on
+--     goes_on_behind, goes_on_writing  whether it faults once and then goes on
 --     has_faulted, has_refused    whether it has faulted
 --     reads_after, writes_after   how often it was read or written after that
 --     faults_next, refuses_next   whether it faults where it is used next
@@ -20,8 +20,8 @@ reads_left_in reader = reader.reads
 abbrev pub piece_of : CutReader → ℕ
 piece_of reader = reader.piece
 
-abbrev pub goes_on : CutReader → Bool
-goes_on reader = reader.once
+abbrev pub goes_on_behind : CutReader → Bool
+goes_on_behind reader = reader.once
 
 abbrev pub has_faulted : CutReader → Bool
 has_faulted reader = reader.faulted

@@ -71,13 +71,13 @@ pub record IsRaced (capacity : ℕ) (lines : List (List ℕ)) (text : List ℕ) 
   pub text_is : text ≡ outcome_text lines outcome
 
 -- with no faulty line a race is held; else the faulty lines are told, and nothing else
-abbrev pub IsTold : List ℕ → ℕ → List (List ℕ) → List ℕ → Type 0
-IsTold [] capacity lines text = IsRaced capacity lines text
-IsTold (byte ∷ faults) capacity lines text = text ≡ byte ∷ faults
+abbrev pub IsRaceTold : List ℕ → ℕ → List (List ℕ) → List ℕ → Type 0
+IsRaceTold [] capacity lines text = IsRaced capacity lines text
+IsRaceTold (byte ∷ faults) capacity lines text = text ≡ byte ∷ faults
 
 -- what a race of a script writes (own rule)
 abbrev pub IsRaceText : ℕ → List ℕ → List ℕ → Type 0
-IsRaceText capacity script text = IsTold (faults_text 1 (lines_of script)) capacity (lines_of script) text
+IsRaceText capacity script text = IsRaceTold (faults_text 1 (lines_of script)) capacity (lines_of script) text
 
 -- the writer got what a race of the script writes
 abbrev pub AppendsRace : ℕ → List ℕ → Option (List ℕ) → Option (List ℕ) → Type 0

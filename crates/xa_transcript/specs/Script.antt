@@ -10,9 +10,9 @@ use Rattle.std.specs.List.{prefix_len}
 use Rattle.xa_transcript.specs.declared.lines.ScriptLine.{ScriptLine}
 use Rattle.xa_transcript.specs.declared.lines.ScriptLine.TheVariants.{Blank as BlankLine, Bad as BadLine, Given as GivenLine}
 
-abbrev pub is_empty : {A : Type 0} → List A → Bool
-is_empty [] = true
-is_empty (x ∷ xs) = false
+abbrev pub is_empty_line : {A : Type 0} → List A → Bool
+is_empty_line [] = true
+is_empty_line (x ∷ xs) = false
 
 -- the lines with the byte put before the first of them
 abbrev pub with_first : ℕ → List (List ℕ) → List (List ℕ)
@@ -67,7 +67,7 @@ filled_line text = line_given (session_named (first_word text)) (without_blanks 
 
 -- a line is blank, or a session's number, and after blanks the text of its statement (own rule)
 unfoldable pub line_of : List ℕ → Line
-line_of line = cond (is_empty (without_blanks line)) Blank (filled_line (without_blanks line))
+line_of line = cond (is_empty_line (without_blanks line)) Blank (filled_line (without_blanks line))
 
 -- what a line that was read says
 abbrev pub line_seen : ScriptLine → Line

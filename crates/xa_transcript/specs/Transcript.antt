@@ -1,6 +1,6 @@
 -- What a script's run writes.
 --     answer_of       what is written for a line
---     state_after     the state after a line
+--     state_after_line  the state after a line
 --     run_text        what is written for all lines
 --     transcript      what is written for a script
 --     AppendsPrefix, AfterFault      what a fault leaves in the writer
@@ -34,15 +34,15 @@ answer_of state Bad = answer_text (codes "-") (syntax_text 0)
 answer_of state (Given session text) = answer_to state session (read_of text)
 
 -- the state after a line
-unfoldable pub state_after : State → Line → State
-state_after state Blank = state
-state_after state Bad = state
-state_after state (Given session text) = state_then state session (read_of text)
+unfoldable pub state_after_line : State → Line → State
+state_after_line state Blank = state
+state_after_line state Bad = state
+state_after_line state (Given session text) = state_then state session (read_of text)
 
 -- what is written for these lines, one after another
 unfoldable pub run_text : State → List (List ℕ) → List ℕ
 run_text state [] = []
-run_text state (line ∷ lines) = answer_of state (line_of line) ++ run_text (state_after state (line_of line)) lines
+run_text state (line ∷ lines) = answer_of state (line_of line) ++ run_text (state_after_line state (line_of line)) lines
 
 -- what is written for a script, by a server that holds nothing at first
 abbrev pub transcript : List ℕ → List ℕ

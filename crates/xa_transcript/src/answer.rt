@@ -5,7 +5,7 @@ ghost use Rattle.xa_server.specs.Replies.{reply_to};
 ghost use Rattle.xa_server.specs.Step.{after, enters as enters_at};
 ghost use Rattle.xa_transcript.specs.Printed.{answer_text, reply_text, syntax_text, converts as converts_of};
 ghost use Rattle.xa_transcript.specs.Script.{line_of};
-ghost use Rattle.xa_transcript.specs.Transcript.{answer_of, answer_to, state_after, state_then};
+ghost use Rattle.xa_transcript.specs.Transcript.{answer_of, answer_to, state_after_line, state_then};
 
 use crate::lines::{ScriptLine, read_line};
 use crate::print::{push_number, push_reply, push_syntax_fault};
@@ -116,10 +116,10 @@ pub fn answer_statement(
 /// Errors: `NoMemory` where a growth was refused; then the server is as before.
 /// Takes memory for the answer. Doesn't wait.
 /// Own rule: docs/BEHAVIOR.md, 'Scripts'.
-#[tactic(auto, unfolding(crate::specs::Transcript::answer_of, crate::specs::Transcript::state_after))]
+#[tactic(auto, unfolding(crate::specs::Transcript::answer_of, crate::specs::Transcript::state_after_line))]
 pub fn answer_line(alloc: Global, server: &mut Server, line: &[u8]) -> Result<Vec<u8>, NoMemory>
     ensures answer { IfOk result (λ answer. answer.items ≡ answer_of server.old (line_of line.now)) }
-    ensures after { OnOk result (server.new ≡ state_after server.old (line_of line.now)) }
+    ensures after { OnOk result (server.new ≡ state_after_line server.old (line_of line.now)) }
     ensures unchanged { OnErr result (server.new ≡ server.old) }
 {
     match read_line(line) {

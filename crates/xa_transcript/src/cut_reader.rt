@@ -27,7 +27,7 @@ pub struct CutReader<'a> {
 }
 
 impl<'a> CutReader<'a> {
-    ghost use Rattle.xa_transcript.specs.Cut.{left_in, piece_of, reads_left_in, goes_on, has_faulted, reads_after};
+    ghost use Rattle.xa_transcript.specs.Cut.{left_in, piece_of, reads_left_in, goes_on_behind, has_faulted, reads_after};
 
     /// Gives these bytes, at most `piece` at a time, and faults at each read after the first `reads`.
     ///
@@ -37,7 +37,7 @@ impl<'a> CutReader<'a> {
         ensures bytes { left_in result ≡ bytes.now }
         ensures piece { piece_of result ≡ piece }
         ensures reads { reads_left_in result ≡ reads }
-        ensures each_time { goes_on result ≡ false }
+        ensures each_time { goes_on_behind result ≡ false }
         ensures fresh { (has_faulted result ≡ false) × (reads_after result ≡ 0) }
     {
         CutReader {
@@ -58,7 +58,7 @@ impl<'a> CutReader<'a> {
         ensures bytes { left_in result ≡ bytes.now }
         ensures piece { piece_of result ≡ piece }
         ensures reads { reads_left_in result ≡ reads }
-        ensures once { goes_on result ≡ true }
+        ensures once { goes_on_behind result ≡ true }
         ensures fresh { (has_faulted result ≡ false) × (reads_after result ≡ 0) }
     {
         let mut reader = CutReader::new(bytes, piece, reads);
@@ -86,7 +86,7 @@ impl<'a> CutReader<'a> {
 }
 
 impl<'a> Read for CutReader<'a> {
-    ghost use Rattle.xa_transcript.specs.Cut.{left_in, piece_of, reads_left_in, goes_on, has_faulted, reads_after, faults_next};
+    ghost use Rattle.xa_transcript.specs.Cut.{left_in, piece_of, reads_left_in, goes_on_behind, has_faulted, reads_after, faults_next};
 
     ghost remaining = { λ reader. Some (left_in reader) };
 
@@ -96,7 +96,7 @@ impl<'a> Read for CutReader<'a> {
         ensures piece { IfOk result (λ count. count ≡ min (min (length (left_in self.old)) (length buf.new)) (piece_of self.old)) }
         ensures fault { IsErr result ↔ IsTrue (faults_next self.old) }
         ensures reads { reads_left_in self.new ≡ reads_left_in self.old - 1 }
-        ensures kept { (piece_of self.new ≡ piece_of self.old) × (goes_on self.new ≡ goes_on self.old) }
+        ensures kept { (piece_of self.new ≡ piece_of self.old) × (goes_on_behind self.new ≡ goes_on_behind self.old) }
         ensures faulted { has_faulted self.new ≡ (has_faulted self.old || faults_next self.old) }
         ensures after { has_faulted self.old ≡ false → reads_after self.new ≡ reads_after self.old }
         ensures more { IsTrue (has_faulted self.old) → reads_after self.new ≡ min (reads_after self.old + 1) (2 ^ 64 - 1) }

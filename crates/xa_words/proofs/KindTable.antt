@@ -3,7 +3,7 @@ use Rattle.std.proofs.Common.{◌≡◌, ℕ, ◌<◌, ◌≤◌, ◌^◌, true,
 use Rattle.xa_xid.specs.declared.xid.Xid.{Xid}
 use Rattle.xa_xid.specs.declared.statement.Statement.{Statement}
 use Rattle.xa_xid.specs.declared.statement.Statement.TheVariants.{Start, End, Prepare, Commit, Rollback, Recover, Unsupported, Get, Put, Del, Disconnect}
-use Rattle.xa_words.specs.Entry.{IsText, IsXid, may_enter, KeepsLimits}
+use Rattle.xa_words.specs.Entry.{IsText, IsXid, may_be_entry, KeepsLimits}
 use Rattle.xa_words.specs.Words.{Parts, of_xid, of_texts, parts_of, RowParts}
 
 xid_of : Parts → Xid
@@ -22,7 +22,7 @@ statement_of p =
     (cond (nat_eq p.kind 8) (Put p.first (record { items = p.second }))
     (cond (nat_eq p.kind 9) (Del p.first) Disconnect))))))))
 
-again : (st : Statement) → IsTrue (may_enter st) → statement_of (parts_of st) ≡ st
+again : (st : Statement) → IsTrue (may_be_entry st) → statement_of (parts_of st) ≡ st
 unfolding statement_of xid_of
 again (Start xid) may = refl
 again (End xid) may = refl
@@ -38,7 +38,7 @@ again (Del key) may = refl
 again Disconnect may = refl
 
 -- statements of the same parts are one
-pub one_statement : (left right : Statement) → IsTrue (may_enter left) → IsTrue (may_enter right) → parts_of left ≡ parts_of right → left ≡ right
+pub one_statement : (left right : Statement) → IsTrue (may_be_entry left) → IsTrue (may_be_entry right) → parts_of left ≡ parts_of right → left ≡ right
 one_statement left right l r same = sym (again left l) ∙ ap statement_of same ∙ again right r
 
 empty : IsText []
@@ -80,7 +80,7 @@ texts_within kind first second one two row =
       row = λ h. row;
     }
 
-pub within : (st : Statement) → IsTrue (may_enter st) → KeepsLimits st → Within (parts_of st)
+pub within : (st : Statement) → IsTrue (may_be_entry st) → KeepsLimits st → Within (parts_of st)
 within (Start xid) may k = xid_within 1 xid (omega arith) (omega arith) k
 within (End xid) may k = xid_within 2 xid (omega arith) (omega arith) k
 within (Prepare xid) may k = xid_within 3 xid (omega arith) (omega arith) k

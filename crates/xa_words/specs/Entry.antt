@@ -2,8 +2,8 @@
 --     Entry           an entry as a contract sees it: a session and a statement
 --     IsText          a text of at most `text_bytes` bytes
 --     IsXid           an identifier within its limits
---     IsKey           a key within its limits
---     may_enter       whether the history takes statements of this kind
+--     IsNonEmptyText  a key within its limits
+--     may_be_entry    whether the history takes statements of this kind
 --     KeepsLimits     the texts and the formatID of a statement are within their limits
 --     IsEntry         the session's number and the statement are those of an entry
 use Rattle.std.specs.Prelude.{ℕ, ◌<◌, ◌≤◌, ◌^◌, Bool, true, false, IsTrue, List, length, slice_index}
@@ -29,15 +29,15 @@ pub record IsXid (xid : Xid) : Type 0 where
   pub bqual : IsText xid.bqual.items
 
 -- a text that isn't empty (own rule)
-pub record IsKey (key : List ℕ) : Type 0 where
+pub record IsNonEmptyText (key : List ℕ) : Type 0 where
   pub not_empty : 0 < length key
   pub text : IsText key
 
 -- every kind but XA RECOVER and a statement that isn't supported (own rule)
-abbrev pub may_enter : Statement → Bool
-may_enter (Recover convert) = false
-may_enter Unsupported = false
-may_enter statement = true
+abbrev pub may_be_entry : Statement → Bool
+may_be_entry (Recover convert) = false
+may_be_entry Unsupported = false
+may_be_entry statement = true
 
 -- what a statement carries is within the limits of its type
 abbrev pub KeepsLimits : Statement → Type 0
@@ -48,14 +48,14 @@ KeepsLimits (Commit xid one_phase) = IsXid xid
 KeepsLimits (Rollback xid) = IsXid xid
 KeepsLimits (Recover convert) = Unit {0}
 KeepsLimits Unsupported = Unit {0}
-KeepsLimits (Get key) = IsKey key
-KeepsLimits (Put key value) = IsKey key × IsText value.items
-KeepsLimits (Del key) = IsKey key
+KeepsLimits (Get key) = IsNonEmptyText key
+KeepsLimits (Put key value) = IsNonEmptyText key × IsText value.items
+KeepsLimits (Del key) = IsNonEmptyText key
 KeepsLimits Disconnect = Unit {0}
 
 -- a session from 1 to 16, and a statement that may enter (own rule)
 pub record IsEntry (entry : Entry) : Type 0 where
   pub first_session : 1 ≤ entry.session
   pub last_session : entry.session ≤ 16
-  pub kind : IsTrue (may_enter entry.statement)
+  pub kind : IsTrue (may_be_entry entry.statement)
   pub limits : KeepsLimits entry.statement

@@ -1,6 +1,6 @@
 //! An entry of the history.
 ghost use Rattle.std.specs.Prelude.{◌≡◌, if◌then◌else◌, Some, None, IsTrue};
-ghost use Rattle.xa_words.specs.Entry.{IsEntry, may_enter};
+ghost use Rattle.xa_words.specs.Entry.{IsEntry, may_be_entry};
 
 use crate::limits;
 use std::marker::Model;
@@ -34,7 +34,7 @@ impl Entry {
     ///
     /// Takes no memory. Doesn't wait.
     pub fn of(session: SessionNo, statement: &Statement) -> Option<Entry>
-        ensures { result ≡ (if may_enter statement.now then Some (record { session = session; statement = statement.now }) else None) }
+        ensures { result ≡ (if may_be_entry statement.now then Some (record { session = session; statement = statement.now }) else None) }
     {
         match statement {
             Statement::Recover { .. } | Statement::Unsupported => None,
@@ -53,7 +53,7 @@ impl Entry {
     ///
     /// Takes no memory. Doesn't wait.
     pub fn entering(session: SessionNo, statement: Statement) -> Entry
-        requires { IsTrue (may_enter statement) }
+        requires { IsTrue (may_be_entry statement) }
         ensures { result ≡ record { session = session; statement = statement } }
     {
         limits::of_statement(&statement);

@@ -1,7 +1,7 @@
 //! What the types of a statement's parts say of its limits.
 ghost use Rattle.std.specs.Prelude.{◌≤◌, length};
 ghost use Rattle.xa_xid.specs.Limits.{text_bytes};
-ghost use Rattle.xa_words.specs.Entry.{IsText, IsXid, IsKey, KeepsLimits};
+ghost use Rattle.xa_words.specs.Entry.{IsText, IsXid, IsNonEmptyText, KeepsLimits};
 
 use xa_xid::{Bytes, Key, Statement, Xid};
 
@@ -26,7 +26,7 @@ fn of_xid(xid: &Xid)
 }
 
 fn of_key(key: &Key)
-    ensures { IsKey key.now }
+    ensures { IsNonEmptyText key.now }
 {
     of_bytes(key.as_slice());
 }

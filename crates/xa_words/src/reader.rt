@@ -1,7 +1,7 @@
 //! Reading an entry.
 ghost use Rattle.std.specs.Prelude.{◌≡◌, ◌<◌, ◌≤◌, ◌+◌, ◌++◌, ℕ, List, length, slice_index, Some, IfSome, IfNone, IsTrue};
 ghost use Rattle.xa_xid.specs.Limits.{text_bytes};
-ghost use Rattle.xa_words.specs.Entry.{IsText, IsEntry, KeepsLimits, may_enter};
+ghost use Rattle.xa_words.specs.Entry.{IsText, IsEntry, KeepsLimits, may_be_entry};
 ghost use Rattle.xa_words.specs.Words.{parts_of, of_xid, of_texts, text_words, words_of, byte_of, RowParts};
 ghost use Rattle.xa_words.specs.Entry.{Entry};
 ghost use Rattle.xa_xid.specs.declared.statement.Statement.{Statement};
@@ -55,7 +55,7 @@ fn text_of(words: &[u64], size: u64) -> Option<Bytes>
 /// The statement of a kind with an identifier, or `None` where there is no such kind.
 fn with_xid(kind: u64, xid: Xid) -> Option<Statement>
     requires { kind ≤ 6 }
-    ensures some { IfSome result (λ statement. IsTrue (may_enter statement) × (parts_of statement ≡ of_xid kind xid)) }
+    ensures some { IfSome result (λ statement. IsTrue (may_be_entry statement) × (parts_of statement ≡ of_xid kind xid)) }
     ensures none { IfNone result (kind ≡ 0) }
 {
     match kind {
@@ -78,7 +78,7 @@ fn with_xid(kind: u64, xid: Xid) -> Option<Statement>
 /// The statement of a kind without an identifier, or `None` where there is none of these texts.
 fn with_texts(kind: u64, first: Bytes, second: Bytes) -> Option<Statement>
     requires { 6 < kind }
-    ensures some { IfSome result (λ statement. IsTrue (may_enter statement) × (parts_of statement ≡ of_texts kind first.items second.items)) }
+    ensures some { IfSome result (λ statement. IsTrue (may_be_entry statement) × (parts_of statement ≡ of_texts kind first.items second.items)) }
     ensures none { IfNone result (RowParts (of_texts kind first.items second.items) → ⊥) }
 {
     if kind == 10 {
@@ -100,8 +100,8 @@ fn with_texts(kind: u64, first: Bytes, second: Bytes) -> Option<Statement>
 
 /// The statement of these parts, or `None` where there is none.
 fn statement_of(kind: u64, format_id: u64, first: Bytes, second: Bytes) -> Option<Statement>
-    ensures some { IfSome result (λ statement. IsTrue (may_enter statement) × (parts_of statement ≡ record { kind = kind; format_id = format_id; first = first.items; second = second.items })) }
-    ensures none { IfNone result ((statement : Statement) → IsTrue (may_enter statement) → KeepsLimits statement → parts_of statement ≡ record { kind = kind; format_id = format_id; first = first.items; second = second.items } → ⊥) }
+    ensures some { IfSome result (λ statement. IsTrue (may_be_entry statement) × (parts_of statement ≡ record { kind = kind; format_id = format_id; first = first.items; second = second.items })) }
+    ensures none { IfNone result ((statement : Statement) → IsTrue (may_be_entry statement) → KeepsLimits statement → parts_of statement ≡ record { kind = kind; format_id = format_id; first = first.items; second = second.items } → ⊥) }
 {
     if kind <= 6 {
         let xid = Xid {

@@ -7,7 +7,7 @@ use Rattle.std.specs.Str.Parse.{digits_value}
 use Rattle.xa_xid.specs.Bytes.{belongs, behind, only, run, after_run, StartsNo}
 use Rattle.xa_xid.specs.Literal.{Reading, hex_digits_of}
 use Rattle.xa_xid.specs.Faults.{AreHex, HexRunAt, hex_run_at, NumeralAt, decimal_numeral, hexadecimal_numeral, FaultyNumber, no_number, too_large}
-use Rattle.xa_xid.specs.Number.{NumberAt, decimal_digits, hexadecimal_digits, fitting, hex_number_of, number_at, number_in}
+use Rattle.xa_xid.specs.Number.{NumberAt, decimal_digits, hexadecimal_digits, fitting, hex_number_of, number_ahead, number_in}
 use Rattle.xa_xid.specs.declared.byte_class.ByteClass.TheVariants.{Word, Decimal, Hexadecimal}
 use Rattle.xa_xid.specs.declared.literal_fault.LiteralFault.{LiteralFault}
 use Rattle.xa_xid.specs.declared.literal_fault.LiteralFault.TheVariants.{NotALiteral, Unclosed, OddHex, TooLong, NumberTooLarge}
@@ -69,19 +69,19 @@ run_spelled : (written rest : List ℕ) → StartsNo (belongs Word) rest → Num
 run_spelled [] rest s = tt
 run_spelled (digit ∷ digits) rest s = digits_spelled digit digits rest s
 
-number_spelled : (text : List ℕ) → NumberSpelled text (number_at text)
+number_spelled : (text : List ℕ) → NumberSpelled text (number_ahead text)
 number_spelled text =
     let form = run_spelled (run text) (after_run text) (behind_starts (belongs Word) text) in
     rw (number_at-found text) (rw (front-behind (belongs Word) text) at form)
 
 -- what is read is spelled
-pub read_number_spelled : (text : List ℕ) (value : ℕ) (rest : List ℕ) → number_at text ≡ Ok (value, rest) → NumberAt text value rest
+pub read_number_spelled : (text : List ℕ) (value : ℕ) (rest : List ℕ) → number_ahead text ≡ Ok (value, rest) → NumberAt text value rest
 read_number_spelled text value rest e = rw e at (number_spelled text)
 
 -- a run of a known value is read so
 written_read : (written rest : List ℕ) (found : Result ℕ LiteralFault) → Passes (belongs Word) written → StartsNo (belongs Word) rest
     → number_in written ≡ found
-    → number_at (written ++ rest) ≡ number_found rest found
+    → number_ahead (written ++ rest) ≡ number_found rest found
 written_read written rest found word s e =
     let cut : run (written ++ rest) ≡ written = front-append (belongs Word) written rest word s in
     let left : after_run (written ++ rest) ≡ rest = behind-append (belongs Word) written rest word s in
@@ -99,7 +99,7 @@ words_decimal [] all = tt
 words_decimal (digit ∷ digits) all = (word_decimal digit all.0, words_decimal digits all.1)
 
 decimal_read : (digit : ℕ) (digits rest : List ℕ) → IsTrue (only (belongs Decimal) (digit ∷ digits)) → StartsNo (belongs Word) rest
-    → number_at (digit ∷ digits ++ rest) ≡ number_found rest (fitting (digits_value 10 (digit ∷ digits)))
+    → number_ahead (digit ∷ digits ++ rest) ≡ number_found rest (fitting (digits_value 10 (digit ∷ digits)))
 decimal_read digit digits rest all s =
     let some : (length (digit ∷ digits) == 0) ≡ false = ne_eqb _ _ (λ e. omega arith) in
     let found : number_in (digit ∷ digits) ≡ fitting (digits_value 10 (digit ∷ digits)) = rw (some, all) refl in
@@ -112,7 +112,7 @@ unfolding behind belongs
 prefixed_not_decimal digits = ne_eqb _ _ (λ e. omega arith)
 
 hexadecimal_read : (digit : ℕ) (digits rest : List ℕ) → AreHex (digit ∷ digits) → StartsNo (belongs Word) rest
-    → number_at (48 ∷ 120 ∷ digit ∷ digits ++ rest) ≡ number_found rest (fitting (digits_value 16 (digit ∷ digits)))
+    → number_ahead (48 ∷ 120 ∷ digit ∷ digits ++ rest) ≡ number_found rest (fitting (digits_value 16 (digit ∷ digits)))
 unfolding belongs
 hexadecimal_read digit digits rest all s =
     let written = 48 ∷ 120 ∷ digit ∷ digits in
@@ -124,11 +124,11 @@ hexadecimal_read digit digits rest all s =
     ∙ rw (ne_eqb (length written) 0 (λ e. omega arith)) refl in
     written_read written rest (fitting (digits_value 16 (digit ∷ digits))) word s (other ∙ ap hex_number_of hex)
 
-run_read : (text digits rest : List ℕ) → HexRunAt text digits rest → number_at text ≡ number_found rest (fitting (digits_value 16 digits))
+run_read : (text digits rest : List ℕ) → HexRunAt text digits rest → number_ahead text ≡ number_found rest (fitting (digits_value 16 digits))
 run_read _ _ _ (hex_run_at digit digits rest all s) = hexadecimal_read digit digits rest all s
 
 -- what has a number's form is read, or is too large
-numeral_read : (text : List ℕ) (value : ℕ) (rest : List ℕ) → NumeralAt text value rest → number_at text ≡ number_found rest (fitting value)
+numeral_read : (text : List ℕ) (value : ℕ) (rest : List ℕ) → NumeralAt text value rest → number_ahead text ≡ number_found rest (fitting value)
 numeral_read _ _ _ (decimal_numeral digit digits rest all s) = decimal_read digit digits rest all s
 numeral_read _ _ _ (hexadecimal_numeral text digits rest form) = run_read text digits rest form
 
@@ -141,7 +141,7 @@ number_numeral _ _ _ (hexadecimal_digits digit digits {value} {rest} all e small
     (subst (λ v. NumeralAt text v rest) e (hexadecimal_numeral text (digit ∷ digits) rest (hex_run_at digit digits rest all s)), small)
 
 -- what is spelled is read
-pub spelled_number_read : (text : List ℕ) (value : ℕ) (rest : List ℕ) → NumberAt text value rest → number_at text ≡ Ok (value, rest)
+pub spelled_number_read : (text : List ℕ) (value : ℕ) (rest : List ℕ) → NumberAt text value rest → number_ahead text ≡ Ok (value, rest)
 spelled_number_read text value rest form =
     let parts = number_numeral text value rest form in
     numeral_read text value rest parts.0 ∙ ap (number_found rest) (sym (fitting_small value value parts.1 refl))
@@ -154,7 +154,7 @@ pub one_number : (text : List ℕ) (value other : ℕ) (rest behind : List ℕ) 
     → (value ≡ other) × (rest ≡ behind)
 one_number text value other rest behind form again =
     let same =
-    number_once (number_at text) (value, rest) (other, behind) (spelled_number_read text value rest form) (spelled_number_read text other behind again) in
+    number_once (number_ahead text) (value, rest) (other, behind) (spelled_number_read text value rest form) (spelled_number_read text other behind again) in
     (ap (λ pair. pair.0) same, ap (λ pair. pair.1) same)
 
 -- each fault is a row of the table
@@ -163,7 +163,7 @@ unfolding fitting
 fitting_told rest value =
     cond_both (nat_lt value (2 ^ 64)) (Ok value) (Err NumberTooLarge) (λ found. number_found rest found ≡ Err NotALiteral → ⊥) (λ _ e. cc) (λ _ e. cc)
 
-fault_row : (text : List ℕ) (fault : LiteralFault) → number_at text ≡ Err fault → NumberSpelled text (Err fault) → FaultyNumber text fault
+fault_row : (text : List ℕ) (fault : LiteralFault) → number_ahead text ≡ Err fault → NumberSpelled text (Err fault) → FaultyNumber text fault
 fault_row text NotALiteral e s =
     no_number text (λ value rest form. fitting_told rest value (sym (numeral_read text value rest form) ∙ e))
 fault_row text Unclosed e s = absurd s
@@ -171,11 +171,11 @@ fault_row text OddHex e s = absurd s
 fault_row text TooLong e s = absurd s
 fault_row text NumberTooLarge e s = too_large text s.0 s.1 s.2 s.3
 
-pub read_faulty_number : (text : List ℕ) (fault : LiteralFault) → number_at text ≡ Err fault → FaultyNumber text fault
+pub read_faulty_number : (text : List ℕ) (fault : LiteralFault) → number_ahead text ≡ Err fault → FaultyNumber text fault
 read_faulty_number text fault e = fault_row text fault e (rw e at (number_spelled text))
 
 -- and a row of the table is told as its fault
-none_told : (text : List ℕ) → ((value : ℕ) (rest : List ℕ) → NumeralAt text value rest → ⊥) → (found : Reading ℕ) → number_at text ≡ found
+none_told : (text : List ℕ) → ((value : ℕ) (rest : List ℕ) → NumeralAt text value rest → ⊥) → (found : Reading ℕ) → number_ahead text ≡ found
     → NumberSpelled text found → found ≡ Err NotALiteral
 none_told text refused (Ok found) e s = absurd (refused found.0 found.1 (number_numeral text found.0 found.1 s).0)
 none_told text refused (Err NotALiteral) e s = refl
@@ -184,7 +184,7 @@ none_told text refused (Err OddHex) e s = absurd s
 none_told text refused (Err TooLong) e s = absurd s
 none_told text refused (Err NumberTooLarge) e s = absurd (refused s.0 s.1 s.2)
 
-pub faulty_number_read : (text : List ℕ) (fault : LiteralFault) → FaultyNumber text fault → number_at text ≡ Err fault
-faulty_number_read _ _ (no_number text refused) = none_told text refused (number_at text) refl (number_spelled text)
+pub faulty_number_read : (text : List ℕ) (fault : LiteralFault) → FaultyNumber text fault → number_ahead text ≡ Err fault
+faulty_number_read _ _ (no_number text refused) = none_told text refused (number_ahead text) refl (number_spelled text)
 faulty_number_read _ _ (too_large text value rest form large) =
     numeral_read text value rest form ∙ ap (number_found rest) (sym (fitting_large value large))

@@ -4,11 +4,11 @@ use Rattle.std.proofs.Common.{length-append}
 use Rattle.std.proofs.Math.Seq.{drop-append_seam}
 use Rattle.std.proofs.lemmas.List.{take-append-drop, length-drop}
 use Rattle.xa_xid.specs.Bytes.{belongs, front, unblank}
-use Rattle.xa_xid.specs.Literal.{Reading, LiteralAt, text_literal, hex_in_quotes, hex_run, TextAt, Between, literal_at, placed}
+use Rattle.xa_xid.specs.Literal.{Reading, LiteralAt, text_literal, hex_in_quotes, hex_run, TextAt, Between, literal_ahead, placed}
 use Rattle.xa_xid.specs.Faults.{FaultyLiteral, FaultyNumber, FaultyXid, faulty_gtrid, faulty_bqual, faulty_format_id}
-use Rattle.xa_xid.specs.Number.{NumberAt, decimal_digits, hexadecimal_digits, number_at}
+use Rattle.xa_xid.specs.Number.{NumberAt, decimal_digits, hexadecimal_digits, number_ahead}
 use Rattle.xa_xid.specs.Xid.{Text}
-use Rattle.xa_xid.specs.XidText.{XidAt, gtrid_alone, gtrid_bqual, gtrid_bqual_format, CommaAt, Parse, xid_at, gtrid_next, places}
+use Rattle.xa_xid.specs.XidText.{XidAt, gtrid_alone, gtrid_bqual, gtrid_bqual_format, CommaAt, Parse, xid_ahead, gtrid_next, places}
 use Rattle.xa_xid.specs.declared.byte_class.ByteClass.TheVariants.{Blank}
 use Rattle.xa_xid.specs.declared.literal_fault.LiteralFault.{LiteralFault}
 use Rattle.xa_xid.specs.declared.xid.Xid.{Xid}
@@ -100,35 +100,35 @@ placed_spelled Spelled text at found value next read form =
 err_is_ok : {Value : Type 0} (reading : Reading Value) (fault : LiteralFault) (found : Value × List ℕ) → reading ≡ Err fault → reading ≡ Ok found → ⊥
 err_is_ok reading fault found err ok = cc
 
-pub text_between : (text : List ℕ) (at : ℕ) (found : Text) (rest : List ℕ) → literal_at (drop at text) ≡ Ok (found, rest)
+pub text_between : (text : List ℕ) (at : ℕ) (found : Text) (rest : List ℕ) → literal_ahead (drop at text) ≡ Ok (found, rest)
     → Between TextAt text at found (length text - length rest)
 text_between text at found rest e =
     let form = read_text_spelled (drop at text) found rest e in between TextAt text at found rest form (end_text (drop at text) found rest form)
 
-pub between_text : (text : List ℕ) (at : ℕ) (found : Reading Text) → literal_at (drop at text) ≡ found → (bytes : Text) (next : ℕ)
+pub between_text : (text : List ℕ) (at : ℕ) (found : Reading Text) → literal_ahead (drop at text) ≡ found → (bytes : Text) (next : ℕ)
     → Between TextAt text at bytes next → placed text found ≡ Ok (bytes, next)
 between_text text at found e bytes next =
     placed_spelled TextAt text at found bytes next (λ rest form. sym e ∙ spelled_text_read (drop at text) bytes rest form)
 
-pub no_text_between : (text : List ℕ) (at : ℕ) (fault : LiteralFault) → literal_at (drop at text) ≡ Err fault → (bytes : Text) (next : ℕ)
+pub no_text_between : (text : List ℕ) (at : ℕ) (fault : LiteralFault) → literal_ahead (drop at text) ≡ Err fault → (bytes : Text) (next : ℕ)
     → Between TextAt text at bytes next → ⊥
 no_text_between text at fault e bytes next form =
-    err_is_ok (literal_at (drop at text)) fault (bytes, drop next text) e (spelled_text_read (drop at text) bytes (drop next text) form.spelled)
+    err_is_ok (literal_ahead (drop at text)) fault (bytes, drop next text) e (spelled_text_read (drop at text) bytes (drop next text) form.spelled)
 
-pub number_between : (text : List ℕ) (at value : ℕ) (rest : List ℕ) → number_at (drop at text) ≡ Ok (value, rest)
+pub number_between : (text : List ℕ) (at value : ℕ) (rest : List ℕ) → number_ahead (drop at text) ≡ Ok (value, rest)
     → Between NumberAt text at value (length text - length rest)
 number_between text at value rest e =
     let form = read_number_spelled (drop at text) value rest e in between NumberAt text at value rest form (end_number (drop at text) value rest form)
 
-pub between_number : (text : List ℕ) (at : ℕ) (found : Reading ℕ) → number_at (drop at text) ≡ found → (value next : ℕ)
+pub between_number : (text : List ℕ) (at : ℕ) (found : Reading ℕ) → number_ahead (drop at text) ≡ found → (value next : ℕ)
     → Between NumberAt text at value next → placed text found ≡ Ok (value, next)
 between_number text at found e value next =
     placed_spelled NumberAt text at found value next (λ rest form. sym e ∙ spelled_number_read (drop at text) value rest form)
 
-pub no_number_between : (text : List ℕ) (at : ℕ) (fault : LiteralFault) → number_at (drop at text) ≡ Err fault → (value next : ℕ)
+pub no_number_between : (text : List ℕ) (at : ℕ) (fault : LiteralFault) → number_ahead (drop at text) ≡ Err fault → (value next : ℕ)
     → Between NumberAt text at value next → ⊥
 no_number_between text at fault e value next form =
-    err_is_ok (number_at (drop at text)) fault (value, drop next text) e (spelled_number_read (drop at text) value (drop next text) form.spelled)
+    err_is_ok (number_ahead (drop at text)) fault (value, drop next text) e (spelled_number_read (drop at text) value (drop next text) form.spelled)
 
 -- a fault at a place, from its reading and back
 told_fault : {Value : Type 0} (reading : Result Value LiteralFault) (told fault : LiteralFault) → reading ≡ Err told → reading ≡ Err fault → told ≡ fault
@@ -138,14 +138,14 @@ placed_fault : {Value : Type 0} (text : List ℕ) (found : Reading Value) (fault
 placed_fault text (Ok (value, rest)) fault e = cc e
 placed_fault text (Err told) fault e = ap Err (told_fault (placed text (Err told)) told fault refl e)
 
-pub literal_fault_from : (text : List ℕ) (at : ℕ) (found : Reading Text) → literal_at (drop at text) ≡ found → (fault : LiteralFault)
+pub literal_fault_from : (text : List ℕ) (at : ℕ) (found : Reading Text) → literal_ahead (drop at text) ≡ found → (fault : LiteralFault)
     → (placed text found ≡ Err fault) ↔ FaultyLiteral (drop at text) fault
 literal_fault_from text at found e fault = (
   λ told. read_faulty (drop at text) fault (e ∙ placed_fault text found fault told),
   λ row. ap (placed text) (sym e ∙ faulty_read (drop at text) fault row),
 )
 
-pub number_fault_from : (text : List ℕ) (at : ℕ) (found : Reading ℕ) → number_at (drop at text) ≡ found → (fault : LiteralFault)
+pub number_fault_from : (text : List ℕ) (at : ℕ) (found : Reading ℕ) → number_ahead (drop at text) ≡ found → (fault : LiteralFault)
     → (placed text found ≡ Err fault) ↔ FaultyNumber (drop at text) fault
 number_fault_from text at found e fault = (
   λ told. read_faulty_number (drop at text) fault (e ∙ placed_fault text found fault told),
@@ -153,8 +153,8 @@ number_fault_from text at found e fault = (
 )
 
 -- an identifier, read behind the blanks before it
-xid_at-unblank : (text tail : List ℕ) → tail ≡ unblank text → xid_at text ≡ gtrid_next tail
-unfolding xid_at
+xid_at-unblank : (text tail : List ℕ) → tail ≡ unblank text → xid_ahead text ≡ gtrid_next tail
+unfolding xid_ahead
 xid_at-unblank text tail e = ap gtrid_next (sym e)
 
 pub xid_between : (text tail : List ℕ) (at : ℕ) (xid : Xid) (rest : List ℕ) → tail ≡ unblank (drop at text) → gtrid_next tail ≡ Ok (xid, rest)

@@ -4,7 +4,7 @@ use Rattle.std.proofs.Common.{append_assoc}
 use Rattle.std.proofs.lemmas.Bool.{eq-eqb, ne_eqb}
 use Rattle.std.proofs.lemmas.List.{drop_all, append-nil}
 use Rattle.xa_xid.specs.Literal.{kept, sized, text_literal_of}
-use Rattle.xa_xid.specs.Quoted.{quoted, escaped, onto}
+use Rattle.xa_xid.specs.Quoted.{read_in_quotes, escaped, onto}
 use Rattle.xa_xid.specs.Xid.{Text}
 use Rattle.xa_xid.specs.declared.quoted.Mode.{Mode}
 use Rattle.xa_xid.specs.declared.quoted.Mode.TheVariants.{Plain, Escape, Quote}
@@ -17,55 +17,57 @@ onto-onto : (xs ys : List ℕ) (found : Option (List ℕ × List ℕ)) → onto 
 onto-onto xs ys None = refl
 onto-onto xs ys (Some (bytes, rest)) = ap (λ zs. Some (zs, rest)) (sym (append_assoc xs ys bytes))
 
-pub plain_quote : (quote byte : ℕ) (text : List ℕ) → byte ≡ quote → quoted quote Plain (byte ∷ text) ≡ quoted quote Quote text
-unfolding quoted
+pub plain_quote : (quote byte : ℕ) (text : List ℕ) → byte ≡ quote → read_in_quotes quote Plain (byte ∷ text) ≡ read_in_quotes quote Quote text
+unfolding read_in_quotes
 plain_quote quote byte text e = rw (eq-eqb byte quote e) refl
 
-pub plain_backslash : (quote byte : ℕ) (text : List ℕ) → (byte ≡ quote → ⊥) → byte ≡ 92 → quoted quote Plain (byte ∷ text) ≡ quoted quote Escape text
-unfolding quoted
+pub plain_backslash : (quote byte : ℕ) (text : List ℕ) → (byte ≡ quote → ⊥) → byte ≡ 92
+    → read_in_quotes quote Plain (byte ∷ text) ≡ read_in_quotes quote Escape text
+unfolding read_in_quotes
 plain_backslash quote byte text other e = rw (ne_eqb byte quote other, eq-eqb byte 92 e) refl
 
 pub plain_byte : (quote byte : ℕ) (text : List ℕ) → (byte ≡ quote → ⊥) → (byte ≡ 92 → ⊥)
-    → quoted quote Plain (byte ∷ text) ≡ onto (byte ∷ []) (quoted quote Plain text)
-unfolding quoted
+    → read_in_quotes quote Plain (byte ∷ text) ≡ onto (byte ∷ []) (read_in_quotes quote Plain text)
+unfolding read_in_quotes
 plain_byte quote byte text other none = rw (ne_eqb byte quote other, ne_eqb byte 92 none) refl
 
-pub escape_letter : (quote byte : ℕ) (text : List ℕ) → quoted quote Escape (byte ∷ text) ≡ onto (escaped byte) (quoted quote Plain text)
-unfolding quoted
+pub escape_letter : (quote byte : ℕ) (text : List ℕ) → read_in_quotes quote Escape (byte ∷ text) ≡ onto (escaped byte) (read_in_quotes quote Plain text)
+unfolding read_in_quotes
 escape_letter quote byte text = refl
 
-pub quote_again : (quote byte : ℕ) (text : List ℕ) → byte ≡ quote → quoted quote Quote (byte ∷ text) ≡ onto (quote ∷ []) (quoted quote Plain text)
-unfolding quoted
+pub quote_again : (quote byte : ℕ) (text : List ℕ) → byte ≡ quote
+    → read_in_quotes quote Quote (byte ∷ text) ≡ onto (quote ∷ []) (read_in_quotes quote Plain text)
+unfolding read_in_quotes
 quote_again quote byte text e = rw (eq-eqb byte quote e) refl
 
-pub quote_closes : (quote byte : ℕ) (text : List ℕ) → (byte ≡ quote → ⊥) → quoted quote Quote (byte ∷ text) ≡ Some ([], byte ∷ text)
-unfolding quoted
+pub quote_closes : (quote byte : ℕ) (text : List ℕ) → (byte ≡ quote → ⊥) → read_in_quotes quote Quote (byte ∷ text) ≡ Some ([], byte ∷ text)
+unfolding read_in_quotes
 quote_closes quote byte text other = rw (ne_eqb byte quote other) refl
 
-pub quoted-nil-plain : (quote : ℕ) → quoted quote Plain [] ≡ None
-unfolding quoted
+pub quoted-nil-plain : (quote : ℕ) → read_in_quotes quote Plain [] ≡ None
+unfolding read_in_quotes
 quoted-nil-plain quote = refl
 
-pub quoted-nil-escape : (quote : ℕ) → quoted quote Escape [] ≡ None
-unfolding quoted
+pub quoted-nil-escape : (quote : ℕ) → read_in_quotes quote Escape [] ≡ None
+unfolding read_in_quotes
 quoted-nil-escape quote = refl
 
-pub quoted-nil-quote : (quote : ℕ) → quoted quote Quote [] ≡ Some ([], [])
-unfolding quoted
+pub quoted-nil-quote : (quote : ℕ) → read_in_quotes quote Quote [] ≡ Some ([], [])
+unfolding read_in_quotes
 quoted-nil-quote quote = refl
 
 -- what was read before a place, with what is left to read
 pub record ReadTo (quote : ℕ) (text : List ℕ) (mode : Mode) (held : Option Text) (place : ℕ) : Type 0 where
   pub so_far : List ℕ
   pub held_is : held ≡ kept so_far
-  pub same : quoted quote Plain text ≡ onto so_far (quoted quote mode (drop place text))
+  pub same : read_in_quotes quote Plain text ≡ onto so_far (read_in_quotes quote mode (drop place text))
 
 pub read_none : (quote : ℕ) (text : List ℕ) (held : Option Text) → held ≡ kept [] → ReadTo quote text Plain held 0
 read_none quote text held e = record { so_far = []; held_is = e; same = onto-nil _ }
 
 -- one byte that stands for nothing itself
 pub read_mark : (quote : ℕ) (text : List ℕ) (mode next : Mode) (held : Option Text) (place : ℕ) → place < length text
-    → ((rest : List ℕ) → quoted quote mode (get_or text place 0 ∷ rest) ≡ quoted quote next rest)
+    → ((rest : List ℕ) → read_in_quotes quote mode (get_or text place 0 ∷ rest) ≡ read_in_quotes quote next rest)
     → ReadTo quote text mode held place → ReadTo quote text next held (place + 1)
 read_mark quote text mode next held place within step so_far = record {
   so_far = so_far.so_far;
@@ -75,7 +77,7 @@ read_mark quote text mode next held place within step so_far = record {
 
 -- one byte with which the literal stands for more
 pub read_more : (quote : ℕ) (text : List ℕ) (mode next : Mode) (old new : Option Text) (place : ℕ) (bytes : List ℕ) → place < length text
-    → ((rest : List ℕ) → quoted quote mode (get_or text place 0 ∷ rest) ≡ onto bytes (quoted quote next rest))
+    → ((rest : List ℕ) → read_in_quotes quote mode (get_or text place 0 ∷ rest) ≡ onto bytes (read_in_quotes quote next rest))
     → ((xs : List ℕ) → old ≡ kept xs → new ≡ kept (xs ++ bytes))
     → ReadTo quote text mode old place → ReadTo quote text next new (place + 1)
 read_more quote text mode next old new place bytes within step grows so_far = record {
@@ -84,32 +86,32 @@ read_more quote text mode next old new place bytes within step grows so_far = re
   same = so_far.same ∙ rw (drop-cons text place 0 within, step, add-one) (onto-onto so_far.so_far bytes _);
 }
 
-closed : (quote : ℕ) (text rest : List ℕ) (mode : Mode) (held : Option Text) (place : ℕ) → quoted quote mode (drop place text) ≡ Some ([], rest)
-    → ReadTo quote text mode held place → text_literal_of (quoted quote Plain text) ≡ sized held rest
+closed : (quote : ℕ) (text rest : List ℕ) (mode : Mode) (held : Option Text) (place : ℕ) → read_in_quotes quote mode (drop place text) ≡ Some ([], rest)
+    → ReadTo quote text mode held place → text_literal_of (read_in_quotes quote Plain text) ≡ sized held rest
 closed quote text rest mode held place e so_far =
     rw (so_far.same, e, append-nil so_far.so_far, ← so_far.held_is) refl
 
 -- the byte before was the closing quote
 pub read_closed : (quote : ℕ) (text : List ℕ) (held : Option Text) (place : ℕ) → place < length text → (get_or text place 0 ≡ quote → ⊥)
-    → ReadTo quote text Quote held place → text_literal_of (quoted quote Plain text) ≡ sized held (drop place text)
+    → ReadTo quote text Quote held place → text_literal_of (read_in_quotes quote Plain text) ≡ sized held (drop place text)
 read_closed quote text held place within other so_far =
     closed quote text (drop place text) Quote held place (rw (drop-cons text place 0 within) (quote_closes quote _ _ other)) so_far
 
 -- the last byte was the closing quote
 pub read_ended : (quote : ℕ) (text : List ℕ) (held : Option Text) (place : ℕ) → length text ≤ place
-    → ReadTo quote text Quote held place → text_literal_of (quoted quote Plain text) ≡ sized held []
+    → ReadTo quote text Quote held place → text_literal_of (read_in_quotes quote Plain text) ≡ sized held []
 read_ended quote text held place past so_far =
     closed quote text [] Quote held place (rw (drop_all place text past) (quoted-nil-quote quote)) so_far
 
-unclosed : (quote : ℕ) (text : List ℕ) (mode : Mode) (held : Option Text) (place : ℕ) → quoted quote mode (drop place text) ≡ None
-    → ReadTo quote text mode held place → quoted quote Plain text ≡ None
+unclosed : (quote : ℕ) (text : List ℕ) (mode : Mode) (held : Option Text) (place : ℕ) → read_in_quotes quote mode (drop place text) ≡ None
+    → ReadTo quote text mode held place → read_in_quotes quote Plain text ≡ None
 unclosed quote text mode held place e so_far = so_far.same ∙ rw e refl
 
 -- the text ended before a closing quote
 pub read_plain_end : (quote : ℕ) (text : List ℕ) (held : Option Text) (place : ℕ) → length text ≤ place
-    → ReadTo quote text Plain held place → quoted quote Plain text ≡ None
+    → ReadTo quote text Plain held place → read_in_quotes quote Plain text ≡ None
 read_plain_end quote text held place past so_far = unclosed quote text Plain held place (rw (drop_all place text past) (quoted-nil-plain quote)) so_far
 
 pub read_escape_end : (quote : ℕ) (text : List ℕ) (held : Option Text) (place : ℕ) → length text ≤ place
-    → ReadTo quote text Escape held place → quoted quote Plain text ≡ None
+    → ReadTo quote text Escape held place → read_in_quotes quote Plain text ≡ None
 read_escape_end quote text held place past so_far = unclosed quote text Escape held place (rw (drop_all place text past) (quoted-nil-escape quote)) so_far

@@ -5,8 +5,8 @@ use Rattle.std.proofs.Math.Nat.{le_refl}
 use Rattle.std.proofs.lemmas.Bool.{cond_both, or_from, true≢false}
 use Rattle.hex.specs.Hex.{decode_of}
 use Rattle.xa_xid.specs.Bytes.{belongs, front, behind}
-use Rattle.xa_xid.specs.Literal.{Reading, literal_at, opens_text, opens_hex, text_literal_of, sized, kept, hex_in_quotes_of, decoded}
-use Rattle.xa_xid.specs.Quoted.{quoted, onto, escaped}
+use Rattle.xa_xid.specs.Literal.{Reading, literal_ahead, opens_text, opens_hex, text_literal_of, sized, kept, hex_in_quotes_of, decoded}
+use Rattle.xa_xid.specs.Quoted.{read_in_quotes, onto, escaped}
 use Rattle.xa_xid.specs.Xid.{Text}
 use Rattle.xa_xid.specs.declared.byte_class.ByteClass.TheVariants.{Hexadecimal}
 use Rattle.xa_xid.specs.declared.literal_fault.LiteralFault.{LiteralFault}
@@ -34,21 +34,21 @@ short-more : (most : ℕ) (found : Option (List ℕ × List ℕ)) → Short most
 short-more most None short = tt
 short-more most (Some (bytes, rest)) short = omega arith
 
-quoted-short : (quote : ℕ) (mode : Mode) (text : List ℕ) → Short (length text) (quoted quote mode text)
-unfolding quoted
+quoted-short : (quote : ℕ) (mode : Mode) (text : List ℕ) → Short (length text) (read_in_quotes quote mode text)
+unfolding read_in_quotes
 quoted-short quote Plain [] = tt
 quoted-short quote Plain (byte ∷ text) =
     cond_both (byte == quote) _ _ (Short (suc (length text)))
-    (λ _. short-more (length text) (quoted quote Quote text) (quoted-short quote Quote text))
+    (λ _. short-more (length text) (read_in_quotes quote Quote text) (quoted-short quote Quote text))
     (λ _. cond_both (byte == 92) _ _ (Short (suc (length text)))
-    (λ _. short-more (length text) (quoted quote Escape text) (quoted-short quote Escape text))
-    (λ _. short-onto (length text) (byte ∷ []) (quoted quote Plain text) (quoted-short quote Plain text)))
+    (λ _. short-more (length text) (read_in_quotes quote Escape text) (quoted-short quote Escape text))
+    (λ _. short-onto (length text) (byte ∷ []) (read_in_quotes quote Plain text) (quoted-short quote Plain text)))
 quoted-short quote Escape [] = tt
-quoted-short quote Escape (byte ∷ text) = short-onto (length text) (escaped byte) (quoted quote Plain text) (quoted-short quote Plain text)
+quoted-short quote Escape (byte ∷ text) = short-onto (length text) (escaped byte) (read_in_quotes quote Plain text) (quoted-short quote Plain text)
 quoted-short quote Quote [] = le_refl 0
 quoted-short quote Quote (byte ∷ text) =
     cond_both (byte == quote) _ _ (Short (suc (length text)))
-    (λ _. short-onto (length text) (quote ∷ []) (quoted quote Plain text) (quoted-short quote Plain text))
+    (λ _. short-onto (length text) (quote ∷ []) (read_in_quotes quote Plain text) (quoted-short quote Plain text))
     (λ _. le_refl (suc (length text)))
 
 -- what is left behind a literal is at most so long
@@ -91,12 +91,12 @@ length-drop-2 byte [] = le_refl 0
 length-drop-2 byte (next ∷ text) = omega arith
 
 pub literal-short : (byte : ℕ) (text : List ℕ) → (opens_text (byte ∷ text) || opens_hex (byte ∷ text)) ≡ true
-    → ShortReading (length text) (literal_at (byte ∷ text))
-unfolding literal_at
+    → ShortReading (length text) (literal_ahead (byte ∷ text))
+unfolding literal_ahead
 literal-short byte text opens =
     let hex = belongs Hexadecimal in
     cond_both (opens_text (byte ∷ text)) _ _ (ShortReading (length text))
-    (λ _. short-text (length text) (quoted byte Plain text) (quoted-short byte Plain text))
+    (λ _. short-text (length text) (read_in_quotes byte Plain text) (quoted-short byte Plain text))
     (λ no. cond_both (opens_hex (byte ∷ text)) _ _ (ShortReading (length text))
     (λ _. short-hex (length text) (front hex (drop 2 (byte ∷ text))) (behind hex (drop 2 (byte ∷ text)))
     (omega (arith, behind-short hex (drop 2 (byte ∷ text)), length-drop-2 byte text)))

@@ -10,11 +10,12 @@ use Rattle.hex.specs.Hex.{decode_of, is_hex_digit}
 use Rattle.hex.proofs.HexLemmas.{decode_of-digits}
 use Rattle.hex.specs.declared.error.FromHexError.{FromHexError}
 use Rattle.xa_xid.specs.Bytes.{belongs, front, behind, only, run, after_run, StartsNo}
-use Rattle.xa_xid.specs.Literal.{Reading, LiteralAt, text_literal, hex_in_quotes, hex_run, literal_at, opens_text, opens_hex, is_quote, is_x, text_literal_of}
+use Rattle.xa_xid.specs.Literal.{Reading, LiteralAt, text_literal, hex_in_quotes, hex_run, literal_ahead, opens_text, opens_hex, is_quote, is_x}
+use Rattle.xa_xid.specs.Literal.{text_literal_of}
 use Rattle.xa_xid.specs.Literal.{sized, kept, decoded, evened, hex_in_quotes_of, hex_run_of, hex_digits_of}
 use Rattle.xa_xid.specs.Faults.{AreHex, HexRunAt, hex_run_at, FaultyLiteral, no_closing_quote, too_many_bytes, digits_without_end, digits_and_another_byte}
 use Rattle.xa_xid.specs.Faults.{odd_digits, too_many_digits, too_long_run, no_form}
-use Rattle.xa_xid.specs.Quoted.{QuotedAt, quoted}
+use Rattle.xa_xid.specs.Quoted.{QuotedAt, read_in_quotes}
 use Rattle.xa_xid.specs.Xid.{Text}
 use Rattle.xa_xid.specs.declared.byte_class.ByteClass.TheVariants.{Word, Hexadecimal}
 use Rattle.xa_xid.specs.declared.literal_fault.LiteralFault.{LiteralFault}
@@ -48,7 +49,7 @@ quoted_spelled quote text bytes rest is q =
       | inr fits ↦ rw (kept-fits bytes fits) (text_literal quote is q, fits)
     ]
 
-text_spelled : (quote : ℕ) (text : List ℕ) (found : Option (List ℕ × List ℕ)) → IsTrue (is_quote quote) → quoted quote Plain text ≡ found
+text_spelled : (quote : ℕ) (text : List ℕ) (found : Option (List ℕ × List ℕ)) → IsTrue (is_quote quote) → read_in_quotes quote Plain text ≡ found
     → Spelled quote text found → SpelledAs (quote ∷ text) (text_literal_of found)
 text_spelled quote text None is e s =
     no_closing_quote quote text is (λ bytes rest q. none_is_some (bytes, rest) (sym e ∙ quoted_found quote text bytes rest is q))
@@ -170,28 +171,28 @@ run_read_spelled text no_text no_hex =
     subst (λ t. SpelledAs t read) whole (run_spelled (run text) (after_run text) (behind_starts (belongs Word) text) none)
 
 text_opened_spelled : (text : List ℕ) (quote : ℕ) → opens_text text ≡ true → quote ≡ slice_index text 0
-    → SpelledAs text (text_literal_of (quoted (slice_index text 0) Plain (drop 1 text)))
+    → SpelledAs text (text_literal_of (read_in_quotes (slice_index text 0) Plain (drop 1 text)))
 text_opened_spelled [] quote e is = absurd (true≢false (sym e))
-text_opened_spelled (first ∷ text) quote e is = text_spelled first text (quoted first Plain text) e refl (read_quoted first Plain text)
+text_opened_spelled (first ∷ text) quote e is = text_spelled first text (read_in_quotes first Plain text) e refl (read_quoted first Plain text)
 
-literal_spelled : (text : List ℕ) → SpelledAs text (literal_at text)
-unfolding literal_at
+literal_spelled : (text : List ℕ) → SpelledAs text (literal_ahead text)
+unfolding literal_ahead
 literal_spelled text =
     let hex = belongs Hexadecimal in
     let as_run : Reading Text = hex_run_of (hex_digits_of (run text)) (after_run text) in
     let as_hex : Reading Text = hex_in_quotes_of (front hex (drop 2 text)) (behind hex (drop 2 text)) in
-    let as_text : Reading Text = text_literal_of (quoted (slice_index text 0) Plain (drop 1 text)) in
+    let as_text : Reading Text = text_literal_of (read_in_quotes (slice_index text 0) Plain (drop 1 text)) in
     cond_both (opens_text text) as_text (if opens_hex text then as_hex else as_run) (SpelledAs text)
     (λ e. text_opened_spelled text (slice_index text 0) e refl)
     (λ no_text. cond_both (opens_hex text) as_hex as_run (SpelledAs text) (λ e. hex_opened_spelled text e) (λ no_hex. run_read_spelled text no_text no_hex))
 
 -- what is read is spelled, and is few enough bytes
-pub read_spelled : (text : List ℕ) (found : Text) (rest : List ℕ) → literal_at text ≡ Ok (found, rest)
+pub read_spelled : (text : List ℕ) (found : Text) (rest : List ℕ) → literal_ahead text ≡ Ok (found, rest)
     → LiteralAt text found.items rest × (length found.items ≤ 64)
 read_spelled text found rest e = rw e at (literal_spelled text)
 
 -- and each fault is a row of the table
-pub read_faulty : (text : List ℕ) (fault : LiteralFault) → literal_at text ≡ Err fault → FaultyLiteral text fault
+pub read_faulty : (text : List ℕ) (fault : LiteralFault) → literal_ahead text ≡ Err fault → FaultyLiteral text fault
 read_faulty text fault e = rw e at (literal_spelled text)
 
 -- a text that holds no run of `0x` and digits
@@ -211,8 +212,8 @@ run_none (a ∷ b ∷ digit ∷ digits) rest s refused =
       | false ↦ λ e. refl
     ] refl
 
-no_run_read : (text : List ℕ) → opens_text text ≡ false → opens_hex text ≡ false → hex_digits_of (run text) ≡ None → literal_at text ≡ Err NotALiteral
-unfolding literal_at
+no_run_read : (text : List ℕ) → opens_text text ≡ false → opens_hex text ≡ false → hex_digits_of (run text) ≡ None → literal_ahead text ≡ Err NotALiteral
+unfolding literal_ahead
 no_run_read text no_text no_hex e = rw (no_text, no_hex, e) refl
 
 unclosed_read : (quote : ℕ) (text : List ℕ) (found : Option (List ℕ × List ℕ)) → ((bytes rest : List ℕ) → QuotedAt quote text bytes rest → ⊥)
@@ -220,14 +221,14 @@ unclosed_read : (quote : ℕ) (text : List ℕ) (found : Option (List ℕ × Lis
 unclosed_read quote text None refused s = refl
 unclosed_read quote text (Some (bytes, rest)) refused s = absurd (refused bytes rest s)
 
-long_run_read : (text digits rest : List ℕ) → HexRunAt text digits rest → 128 < length digits → literal_at text ≡ Err TooLong
+long_run_read : (text digits rest : List ℕ) → HexRunAt text digits rest → 128 < length digits → literal_ahead text ≡ Err TooLong
 long_run_read _ _ _ (hex_run_at digit digits rest hex s) long =
     literal_at-run digit digits rest (only_passes (belongs Hexadecimal) (digit ∷ digits) hex) s ∙ rw (lt-ltb 128 (length (digit ∷ digits)) long) refl
 
 -- a row of the table is told as its fault
-pub faulty_read : (text : List ℕ) (fault : LiteralFault) → FaultyLiteral text fault → literal_at text ≡ Err fault
+pub faulty_read : (text : List ℕ) (fault : LiteralFault) → FaultyLiteral text fault → literal_ahead text ≡ Err fault
 faulty_read _ _ (no_closing_quote quote text is refused) =
-    opened_at quote text is ∙ unclosed_read quote text (quoted quote Plain text) refused (read_quoted quote Plain text)
+    opened_at quote text is ∙ unclosed_read quote text (read_in_quotes quote Plain text) refused (read_quoted quote Plain text)
 faulty_read _ _ (too_many_bytes quote text bytes rest is q past) = text_read quote text bytes rest is q ∙ rw (kept-past bytes past) refl
 faulty_read _ _ (digits_without_end letter digits is hex) =
     rw (append-nil digits) at (hex_quoted_at letter digits [] is (only_passes (belongs Hexadecimal) digits hex) tt)

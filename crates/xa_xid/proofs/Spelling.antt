@@ -6,9 +6,9 @@ use Rattle.std.proofs.lemmas.Bool.Decides.{nat_tests}
 use Rattle.hex.specs.Hex.{decode_of}
 use Rattle.hex.proofs.HexLemmas.{decode_of-ok}
 use Rattle.xa_xid.specs.Bytes.{belongs, front, behind, only, run, after_run, StartsNo}
-use Rattle.xa_xid.specs.Literal.{LiteralAt, text_literal, hex_in_quotes, hex_run, literal_at, is_quote, is_x, text_literal_of, sized, kept, decoded, evened}
+use Rattle.xa_xid.specs.Literal.{LiteralAt, text_literal, hex_in_quotes, hex_run, literal_ahead, is_quote, is_x, text_literal_of, sized, kept, decoded, evened}
 use Rattle.xa_xid.specs.Literal.{hex_in_quotes_of, hex_run_of, hex_digits_of}
-use Rattle.xa_xid.specs.Quoted.{Quoted, close, doubled, escape, plain, QuotedAt, quoted, onto, escaped}
+use Rattle.xa_xid.specs.Quoted.{Quoted, close, doubled, escape, plain, QuotedAt, read_in_quotes, onto, escaped}
 use Rattle.xa_xid.specs.declared.byte_class.ByteClass.TheVariants.{Word, Hexadecimal}
 use Rattle.xa_xid.specs.declared.literal_fault.LiteralFault.TheVariants.{TooLong}
 use Rattle.xa_xid.specs.declared.quoted.Mode.{Mode}
@@ -19,12 +19,12 @@ use Rattle.xa_xid.proofs.Texts.{kept-fits, kept-past}
 use Rattle.xa_xid.proofs.Written.{Passes, front-append, behind-append, decoded_found}
 
 -- from the spelling to the reading of a text literal
-ends_read : (quote : ℕ) (rest : List ℕ) → StartsNo (λ byte. byte == quote) rest → quoted quote Quote rest ≡ Some ([], rest)
+ends_read : (quote : ℕ) (rest : List ℕ) → StartsNo (λ byte. byte == quote) rest → read_in_quotes quote Quote rest ≡ Some ([], rest)
 ends_read quote [] last = quoted-nil-quote quote
 ends_read quote (byte ∷ rest) last = quote_closes quote byte rest (eqb-false byte quote last)
 
 spelled_quoted : (quote : ℕ) (written bytes rest : List ℕ) → (quote ≡ 92 → ⊥) → StartsNo (λ byte. byte == quote) rest → Quoted quote written bytes
-    → quoted quote Plain (written ++ rest) ≡ Some (bytes, rest)
+    → read_in_quotes quote Plain (written ++ rest) ≡ Some (bytes, rest)
 spelled_quoted quote _ _ rest other last close = plain_quote quote quote rest refl ∙ ends_read quote rest last
 spelled_quoted quote _ _ rest other last (doubled {written} {bytes} form) =
     plain_quote quote quote (quote ∷ written ++ rest) refl
@@ -78,24 +78,24 @@ more_doubled quote text (Some (bytes, rest)) s = record {
   last = s.last;
 }
 
-pub read_quoted : (quote : ℕ) (mode : Mode) (text : List ℕ) → Spelled quote (before quote mode text) (quoted quote mode text)
-unfolding quoted
+pub read_quoted : (quote : ℕ) (mode : Mode) (text : List ℕ) → Spelled quote (before quote mode text) (read_in_quotes quote mode text)
+unfolding read_in_quotes
 read_quoted quote Plain [] = tt
 read_quoted quote Plain (byte ∷ text) =
-    cond_both (byte == quote) (quoted quote Quote text)
-    (if byte == 92 then quoted quote Escape text else onto (byte ∷ []) (quoted quote Plain text))
+    cond_both (byte == quote) (read_in_quotes quote Quote text)
+    (if byte == 92 then read_in_quotes quote Escape text else onto (byte ∷ []) (read_in_quotes quote Plain text))
     (Spelled quote (byte ∷ text))
     (λ e. rw (eqb-true byte quote e) (read_quoted quote Quote text))
-    (λ differs. cond_both (byte == 92) (quoted quote Escape text) (onto (byte ∷ []) (quoted quote Plain text)) (Spelled quote (byte ∷ text))
+    (λ differs. cond_both (byte == 92) (read_in_quotes quote Escape text) (onto (byte ∷ []) (read_in_quotes quote Plain text)) (Spelled quote (byte ∷ text))
     (λ e. rw (eqb-true byte 92 e) (read_quoted quote Escape text))
-    (λ unescaped. more_plain quote byte text (quoted quote Plain text) (eqb-false byte quote differs) (eqb-false byte 92 unescaped)
+    (λ unescaped. more_plain quote byte text (read_in_quotes quote Plain text) (eqb-false byte quote differs) (eqb-false byte 92 unescaped)
     (read_quoted quote Plain text)))
 read_quoted quote Escape [] = tt
-read_quoted quote Escape (letter ∷ text) = more_escaped quote letter text (quoted quote Plain text) (read_quoted quote Plain text)
+read_quoted quote Escape (letter ∷ text) = more_escaped quote letter text (read_in_quotes quote Plain text) (read_quoted quote Plain text)
 read_quoted quote Quote [] = record { written = quote ∷ []; form = close; cut = refl; last = tt }
 read_quoted quote Quote (byte ∷ text) =
-    cond_both (byte == quote) (onto (quote ∷ []) (quoted quote Plain text)) (Some ([], byte ∷ text)) (Spelled quote (quote ∷ byte ∷ text))
-    (λ e. rw (eqb-true byte quote e) (more_doubled quote text (quoted quote Plain text) (read_quoted quote Plain text)))
+    cond_both (byte == quote) (onto (quote ∷ []) (read_in_quotes quote Plain text)) (Some ([], byte ∷ text)) (Spelled quote (quote ∷ byte ∷ text))
+    (λ e. rw (eqb-true byte quote e) (more_doubled quote text (read_in_quotes quote Plain text) (read_quoted quote Plain text)))
     (λ differs. record { written = quote ∷ []; form = close; cut = refl; last = differs })
 
 -- bytes that pass
@@ -182,32 +182,32 @@ run_sized digits bytes rest e =
     (λ long. omega (arith, ltb-true 128 (length digits) long, twice, low)) (λ short. omega (arith, ltb-false 128 (length digits) short, twice, high))
 
 -- from the spelling to the reading
-pub opened_at : (quote : ℕ) (text : List ℕ) → IsTrue (is_quote quote) → literal_at (quote ∷ text) ≡ text_literal_of (quoted quote Plain text)
-unfolding literal_at
+pub opened_at : (quote : ℕ) (text : List ℕ) → IsTrue (is_quote quote) → literal_ahead (quote ∷ text) ≡ text_literal_of (read_in_quotes quote Plain text)
+unfolding literal_ahead
 opened_at quote text is = rw is refl
 
 pub quoted_found : (quote : ℕ) (text bytes rest : List ℕ) → IsTrue (is_quote quote) → QuotedAt quote text bytes rest
-    → quoted quote Plain text ≡ Some (bytes, rest)
+    → read_in_quotes quote Plain text ≡ Some (bytes, rest)
 quoted_found quote text bytes rest is q =
-    ap (quoted quote Plain) q.cut ∙ spelled_quoted quote q.written bytes rest (quote_other quote is) q.last q.form
+    ap (read_in_quotes quote Plain) q.cut ∙ spelled_quoted quote q.written bytes rest (quote_other quote is) q.last q.form
 
 pub text_read : (quote : ℕ) (text bytes rest : List ℕ) → IsTrue (is_quote quote) → QuotedAt quote text bytes rest
-    → literal_at (quote ∷ text) ≡ sized (kept bytes) rest
+    → literal_ahead (quote ∷ text) ≡ sized (kept bytes) rest
 text_read quote text bytes rest is q = opened_at quote text is ∙ ap text_literal_of (quoted_found quote text bytes rest is q)
 
 -- digits behind an X and a quote
 hex_opened_at : (letter : ℕ) (text : List ℕ) → letter ≡ 88 ⊎ letter ≡ 120
-    → literal_at (letter ∷ 39 ∷ text) ≡ hex_in_quotes_of (front (belongs Hexadecimal) text) (behind (belongs Hexadecimal) text)
-unfolding literal_at
+    → literal_ahead (letter ∷ 39 ∷ text) ≡ hex_in_quotes_of (front (belongs Hexadecimal) text) (behind (belongs Hexadecimal) text)
+unfolding literal_ahead
 hex_opened_at letter text which =
     let read = hex_in_quotes_of (front (belongs Hexadecimal) text) (behind (belongs Hexadecimal) text) in
-    elim which as (λ _. literal_at (letter ∷ 39 ∷ text) ≡ read) [
+    elim which as (λ _. literal_ahead (letter ∷ 39 ∷ text) ≡ read) [
       | inl capital ↦ rw capital refl
       | inr small ↦ rw small refl
     ]
 
 pub hex_quoted_at : (letter : ℕ) (digits rest : List ℕ) → IsTrue (is_x letter) → Passes (belongs Hexadecimal) digits → StartsNo (belongs Hexadecimal) rest
-    → literal_at (letter ∷ 39 ∷ digits ++ rest) ≡ hex_in_quotes_of digits rest
+    → literal_ahead (letter ∷ 39 ∷ digits ++ rest) ≡ hex_in_quotes_of digits rest
 hex_quoted_at letter digits rest is all stops =
     let hex = belongs Hexadecimal in
     let cut : front hex (digits ++ rest) ≡ digits = front-append hex digits rest all stops in
@@ -221,7 +221,7 @@ unfolding belongs
 quote_no_hex rest = refl
 
 hex_quoted_read : (letter : ℕ) (digits bytes rest : List ℕ) → IsTrue (is_x letter) → decode_of digits ≡ Ok bytes → Passes (belongs Hexadecimal) digits
-    → literal_at (letter ∷ 39 ∷ digits ++ 39 ∷ rest) ≡ sized (kept bytes) rest
+    → literal_ahead (letter ∷ 39 ∷ digits ++ 39 ∷ rest) ≡ sized (kept bytes) rest
 hex_quoted_read letter digits bytes rest is e all =
     hex_quoted_at letter digits (39 ∷ rest) is all (quote_no_hex rest) ∙ quoted_sized digits bytes rest e
 
@@ -244,19 +244,19 @@ hex_run_cut digit digits rest all s =
     (ap hex_digits_of (front-append (belongs Word) written rest word s) ∙ hex, behind-append (belongs Word) written rest word s)
 
 pub literal_at-run : (digit : ℕ) (digits rest : List ℕ) → Passes (belongs Hexadecimal) (digit ∷ digits) → StartsNo (belongs Word) rest
-    → literal_at (48 ∷ 120 ∷ digit ∷ digits ++ rest) ≡ hex_run_of (Some (digit ∷ digits)) rest
-unfolding literal_at
+    → literal_ahead (48 ∷ 120 ∷ digit ∷ digits ++ rest) ≡ hex_run_of (Some (digit ∷ digits)) rest
+unfolding literal_ahead
 literal_at-run digit digits rest all s =
     let text = 48 ∷ 120 ∷ digit ∷ digits ++ rest in
     let cut = hex_run_cut digit digits rest all s in
     ap (λ d. hex_run_of d (after_run text)) cut.0 ∙ ap (hex_run_of (Some (digit ∷ digits))) cut.1
 
 hex_run_read : (digit : ℕ) (digits bytes rest : List ℕ) → decode_of (evened (digit ∷ digits)) ≡ Ok bytes → Passes (belongs Hexadecimal) (digit ∷ digits)
-    → StartsNo (belongs Word) rest → literal_at (48 ∷ 120 ∷ digit ∷ digits ++ rest) ≡ sized (kept bytes) rest
+    → StartsNo (belongs Word) rest → literal_ahead (48 ∷ 120 ∷ digit ∷ digits ++ rest) ≡ sized (kept bytes) rest
 hex_run_read digit digits bytes rest e all s = literal_at-run digit digits rest all s ∙ run_sized (digit ∷ digits) bytes rest e
 
 -- what begins with a literal is read as its bytes, or is too long
-pub spelled_read : (text bytes rest : List ℕ) → LiteralAt text bytes rest → literal_at text ≡ sized (kept bytes) rest
+pub spelled_read : (text bytes rest : List ℕ) → LiteralAt text bytes rest → literal_ahead text ≡ sized (kept bytes) rest
 spelled_read _ _ _ (text_literal quote {text} {bytes} {rest} is q) = text_read quote text bytes rest is q
 spelled_read _ _ _ (hex_in_quotes letter digits {bytes} {rest} is e all) =
     hex_quoted_read letter digits bytes rest is e (only_passes (belongs Hexadecimal) digits all)

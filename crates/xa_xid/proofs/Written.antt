@@ -10,10 +10,10 @@ use Rattle.std.specs.Str.Parse.{digits_value, AllDigits, IsNumeral}
 use Rattle.hex.specs.Hex.{IsBytes, encode_lower, encode_with, lower_digits, decode_pairs}
 use Rattle.hex.proofs.HexLemmas.{decode_of-encode_lower, length-encode_with}
 use Rattle.xa_xid.specs.Bytes.{belongs, front, behind, run, after_run, unblank, StartsNo}
-use Rattle.xa_xid.specs.Literal.{Reading, literal_at, hex_run_of, hex_digits_of, evened, decoded}
-use Rattle.xa_xid.specs.Number.{number_at, number_in}
+use Rattle.xa_xid.specs.Literal.{Reading, literal_ahead, hex_run_of, hex_digits_of, evened, decoded}
+use Rattle.xa_xid.specs.Number.{number_ahead, number_in}
 use Rattle.xa_xid.specs.Xid.{Text}
-use Rattle.xa_xid.specs.XidText.{Parse, xid_at, part_text, xid_text, xid_of, gtrid_next, bqual_next, format_id_next, after_gtrid, after_bqual, comma_next}
+use Rattle.xa_xid.specs.XidText.{Parse, xid_ahead, part_text, xid_text, xid_of, gtrid_next, bqual_next, format_id_next, after_gtrid, after_bqual, comma_next}
 use Rattle.xa_xid.specs.XidText.{IsWritable}
 use Rattle.xa_xid.specs.declared.byte_class.ByteClass.TheVariants.{Blank, Word, Decimal, Hexadecimal}
 use Rattle.xa_xid.specs.declared.literal_fault.LiteralFault.{LiteralFault}
@@ -95,8 +95,8 @@ hex_run_back bytes rest all fits =
 
 -- a part that isn't empty
 filled_back : (byte : ℕ) (bytes rest : List ℕ) → IsBytes (byte ∷ bytes) → length (byte ∷ bytes) ≤ 64 → StartsNo (belongs Word) rest
-    → literal_at (48 ∷ 120 ∷ encode_lower (byte ∷ bytes) ++ rest) ≡ Ok (record { items = byte ∷ bytes }, rest)
-unfolding literal_at belongs encode_with
+    → literal_ahead (48 ∷ 120 ∷ encode_lower (byte ∷ bytes) ++ rest) ≡ Ok (record { items = byte ∷ bytes }, rest)
+unfolding literal_ahead belongs encode_with
 filled_back byte bytes rest all fits s =
     let digits = encode_lower (byte ∷ bytes) in
     let word : Passes (belongs Word) (48 ∷ 120 ∷ digits) = (refl, (refl, digits_pass (belongs Word) digit_is_word (byte ∷ bytes) all)) in
@@ -110,12 +110,12 @@ filled_back byte bytes rest all fits s =
     ∙ hex_run_back (byte ∷ bytes) rest all fits
 
 -- an empty part
-empty_back : (rest : List ℕ) → literal_at (88 ∷ 39 ∷ 39 ∷ rest) ≡ Ok (record { items = [] }, rest)
-unfolding literal_at front behind belongs decode_pairs
+empty_back : (rest : List ℕ) → literal_ahead (88 ∷ 39 ∷ 39 ∷ rest) ≡ Ok (record { items = [] }, rest)
+unfolding literal_ahead front behind belongs decode_pairs
 empty_back rest = refl
 
 pub part_back : (bytes rest : List ℕ) → IsBytes bytes → length bytes ≤ 64 → StartsNo (belongs Word) rest
-    → literal_at (part_text bytes ++ rest) ≡ Ok (record { items = bytes }, rest)
+    → literal_ahead (part_text bytes ++ rest) ≡ Ok (record { items = bytes }, rest)
 part_back [] rest all fits s = empty_back rest
 part_back (byte ∷ bytes) rest all fits s = filled_back byte bytes rest all fits s
 
@@ -153,11 +153,11 @@ abbrev pub number_found : List ℕ → Result ℕ LiteralFault → Reading ℕ
 number_found rest (Ok value) = Ok (value, rest)
 number_found rest (Err fault) = Err fault
 
-pub number_at-found : (text : List ℕ) → number_at text ≡ number_found (after_run text) (number_in (run text))
-unfolding number_at
+pub number_at-found : (text : List ℕ) → number_ahead text ≡ number_found (after_run text) (number_in (run text))
+unfolding number_ahead
 number_at-found text = refl
 
-pub number_back : (n : ℕ) (rest : List ℕ) → n < 2 ^ 64 → StartsNo (belongs Word) rest → number_at (decimal n ++ rest) ≡ Ok (n, rest)
+pub number_back : (n : ℕ) (rest : List ℕ) → n < 2 ^ 64 → StartsNo (belongs Word) rest → number_ahead (decimal n ++ rest) ≡ Ok (n, rest)
 number_back n rest small s =
     let is = decimal_is_IsNumeral n small in
     let word : Passes (belongs Word) (decimal n) = digits_word (decimal n) is.0.1 in
@@ -204,7 +204,7 @@ gtrid_found text (Ok found) = after_gtrid found.0 found.1 (comma_next (unblank f
 gtrid_found text (Err fault) = Err (fault, text)
 
 -- a part, a comma and more
-third_back : (gtrid bqual : Text) (n : ℕ) (text rest : List ℕ) → unblank text ≡ text → number_at text ≡ Ok (n, rest)
+third_back : (gtrid bqual : Text) (n : ℕ) (text rest : List ℕ) → unblank text ≡ text → number_ahead text ≡ Ok (n, rest)
     → format_id_next gtrid bqual (unblank text) ≡ Ok (xid_of gtrid bqual n, rest)
 third_back gtrid bqual n text rest blank e = ap (format_id_next gtrid bqual) blank ∙ ap (format_found gtrid bqual text) e
 
@@ -212,7 +212,7 @@ second_back : (gtrid : Text) (bqual text next : List ℕ) (answer : Parse) → t
     → format_id_next gtrid (record { items = bqual }) (unblank next) ≡ answer → bqual_next gtrid (unblank text) ≡ answer
 second_back gtrid bqual text next answer e all fits more =
     let blank : unblank text ≡ text = rw e (part_unblank bqual (44 ∷ next)) in
-    let part : literal_at text ≡ Ok (record { items = bqual }, 44 ∷ next) = ap literal_at e ∙ part_back bqual (44 ∷ next) all fits (comma_no_word next) in
+    let part : literal_ahead text ≡ Ok (record { items = bqual }, 44 ∷ next) = ap literal_ahead e ∙ part_back bqual (44 ∷ next) all fits (comma_no_word next) in
     ap (bqual_next gtrid) blank ∙ ap (bqual_found gtrid text) part
     ∙ ap (λ t. after_bqual gtrid (record { items = bqual }) (44 ∷ next) (comma_next t)) (comma_unblank next) ∙ more
 
@@ -220,7 +220,7 @@ first_back : (gtrid text next : List ℕ) (answer : Parse) → text ≡ part_tex
     → bqual_next (record { items = gtrid }) (unblank next) ≡ answer → gtrid_next (unblank text) ≡ answer
 first_back gtrid text next answer e all fits more =
     let blank : unblank text ≡ text = rw e (part_unblank gtrid (44 ∷ next)) in
-    let part : literal_at text ≡ Ok (record { items = gtrid }, 44 ∷ next) = ap literal_at e ∙ part_back gtrid (44 ∷ next) all fits (comma_no_word next) in
+    let part : literal_ahead text ≡ Ok (record { items = gtrid }, 44 ∷ next) = ap literal_ahead e ∙ part_back gtrid (44 ∷ next) all fits (comma_no_word next) in
     ap gtrid_next blank ∙ ap (gtrid_found text) part
     ∙ ap (λ t. after_gtrid (record { items = gtrid }) (44 ∷ next) (comma_next t)) (comma_unblank next) ∙ more
 
@@ -234,8 +234,8 @@ xid_text-append xid rest =
     ∙ ap (λ t. part_text xid.gtrid.items ++ (44 ∷ t)) (append_assoc bqual (44 ∷ number) rest)
 
 -- an identifier, read back from its parts
-pub xid_back : (xid : Xid) (rest : List ℕ) → IsWritable xid → StartsNo (belongs Word) rest → xid_at (xid_text xid ++ rest) ≡ Ok (xid, rest)
-unfolding xid_at
+pub xid_back : (xid : Xid) (rest : List ℕ) → IsWritable xid → StartsNo (belongs Word) rest → xid_ahead (xid_text xid ++ rest) ≡ Ok (xid, rest)
+unfolding xid_ahead
 xid_back xid rest is s =
     let number = decimal xid.format_id ++ rest in
     let third = part_text xid.bqual.items ++ (44 ∷ number) in

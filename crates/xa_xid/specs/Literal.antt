@@ -2,7 +2,7 @@
 --     LiteralAt text bytes rest      the text begins with a literal of the bytes, and `rest` stands behind it
 --     TextAt text found rest         the same of a literal of at most `text_bytes` bytes
 --     Between Spelled text at value next     what stands in the text from `at` up to `next` is spelled so
---     literal_at text                the literal that a text begins with, and what stands behind it, or its fault
+--     literal_ahead text             the literal that a text begins with, and what stands behind it, or its fault
 --     literal_from text at           the same at a place, and the place behind the literal
 --     evened digits                  an odd number of digits with a 0 in front
 use Rattle.std.specs.Prelude.{◌≡◌, ℕ, ◌-◌, ◌≤◌, ◌%◌, Bool, false, ◌==◌, ◌||◌, ◌&&◌, not, nat_le, nat_lt, if◌then◌else◌, IsTrue, List, [], ◌∷◌, ◌++◌, length}
@@ -10,7 +10,7 @@ use Rattle.std.specs.Prelude.{drop, slice_index, Option, Some, None, Result, Ok,
 use Rattle.hex.specs.Hex.{decode_of}
 use Rattle.xa_xid.specs.Bytes.{belongs, front, behind, only, run, after_run, StartsNo}
 use Rattle.xa_xid.specs.Limits.{text_bytes, text_digits}
-use Rattle.xa_xid.specs.Quoted.{QuotedAt, quoted}
+use Rattle.xa_xid.specs.Quoted.{QuotedAt, read_in_quotes}
 use Rattle.xa_xid.specs.Xid.{Text}
 use Rattle.xa_xid.specs.declared.byte_class.ByteClass.TheVariants.{Word, Hexadecimal}
 use Rattle.xa_xid.specs.declared.quoted.Mode.TheVariants.{Plain}
@@ -102,9 +102,9 @@ hex_run_of None rest = Err NotALiteral
 hex_run_of (Some digits) rest = if nat_lt text_digits (length digits) then Err TooLong else decoded (evened digits) rest
 
 -- the literal that a text begins with, or the first fault that holds
-unfoldable pub literal_at : List ℕ → Reading Text
-literal_at text =
-    if opens_text text then text_literal_of (quoted (slice_index text 0) Plain (drop 1 text)) else
+unfoldable pub literal_ahead : List ℕ → Reading Text
+literal_ahead text =
+    if opens_text text then text_literal_of (read_in_quotes (slice_index text 0) Plain (drop 1 text)) else
     if opens_hex text then hex_in_quotes_of (front (belongs Hexadecimal) (drop 2 text)) (behind (belongs Hexadecimal) (drop 2 text)) else
     hex_run_of (hex_digits_of (run text)) (after_run text)
 
@@ -115,4 +115,4 @@ placed text (Err fault) = Err fault
 
 -- the literal at a place, and the place behind it
 abbrev pub literal_from : List ℕ → ℕ → Result (Text × ℕ) LiteralFault
-literal_from text at = placed text (literal_at (drop at text))
+literal_from text at = placed text (literal_ahead (drop at text))

@@ -1,7 +1,7 @@
 -- Numbers: decimal digits, or `0x` and hexadecimal digits.
 --     NumberAt text value rest     the text begins with a number of the value, and `rest` stands behind it
 --     number_in run        the value of a run that is a number
---     number_at text       the number that a text begins with, and what stands behind it, or its fault
+--     number_ahead text    the number that a text begins with, and what stands behind it, or its fault
 --     number_from text at  the same at a place, and the place behind it
 use Rattle.std.specs.Prelude.{◌≡◌, ℕ, ◌^◌, ◌<◌, ◌==◌, ◌&&◌, nat_lt, not, if◌then◌else◌, IsTrue, List, ◌∷◌, ◌++◌, length, drop, Option, Some, None, Result, Ok}
 use Rattle.std.specs.Prelude.{Err}
@@ -36,9 +36,9 @@ number_in run =
     if not (length run == 0) && only (belongs Decimal) run then fitting (digits_value 10 run) else hex_number_of (hex_digits_of run)
 
 -- the number that a text begins with
-unfoldable pub number_at : List ℕ → Reading ℕ
-number_at text = elim (number_in (run text)) [ Ok value ↦ Ok (value, after_run text) | Err fault ↦ Err fault ]
+unfoldable pub number_ahead : List ℕ → Reading ℕ
+number_ahead text = elim (number_in (run text)) [ Ok value ↦ Ok (value, after_run text) | Err fault ↦ Err fault ]
 
 -- the number at a place, and the place behind it
 abbrev pub number_from : List ℕ → ℕ → Result (ℕ × ℕ) LiteralFault
-number_from text at = placed text (number_at (drop at text))
+number_from text at = placed text (number_ahead (drop at text))

@@ -2,7 +2,7 @@
 --     escaped letter         what a backslash and the letter stand for
 --     Quoted quote written bytes     `written`, up to and with the closing quote, stands for `bytes`
 --     QuotedAt quote text bytes rest     the same of the beginning of a text, and `rest` stands behind it
---     quoted quote mode text     how it is read, byte by byte
+--     read_in_quotes quote mode text  how it is read, byte by byte
 use Rattle.std.specs.Prelude.{◌≡◌, ◌≢◌, ℕ, ◌==◌, if◌then◌else◌, List, [], ◌∷◌, ◌++◌, Option, Some, None}
 use Rattle.xa_xid.specs.Bytes.{StartsNo}
 use Rattle.xa_xid.specs.declared.quoted.Mode.{Mode}
@@ -41,14 +41,14 @@ onto first None = None
 onto first (Some (bytes, rest)) = Some (first ++ bytes, rest)
 
 -- the bytes and what stands behind the closing quote; none where no quote closes
-unfoldable pub quoted : ℕ → Mode → List ℕ → Option (List ℕ × List ℕ)
-quoted quote Plain [] = None
-quoted quote Plain (byte ∷ text) =
-    if byte == quote then quoted quote Quote text else
-    if byte == 92 then quoted quote Escape text else
-    onto (byte ∷ []) (quoted quote Plain text)
-quoted quote Escape [] = None
-quoted quote Escape (letter ∷ text) = onto (escaped letter) (quoted quote Plain text)
-quoted quote Quote [] = Some ([], [])
-quoted quote Quote (byte ∷ text) =
-    if byte == quote then onto (quote ∷ []) (quoted quote Plain text) else Some ([], byte ∷ text)
+unfoldable pub read_in_quotes : ℕ → Mode → List ℕ → Option (List ℕ × List ℕ)
+read_in_quotes quote Plain [] = None
+read_in_quotes quote Plain (byte ∷ text) =
+    if byte == quote then read_in_quotes quote Quote text else
+    if byte == 92 then read_in_quotes quote Escape text else
+    onto (byte ∷ []) (read_in_quotes quote Plain text)
+read_in_quotes quote Escape [] = None
+read_in_quotes quote Escape (letter ∷ text) = onto (escaped letter) (read_in_quotes quote Plain text)
+read_in_quotes quote Quote [] = Some ([], [])
+read_in_quotes quote Quote (byte ∷ text) =
+    if byte == quote then onto (quote ∷ []) (read_in_quotes quote Plain text) else Some ([], byte ∷ text)

@@ -1,6 +1,6 @@
 -- The spelling of an identifier: gtrid [, bqual [, formatID]], blanks before each token.
 --     XidAt text xid rest    the text begins with the identifier, and `rest` stands behind its last token
---     xid_at text            the identifier that a text begins with and what stands behind it, or its fault and where it stands
+--     xid_ahead text         the identifier that a text begins with and what stands behind it, or its fault and where it stands
 --     xid_from text at       the same at a place, with places
 --     part_text, xid_text    the canonical text of a gtrid or bqual, and of an identifier
 use Rattle.std.specs.Prelude.{◌≡◌, ℕ, ◌-◌, ◌≤◌, ◌<◌, ◌^◌, ◌==◌, if◌then◌else◌, List, [], ◌∷◌, ◌++◌, length, drop, codes, decimal, Option, Some, None, Result}
@@ -8,8 +8,8 @@ use Rattle.std.specs.Prelude.{Ok, Err}
 use Rattle.hex.specs.Hex.{encode_lower, IsBytes}
 use Rattle.xa_xid.specs.Limits.{text_bytes}
 use Rattle.xa_xid.specs.Bytes.{unblank, StartsNo}
-use Rattle.xa_xid.specs.Literal.{TextAt, literal_at}
-use Rattle.xa_xid.specs.Number.{NumberAt, number_at}
+use Rattle.xa_xid.specs.Literal.{TextAt, literal_ahead}
+use Rattle.xa_xid.specs.Number.{NumberAt, number_ahead}
 use Rattle.xa_xid.specs.Xid.{Text}
 use Rattle.xa_xid.specs.declared.xid.Xid.{Xid}
 use Rattle.xa_xid.specs.declared.literal_fault.LiteralFault.{LiteralFault}
@@ -54,7 +54,7 @@ comma_next (byte ∷ text) = if byte == 44 then Some text else None
 
 -- a formatID behind the second comma
 abbrev pub format_id_next : Text → Text → List ℕ → Parse
-format_id_next gtrid bqual text = elim (number_at text) [
+format_id_next gtrid bqual text = elim (number_ahead text) [
   | Ok found ↦ Ok (xid_of gtrid bqual found.0, found.1)
   | Err fault ↦ Err (fault, text)
 ]
@@ -66,7 +66,7 @@ after_bqual gtrid bqual rest (Some text) = format_id_next gtrid bqual (unblank t
 
 -- a bqual behind the first comma
 abbrev pub bqual_next : Text → List ℕ → Parse
-bqual_next gtrid text = elim (literal_at text) [
+bqual_next gtrid text = elim (literal_ahead text) [
   | Ok found ↦ after_bqual gtrid found.0 found.1 (comma_next (unblank found.1))
   | Err fault ↦ Err (fault, text)
 ]
@@ -78,14 +78,14 @@ after_gtrid gtrid rest (Some text) = bqual_next gtrid (unblank text)
 
 -- the gtrid, and what follows
 abbrev pub gtrid_next : List ℕ → Parse
-gtrid_next text = elim (literal_at text) [
+gtrid_next text = elim (literal_ahead text) [
   | Ok found ↦ after_gtrid found.0 found.1 (comma_next (unblank found.1))
   | Err fault ↦ Err (fault, text)
 ]
 
 -- the identifier that a text begins with, blanks before it skipped
-unfoldable pub xid_at : List ℕ → Parse
-xid_at text = gtrid_next (unblank text)
+unfoldable pub xid_ahead : List ℕ → Parse
+xid_ahead text = gtrid_next (unblank text)
 
 -- rests of the text as places in it
 abbrev pub places : List ℕ → Parse → Result (Xid × ℕ) (LiteralFault × ℕ)
@@ -94,7 +94,7 @@ places text (Err (fault, rest)) = Err (fault, length text - length rest)
 
 -- the identifier at a place, and the place behind its last token; or the fault and the place of the faulty token
 abbrev pub xid_from : List ℕ → ℕ → Result (Xid × ℕ) (LiteralFault × ℕ)
-xid_from text at = places text (xid_at (drop at text))
+xid_from text at = places text (xid_ahead (drop at text))
 
 -- a gtrid or bqual: `X''` where it is empty, else `0x` and two small digits for each byte (own rule)
 abbrev pub part_text : List ℕ → List ℕ

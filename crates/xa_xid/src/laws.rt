@@ -7,10 +7,10 @@ ghost use Rattle.xa_xid.specs.Bytes.{belongs, StartsNo};
 ghost use Rattle.xa_xid.specs.Faults.{FaultyLiteral, FaultyNumber, FaultyXid};
 ghost use Rattle.xa_xid.specs.declared.literal_fault.LiteralFault.{LiteralFault};
 ghost use Rattle.xa_xid.specs.Limits.{text_bytes};
-ghost use Rattle.xa_xid.specs.Literal.{LiteralAt, TextAt, kept, literal_at, sized};
-ghost use Rattle.xa_xid.specs.Number.{NumberAt, number_at};
+ghost use Rattle.xa_xid.specs.Literal.{LiteralAt, TextAt, kept, literal_ahead, sized};
+ghost use Rattle.xa_xid.specs.Number.{NumberAt, number_ahead};
 ghost use Rattle.xa_xid.specs.declared.xid.Xid.{Xid};
-ghost use Rattle.xa_xid.specs.XidText.{XidAt, xid_at, xid_text, IsWritable};
+ghost use Rattle.xa_xid.specs.XidText.{XidAt, xid_ahead, xid_text, IsWritable};
 
 use crate::{ByteClass, Key, Xid};
 use std::cmp::Ordering;
@@ -49,9 +49,9 @@ pub fn order_of_keys(left_key: &Key, right_key: &Key) -> Ordering
 ///
 /// Takes no memory. Doesn't wait.
 pub fn literals_are_read_as_spelled()
-    ensures sound { (text : List ℕ) (found : Text) (rest : List ℕ) → literal_at text ≡ Ok (found, rest)
+    ensures sound { (text : List ℕ) (found : Text) (rest : List ℕ) → literal_ahead text ≡ Ok (found, rest)
         → LiteralAt text found.items rest × (length found.items ≤ text_bytes) }
-    ensures complete { (text bytes rest : List ℕ) → LiteralAt text bytes rest → literal_at text ≡ sized (kept bytes) rest }
+    ensures complete { (text bytes rest : List ℕ) → LiteralAt text bytes rest → literal_ahead text ≡ sized (kept bytes) rest }
     ensures only_one { (text : List ℕ) (found other : Text) (rest behind : List ℕ) → TextAt text found rest → TextAt text other behind
         → (found ≡ other) × (rest ≡ behind) }
 {}
@@ -60,8 +60,8 @@ pub fn literals_are_read_as_spelled()
 ///
 /// Takes no memory. Doesn't wait.
 pub fn numbers_are_read_as_spelled()
-    ensures sound { (text : List ℕ) (value : ℕ) (rest : List ℕ) → number_at text ≡ Ok (value, rest) → NumberAt text value rest }
-    ensures complete { (text : List ℕ) (value : ℕ) (rest : List ℕ) → NumberAt text value rest → number_at text ≡ Ok (value, rest) }
+    ensures sound { (text : List ℕ) (value : ℕ) (rest : List ℕ) → number_ahead text ≡ Ok (value, rest) → NumberAt text value rest }
+    ensures complete { (text : List ℕ) (value : ℕ) (rest : List ℕ) → NumberAt text value rest → number_ahead text ≡ Ok (value, rest) }
     ensures only_one { (text : List ℕ) (value other : ℕ) (rest behind : List ℕ) → NumberAt text value rest → NumberAt text other behind
         → (value ≡ other) × (rest ≡ behind) }
 {}
@@ -70,8 +70,8 @@ pub fn numbers_are_read_as_spelled()
 ///
 /// Takes no memory. Doesn't wait.
 pub fn xids_are_read_as_spelled()
-    ensures sound { (text : List ℕ) (xid : Xid) (rest : List ℕ) → xid_at text ≡ Ok (xid, rest) → XidAt text xid rest }
-    ensures complete { (text : List ℕ) (xid : Xid) (rest : List ℕ) → XidAt text xid rest → xid_at text ≡ Ok (xid, rest) }
+    ensures sound { (text : List ℕ) (xid : Xid) (rest : List ℕ) → xid_ahead text ≡ Ok (xid, rest) → XidAt text xid rest }
+    ensures complete { (text : List ℕ) (xid : Xid) (rest : List ℕ) → XidAt text xid rest → xid_ahead text ≡ Ok (xid, rest) }
     ensures only_one { (text : List ℕ) (xid other : Xid) (rest behind : List ℕ) → XidAt text xid rest → XidAt text other behind
         → (xid ≡ other) × (rest ≡ behind) }
 {}
@@ -81,16 +81,16 @@ pub fn xids_are_read_as_spelled()
 ///
 /// Takes no memory. Doesn't wait.
 pub fn faults_are_the_table()
-    ensures literal { (text : List ℕ) (fault : LiteralFault) → (literal_at text ≡ Err fault) ↔ FaultyLiteral text fault }
-    ensures number { (text : List ℕ) (fault : LiteralFault) → (number_at text ≡ Err fault) ↔ FaultyNumber text fault }
-    ensures xid { (text : List ℕ) (fault : LiteralFault) (rest : List ℕ) → (xid_at text ≡ Err (fault, rest)) ↔ FaultyXid text fault rest }
+    ensures literal { (text : List ℕ) (fault : LiteralFault) → (literal_ahead text ≡ Err fault) ↔ FaultyLiteral text fault }
+    ensures number { (text : List ℕ) (fault : LiteralFault) → (number_ahead text ≡ Err fault) ↔ FaultyNumber text fault }
+    ensures xid { (text : List ℕ) (fault : LiteralFault) (rest : List ℕ) → (xid_ahead text ≡ Err (fault, rest)) ↔ FaultyXid text fault rest }
 {}
 
 /// The canonical text of an identifier is read as that identifier, whatever stands behind it but a word byte.
 ///
 /// Takes no memory. Doesn't wait.
 pub fn written_xid_is_read_back(xid: &Xid)
-    ensures { (rest : List ℕ) → StartsNo (belongs ByteClass.Word) rest → xid_at (xid_text xid.now ++ rest) ≡ Ok (xid.now, rest) }
+    ensures { (rest : List ℕ) → StartsNo (belongs ByteClass.Word) rest → xid_ahead (xid_text xid.now ++ rest) ≡ Ok (xid.now, rest) }
 {
     is_writable(xid);
 }

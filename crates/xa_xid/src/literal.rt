@@ -4,7 +4,7 @@ ghost use Rattle.xa_xid.specs.Bytes.{belongs, front, behind, run, after_run};
 ghost use Rattle.xa_xid.specs.Xid.{Text};
 ghost use Rattle.xa_xid.specs.Faults.{FaultyLiteral};
 ghost use Rattle.xa_xid.specs.Limits.{text_digits};
-ghost use Rattle.xa_xid.specs.Literal.{TextAt, Between, decoded, evened, hex_digits_of, hex_in_quotes_of, hex_run_of, literal_at, literal_from, opens_text, opens_hex};
+ghost use Rattle.xa_xid.specs.Literal.{TextAt, Between, decoded, evened, hex_digits_of, hex_in_quotes_of, hex_run_of, literal_ahead, literal_from, opens_text, opens_hex};
 
 use crate::byte_class::text_from;
 use crate::quoted::text_literal;
@@ -32,11 +32,11 @@ pub fn read_literal(text: &[u8], at: usize) -> Result<(Bytes, usize), LiteralFau
 ///
 /// Errors: those of `read_literal`. Takes no memory. Doesn't wait.
 /// Source: as for `read_literal`.
-#[tactic(auto, unfolding(crate::specs::Literal::literal_at))]
+#[tactic(auto, unfolding(crate::specs::Literal::literal_ahead))]
 pub fn literal_of(text: &[u8]) -> Result<(Bytes, &[u8]), LiteralFault>
     ensures value { MatchResult result
-        (λ found. literal_at text.now ≡ Ok (found.0, found.1.now))
-        (λ fault. literal_at text.now ≡ Err fault) }
+        (λ found. literal_ahead text.now ≡ Ok (found.0, found.1.now))
+        (λ fault. literal_ahead text.now ≡ Err fault) }
     ensures within { IfOk result (λ found. length found.1.now ≤ length text.now) }
 {
     if begins_text(text) {

@@ -4,7 +4,7 @@ ghost use Rattle.std.specs.Char.{digit_value};
 ghost use Rattle.std.specs.Str.Parse.{digits_value};
 ghost use Rattle.xa_xid.specs.Faults.{FaultyNumber};
 ghost use Rattle.xa_xid.specs.Literal.{Between};
-ghost use Rattle.xa_xid.specs.Number.{NumberAt, number_at, number_from, number_in, fitting};
+ghost use Rattle.xa_xid.specs.Number.{NumberAt, number_ahead, number_from, number_in, fitting};
 
 use crate::byte_class::text_from;
 use crate::literal::hex_digits;
@@ -30,11 +30,11 @@ pub fn read_number(text: &[u8], at: usize) -> Result<(u64, usize), LiteralFault>
 ///
 /// Errors: those of `read_number`. Takes no memory. Doesn't wait.
 /// Own rule: docs/STATEMENTS.md, 'Literals'.
-#[tactic(auto, unfolding(crate::specs::Number::number_at))]
+#[tactic(auto, unfolding(crate::specs::Number::number_ahead))]
 pub fn number_of(text: &[u8]) -> Result<(u64, &[u8]), LiteralFault>
     ensures value { MatchResult result
-        (λ found. number_at text.now ≡ Ok (found.0, found.1.now))
-        (λ fault. number_at text.now ≡ Err fault) }
+        (λ found. number_ahead text.now ≡ Ok (found.0, found.1.now))
+        (λ fault. number_ahead text.now ≡ Err fault) }
     ensures within { IfOk result (λ found. length found.1.now ≤ length text.now) }
 {
     let (run, rest) = ByteClass::Word.split(text);

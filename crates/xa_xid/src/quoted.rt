@@ -1,7 +1,7 @@
 //! Text literals, read byte by byte from the opening quote on.
 ghost use Rattle.std.specs.Prelude.{◌≡◌, ◌++◌, ◌∷◌, ◌≤◌, List, [], length, ℕ, MatchResult, IfOk};
 ghost use Rattle.xa_xid.specs.Literal.{text_literal_of, kept, sized};
-ghost use Rattle.xa_xid.specs.Quoted.{quoted, escaped};
+ghost use Rattle.xa_xid.specs.Quoted.{read_in_quotes, escaped};
 
 use crate::byte_class::text_from;
 use crate::{Bytes, LiteralFault};
@@ -88,8 +88,8 @@ impl Kept {
 /// Goes on past 64 bytes, since a quote that is missing is told before a length. Takes no memory.
 pub fn text_literal(quote: u8, body: &[u8]) -> Result<(Bytes, &[u8]), LiteralFault>
     ensures value { MatchResult result
-        (λ found. text_literal_of (quoted quote Mode.Plain body.now) ≡ Ok (found.0, found.1.now))
-        (λ fault. text_literal_of (quoted quote Mode.Plain body.now) ≡ Err fault) }
+        (λ found. text_literal_of (read_in_quotes quote Mode.Plain body.now) ≡ Ok (found.0, found.1.now))
+        (λ fault. text_literal_of (read_in_quotes quote Mode.Plain body.now) ≡ Err fault) }
     ensures within { IfOk result (λ found. length found.1.now ≤ length body.now) }
 {
     let mut kept = Kept::new();

@@ -6,7 +6,7 @@ ghost use Rattle.xa_xid.specs.Faults.{FaultyXid};
 ghost use Rattle.xa_xid.specs.Limits.{text_bytes};
 ghost use Rattle.xa_xid.specs.Literal.{Between};
 ghost use Rattle.xa_xid.specs.declared.xid.Xid.{Xid};
-ghost use Rattle.xa_xid.specs.XidText.{XidAt, xid_at, xid_from, gtrid_next, bqual_next, format_id_next, comma_next, part_text, xid_text};
+ghost use Rattle.xa_xid.specs.XidText.{XidAt, xid_ahead, xid_from, gtrid_next, bqual_next, format_id_next, comma_next, part_text, xid_text};
 
 use crate::byte_class::text_from;
 use crate::literal::literal_of;
@@ -26,7 +26,7 @@ type Parse<'a> = Result<(Xid, &'a [u8]), (LiteralFault, &'a [u8])>;
 /// where that token begins, which is the text's length where none is left. Takes no memory. Doesn't wait.
 /// Source: MySQL 8.0 Reference Manual, 'XA Transaction SQL Statements'; the places are our own:
 /// docs/STATEMENTS.md, 'Identifiers'.
-#[tactic(auto, unfolding(crate::specs::XidText::xid_at))]
+#[tactic(auto, unfolding(crate::specs::XidText::xid_ahead))]
 pub fn read_xid(text: &[u8], at: usize) -> Result<(Xid, usize), (LiteralFault, usize)>
     requires { at ≤ length text.now }
     ensures value { result ≡ xid_from text.now at }

@@ -16,7 +16,7 @@ ghost use Rattle.xa_words.specs.Words.{words_of};
 ghost use Rattle.decision_log.specs.TurnRule.{row_at};
 ghost use Rattle.decision_log.specs.Draft.{drafted};
 ghost use Rattle.decision_log.specs.Observed.{HistoryIs};
-ghost use Rattle.decision_log.specs.TurnPlays.{looked, tried, published, released};
+ghost use Rattle.decision_log.specs.TurnPlays.{with_look, tried, published, released};
 ghost use Rattle.decision_log.specs.Seats.{hand};
 ghost use Rattle.decision_log.specs.TurnSeat.{IsSeat};
 ghost use Rattle.decision_log.specs.declared.view.Turn.TheVariants.{Without, Won, Fresh};
@@ -33,7 +33,7 @@ impl TurnLog {
     pub(super) fn load_count(&self, seat: &mut Seat<Entry, View>) -> u64
         requires { IsSeat self.now seat.old }
         ensures seat { IsSeat self.now seat.new }
-        ensures seen { (seen : List Entry) × (hand seat.new ≡ looked (hand seat.old) seen) × (result ≡ length seen) × HistoryIs (hand seat.old) seen }
+        ensures seen { (seen : List Entry) × (hand seat.new ≡ with_look (hand seat.old) seen) × (result ≡ length seen) × HistoryIs (hand seat.old) seen }
     {
         // Nothing was loaded before that this load rests on.
         self.table.load::<SeeAll>(seat, COUNT)

@@ -1,7 +1,7 @@
 use Rattle.std.proofs.Common.{◌≡◌, ◌∙◌, sym, ap, length, ok_or}
 use Rattle.xa_xid.specs.Bytes.{unblank}
 use Rattle.xa_statement.specs.Token.{token_at}
-use Rattle.xa_statement.specs.Machine.{step}
+use Rattle.xa_statement.specs.Machine.{after_token}
 use Rattle.xa_statement.proofs.Run.{read_start, read_step, read_stop, read_finish, rest-short, some_left, none_left}
 use Rattle.xa_statement.proofs.reader.read_tokens.Goals as goal
 
@@ -12,7 +12,7 @@ pub returns-in-None : goal.returns-in-None
 returns-in-None c =
     let rest = c.loop-rest.rest.now in
     read_stop c.args.text.now rest c.loop-rest.state (some_left rest c.loop-rest-test.ensures)
-    (ap (λ t. step c.loop-rest.state t) (sym (ap (λ cut. cut.0) c.token_of-token.ensures)) ∙ sym c.step.ensures ∙ c.in-None.is)
+    (ap (λ t. after_token c.loop-rest.state t) (sym (ap (λ cut. cut.0) c.token_of-token.ensures)) ∙ sym c.step.ensures ∙ c.in-None.is)
     c.loop-rest.invariant
 
 pub loop-rest-smaller : goal.loop-rest-smaller
@@ -26,7 +26,7 @@ pub loop-rest-preserved : goal.loop-rest-preserved
 loop-rest-preserved c =
     let rest = c.loop-rest.rest.now in
     read_step c.args.text.now rest c.skip_blanks-rest-in-loop-rest.result.now c.loop-rest.state c.in-Some.next (some_left rest c.loop-rest-test.ensures)
-    (ap (λ t. step c.loop-rest.state t) (sym (ap (λ cut. cut.0) c.token_of-token.ensures)) ∙ sym c.step.ensures ∙ c.in-Some.is)
+    (ap (λ t. after_token c.loop-rest.state t) (sym (ap (λ cut. cut.0) c.token_of-token.ensures)) ∙ sym c.step.ensures ∙ c.in-Some.is)
     (c.skip_blanks-rest-in-loop-rest.ensures.value ∙ ap (λ cut. unblank cut.1) c.token_of-token.ensures)
     c.loop-rest.invariant
 

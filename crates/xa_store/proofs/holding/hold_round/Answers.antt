@@ -2,9 +2,9 @@ use Rattle.std.proofs.Common.{◌≡◌, ◌+◌, length, map, ap, sym, subst, �
 use Rattle.std.specs.List.{AllZip}
 use Rattle.std.proofs.lemmas.List.Elements.{All-from_recursion, recursion_from_All}
 use Rattle.xa_store.specs.Passes.{identity_of, log_of, known_of}
-use Rattle.xa_store.specs.Gathered.{IsTakenIn, Keeps}
+use Rattle.xa_store.specs.Gathered.{IsTakenIn, AddsNothing}
 use Rattle.decision_log.specs.Known.{AllOf}
-use Rattle.xa_store.specs.Rounds.{Gains, GoesOn, AllGain, StopsInRound, BlamesRounds}
+use Rattle.xa_store.specs.Rounds.{Gains, AreLegalAtLast, AllGain, StopsInRound, BlamesRounds}
 use Rattle.xa_store.specs.Spread.{AllThree}
 use Rattle.xa_store.proofs.Spreading.{zip_and_all}
 use Rattle.xa_store.proofs.RoundLists.{three_become, three_lengths, three_firsts, zip_lengths, zip_all, three_ended, three_get, get_mapped}
@@ -50,7 +50,7 @@ returns-clause-gains g c =
     let ended = c.in-Ok-wind_up_round.ended in
     let history = ended.history.items in
     let wound = c.in-Ok-wind_up_round.ensures in
-    let met : AllZip (λ session pass. ((log_of pass ≡ log_of session.pass) × Keeps (known_of session.pass) (known_of pass))
+    let met : AllZip (λ session pass. ((log_of pass ≡ log_of session.pass) × AddsNothing (known_of session.pass) (known_of pass))
     × IsTakenIn history (known_of pass)) returned.sessions.items ended.passes.items =
     zip_and_all _ (λ pass. IsTakenIn history (known_of pass)) returned.sessions.items ended.passes.items wound.passes
     (recursion_from_All (λ pass. IsTakenIn history (known_of pass)) ended.passes.items wound.whole) in
@@ -58,10 +58,10 @@ returns-clause-gains g c =
     three_ended _ _ _ (λ pass old new. Gains base before history (known_of pass) old new)
     (λ pass old resumed session left new is went wound.
     gains_in base before history (known_of pass) (known_of session.pass) (known_of left) old new session.pass.state.part
-    (subst (λ o. GoesOn base before (known_of pass) (known_of session.pass) o new) is.2
-    (subst (λ p. GoesOn base before (known_of p) (known_of session.pass) resumed.progress new) is.0
-    (subst (λ n. GoesOn base n (known_of resumed.session.pass) (known_of session.pass) resumed.progress new) is.3
-    (subst (λ b. GoesOn b resumed.before (known_of resumed.session.pass) (known_of session.pass) resumed.progress new) is.1 went.goes_on))))
+    (subst (λ o. AreLegalAtLast base before (known_of pass) (known_of session.pass) o new) is.2
+    (subst (λ p. AreLegalAtLast base before (known_of p) (known_of session.pass) resumed.progress new) is.0
+    (subst (λ n. AreLegalAtLast base n (known_of resumed.session.pass) (known_of session.pass) resumed.progress new) is.3
+    (subst (λ b. AreLegalAtLast b resumed.before (known_of resumed.session.pass) (known_of session.pass) resumed.progress new) is.1 went.goes_on))))
     wound.0.1 wound.1)
     passes progress c.in-Ok.resumed.items returned.sessions.items ended.passes.items returned.progress.items c.in-Ok.ensures c.in-Ok-run_round.ensures.ok met in
     subst (λ all. AllGain base before history 1 progress all.items) (sym wound.progress)

@@ -2,7 +2,7 @@ use Rattle.std.proofs.Common.{◌≡◌, length, map, ap, sym, subst, ◌∙◌,
 use Rattle.std.specs.List.{AllZip}
 use Rattle.std.proofs.lemmas.List.Elements.{All-from_recursion, recursion_from_All}
 use Rattle.xa_store.specs.Passes.{identity_of, log_of, known_of}
-use Rattle.xa_store.specs.Gathered.{IsTakenIn, Keeps}
+use Rattle.xa_store.specs.Gathered.{IsTakenIn, AddsNothing}
 use Rattle.xa_store.specs.Legal.{IsLegal, IsReturned, LetsIn, Stops, Blames}
 use Rattle.xa_store.specs.Spread.{HasAnswered, AllThree}
 use Rattle.xa_store.specs.declared.run.Run.{Run}
@@ -58,7 +58,7 @@ returns-clause-legal g c =
           (subst (λ b. HasAnswered may b (known_of started.session.pass) (known_of session.pass) started.lines.items answered) is.0 was.answered)),
     ))
     runs c.in-Ok.started.items sessions answers c.in-Ok.ensures c.in-Ok-run_all.ensures.ok in
-    let met : AllZip (λ session pass. ((log_of pass ≡ log_of session.pass) × Keeps (known_of session.pass) (known_of pass))
+    let met : AllZip (λ session pass. ((log_of pass ≡ log_of session.pass) × AddsNothing (known_of session.pass) (known_of pass))
     × IsTakenIn outcome.history.items (known_of pass)) sessions outcome.passes.items =
     zip_and_all _ (λ pass. IsTakenIn outcome.history.items (known_of pass)) sessions outcome.passes.items told.passes
     (recursion_from_All (λ pass. IsTakenIn outcome.history.items (known_of pass)) outcome.passes.items told.whole) in

@@ -2,9 +2,9 @@ use Rattle.std.proofs.Common.{◌≡◌, ℕ, Bool, List, ap, sym, ◌∙◌, su
 use Rattle.std.proofs.lemmas.Bool.{eqb-true}
 use Rattle.xa_xid.specs.Xid.{Text}
 use Rattle.xa_coordinator.specs.Branch.{branch_xid}
-use Rattle.xa_coordinator.specs.OpenBranches.{is_working}
+use Rattle.xa_coordinator.specs.OpenBranches.{has_working_branch}
 use Rattle.xa_coordinator.specs.Stores.{AtStore}
-use Rattle.xa_coordinator.specs.Outcomes.{branch_of, finish_statement, ends_first, ends_in, commits, ClosesNext, is_listed}
+use Rattle.xa_coordinator.specs.Outcomes.{branch_of, finish_statement, ends_first, ends_in, commits, ClosesNext, lists_store}
 use Rattle.xa_coordinator.specs.Told.{IsUnfinished}
 use Rattle.xa_coordinator.proofs.Opening.{working_kept, keeps_next, keeps_farther}
 use Rattle.xa_coordinator.proofs.Walk.{ended_at, reached_all, reached_weaker}
@@ -24,7 +24,7 @@ returns-in-Err-clause-ends g c =
     let closing = c.args.closing in
     let view = g.S.Speak.view in
     let names : c.loop-store.self.name.items ≡ transaction.name.items = ap (λ (name : Text). name.items) c.loop-store.invariant.name ∙ sym c.requires.name in
-    let same : is_working c.loop-store.self.branches store transaction.number ≡ is_working branches store transaction.number =
+    let same : has_working_branch c.loop-store.self.branches store transaction.number ≡ has_working_branch branches store transaction.number =
     working_kept branches c.loop-store.self.branches store transaction.number (c.loop-store.invariant.keeps.behind store (omega arith)) in (
       sym (c.if-not-has.ensures),
       ended_at view _ store (IsUnfinished (ends_in branches transaction closing store) (finish_statement closing (branch_of transaction store))
@@ -32,13 +32,13 @@ returns-in-Err-clause-ends g c =
           c.args.self.now.stores.items c.loop-store.self.stores.items c.finish_next.new.self.stores.items
           (reached_weaker view (SettledBy branches transaction closing c.loop-store.missing.items) _ store c.args.self.now.stores.items
           c.loop-store.self.stores.items
-          (λ other less a b settled. (is_listed c.loop-store.missing.items other, settled)) c.loop-store.invariant.reached)
+          (λ other less a b settled. (lists_store c.loop-store.missing.items other, settled)) c.loop-store.invariant.reached)
           c.in-Err.ensures.frame
           (subst (λ (working : Bool).
           AtStore view store (IsUnfinished (ends_first closing working) (finish_statement closing (branch_of transaction store))
           (branch_of transaction store) c.in-Err.cause) c.loop-store.self.stores.items c.finish_next.new.self.stores.items) same
           (subst (λ (name : List ℕ).
-          AtStore view store (IsUnfinished (ends_first closing (is_working c.loop-store.self.branches store transaction.number))
+          AtStore view store (IsUnfinished (ends_first closing (has_working_branch c.loop-store.self.branches store transaction.number))
           (finish_statement closing (branch_xid name transaction.number store)) (branch_xid name transaction.number store) c.in-Err.cause)
           c.loop-store.self.stores.items c.finish_next.new.self.stores.items) names c.in-Err.ensures.stopped)),
     )
@@ -51,7 +51,7 @@ loop-store-preserved g c =
     let closing = c.args.closing in
     let view = g.S.Speak.view in
     let names : c.loop-store.self.name.items ≡ transaction.name.items = ap (λ (name : Text). name.items) c.loop-store.invariant.name ∙ sym c.requires.name in
-    let same : is_working c.loop-store.self.branches store transaction.number ≡ is_working branches store transaction.number =
+    let same : has_working_branch c.loop-store.self.branches store transaction.number ≡ has_working_branch branches store transaction.number =
     working_kept branches c.loop-store.self.branches store transaction.number (c.loop-store.invariant.keeps.behind store (omega arith)) in
     let next = settled_next view branches transaction closing c.loop-store.missing.items store c.finish_next.new.missing.items
     c.args.self.now.stores.items c.loop-store.self.stores.items c.finish_next.new.self.stores.items
@@ -61,7 +61,7 @@ loop-store-preserved g c =
     (branch_of transaction store) store c.loop-store.missing.items c.finish_next.new.missing.items c.loop-store.self.stores.items
     c.finish_next.new.self.stores.items) same
     (subst (λ (name : List ℕ).
-    ClosesNext view (ends_first closing (is_working c.loop-store.self.branches store transaction.number))
+    ClosesNext view (ends_first closing (has_working_branch c.loop-store.self.branches store transaction.number))
     (finish_statement closing (branch_xid name transaction.number store)) (branch_xid name transaction.number store) store
     c.loop-store.missing.items c.finish_next.new.missing.items c.loop-store.self.stores.items c.finish_next.new.self.stores.items)
     names c.in_default.ensures.closed)) in

@@ -1,6 +1,6 @@
 use Rattle.std.proofs.Common.{inl, inr, refl, subst, Ok}
 use Rattle.xa_coordinator.specs.Branch.{branch_xid}
-use Rattle.xa_coordinator.specs.OpenBranches.{is_working}
+use Rattle.xa_coordinator.specs.OpenBranches.{has_working_branch}
 use Rattle.xa_coordinator.specs.Outcomes.{finish_statement, ends_first, ClosesAs}
 use Rattle.xa_coordinator.specs.Stores.{AtStore}
 use Rattle.xa_coordinator.proofs.coordinator.Coordinator.finish_next.Goals as goal
@@ -10,7 +10,7 @@ returns-in-Ok-Closed-clause-closed g c =
     inl (
       refl,
       subst (λ found. AtStore g.S.Speak.view c.args.store
-          (ClosesAs (ends_first c.args.closing (is_working c.args.self.now.branches c.args.store c.args.number))
+          (ClosesAs (ends_first c.args.closing (has_working_branch c.args.self.now.branches c.args.store c.args.number))
           (finish_statement c.args.closing (branch_xid c.args.self.now.name.items c.args.number c.args.store))
           (branch_xid c.args.self.now.name.items c.args.number c.args.store) (Ok found)) c.args.self.now.stores.items c.finish_open.new.self.stores.items)
           c.in-Ok-Closed.field-0-is c.in-Ok-Closed.ensures.closes,
@@ -21,7 +21,7 @@ returns-in-Ok-Missing-clause-closed g c =
     inr (
       c.push.ensures.items,
       subst (λ found. AtStore g.S.Speak.view c.args.store
-          (ClosesAs (ends_first c.args.closing (is_working c.args.self.now.branches c.args.store c.args.number))
+          (ClosesAs (ends_first c.args.closing (has_working_branch c.args.self.now.branches c.args.store c.args.number))
           (finish_statement c.args.closing (branch_xid c.args.self.now.name.items c.args.number c.args.store))
           (branch_xid c.args.self.now.name.items c.args.number c.args.store) (Ok found)) c.args.self.now.stores.items c.finish_open.new.self.stores.items)
           c.in-Ok-Missing.field-0-is c.in-Ok-Missing.ensures.closes,

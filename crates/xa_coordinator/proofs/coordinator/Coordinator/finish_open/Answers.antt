@@ -4,7 +4,7 @@ use Rattle.xa_xid.specs.declared.statement.Statement.{Statement}
 use Rattle.xa_coordinator.specs.declared.closing.Closing.{Closing}
 use Rattle.xa_coordinator.specs.declared.closing.Closing.TheVariants.{RollBack}
 use Rattle.xa_coordinator.specs.Branch.{branch_xid}
-use Rattle.xa_coordinator.specs.OpenBranches.{is_working}
+use Rattle.xa_coordinator.specs.OpenBranches.{has_working_branch}
 use Rattle.xa_coordinator.specs.Stores.{AtStore}
 use Rattle.xa_coordinator.specs.Outcomes.{finish_statement, ends_first, SaysAs, ClosesAs}
 use Rattle.xa_coordinator.proofs.Walk.{at_weaker}
@@ -15,7 +15,7 @@ pub returns-then-ends-clause-closes : goal.returns-then-ends-clause-closes
 returns-then-ends-clause-closes g c =
     let me = c.args.self.now in
     let xid : Xid = branch_xid me.name.items c.args.number c.args.store in
-    let first : ends_first c.args.closing (is_working me.branches c.args.store c.args.number) ≡ true =
+    let first : ends_first c.args.closing (has_working_branch me.branches c.args.store c.args.number) ≡ true =
     ap (ends_first c.args.closing) (sym c.is_working.ensures) ∙ sym c.ends_first-ends.ensures ∙ c.if-ends.true in
     let rolls : c.args.closing ≡ RollBack = ends_roll_back c.args.closing _ first in
     subst (λ (b : Bool). AtStore g.S.Speak.view c.args.store
@@ -28,7 +28,7 @@ pub returns-clause-closes : goal.returns-clause-closes
 returns-clause-closes g c =
     let me = c.args.self.now in
     let xid : Xid = branch_xid me.name.items c.args.number c.args.store in
-    let first : ends_first c.args.closing (is_working me.branches c.args.store c.args.number) ≡ false =
+    let first : ends_first c.args.closing (has_working_branch me.branches c.args.store c.args.number) ≡ false =
     ap (ends_first c.args.closing) (sym c.is_working.ensures) ∙ sym c.ends_first-ends.ensures ∙ c.if-ends.false in
     subst (λ (b : Bool). AtStore g.S.Speak.view c.args.store
     (ClosesAs b (finish_statement c.args.closing xid) xid c.finish_branch.result) me.stores.items c.finish_branch.new.self.stores.items) (sym first)

@@ -7,7 +7,7 @@ use Rattle.xa_xid.specs.Xid.{Text}
 use Rattle.xa_xid.specs.declared.statement.Statement.TheVariants.{Recover, Disconnect}
 use Rattle.xa_coordinator.specs.declared.cause.Cause.TheVariants.{Session}
 use Rattle.xa_coordinator.specs.declared.open_branch.OpenBranch.{OpenBranch}
-use Rattle.xa_coordinator.specs.Recovery.{IsListed, IsFinished, IsBroken, Settled}
+use Rattle.xa_coordinator.specs.Recovery.{ListsPrepared, IsFinished, IsBroken, Settled}
 use Rattle.xa_coordinator.specs.Stores.{AtStore, ChangesAt}
 use Rattle.xa_coordinator.specs.Told.{IsUndone}
 use Rattle.xa_coordinator.proofs.Walk.{at_weaker, changes_then}
@@ -49,7 +49,7 @@ returns-in-Ok-clause-broken g c =
     let me = c.args.self.now in
     broken_behind g.S.Speak.view c.args.decisions.now me.name.items c.args.store c.settle_each.result me.stores.items c.prepared_in.new.self.stores.items
     c.settle_each.new.self.stores.items c.in-Ok.ensures.frame.count
-    (at_weaker g.S.Speak.view c.args.store (IsListed c.in-Ok.found.0 c.in-Ok.found.1) (Agrees c.args.decisions.now me.name.items c.args.store)
+    (at_weaker g.S.Speak.view c.args.store (ListsPrepared c.in-Ok.found.0 c.in-Ok.found.1) (Agrees c.args.decisions.now me.name.items c.args.store)
     (listed_agrees c.args.decisions.now me.name.items c.args.store c.in-Ok.found.0 c.in-Ok.found.1)
     me.stores.items c.prepared_in.new.self.stores.items c.in-Ok.ensures.listed)
     (subst (λ (name : Text). IfErr c.settle_each.result

@@ -10,7 +10,7 @@ use Rattle.xa_coordinator.specs.declared.cause.Cause.TheVariants.{Session}
 use Rattle.xa_coordinator.specs.declared.open_branch.OpenBranch.{OpenBranch}
 use Rattle.xa_coordinator.specs.Agreement.{Agrees}
 use Rattle.xa_coordinator.specs.Branch.{branch_xid}
-use Rattle.xa_coordinator.specs.Recovery.{IsListed, IsClear, IsBroken, IsStillPrepared, BreaksHere}
+use Rattle.xa_coordinator.specs.Recovery.{ListsPrepared, IsClear, IsBroken, IsStillPrepared, BreaksHere}
 use Rattle.xa_coordinator.specs.Stores.{AtStore, ChangesAt}
 use Rattle.xa_coordinator.specs.Told.{IsUndone}
 use Rattle.xa_coordinator.proofs.Walk.{at_weaker}
@@ -21,7 +21,7 @@ use Rattle.xa_coordinator.proofs.coordinator.Coordinator.look_again.Goals as goa
 pub returns-in-Ok-clause-clear : goal.returns-in-Ok-clause-clear
 returns-in-Ok-clause-clear g c =
     let me = c.args.self.now in
-    at_weaker g.S.Speak.view c.args.store (IsListed c.in-Ok.found.0 c.in-Ok.found.1) (IsClear me.name.items c.args.store c.in-Ok.found.1)
+    at_weaker g.S.Speak.view c.args.store (ListsPrepared c.in-Ok.found.0 c.in-Ok.found.1) (IsClear me.name.items c.args.store c.in-Ok.found.1)
     (λ a b is. record {
       xids = c.in-Ok.found.0;
       listed = is;
@@ -36,7 +36,7 @@ pub returns-in-Some-clause-fails : goal.returns-in-Some-clause-fails
 returns-in-Some-clause-fails g c = λ decisions.
     let me = c.args.self.now in (
       refl,
-      at_weaker g.S.Speak.view c.args.store (IsListed c.in-Ok.found.0 c.in-Ok.found.1) (IsStillPrepared decisions me.name.items c.args.store)
+      at_weaker g.S.Speak.view c.args.store (ListsPrepared c.in-Ok.found.0 c.in-Ok.found.1) (IsStillPrepared decisions me.name.items c.args.store)
           (λ a b is. record {
             before = listed_agrees decisions me.name.items c.args.store c.in-Ok.found.0 c.in-Ok.found.1 a b is;
             looked = is.looked;

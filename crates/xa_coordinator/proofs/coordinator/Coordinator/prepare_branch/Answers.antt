@@ -5,7 +5,7 @@ use Rattle.xa_xid.specs.declared.statement.Statement.TheVariants.{End, Prepare}
 use Rattle.xa_coordinator.specs.Branch.{branch_xid}
 use Rattle.xa_coordinator.specs.Outcomes.{PreparesAs}
 use Rattle.xa_coordinator.specs.Stores.{AtStore}
-use Rattle.xa_coordinator.specs.Told.{Says, IsDone}
+use Rattle.xa_coordinator.specs.Told.{IsToldAs, IsDone}
 use Rattle.xa_coordinator.proofs.Walk.{at_then}
 use Rattle.xa_coordinator.proofs.Closings.{prepared_behind}
 use Rattle.xa_coordinator.proofs.coordinator.Coordinator.prepare_branch.Goals as goal
@@ -13,10 +13,10 @@ use Rattle.xa_coordinator.proofs.coordinator.Coordinator.prepare_branch.Goals as
 pub returns-in-Ok-clause-prepares : goal.returns-in-Ok-clause-prepares
 returns-in-Ok-clause-prepares g c =
     let xid : Xid = branch_xid c.args.self.now.name.items c.args.number c.args.store in
-    at_then g.S.Speak.view c.args.store (IsDone (End xid)) (Says (Prepare xid) c.prepare_ended.result) (PreparesAs xid c.prepare_ended.result)
+    at_then g.S.Speak.view c.args.store (IsDone (End xid)) (IsToldAs (Prepare xid) c.prepare_ended.result) (PreparesAs xid c.prepare_ended.result)
     (prepared_behind xid c.prepare_ended.result)
     c.args.self.now.stores.items c.end_branch.new.self.stores.items c.prepare_ended.new.self.stores.items c.in-Ok.ensures.frame.count c.in-Ok.ensures.says
     (subst (λ (name : Text). AtStore g.S.Speak.view c.args.store
-    (Says (Prepare (branch_xid name.items c.args.number c.args.store)) c.prepare_ended.result) c.end_branch.new.self.stores.items
+    (IsToldAs (Prepare (branch_xid name.items c.args.number c.args.store)) c.prepare_ended.result) c.end_branch.new.self.stores.items
     c.prepare_ended.new.self.stores.items)
     c.in-Ok.ensures.name c.prepare_ended.ensures.says)

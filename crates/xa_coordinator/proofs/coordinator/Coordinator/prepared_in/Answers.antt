@@ -1,6 +1,6 @@
 use Rattle.std.proofs.Common.{false}
 use Rattle.xa_xid.specs.declared.statement.Statement.TheVariants.{Recover}
-use Rattle.xa_coordinator.specs.Recovery.{IsListed}
+use Rattle.xa_coordinator.specs.Recovery.{ListsPrepared}
 use Rattle.xa_coordinator.specs.Told.{IsUndone}
 use Rattle.xa_coordinator.specs.declared.cause.Cause.TheVariants.{Session}
 use Rattle.xa_coordinator.proofs.Keeping.{unmarked, at_place, changes_at}
@@ -23,7 +23,7 @@ returns-in-Ok-clause-frame g c = changes_at c.args.self.now.stores.items c.args.
 pub returns-in-Ok-clause-listed : goal.returns-in-Ok-clause-listed
 returns-in-Ok-clause-listed g c =
     at_place g.S.Speak.view c.args.self.now.name.items
-    (IsListed c.in-Ok.found.0 c.in-Ok.found.1) c.args.self.now.stores.items c.args.store c.index_mut.result.now c.list_prepared.new.session
+    (ListsPrepared c.in-Ok.found.0 c.in-Ok.found.1) c.args.self.now.stores.items c.args.store c.index_mut.result.now c.list_prepared.new.session
     c.index_mut.ensures.value
     c.in-Ok.ensures.listed
 

@@ -2,7 +2,7 @@ use Rattle.std.proofs.Common.{◌≡◌, ◌∙◌, ◌+◌, ◌∷◌, [], leng
 use Rattle.xa_coordinator.specs.declared.standing.Standing.TheVariants.{Undecided}
 use Rattle.xa_manager.specs.declared.stage.Stage.TheVariants.{Working}
 use Rattle.xa_manager.specs.declared.response.Response.TheVariants.{Begun}
-use Rattle.xa_manager.specs.Ledger.{IsOf}
+use Rattle.xa_manager.specs.Ledger.{IsTransactionOf}
 use Rattle.xa_manager.proofs.Stages.{kept_more, ready_more}
 use Rattle.xa_manager.proofs.Desks.{same_desk, kept_as, ready_as, working_kept, begun_on}
 use Rattle.xa_manager.proofs.manager.Manager.begin.Goals as goal
@@ -14,7 +14,7 @@ invariant_of-self-in-Ok g c =
     let number : c.number-number.result ≡ length was.ledger + 1 = c.number-number.ensures ∙ c.in-Ok.ensures.number ∙ ap (λ n. n + 1) (sym was.counted) in
     let on = begun_on was.ledger c.number-number.result begun c.add.new.self c.put.new.self number c.in_ok-add.ensures.ok c.put.ensures in
     let one = c.in-Ok.ensures.number ∙ ap (λ n. n + 1) (sym was.counted) in
-    let is : IsOf (vec_len was.coordinator.stores) (length was.ledger + 1) c.in-Ok.transaction =
+    let is : IsTransactionOf (vec_len was.coordinator.stores) (length was.ledger + 1) c.in-Ok.transaction =
     record { number = one; name = ap (λ name. name.items) c.in-Ok.ensures.name ∙ was.named; stores = c.in-Ok.ensures.stores } in
     record {
       named = was.named;

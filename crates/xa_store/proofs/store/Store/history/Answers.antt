@@ -3,7 +3,7 @@ use Rattle.std.specs.List.{All}
 use Rattle.std.proofs.lemmas.Result.{IfOk-weaker}
 use Rattle.std.proofs.lemmas.List.Elements.{All-push, AllZip-push}
 use Rattle.xa_store.specs.Passes.{log_of, known_of}
-use Rattle.xa_store.specs.Gathered.{IsTakenIn, Keeps, last_known}
+use Rattle.xa_store.specs.Gathered.{IsTakenIn, AddsNothing, last_known}
 use Rattle.xa_store.proofs.Gathering.{zip_weaker, meets_keeps, last_known_of}
 use Rattle.xa_store.proofs.store.Store.history.Goals as goal
 
@@ -12,11 +12,11 @@ returns-clause-keeps c =
     let told = c.meet_all.ensures in
     let copied = c.copy_seen-history.ensures in
     rw (c.in-Some.ensures.items, c.push_reserved.ensures.items)
-    (AllZip-push (λ old new. (new.base.now ≡ old.base.now) × (log_of new.pass ≡ log_of old.pass) × Keeps (known_of old.pass) (known_of new.pass))
+    (AllZip-push (λ old new. (new.base.now ≡ old.base.now) × (log_of new.pass ≡ log_of old.pass) × AddsNothing (known_of old.pass) (known_of new.pass))
     c.pop.new.self.items c.meet_all.new.others.items c.in-Some.last c.copy_seen-history.new.session
     (zip_weaker _ _ (λ old new is. (is.0, is.1, meets_keeps (known_of old.pass) (known_of new.pass) is.2)) c.pop.new.self.items c.meet_all.new.others.items
     told.others)
-    (copied.base ∙ told.base, copied.belongs ∙ told.belongs, subst (λ known. Keeps (known_of c.in-Some.last.pass) known) (sym copied.same) told.last))
+    (copied.base ∙ told.base, copied.belongs ∙ told.belongs, subst (λ known. AddsNothing (known_of c.in-Some.last.pass) known) (sym copied.same) told.last))
 
 pub returns-clause-last : goal.returns-clause-last
 returns-clause-last c =

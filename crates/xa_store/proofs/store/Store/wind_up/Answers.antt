@@ -3,16 +3,16 @@ use Rattle.std.specs.List.{All, AllZip}
 use Rattle.std.proofs.lemmas.List.{length-map}
 use Rattle.std.proofs.lemmas.List.Elements.{All-map, length_all_zip}
 use Rattle.xa_store.specs.Passes.{identity_of, log_of, known_of}
-use Rattle.xa_store.specs.Gathered.{IsTakenIn, Keeps, last_known}
+use Rattle.xa_store.specs.Gathered.{IsTakenIn, AddsNothing, last_known}
 use Rattle.xa_store.proofs.Spreading.{zip_mapped, map_twice}
 use Rattle.xa_store.proofs.Gathering.{all_kept}
 use Rattle.xa_store.proofs.store.Store.wind_up.Goals as goal
 
 pub returns-in-Ok-leave_all-clause-passes : goal.returns-in-Ok-leave_all-clause-passes
 returns-in-Ok-leave_all-clause-passes c =
-    subst (λ passes. AllZip (λ session pass. (log_of pass ≡ log_of session.pass) × Keeps (known_of session.pass) (known_of pass)) c.args.sessions.items
+    subst (λ passes. AllZip (λ session pass. (log_of pass ≡ log_of session.pass) × AddsNothing (known_of session.pass) (known_of pass)) c.args.sessions.items
     passes) (sym c.in-Ok-leave_all.ensures.ok)
-    (zip_mapped _ (λ session pass. (log_of pass ≡ log_of session.pass) × Keeps (known_of session.pass) (known_of pass)) (λ session. session.pass)
+    (zip_mapped _ (λ session pass. (log_of pass ≡ log_of session.pass) × AddsNothing (known_of session.pass) (known_of pass)) (λ session. session.pass)
     (λ old new is. (is.1, is.2)) c.args.sessions.items c.history.new.sessions.items c.in-Ok.ensures.keeps)
 
 pub returns-in-Ok-leave_all-clause-last : goal.returns-in-Ok-leave_all-clause-last
