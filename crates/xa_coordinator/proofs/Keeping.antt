@@ -10,10 +10,10 @@ use Rattle.xa_server.specs.Locks.{LockLaw}
 use Rattle.decision_log.specs.History.{entries_of}
 use Rattle.xa_session.specs.View.{SessionView}
 use Rattle.xa_coordinator.specs.Told.{IsDone}
-use Rattle.xa_coordinator.proofs.Telling.{seat_done}
+use Rattle.xa_coordinator.proofs.Telling.{association_done}
 use Rattle.xa_coordinator.specs.Branch.{branch_xid}
 use Rattle.xa_coordinator.specs.Stores.{AtStore, ChangesAt}
-use Rattle.xa_coordinator.specs.OpenBranches.{seat_seen, seat_in, OpenThere, LeavesOpen}
+use Rattle.xa_coordinator.specs.OpenBranches.{association_seen, association_in, OpenThere, LeavesOpen}
 use Rattle.xa_coordinator.specs.declared.open_branch.OpenBranch.{OpenBranch}
 use Rattle.xa_coordinator.proofs.Places.{get_set_other, get_set_is, get_before_set}
 
@@ -21,7 +21,7 @@ module _ {S : Type 0} (view : S → SessionView) (name : List ℕ) where
   -- a session was used, and the coordinator keeps another mark of its store
   pub marked : (stores : List S) (branches : List (Option OpenBranch)) (store : ℕ) (session : S) (mark : Option OpenBranch)
       → OpenThere view name stores branches →
-      ((branch : OpenBranch) → mark ≡ Some branch → seat_seen (view session) ≡ seat_in branch.phase (branch_xid name branch.number store)) →
+      ((branch : OpenBranch) → mark ≡ Some branch → association_seen (view session) ≡ association_in branch.phase (branch_xid name branch.number store)) →
       OpenThere view name (slice_set stores store session) (slice_set branches store mark)
   marked stores branches store session mark kept at_mark = λ at other branch is_there is_marked.
       elim (eqb_tells at store) [
@@ -29,7 +29,8 @@ module _ {S : Type 0} (view : S → SessionView) (name : List ℕ) where
             let is_s : session ≡ other = get_set_is stores store session other (ap (slice_get (slice_set stores store session)) (sym here) ∙ is_there) in
             let is_m : mark ≡ Some branch =
             get_set_is branches store mark (Some branch) (ap (slice_get (slice_set branches store mark)) (sym here) ∙ is_marked) in
-            ap (λ s. seat_seen (view s)) (sym is_s) ∙ at_mark branch is_m ∙ ap (λ n. seat_in branch.phase (branch_xid name branch.number n)) (sym here)
+            ap (λ s. association_seen (view s)) (sym is_s) ∙ at_mark branch is_m
+            ∙ ap (λ n. association_in branch.phase (branch_xid name branch.number n)) (sym here)
         | inr (_, apart) ↦ kept at other branch (sym (get_set_other stores store at session apart) ∙ is_there)
             (sym (get_set_other branches store at mark apart) ∙ is_marked)
       ]
@@ -37,12 +38,12 @@ module _ {S : Type 0} (view : S → SessionView) (name : List ℕ) where
   -- a session was used, and has the same open
   pub unmarked : (stores : List S) (branches : List (Option OpenBranch)) (store : ℕ) (old session : S) → old ≡ get_or stores store old
       → OpenThere view name stores branches →
-      seat_seen (view session) ≡ seat_seen (view old) → OpenThere view name (slice_set stores store session) branches
+      association_seen (view session) ≡ association_seen (view old) → OpenThere view name (slice_set stores store session) branches
   unmarked stores branches store old session was kept same = λ at other branch is_there is_marked.
       elim (eqb_tells at store) [
         | inl (_, here) ↦
             let is_s : session ≡ other = get_set_is stores store session other (ap (slice_get (slice_set stores store session)) (sym here) ∙ is_there) in
-            ap (λ s. seat_seen (view s)) (sym is_s) ∙ same ∙ kept at old branch
+            ap (λ s. association_seen (view s)) (sym is_s) ∙ same ∙ kept at old branch
             (ap (slice_get stores) here ∙ get_before_set stores store session other old (ap (slice_get (slice_set stores store session)) (sym here) ∙ is_there)
             ∙ ap Some (sym was)) is_marked
         | inr (_, apart) ↦ kept at other branch (sym (get_set_other stores store at session apart) ∙ is_there) is_marked
@@ -63,13 +64,14 @@ pub changes_at : {S : Type 0} (stores : List S) (store : ℕ) (session : S) → 
 changes_at stores store session = record { count = length-set stores store session; others = λ other apart. get_set_other stores store other session apart }
 
 -- a statement that was carried out leaves open what it says
-pub leaves_seat : (name : List ℕ) (store : ℕ) (statement : Statement) (mark : Option OpenBranch) (old new : SessionView) → LeavesOpen name store statement mark
+pub leaves_association : (name : List ℕ) (store : ℕ) (statement : Statement) (mark : Option OpenBranch) (old new : SessionView)
+    → LeavesOpen name store statement mark
     → LockLaw new.base →
     entries_of old.known.number old.known.seen ≡ old.known.mine → entries_of new.known.number new.known.seen ≡ new.known.mine → IsDone statement old new →
-    (branch : OpenBranch) → mark ≡ Some branch → seat_seen new ≡ seat_in branch.phase (branch_xid name branch.number store)
-leaves_seat name store statement None old new leaves law own_old own_new is branch marked = absurd (cc)
-leaves_seat name store statement (Some open_one) old new leaves law own_old own_new is branch marked =
+    (branch : OpenBranch) → mark ≡ Some branch → association_seen new ≡ association_in branch.phase (branch_xid name branch.number store)
+leaves_association name store statement None old new leaves law own_old own_new is branch marked = absurd (cc)
+leaves_association name store statement (Some open_one) old new leaves law own_old own_new is branch marked =
     let same : open_one ≡ branch = cc in
     let xid : Xid = branch_xid name open_one.number store in
-    seat_done old new open_one.phase xid law own_old own_new (subst (λ s. IsDone s old new) leaves is)
-    ∙ ap (λ (b : OpenBranch). seat_in b.phase (branch_xid name b.number store)) same
+    association_done old new open_one.phase xid law own_old own_new (subst (λ s. IsDone s old new) leaves is)
+    ∙ ap (λ (b : OpenBranch). association_in b.phase (branch_xid name b.number store)) same

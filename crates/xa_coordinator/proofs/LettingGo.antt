@@ -4,21 +4,21 @@ use Rattle.xa_xid.specs.declared.xid.Xid.{Xid}
 use Rattle.xa_xid.specs.declared.statement.Statement.TheVariants.{Recover, Disconnect}
 use Rattle.xa_server.specs.declared.reply.Reply.TheVariants.{Recovered}
 use Rattle.xa_server.specs.Locks.{LockLaw}
-use Rattle.xa_server.specs.State.{State, seat_of, prepared_xids}
+use Rattle.xa_server.specs.State.{State, association_of, prepared_xids}
 use Rattle.xa_server.specs.Step.{enters}
 use Rattle.decision_log.specs.History.{entries_of}
 use Rattle.std.specs.Prelude.{Result, Ok, Err, IfOk, IfErr}
 use Rattle.xa_session.specs.declared.fault.Fault.{Fault}
 use Rattle.xa_session.specs.View.{SessionView, StaysOfLog}
 use Rattle.xa_session.proofs.Entering.{recover_outside, recover_reply}
-use Rattle.xa_session.proofs.OwnSeats.{let_go, outside_free}
-use Rattle.xa_session.proofs.Seats.{law_seen, seat_unanswered, state_entered, state_outside}
+use Rattle.xa_session.proofs.OwnAssociations.{let_go, outside_free}
+use Rattle.xa_session.proofs.Associations.{law_seen, association_unanswered, state_entered, state_outside}
 use Rattle.xa_coordinator.specs.declared.cause.Cause.TheVariants.{Session}
-use Rattle.xa_coordinator.proofs.Telling.{is_undone, seat_refused}
+use Rattle.xa_coordinator.proofs.Telling.{is_undone, association_refused}
 use Rattle.xa_session.specs.Answer.{IsAnswered, IsUnanswered, Fails, IsFinal}
 use Rattle.xa_session.specs.Replay.{state_after, state_at}
 use Rattle.xa_session.specs.declared.answer.Answer.{Answer}
-use Rattle.xa_coordinator.specs.OpenBranches.{seat_seen}
+use Rattle.xa_coordinator.specs.OpenBranches.{association_seen}
 use Rattle.xa_coordinator.specs.Recovery.{IsDisconnected, ListsPrepared}
 
 -- what DISCONNECT comes to
@@ -32,9 +32,10 @@ disconnected_as answer old new law stays is = by (enters there old.known.number 
     law_there : LockLaw there
     law_there = law_seen old.base _ (subst LockLaw stays.base law)
 
-    seat_is : seat_seen new ≡ seat_of (state_after old.base new.known.seen) old.known.number
-    seat_is =
-        ap (λ b. seat_of (state_after b new.known.seen) new.known.number) stays.base ∙ ap (seat_of (state_after old.base new.known.seen)) is.advances.number
+    association_is : association_seen new ≡ association_of (state_after old.base new.known.seen) old.known.number
+    association_is =
+        ap (λ b. association_of (state_after b new.known.seen) new.known.number) stays.base
+        ∙ ap (association_of (state_after old.base new.known.seen)) is.advances.number
 
     by : (b : Bool) → enters there old.known.number Disconnect ≡ b → IsDisconnected old new
     by true entering = record {
@@ -42,7 +43,7 @@ disconnected_as answer old new law stays is = by (enters there old.known.number 
       is = inr refl;
       adds = record { log = stays; advances = is.advances; mine = (is.entered entering).mine };
       free =
-          seat_is ∙ ap (λ state. seat_of state old.known.number) (state_entered old.base Disconnect answer old.known new.known is entering)
+          association_is ∙ ap (λ state. association_of state old.known.number) (state_entered old.base Disconnect answer old.known new.known is entering)
           ∙ let_go there law_there old.known.number;
     }
     by false outside = record {
@@ -50,7 +51,7 @@ disconnected_as answer old new law stays is = by (enters there old.known.number 
       is = inl refl;
       adds = record { log = stays; advances = is.advances; mine = (is.outside outside).mine ∙ sym (append-nil old.known.mine) };
       free =
-          seat_is ∙ ap (λ state. seat_of state old.known.number) (state_outside old.base Disconnect answer old.known new.known is outside)
+          association_is ∙ ap (λ state. association_of state old.known.number) (state_outside old.base Disconnect answer old.known new.known is outside)
           ∙ outside_free there old.known.number outside;
     }
 
@@ -72,24 +73,25 @@ listed_as convert answer xids old new stays is reply =
     }
 
 -- it leaves what the session has open
-pub listed_seat : (convert : Bool) (answer : Answer) (old new : SessionView) → LockLaw new.base → StaysOfLog old new
+pub listed_association : (convert : Bool) (answer : Answer) (old new : SessionView) → LockLaw new.base → StaysOfLog old new
     → entries_of old.known.number old.known.seen ≡ old.known.mine → entries_of new.known.number new.known.seen ≡ new.known.mine →
-    IsAnswered old.base (Recover convert) answer old.known new.known → seat_seen new ≡ seat_seen old
-listed_seat convert answer old new law stays own_old own_new is =
+    IsAnswered old.base (Recover convert) answer old.known new.known → association_seen new ≡ association_seen old
+listed_association convert answer old new law stays own_old own_new is =
     let nothing : IsUnanswered old.known new.known =
     record {
       advances = is.advances;
       mine = (is.outside (recover_outside (state_at old.base new.known.seen answer.place) old.known.number convert)).mine;
     } in
-    ap (λ b. seat_of (state_after b new.known.seen) new.known.number) stays.base
-    ∙ seat_unanswered old.base (subst LockLaw stays.base law) old.known new.known nothing own_old own_new
+    ap (λ b. association_of (state_after b new.known.seen) new.known.number) stays.base
+    ∙ association_unanswered old.base (subst LockLaw stays.base law) old.known new.known nothing own_old own_new
 
 -- whatever the session answered
 pub listed_still : (convert : Bool) (result : Result Answer Fault) (old new : SessionView) → LockLaw new.base → StaysOfLog old new
     → entries_of old.known.number old.known.seen ≡ old.known.mine → entries_of new.known.number new.known.seen ≡ new.known.mine →
     IfOk result (λ answer. IsAnswered old.base (Recover convert) answer old.known new.known)
     → IfErr result (λ fault. Fails old.turns old.identity.capacity old.base (Recover convert) fault old.known new.known) → IfErr result IsFinal →
-    seat_seen new ≡ seat_seen old
-listed_still convert (Ok answer) old new law stays own_old own_new answered fails final = listed_seat convert answer old new law stays own_old own_new answered
+    association_seen new ≡ association_seen old
+listed_still convert (Ok answer) old new law stays own_old own_new answered fails final =
+    listed_association convert answer old new law stays own_old own_new answered
 listed_still convert (Err fault) old new law stays own_old own_new answered fails final =
-    seat_refused (Recover convert) (Session fault) old new law own_old own_new (is_undone (Recover convert) (Session fault) old new stays (fails, final))
+    association_refused (Recover convert) (Session fault) old new law own_old own_new (is_undone (Recover convert) (Session fault) old new stays (fails, final))

@@ -5,7 +5,7 @@ use Rattle.std.proofs.lemmas.List.{map-append}
 use Rattle.xa_xid.specs.declared.xid.Xid.{Xid}
 use Rattle.xa_xid.specs.declared.statement.Statement.{Statement}
 use Rattle.xa_xid.specs.declared.statement.Statement.TheVariants.{Start, End, Prepare, Commit, Rollback, Recover, Unsupported, Get, Put, Del, Disconnect}
-use Rattle.xa_server.specs.State.{State, seat_of}
+use Rattle.xa_server.specs.State.{State, association_of}
 use Rattle.xa_server.specs.Locks.{LockLaw}
 use Rattle.xa_server.specs.Replies.{reply_to}
 use Rattle.xa_server.specs.Step.{enters, may_enter, is_refused, after}
@@ -19,11 +19,11 @@ use Rattle.xa_session.specs.declared.answer.Answer.{Answer}
 use Rattle.xa_session.proofs.Answering.{accepted_there, refused_unanswered, advances_through, fails_unanswered, unanswered_itself}
 use Rattle.xa_session.proofs.Views.{stays_itself, stays_through}
 use Rattle.xa_session.specs.View.{SessionView, StaysOfLog}
-use Rattle.xa_session.proofs.OwnSeats.{started, ended}
-use Rattle.xa_session.proofs.Seats.{law_seen, seat_unanswered, state_entered}
+use Rattle.xa_session.proofs.OwnAssociations.{started, ended}
+use Rattle.xa_session.proofs.Associations.{law_seen, association_unanswered, state_entered}
 use Rattle.xa_coordinator.specs.Agreement.{AddsStatements}
 use Rattle.xa_coordinator.specs.Told.{IsOfBranch, IsDone, IsUndone, HasCause}
-use Rattle.xa_coordinator.specs.OpenBranches.{seat_seen, seat_in, statement_into}
+use Rattle.xa_coordinator.specs.OpenBranches.{association_seen, association_in, statement_into}
 use Rattle.xa_coordinator.specs.declared.open_branch.Phase.{Phase}
 use Rattle.xa_coordinator.specs.declared.open_branch.Phase.TheVariants.{Active, Idle}
 use Rattle.xa_coordinator.specs.declared.cause.Cause.{Cause}
@@ -65,10 +65,10 @@ is_done statement answer old new kind stays is accepted = record {
 -- ---- what the session has open
 
 -- after XA START or XA END
-pub seat_done : (old new : SessionView) (phase : Phase) (xid : Xid) → LockLaw new.base → entries_of old.known.number old.known.seen ≡ old.known.mine
+pub association_done : (old new : SessionView) (phase : Phase) (xid : Xid) → LockLaw new.base → entries_of old.known.number old.known.seen ≡ old.known.mine
     → entries_of new.known.number new.known.seen ≡ new.known.mine →
-    IsDone (statement_into phase xid) old new → seat_seen new ≡ seat_in phase xid
-seat_done old new phase xid law own_old own_new is =
+    IsDone (statement_into phase xid) old new → association_seen new ≡ association_in phase xid
+association_done old new phase xid law own_old own_new is =
     let stays : StaysOfLog old new = is.adds.log in
     let base : State = old.base in
     let number : ℕ = old.known.number in
@@ -78,9 +78,9 @@ seat_done old new phase xid law own_old own_new is =
     let kept : LockLaw there = law_seen base (take place new.known.seen) law_base in
     let accepted = accepted_there base (statement_into phase xid) is.answer old.known new.known is.answered is.accepted in
     let entering = entering_there base (statement_into phase xid) is.answer old.known new.known (of_branch phase xid) is.answered is.accepted in
-    ap (λ b. seat_of (state_after b new.known.seen) new.known.number) stays.base
-    ∙ ap (seat_of (state_after base new.known.seen)) is.answered.advances.number
-    ∙ ap (λ state. seat_of state number) (state_entered base (statement_into phase xid) is.answer old.known new.known is.answered entering)
+    ap (λ b. association_of (state_after b new.known.seen) new.known.number) stays.base
+    ∙ ap (association_of (state_after base new.known.seen)) is.answered.advances.number
+    ∙ ap (λ state. association_of state number) (state_entered base (statement_into phase xid) is.answer old.known new.known is.answered entering)
     ∙ opened phase there kept number accepted
   where
     of_branch : (phase : Phase) (xid : Xid) → IsOfBranch (statement_into phase xid)
@@ -88,7 +88,7 @@ seat_done old new phase xid law own_old own_new is =
     of_branch Idle xid = tt
 
     opened : (phase : Phase) (state : State) → LockLaw state → (session : ℕ) → is_refused (reply_to state session (statement_into phase xid)) ≡ false
-        → seat_of (after state session (statement_into phase xid)) session ≡ seat_in phase xid
+        → association_of (after state session (statement_into phase xid)) session ≡ association_in phase xid
     opened Active state law session accepted = started state law session xid accepted
     opened Idle state law session accepted = ended state law session xid accepted
 
@@ -113,12 +113,12 @@ refused statement answer error old new stays is reply =
       answered = subst (λ r. IsAnswered old.base statement (record { place = answer.place; reply = r }) old.known new.known) reply is;
     })
 
-pub seat_refused : (statement : Statement) (cause : Cause) (old new : SessionView) → LockLaw new.base
+pub association_refused : (statement : Statement) (cause : Cause) (old new : SessionView) → LockLaw new.base
     → entries_of old.known.number old.known.seen ≡ old.known.mine → entries_of new.known.number new.known.seen ≡ new.known.mine →
-    IsUndone statement cause old new → seat_seen new ≡ seat_seen old
-seat_refused statement cause old new law own_old own_new is =
-    ap (λ b. seat_of (state_after b new.known.seen) new.known.number) is.adds.log.base
-    ∙ seat_unanswered old.base (subst LockLaw is.adds.log.base law) old.known new.known (cause_unanswered statement cause old new is.why) own_old own_new
+    IsUndone statement cause old new → association_seen new ≡ association_seen old
+association_refused statement cause old new law own_old own_new is =
+    ap (λ b. association_of (state_after b new.known.seen) new.known.number) is.adds.log.base
+    ∙ association_unanswered old.base (subst LockLaw is.adds.log.base law) old.known new.known (cause_unanswered statement cause old new is.why) own_old own_new
 
 -- ---- one statement after another
 

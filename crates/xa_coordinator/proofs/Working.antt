@@ -4,8 +4,8 @@ use Rattle.std.specs.Prelude.{not, ◌&&◌}
 use Rattle.xa_xid.specs.declared.xid.Xid.{Xid}
 use Rattle.xa_xid.specs.declared.statement.Statement.{Statement}
 use Rattle.xa_xid.specs.declared.statement.Statement.TheVariants.{Start, End, Prepare, Commit, Rollback, Recover, Unsupported, Get, Put, Del, Disconnect}
-use Rattle.xa_server.specs.State.{State, seat_of}
-use Rattle.xa_server.specs.declared.seat.Seat.TheVariants.{Active}
+use Rattle.xa_server.specs.State.{State, association_of}
+use Rattle.xa_server.specs.declared.association.Association.TheVariants.{Active}
 use Rattle.xa_server.specs.Locks.{LockLaw}
 use Rattle.xa_server.specs.Replies.{reply_to}
 use Rattle.xa_server.specs.Step.{enters, may_enter, is_refused, after}
@@ -13,14 +13,14 @@ use Rattle.decision_log.specs.History.{entries_of}
 use Rattle.std.specs.Prelude.{Result, Ok, Err, IfOk, IfErr}
 use Rattle.xa_session.specs.declared.fault.Fault.{Fault}
 use Rattle.xa_session.specs.View.{SessionView, StaysOfLog}
-use Rattle.xa_session.proofs.OwnSeats.{read, written, deleted}
-use Rattle.xa_session.proofs.Seats.{law_seen, seat_at, state_entered, state_outside}
+use Rattle.xa_session.proofs.OwnAssociations.{read, written, deleted}
+use Rattle.xa_session.proofs.Associations.{law_seen, association_at, state_entered, state_outside}
 use Rattle.xa_coordinator.specs.declared.cause.Cause.TheVariants.{Session}
-use Rattle.xa_coordinator.proofs.Telling.{is_undone, seat_refused}
+use Rattle.xa_coordinator.proofs.Telling.{is_undone, association_refused}
 use Rattle.xa_session.specs.Answer.{IsAnswered, Fails, IsFinal}
 use Rattle.xa_session.specs.Replay.{state_after, state_at}
 use Rattle.xa_session.specs.declared.answer.Answer.{Answer}
-use Rattle.xa_coordinator.specs.OpenBranches.{seat_seen}
+use Rattle.xa_coordinator.specs.OpenBranches.{association_seen}
 use Rattle.xa_coordinator.specs.Work.{IsRow}
 
 unrefused : (refused may : Bool) → (not refused && may) ≡ true → refused ≡ false
@@ -28,65 +28,66 @@ unrefused true may is = absurd (cc)
 unrefused false may is = refl
 
 -- a row statement that enters leaves the branch ACTIVE
-row_entered : (state : State) → LockLaw state → (session : ℕ) (xid : Xid) (statement : Statement) → IsRow statement → seat_of state session ≡ Active xid
-    → enters state session statement ≡ true → seat_of (after state session statement) session ≡ Active xid
+row_entered : (state : State) → LockLaw state → (session : ℕ) (xid : Xid) (statement : Statement) → IsRow statement → association_of state session ≡ Active xid
+    → enters state session statement ≡ true → association_of (after state session statement) session ≡ Active xid
 unfolding enters
-row_entered state law session xid (Get key) is seat entering =
-    read state law session xid key seat (unrefused (is_refused (reply_to state session (Get key))) (may_enter state (seat_of state session) (Get key)) entering)
-row_entered state law session xid (Put key value) is seat entering =
-    written state law session xid key value seat
-    (unrefused (is_refused (reply_to state session (Put key value))) (may_enter state (seat_of state session) (Put key value)) entering)
-row_entered state law session xid (Del key) is seat entering =
-    deleted state law session xid key seat
-    (unrefused (is_refused (reply_to state session (Del key))) (may_enter state (seat_of state session) (Del key)) entering)
-row_entered state law session xid (Start other) is seat entering = absurd is
-row_entered state law session xid (End other) is seat entering = absurd is
-row_entered state law session xid (Prepare other) is seat entering = absurd is
-row_entered state law session xid (Commit other one_phase) is seat entering = absurd is
-row_entered state law session xid (Rollback other) is seat entering = absurd is
-row_entered state law session xid (Recover convert) is seat entering = absurd is
-row_entered state law session xid Unsupported is seat entering = absurd is
-row_entered state law session xid Disconnect is seat entering = absurd is
+row_entered state law session xid (Get key) is association entering =
+    read state law session xid key association
+    (unrefused (is_refused (reply_to state session (Get key))) (may_enter state (association_of state session) (Get key)) entering)
+row_entered state law session xid (Put key value) is association entering =
+    written state law session xid key value association
+    (unrefused (is_refused (reply_to state session (Put key value))) (may_enter state (association_of state session) (Put key value)) entering)
+row_entered state law session xid (Del key) is association entering =
+    deleted state law session xid key association
+    (unrefused (is_refused (reply_to state session (Del key))) (may_enter state (association_of state session) (Del key)) entering)
+row_entered state law session xid (Start other) is association entering = absurd is
+row_entered state law session xid (End other) is association entering = absurd is
+row_entered state law session xid (Prepare other) is association entering = absurd is
+row_entered state law session xid (Commit other one_phase) is association entering = absurd is
+row_entered state law session xid (Rollback other) is association entering = absurd is
+row_entered state law session xid (Recover convert) is association entering = absurd is
+row_entered state law session xid Unsupported is association entering = absurd is
+row_entered state law session xid Disconnect is association entering = absurd is
 
 module _ (statement : Statement) (answer : Answer) (xid : Xid) (old new : SessionView) where
   -- at the answer's place the branch is ACTIVE
   pub active_there : LockLaw new.base → StaysOfLog old new → entries_of old.known.number old.known.seen ≡ old.known.mine
-      → entries_of new.known.number new.known.seen ≡ new.known.mine → seat_seen old ≡ Active xid →
-      IsAnswered old.base statement answer old.known new.known → seat_of (state_at old.base new.known.seen answer.place) old.known.number ≡ Active xid
-  active_there law stays own_old own_new seat is =
-      seat_at old.base (subst LockLaw stays.base law) statement answer old.known new.known is own_old own_new ∙ seat
+      → entries_of new.known.number new.known.seen ≡ new.known.mine → association_seen old ≡ Active xid →
+      IsAnswered old.base statement answer old.known new.known → association_of (state_at old.base new.known.seen answer.place) old.known.number ≡ Active xid
+  active_there law stays own_old own_new association is =
+      association_at old.base (subst LockLaw stays.base law) statement answer old.known new.known is own_old own_new ∙ association
 
   -- and it stays so
   pub active_after : LockLaw new.base → StaysOfLog old new → entries_of old.known.number old.known.seen ≡ old.known.mine
-      → entries_of new.known.number new.known.seen ≡ new.known.mine → seat_seen old ≡ Active xid → IsRow statement →
-      IsAnswered old.base statement answer old.known new.known → seat_seen new ≡ Active xid
-  active_after law stays own_old own_new seat row is =
-      ap (λ b. seat_of (state_after b new.known.seen) new.known.number) stays.base
-      ∙ ap (seat_of (state_after old.base new.known.seen)) is.advances.number
+      → entries_of new.known.number new.known.seen ≡ new.known.mine → association_seen old ≡ Active xid → IsRow statement →
+      IsAnswered old.base statement answer old.known new.known → association_seen new ≡ Active xid
+  active_after law stays own_old own_new association row is =
+      ap (λ b. association_of (state_after b new.known.seen) new.known.number) stays.base
+      ∙ ap (association_of (state_after old.base new.known.seen)) is.advances.number
       ∙ by (enters (state_at old.base new.known.seen answer.place) old.known.number statement) refl
     where
       law_base : LockLaw old.base
       law_base = subst LockLaw stays.base law
 
-      there : seat_of (state_at old.base new.known.seen answer.place) old.known.number ≡ Active xid
-      there = active_there law stays own_old own_new seat is
+      there : association_of (state_at old.base new.known.seen answer.place) old.known.number ≡ Active xid
+      there = active_there law stays own_old own_new association is
 
       by : (b : Bool) → enters (state_at old.base new.known.seen answer.place) old.known.number statement ≡ b
-          → seat_of (state_after old.base new.known.seen) old.known.number ≡ Active xid
+          → association_of (state_after old.base new.known.seen) old.known.number ≡ Active xid
       by true entering =
-          ap (λ state. seat_of state old.known.number) (state_entered old.base statement answer old.known new.known is entering)
+          ap (λ state. association_of state old.known.number) (state_entered old.base statement answer old.known new.known is entering)
           ∙ row_entered (state_at old.base new.known.seen answer.place)
           (law_seen old.base (take answer.place new.known.seen) law_base) old.known.number xid statement row there entering
       by false outside =
-          ap (λ state. seat_of state old.known.number) (state_outside old.base statement answer old.known new.known is outside) ∙ there
+          ap (λ state. association_of state old.known.number) (state_outside old.base statement answer old.known new.known is outside) ∙ there
 
 -- and whatever the session answered
 pub active_still : (statement : Statement) (result : Result Answer Fault) (xid : Xid) (old new : SessionView) → LockLaw new.base → StaysOfLog old new
     → entries_of old.known.number old.known.seen ≡ old.known.mine → entries_of new.known.number new.known.seen ≡ new.known.mine →
-    seat_seen old ≡ Active xid → IsRow statement → IfOk result (λ answer. IsAnswered old.base statement answer old.known new.known) →
+    association_seen old ≡ Active xid → IsRow statement → IfOk result (λ answer. IsAnswered old.base statement answer old.known new.known) →
     IfErr result (λ fault. Fails old.turns old.identity.capacity old.base statement fault old.known new.known) → IfErr result IsFinal
-    → seat_seen new ≡ seat_seen old
-active_still statement (Ok answer) xid old new law stays own_old own_new seat row answered fails final =
-    active_after statement answer xid old new law stays own_old own_new seat row answered ∙ sym seat
-active_still statement (Err fault) xid old new law stays own_old own_new seat row answered fails final =
-    seat_refused statement (Session fault) old new law own_old own_new (is_undone statement (Session fault) old new stays (fails, final))
+    → association_seen new ≡ association_seen old
+active_still statement (Ok answer) xid old new law stays own_old own_new association row answered fails final =
+    active_after statement answer xid old new law stays own_old own_new association row answered ∙ sym association
+active_still statement (Err fault) xid old new law stays own_old own_new association row answered fails final =
+    association_refused statement (Session fault) old new law own_old own_new (is_undone statement (Session fault) old new stays (fails, final))

@@ -7,7 +7,7 @@ use Rattle.std.proofs.lemmas.List.Elements.{All-nil, All-cons, All-append}
 use Rattle.xa_xid.specs.declared.xid.Xid.{Xid}
 use Rattle.xa_xid.specs.declared.statement.Statement.{Statement}
 use Rattle.xa_xid.specs.declared.statement.Statement.TheVariants.{Start, End, Prepare, Commit, Rollback, Recover, Unsupported, Get, Put, Del, Disconnect}
-use Rattle.xa_server.specs.declared.seat.Seat.TheVariants.{Active}
+use Rattle.xa_server.specs.declared.association.Association.TheVariants.{Active}
 use Rattle.xa_server.specs.declared.reply.Reply.{Reply}
 use Rattle.xa_server.specs.Step.{enters}
 use Rattle.xa_session.specs.Replay.{state_at}
@@ -18,7 +18,7 @@ use Rattle.xa_coordinator.specs.declared.work_fault.WorkFault.TheVariants.{Sessi
 use Rattle.xa_coordinator.specs.declared.standing.Standing.{Standing}
 use Rattle.xa_coordinator.specs.declared.transaction.Transaction.{Transaction}
 use Rattle.xa_coordinator.specs.Agreement.{AddsStatements, AgreesWith, Agrees}
-use Rattle.xa_coordinator.specs.OpenBranches.{seat_seen, IsWorking}
+use Rattle.xa_coordinator.specs.OpenBranches.{association_seen, IsWorking}
 use Rattle.xa_coordinator.specs.Outcomes.{branch_of}
 use Rattle.xa_coordinator.specs.Participants.{takes_part}
 use Rattle.xa_coordinator.specs.Stores.{AtStore, EachStore, ChangesAt}
@@ -36,7 +36,7 @@ record AddsMaybe (statement : Statement) (old new : SessionView) : Type 0 where
   adds : AddsStatements added old new
 
 may_start_adds : (xid : Xid) (old mid : SessionView) → MayStart xid old mid → AddsMaybe (Start xid) old mid
-may_start_adds xid old there (was_open seat) = record { added = []; is = inl refl; adds = adds_nothing old }
+may_start_adds xid old there (was_open association) = record { added = []; is = inl refl; adds = adds_nothing old }
 may_start_adds xid old there (was_started mid done) = record { added = Start xid ∷ []; is = inr refl; adds = done.adds }
 
 replied_adds : (row : Statement) (reply : Reply) (xid : Xid) (old new : SessionView) → IsReplied row reply xid old new → AddsMaybe row old new
@@ -111,15 +111,15 @@ module _ {S : Type 0} (view : S → SessionView) where
   module _ (marks marks' : List (Option OpenBranch)) (old new : Transaction) (store : ℕ) (row : Statement) where
     -- the branch was open
     pub works_open : (result : Result Reply WorkFault) (before after : List S)
-        → ((s : S) → slice_get before store ≡ Some s → seat_seen (view s) ≡ Active (branch_of old store)) → takes_part new.participants store ≡ true →
+        → ((s : S) → slice_get before store ≡ Some s → association_seen (view s) ≡ Active (branch_of old store)) → takes_part new.participants store ≡ true →
         IsWorking marks' store old.number → WorksWithin view (branch_of old store) store row result before after
         → WorksAs view marks marks' old new store row result before after
-    works_open (Ok reply) before after seat takes mark is =
-        (takes, mark, λ a b is_a is_b. record { mid = view a; opened = was_open (seat a is_a); replied = is a b is_a is_b })
-    works_open (Err (Session fault)) before after seat takes mark is =
-        inl (takes, mark, λ a b is_a is_b. record { mid = view a; opened = was_open (seat a is_a); undone = is a b is_a is_b })
-    works_open (Err (Refused error)) before after seat takes mark is = absurd is
-    works_open (Err Lost) before after seat takes mark is = absurd is
+    works_open (Ok reply) before after association takes mark is =
+        (takes, mark, λ a b is_a is_b. record { mid = view a; opened = was_open (association a is_a); replied = is a b is_a is_b })
+    works_open (Err (Session fault)) before after association takes mark is =
+        inl (takes, mark, λ a b is_a is_b. record { mid = view a; opened = was_open (association a is_a); undone = is a b is_a is_b })
+    works_open (Err (Refused error)) before after association takes mark is = absurd is
+    works_open (Err Lost) before after association takes mark is = absurd is
 
     -- it was started
     pub works_started : (result : Result Reply WorkFault) (before mid after : List S) → length mid ≡ length before →

@@ -1,6 +1,6 @@
 -- What a coordinator has open in its stores.
---     seat_seen        what a session has open, as far as it has seen
---     seat_in          a session that has the branch open in this phase
+--     association_seen  what a session has open, as far as it has seen
+--     association_in   a session that has the branch open in this phase
 --     OpenThere        each branch that the coordinator has open is what the session of its store has open
 --     statement_into   the statement that brings a branch into a phase
 --     LeavesOpen       a statement leaves this branch open
@@ -12,9 +12,9 @@ use Rattle.std.specs.Prelude.{◌≡◌, ◌≤◌, ◌==◌, ◌&&◌, ℕ, Boo
 use Rattle.xa_xid.specs.declared.xid.Xid.{Xid}
 use Rattle.xa_xid.specs.declared.statement.Statement.{Statement}
 use Rattle.xa_xid.specs.declared.statement.Statement.TheVariants.{Start, End}
-use Rattle.xa_server.specs.State.{seat_of}
-use Rattle.xa_server.specs.declared.seat.Seat.{Seat}
-use Rattle.xa_server.specs.declared.seat.Seat.TheVariants.{Active as SeatActive, Idle as SeatIdle}
+use Rattle.xa_server.specs.State.{association_of}
+use Rattle.xa_server.specs.declared.association.Association.{Association}
+use Rattle.xa_server.specs.declared.association.Association.TheVariants.{Active as AssociationActive, Idle as AssociationIdle}
 use Rattle.xa_session.specs.Replay.{state_after}
 use Rattle.xa_session.specs.View.{SessionView}
 use Rattle.xa_coordinator.specs.Branch.{branch_xid}
@@ -25,19 +25,19 @@ use Rattle.xa_coordinator.specs.declared.open_branch.Phase.{Phase}
 use Rattle.xa_coordinator.specs.declared.open_branch.Phase.TheVariants.{Active, Idle}
 
 -- what the session has open after all that it has seen
-abbrev pub seat_seen : SessionView → Seat
-seat_seen session = seat_of (state_after session.base session.known.seen) session.known.number
+abbrev pub association_seen : SessionView → Association
+association_seen session = association_of (state_after session.base session.known.seen) session.known.number
 
 -- a session that has the branch open in this phase
-abbrev pub seat_in : Phase → Xid → Seat
-seat_in Active xid = SeatActive xid
-seat_in Idle xid = SeatIdle xid
+abbrev pub association_in : Phase → Xid → Association
+association_in Active xid = AssociationActive xid
+association_in Idle xid = AssociationIdle xid
 
 -- whatever branch the coordinator has open in a store, the session of that store has it open in that phase
 abbrev pub OpenThere : {S : Type 0} → (S → SessionView) → List ℕ → List S → List (Option OpenBranch) → Type 0
 OpenThere view name stores branches =
     (store : ℕ) (session : _) (branch : OpenBranch) → slice_get stores store ≡ Some session → slice_get branches store ≡ Some (Some branch) →
-    seat_seen (view session) ≡ seat_in branch.phase (branch_xid name branch.number store)
+    association_seen (view session) ≡ association_in branch.phase (branch_xid name branch.number store)
 
 -- the statement that brings a branch into this phase
 abbrev pub statement_into : Phase → Xid → Statement

@@ -19,7 +19,7 @@ use Rattle.xa_xid.specs.declared.xid.Xid.{Xid}
 use Rattle.xa_xid.specs.declared.statement.Statement.{Statement}
 use Rattle.xa_xid.specs.declared.statement.Statement.TheVariants.{Start, End, Prepare, Commit, Rollback, Recover, Unsupported, Get, Put, Del, Disconnect}
 use Rattle.xa_server.specs.State.{is_prepared, prepared_xids}
-use Rattle.xa_server.specs.declared.seat.Seat.TheVariants.{Free}
+use Rattle.xa_server.specs.declared.association.Association.TheVariants.{Free}
 use Rattle.xa_server.specs.declared.xa_error.XaError.TheVariants.{Nota}
 use Rattle.xa_session.specs.Replay.{state_after, state_at}
 use Rattle.xa_session.specs.View.{SessionView}
@@ -37,7 +37,7 @@ use Rattle.xa_coordinator.specs.declared.recover_fault.RecoverFault.TheVariants.
 use Rattle.xa_coordinator.specs.Agreement.{AddsStatements, AgreesWith, Agrees}
 use Rattle.xa_coordinator.specs.Branch.{branch_xid, IsBranchOf}
 use Rattle.xa_coordinator.specs.Decisions.{is_decided}
-use Rattle.xa_coordinator.specs.OpenBranches.{seat_seen}
+use Rattle.xa_coordinator.specs.OpenBranches.{association_seen}
 use Rattle.xa_coordinator.specs.Outcomes.{finish_statement}
 use Rattle.xa_coordinator.specs.Stores.{AtStore, EachStore, EndsAt}
 use Rattle.xa_coordinator.specs.Told.{IsUndone}
@@ -48,7 +48,7 @@ pub record IsDisconnected (old new : SessionView) : Type 0 where
   pub statements : List Statement
   pub is : MayBe Disconnect statements
   pub adds : AddsStatements statements old new
-  pub free : seat_seen new ≡ Free
+  pub free : association_seen new ≡ Free
 
 -- the list is that of the prepared branches at this place, the end of all that the session sees then, and it has looked
 pub record ListsPrepared (xids : List Xid) (place : ℕ) (old new : SessionView) : Type 0 where

@@ -13,8 +13,8 @@ use Rattle.std.specs.Prelude.{◌≡◌, ◌≢◌, ◌⊎◌, ℕ, true, false,
 use Rattle.xa_xid.specs.declared.xid.Xid.{Xid}
 use Rattle.xa_xid.specs.declared.statement.Statement.{Statement}
 use Rattle.xa_xid.specs.declared.statement.Statement.TheVariants.{Start, End, Prepare, Commit, Rollback, Recover, Unsupported, Get, Put, Del, Disconnect}
-use Rattle.xa_server.specs.State.{seat_of}
-use Rattle.xa_server.specs.declared.seat.Seat.TheVariants.{Active}
+use Rattle.xa_server.specs.State.{association_of}
+use Rattle.xa_server.specs.declared.association.Association.TheVariants.{Active}
 use Rattle.xa_server.specs.declared.reply.Reply.{Reply}
 use Rattle.xa_session.specs.Answer.{IsAnswered}
 use Rattle.xa_session.specs.Replay.{state_at}
@@ -25,7 +25,7 @@ use Rattle.xa_coordinator.specs.declared.work_fault.WorkFault.{WorkFault}
 use Rattle.xa_coordinator.specs.declared.work_fault.WorkFault.TheVariants.{Session, Refused, Lost}
 use Rattle.xa_coordinator.specs.declared.transaction.Transaction.{Transaction}
 use Rattle.xa_coordinator.specs.Agreement.{AddsStatements}
-use Rattle.xa_coordinator.specs.OpenBranches.{seat_seen, HasOpen, has_working_branch, IsWorking}
+use Rattle.xa_coordinator.specs.OpenBranches.{association_seen, HasOpen, has_working_branch, IsWorking}
 use Rattle.xa_coordinator.specs.declared.open_branch.OpenBranch.{OpenBranch}
 use Rattle.xa_coordinator.specs.Outcomes.{branch_of}
 use Rattle.xa_coordinator.specs.Participants.{takes_part}
@@ -60,7 +60,7 @@ pub record AddsWork (xid : Xid) (row : Statement) (old new : SessionView) : Type
 
 -- the session had the branch open, ACTIVE, or was told to start it and did
 pub data MayStart (xid : Xid) (old : SessionView) : SessionView → Type 0 where
-  was_open : seat_seen old ≡ Active xid → MayStart xid old old
+  was_open : association_seen old ≡ Active xid → MayStart xid old old
   was_started : (mid : SessionView) → IsDone (Start xid) old mid → MayStart xid old mid
 
 -- the row statement was answered, at a place not before what had been seen, where the session's branch was this one and ACTIVE
@@ -68,7 +68,7 @@ pub record IsReplied (row : Statement) (reply : Reply) (xid : Xid) (old new : Se
   pub log : StaysOfLog old new
   pub place : ℕ
   pub answered : IsAnswered old.base row (record { place = place; reply = reply }) old.known new.known
-  pub active : seat_of (state_at old.base new.known.seen place) old.known.number ≡ Active xid
+  pub active : association_of (state_at old.base new.known.seen place) old.known.number ≡ Active xid
 
 -- the row statement was answered within the branch, which was open before or was started
 pub record IsWorked (row : Statement) (reply : Reply) (xid : Xid) (old new : SessionView) : Type 0 where

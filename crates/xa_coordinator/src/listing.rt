@@ -1,6 +1,6 @@
 //! What a recovery asks of a store: to let go of what is open, and to list what is prepared.
 ghost use Rattle.std.specs.Prelude.{◌≡◌, ◌<◌, Some, None, false, IfOk, IfErr, OnOk, OnErr, slice_get, vec_len};
-ghost use Rattle.xa_coordinator.specs.OpenBranches.{seat_seen};
+ghost use Rattle.xa_coordinator.specs.OpenBranches.{association_seen};
 ghost use Rattle.xa_coordinator.specs.Stores.{AtStore, ChangesAt};
 ghost use Rattle.xa_coordinator.specs.Recovery.{IsDisconnected, ListsPrepared};
 ghost use Rattle.xa_coordinator.specs.Told.{IsUndone};
@@ -25,7 +25,7 @@ fn let_go<S: Speak, R: Wait>(rt: &R, session: &mut S) -> Result<(), Fault>
 
 /// The prepared branches of a session's store, and the place at which they are.
 fn list_prepared<S: Speak, R: Wait>(rt: &R, session: &mut S) -> Result<(XidList, u64), Fault>
-    ensures seat { seat_seen (S.view session.new) ≡ seat_seen (S.view session.old) }
+    ensures association { association_seen (S.view session.new) ≡ association_seen (S.view session.old) }
     ensures listed { IfOk result (λ found. ListsPrepared found.0 found.1 (S.view session.old) (S.view session.new)) }
     ensures undone { IfErr result (λ fault. IsUndone (RecoverStatement false) (Cause.Session fault) (S.view session.old) (S.view session.new)) }
 {

@@ -16,9 +16,9 @@ use Rattle.xa_server.specs.declared.reply.Reply.TheVariants.{Ok as Accepted, Val
 use Rattle.xa_server.specs.declared.xa_error.XaError.{XaError}
 use Rattle.xa_server.specs.declared.xa_error.XaError.TheVariants.{Nota, Rmfail}
 use Rattle.xa_server.specs.declared.xa_error.BranchState.TheVariants.{Prepared as StatePrepared}
-use Rattle.xa_server.specs.declared.seat.Seat.{Seat}
-use Rattle.xa_server.specs.declared.seat.Seat.TheVariants.{Free, Active, Idle}
-use Rattle.xa_server.specs.State.{Shared, Branch, State, is_known, phase_at, is_prepared, is_prepared_phase, own_xid, seat_in, seat_of, IsOpen}
+use Rattle.xa_server.specs.declared.association.Association.{Association}
+use Rattle.xa_server.specs.declared.association.Association.TheVariants.{Free, Active, Idle}
+use Rattle.xa_server.specs.State.{Shared, Branch, State, is_known, phase_at, is_prepared, is_prepared_phase, own_xid, association_in, association_of, IsOpen}
 use Rattle.xa_server.specs.Locks.{holds, is_held_against, is_locked_against}
 use Rattle.xa_server.specs.Replies.{ok_if, refused_if, table, reply_to}
 use Rattle.xa_server.specs.Step.{after, effect, enters, may_enter, makes_record, may_take_memory, is_recover, is_refused, unless_refused, with_branch}
@@ -27,25 +27,25 @@ use Rattle.xa_server.proofs.Maps.{same_is, same_or_apart, get_inserted, get_inse
 use Rattle.xa_server.proofs.Index.{not_none}
 use Rattle.xa_server.proofs.Steps.{same_state, same_branches}
 
--- ---- what a session has seated
+-- ---- what a session has associated
 
-in_phase : (state : State) (phase : Option Phase) (xid : Xid) → phase_at state xid ≡ phase → IsOpen state (seat_in phase xid)
+in_phase : (state : State) (phase : Option Phase) (xid : Xid) → phase_at state xid ≡ phase → IsOpen state (association_in phase xid)
 in_phase state None xid e = tt
 in_phase state (Some PhaseActive) xid e = e
 in_phase state (Some PhaseIdle) xid e = e
 in_phase state (Some PhasePrepared) xid e = tt
 
--- the branch that a session has seated is in that phase
-pub open_seat : (state : State) (session : ℕ) → IsOpen state (seat_of state session)
-unfolding seat_of
-open_seat state session = by (own_xid state session)
+-- the branch that a session has associated is in that phase
+pub open_association : (state : State) (session : ℕ) → IsOpen state (association_of state session)
+unfolding association_of
+open_association state session = by (own_xid state session)
   where
-    by : (own : Option Xid) → IsOpen state (option_map_or (λ xid. seat_in (phase_at state xid) xid) own Free)
+    by : (own : Option Xid) → IsOpen state (option_map_or (λ xid. association_in (phase_at state xid) xid) own Free)
     by None = tt
     by (Some xid) = in_phase state (phase_at state xid) xid refl
 
-pub open_as : (state : State) (session : ℕ) (seat : Seat) → seat ≡ seat_of state session → IsOpen state seat
-open_as state session seat is = subst (IsOpen state) (sym is) (open_seat state session)
+pub open_as : (state : State) (session : ℕ) (association : Association) → association ≡ association_of state session → IsOpen state association
+open_as state session association is = subst (IsOpen state) (sym is) (open_association state session)
 
 known_found : (found : Option Branch) (phase : Phase) → option_map (λ (b : Branch). b.phase) found ≡ Some phase → is_some found ≡ true
 known_found None phase e = not_none phase e
@@ -64,11 +64,11 @@ known_prepared state xid e = by (map.get state.branches xid) e
     by (Some branch) e = refl
 
 -- the branch that a session has open is known
-pub known_active : (state : State) (session : ℕ) (own : Xid) → seat_of state session ≡ Active own → is_known state own ≡ true
-known_active state session own is = known_in state own PhaseActive (subst (IsOpen state) is (open_seat state session))
+pub known_active : (state : State) (session : ℕ) (own : Xid) → association_of state session ≡ Active own → is_known state own ≡ true
+known_active state session own is = known_in state own PhaseActive (subst (IsOpen state) is (open_association state session))
 
-pub known_idle : (state : State) (session : ℕ) (own : Xid) → seat_of state session ≡ Idle own → is_known state own ≡ true
-known_idle state session own is = known_in state own PhaseIdle (subst (IsOpen state) is (open_seat state session))
+pub known_idle : (state : State) (session : ℕ) (own : Xid) → association_of state session ≡ Idle own → is_known state own ≡ true
+known_idle state session own is = known_in state own PhaseIdle (subst (IsOpen state) is (open_association state session))
 
 unprepared : (state : State) (xid : Xid) → phase_at state xid ≡ Some PhaseActive → is_prepared state xid ≡ false
 unprepared state xid e = ap (λ phase. option_map_or is_prepared_phase phase false) e
@@ -88,40 +88,41 @@ own_is xid own error e = same_is xids_total exact_xids xid own (passes (same_xid
 
 -- ---- accepted statements
 
-pub accepted_start : (state : State) (seat : Seat) (xid : Xid) → is_refused (table state seat (Start xid)) ≡ false
-    → (seat ≡ Free) × (is_known state xid ≡ false)
+pub accepted_start : (state : State) (association : Association) (xid : Xid) → is_refused (table state association (Start xid)) ≡ false
+    → (association ≡ Free) × (is_known state xid ≡ false)
 unfolding table
 accepted_start state Free xid e = (refl, let_through (is_known state xid) _ _ e)
 accepted_start state (Active own) xid e = absurd (true≢false e)
 accepted_start state (Idle own) xid e = absurd (true≢false e)
 
-pub accepted_end : (state : State) (seat : Seat) (xid : Xid) → IsOpen state seat → is_refused (table state seat (End xid)) ≡ false
+pub accepted_end : (state : State) (association : Association) (xid : Xid) → IsOpen state association → is_refused (table state association (End xid)) ≡ false
     → is_prepared state xid ≡ false
 unfolding table
-accepted_end state Free xid seated e = absurd (true≢false e)
-accepted_end state (Active own) xid seated e = ap (is_prepared state) (own_is xid own _ e) ∙ unprepared state own seated
-accepted_end state (Idle own) xid seated e = absurd (true≢false e)
+accepted_end state Free xid associated e = absurd (true≢false e)
+accepted_end state (Active own) xid associated e = ap (is_prepared state) (own_is xid own _ e) ∙ unprepared state own associated
+accepted_end state (Idle own) xid associated e = absurd (true≢false e)
 
-pub accepted_commit : (state : State) (seat : Seat) (xid : Xid) (one_phase : Bool) → IsOpen state seat
-    → is_refused (table state seat (Commit xid one_phase)) ≡ false → is_known state xid ≡ true
+pub accepted_commit : (state : State) (association : Association) (xid : Xid) (one_phase : Bool) → IsOpen state association
+    → is_refused (table state association (Commit xid one_phase)) ≡ false → is_known state xid ≡ true
 unfolding table
-accepted_commit state Free xid false seated e = known_prepared state xid (passes (is_prepared state xid) _ e)
-accepted_commit state Free xid true seated e = absurd (never (is_prepared state xid) e)
+accepted_commit state Free xid false associated e = known_prepared state xid (passes (is_prepared state xid) _ e)
+accepted_commit state Free xid true associated e = absurd (never (is_prepared state xid) e)
   where
     never : (b : Bool) → is_refused (refused_if (not b) Nota (Refused (Rmfail StatePrepared))) ≡ false → ⊥
     never true e = true≢false e
     never false e = true≢false e
-accepted_commit state (Active own) xid false seated e = absurd (true≢false e)
-accepted_commit state (Active own) xid true seated e = absurd (true≢false e)
-accepted_commit state (Idle own) xid false seated e = absurd (true≢false e)
-accepted_commit state (Idle own) xid true seated e = ap (is_known state) (own_is xid own _ e) ∙ known_in state own PhaseIdle seated
+accepted_commit state (Active own) xid false associated e = absurd (true≢false e)
+accepted_commit state (Active own) xid true associated e = absurd (true≢false e)
+accepted_commit state (Idle own) xid false associated e = absurd (true≢false e)
+accepted_commit state (Idle own) xid true associated e = ap (is_known state) (own_is xid own _ e) ∙ known_in state own PhaseIdle associated
 
-pub accepted_rollback : (state : State) (seat : Seat) (xid : Xid) → IsOpen state seat → is_refused (table state seat (Rollback xid)) ≡ false
+pub accepted_rollback : (state : State) (association : Association) (xid : Xid) → IsOpen state association
+    → is_refused (table state association (Rollback xid)) ≡ false
     → is_known state xid ≡ true
 unfolding table
-accepted_rollback state Free xid seated e = known_prepared state xid (passes (is_prepared state xid) _ e)
-accepted_rollback state (Active own) xid seated e = absurd (true≢false e)
-accepted_rollback state (Idle own) xid seated e = ap (is_known state) (own_is xid own _ e) ∙ known_in state own PhaseIdle seated
+accepted_rollback state Free xid associated e = known_prepared state xid (passes (is_prepared state xid) _ e)
+accepted_rollback state (Active own) xid associated e = absurd (true≢false e)
+accepted_rollback state (Idle own) xid associated e = ap (is_known state) (own_is xid own _ e) ∙ known_in state own PhaseIdle associated
 
 pub accepted_get : (state : State) (own : Xid) (key : List ℕ) → is_refused (table state (Active own) (Get key)) ≡ false
     → is_locked_against state (Active own) key ≡ false
@@ -167,25 +168,25 @@ locked_again state own key held = by (map.get state.branches own) refl held
 
 -- ---- statements and their steps
 
--- the seat's own test, as the answers to the session's statements have it
+-- the association's own test, as the answers to the session's statements have it
 pub accepted_there : (state : State) (session : ℕ) (statement : Statement) → is_refused (reply_to state session statement) ≡ false
-    → is_refused (table state (seat_of state session) statement) ≡ false
+    → is_refused (table state (association_of state session) statement) ≡ false
 unfolding reply_to
 accepted_there state session statement e = e
 
-pub accepted_as : (state : State) (session : ℕ) (statement : Statement) (seat : Seat) → seat_of state session ≡ seat
-    → is_refused (reply_to state session statement) ≡ false → is_refused (table state seat statement) ≡ false
+pub accepted_as : (state : State) (session : ℕ) (statement : Statement) (association : Association) → association_of state session ≡ association
+    → is_refused (reply_to state session statement) ≡ false → is_refused (table state association statement) ≡ false
 unfolding reply_to
-accepted_as state session statement seat is e = ap (λ s. is_refused (table state s statement)) (sym is) ∙ e
+accepted_as state session statement association is e = ap (λ s. is_refused (table state s statement)) (sym is) ∙ e
 
 -- an accepted statement leaves its effect
 pub after_accepted : (state : State) (session : ℕ) (statement : Statement) → is_refused (reply_to state session statement) ≡ false
-    → effect state session (seat_of state session) statement ≡ after state session statement
+    → effect state session (association_of state session) statement ≡ after state session statement
 unfolding after
 after_accepted state session statement accepted = sym (by (reply_to state session statement) accepted)
   where
     by : (r : Reply) → is_refused r ≡ false
-        → unless_refused r state (effect state session (seat_of state session) statement) ≡ effect state session (seat_of state session) statement
+        → unless_refused r state (effect state session (association_of state session) statement) ≡ effect state session (association_of state session) statement
     by Accepted e = refl
     by (Value value) e = refl
     by (Recovered xids) e = refl
@@ -197,25 +198,25 @@ pub after_refused : (state : State) (session : ℕ) (statement : Statement) → 
 unfolding after
 after_refused state session statement refused = sym (by (reply_to state session statement) refused)
   where
-    by : (r : Reply) → is_refused r ≡ true → unless_refused r state (effect state session (seat_of state session) statement) ≡ state
+    by : (r : Reply) → is_refused r ≡ true → unless_refused r state (effect state session (association_of state session) statement) ≡ state
     by Accepted e = absurd (true≢false (sym e))
     by (Value value) e = absurd (true≢false (sym e))
     by (Recovered xids) e = absurd (true≢false (sym e))
     by (Refused error) e = refl
 
--- the reply that the seat has in the table is the reply to the session
-pub replied : (state : State) (session : ℕ) (seat : Seat) (statement : Statement) (reply : Reply) → seat ≡ seat_of state session
-    → reply ≡ table state seat statement → reply ≡ reply_to state session statement
+-- the reply that the association has in the table is the reply to the session
+pub replied : (state : State) (session : ℕ) (association : Association) (statement : Statement) (reply : Reply) → association ≡ association_of state session
+    → reply ≡ table state association statement → reply ≡ reply_to state session statement
 unfolding reply_to
-replied state session seat statement reply is answered = answered ∙ ap (λ s. table state s statement) is
+replied state session association statement reply is answered = answered ∙ ap (λ s. table state s statement) is
 
 -- an allocation fails only where the statement enters and makes a record
 pub may_run_out : (old : State) (session : ℕ) (statement : Statement) →
-    is_refused (reply_to old session statement) ≡ false → may_enter old (seat_of old session) statement ≡ true → makes_record statement ≡ true
+    is_refused (reply_to old session statement) ≡ false → may_enter old (association_of old session) statement ≡ true → makes_record statement ≡ true
     → may_take_memory old session statement ≡ true
 unfolding enters
 may_run_out old session statement accepted enters_it makes =
-    ap (λ b. is_recover statement || (not b && may_enter old (seat_of old session) statement && makes_record statement)) accepted
+    ap (λ b. is_recover statement || (not b && may_enter old (association_of old session) statement && makes_record statement)) accepted
     ∙ ap (λ b. is_recover statement || (b && makes_record statement)) enters_it
     ∙ ap (λ b. is_recover statement || b) makes ∙ or_true (is_recover statement)
   where
@@ -224,7 +225,7 @@ may_run_out old session statement accepted enters_it makes =
     or_true false = refl
 
 pub may_run_out_at : {T E : Type 0} (result : Result T E) (old : State) (session : ℕ) (statement : Statement) →
-    is_refused (reply_to old session statement) ≡ false → OnErr result (may_enter old (seat_of old session) statement ≡ true)
+    is_refused (reply_to old session statement) ≡ false → OnErr result (may_enter old (association_of old session) statement ≡ true)
     → OnErr result (makes_record statement ≡ true)
     → OnErr result (may_take_memory old session statement ≡ true)
 may_run_out_at (Ok value) old session statement accepted enters_it makes = enters_it

@@ -13,9 +13,9 @@ use Rattle.xa_xid.specs.declared.statement.Statement.TheVariants.{Start, End, Pr
 use Rattle.xa_server.specs.declared.branch.Phase.TheVariants.{Idle as PhaseIdle, Prepared as PhasePrepared}
 use Rattle.xa_server.specs.declared.reply.Reply.{Reply}
 use Rattle.xa_server.specs.declared.reply.Reply.TheVariants.{Ok as Accepted, Value, Recovered, Refused}
-use Rattle.xa_server.specs.declared.seat.Seat.{Seat}
-use Rattle.xa_server.specs.declared.seat.Seat.TheVariants.{Free, Active, Idle}
-use Rattle.xa_server.specs.State.{Branch, State, seat_of}
+use Rattle.xa_server.specs.declared.association.Association.{Association}
+use Rattle.xa_server.specs.declared.association.Association.TheVariants.{Free, Active, Idle}
+use Rattle.xa_server.specs.State.{Branch, State, association_of}
 use Rattle.xa_server.specs.Replies.{table, reply_to}
 use Rattle.xa_server.specs.Step.{started_by, with_branch, with_changed, with_writes, without_branch, committed, with_lock, with_own_write, effect, is_refused}
 use Rattle.xa_server.specs.Step.{unless_refused, after}
@@ -28,14 +28,14 @@ unfoldable pub detached : Branch → Branch
 detached branch = record branch { phase = PhasePrepared; owner = None }
 
 -- the branch of an identifier, by what it was, once an accepted statement is carried out
-unfoldable pub branch_after : ℕ → Seat → Statement → Xid → Option Branch → Option Branch
-branch_after session seat (Start xid) at found = cond (same_xid at xid) (Some (started_by session)) found
-branch_after session seat (End xid) at found = cond (same_xid at xid) (option_map idle found) found
-branch_after session seat (Prepare xid) at found = cond (same_xid at xid) (option_map detached found) found
-branch_after session seat (Commit xid one_phase) at found = cond (same_xid at xid) None found
-branch_after session seat (Rollback xid) at found = cond (same_xid at xid) None found
-branch_after session seat (Recover convert) at found = found
-branch_after session seat Unsupported at found = found
+unfoldable pub branch_after : ℕ → Association → Statement → Xid → Option Branch → Option Branch
+branch_after session association (Start xid) at found = cond (same_xid at xid) (Some (started_by session)) found
+branch_after session association (End xid) at found = cond (same_xid at xid) (option_map idle found) found
+branch_after session association (Prepare xid) at found = cond (same_xid at xid) (option_map detached found) found
+branch_after session association (Commit xid one_phase) at found = cond (same_xid at xid) None found
+branch_after session association (Rollback xid) at found = cond (same_xid at xid) None found
+branch_after session association (Recover convert) at found = found
+branch_after session association Unsupported at found = found
 branch_after session Free (Get key) at found = found
 branch_after session (Active own) (Get key) at found = cond (same_xid at own) (option_map (with_lock key) found) found
 branch_after session (Idle own) (Get key) at found = found
@@ -97,16 +97,16 @@ ended state xid at = by (map.get state.branches xid) refl
     by (Some branch) e = taken_out state xid at
 
 -- an accepted statement, carried out, leaves this branch
-pub effect-branch : (state : State) (session : ℕ) (seat : Seat) (statement : Statement) (at : Xid) →
-    map.get (effect state session seat statement).branches at ≡ branch_after session seat statement at (map.get state.branches at)
+pub effect-branch : (state : State) (session : ℕ) (association : Association) (statement : Statement) (at : Xid) →
+    map.get (effect state session association statement).branches at ≡ branch_after session association statement at (map.get state.branches at)
 unfolding effect branch_after idle detached
-effect-branch state session seat (Start xid) at = put_in state xid (started_by session) at
-effect-branch state session seat (End xid) at = changed state xid idle at
-effect-branch state session seat (Prepare xid) at = changed state xid detached at
-effect-branch state session seat (Commit xid one_phase) at = ended state xid at
-effect-branch state session seat (Rollback xid) at = taken_out state xid at
-effect-branch state session seat (Recover convert) at = refl
-effect-branch state session seat Unsupported at = refl
+effect-branch state session association (Start xid) at = put_in state xid (started_by session) at
+effect-branch state session association (End xid) at = changed state xid idle at
+effect-branch state session association (Prepare xid) at = changed state xid detached at
+effect-branch state session association (Commit xid one_phase) at = ended state xid at
+effect-branch state session association (Rollback xid) at = taken_out state xid at
+effect-branch state session association (Recover convert) at = refl
+effect-branch state session association Unsupported at = refl
 effect-branch state session Free (Get key) at = refl
 effect-branch state session (Active own) (Get key) at = changed state own (with_lock key) at
 effect-branch state session (Idle own) (Get key) at = refl
@@ -128,7 +128,7 @@ pub refused_leaves : (state : State) (session : ℕ) (statement : Statement) →
 unfolding after
 refused_leaves state session statement e = by (reply_to state session statement) e
   where
-    by : (reply : Reply) → is_refused reply ≡ true → unless_refused reply state (effect state session (seat_of state session) statement) ≡ state
+    by : (reply : Reply) → is_refused reply ≡ true → unless_refused reply state (effect state session (association_of state session) statement) ≡ state
     by Accepted e = absurd (true≢false (sym e))
     by (Value value) e = absurd (true≢false (sym e))
     by (Recovered xids) e = absurd (true≢false (sym e))
@@ -136,12 +136,13 @@ refused_leaves state session statement e = by (reply_to state session statement)
 
 -- one that isn't is carried out
 pub accepted_done : (state : State) (session : ℕ) (statement : Statement) → is_refused (reply_to state session statement) ≡ false
-    → after state session statement ≡ effect state session (seat_of state session) statement
+    → after state session statement ≡ effect state session (association_of state session) statement
 unfolding after
 accepted_done state session statement e = by (reply_to state session statement) e
   where
     by : (reply : Reply) → is_refused reply ≡ false
-        → unless_refused reply state (effect state session (seat_of state session) statement) ≡ effect state session (seat_of state session) statement
+        → unless_refused reply state (effect state session (association_of state session) statement)
+        ≡ effect state session (association_of state session) statement
     by Accepted e = refl
     by (Value value) e = refl
     by (Recovered xids) e = refl
@@ -150,14 +151,14 @@ accepted_done state session statement e = by (reply_to state session statement) 
 -- the statement is refused and leaves the state, or the table of replies accepts it and it is carried out
 pub outcome : (state : State) (session : ℕ) (statement : Statement) →
     ((is_refused (reply_to state session statement) ≡ true) × (after state session statement ≡ state))
-    ⊎ ((is_refused (table state (seat_of state session) statement) ≡ false)
-    × (after state session statement ≡ effect state session (seat_of state session) statement))
+    ⊎ ((is_refused (table state (association_of state session) statement) ≡ false)
+    × (after state session statement ≡ effect state session (association_of state session) statement))
 unfolding reply_to
 outcome state session statement = by (is_refused (reply_to state session statement)) refl
   where
     by : (b : Bool) → is_refused (reply_to state session statement) ≡ b →
         ((is_refused (reply_to state session statement) ≡ true) × (after state session statement ≡ state))
-        ⊎ ((is_refused (table state (seat_of state session) statement) ≡ false)
-        × (after state session statement ≡ effect state session (seat_of state session) statement))
+        ⊎ ((is_refused (table state (association_of state session) statement) ≡ false)
+        × (after state session statement ≡ effect state session (association_of state session) statement))
     by true e = inl (e, refused_leaves state session statement e)
     by false e = inr (e, accepted_done state session statement e)

@@ -4,9 +4,9 @@ use Rattle.std.specs.Prelude.{not, ◌&&◌}
 use mathlib.Core.Bool.{true≢false}
 use Rattle.xa_xid.specs.declared.statement.Statement.{Statement}
 use Rattle.xa_xid.specs.declared.statement.Statement.TheVariants.{Start, End, Prepare, Commit, Rollback, Recover, Unsupported, Get, Put, Del, Disconnect}
-use Rattle.xa_server.specs.declared.seat.Seat.{Seat}
-use Rattle.xa_server.specs.declared.seat.Seat.TheVariants.{Free, Active, Idle}
-use Rattle.xa_server.specs.State.{State, seat_of}
+use Rattle.xa_server.specs.declared.association.Association.{Association}
+use Rattle.xa_server.specs.declared.association.Association.TheVariants.{Free, Active, Idle}
+use Rattle.xa_server.specs.State.{State, association_of}
 use Rattle.xa_server.specs.Locks.{holds}
 use Rattle.xa_server.specs.Replies.{reply_to}
 use Rattle.xa_server.specs.Step.{effect, is_refused, after, enters, may_enter}
@@ -18,21 +18,21 @@ refuted true e = refl
 refuted false e = absurd (true≢false e)
 
 -- what has no place in the history does nothing
-idles : (state : State) (session : ℕ) (seat : Seat) (statement : Statement) → may_enter state seat statement ≡ false
-    → effect state session seat statement ≡ state
+idles : (state : State) (session : ℕ) (association : Association) (statement : Statement) → may_enter state association statement ≡ false
+    → effect state session association statement ≡ state
 unfolding effect may_enter
-idles state session seat (Start xid) e = absurd (true≢false e)
-idles state session seat (End xid) e = absurd (true≢false e)
-idles state session seat (Prepare xid) e = absurd (true≢false e)
-idles state session seat (Commit xid one_phase) e = absurd (true≢false e)
-idles state session seat (Rollback xid) e = absurd (true≢false e)
-idles state session seat (Recover convert) e = refl
-idles state session seat Unsupported e = refl
+idles state session association (Start xid) e = absurd (true≢false e)
+idles state session association (End xid) e = absurd (true≢false e)
+idles state session association (Prepare xid) e = absurd (true≢false e)
+idles state session association (Commit xid one_phase) e = absurd (true≢false e)
+idles state session association (Rollback xid) e = absurd (true≢false e)
+idles state session association (Recover convert) e = refl
+idles state session association Unsupported e = refl
 idles state session Free (Get key) e = refl
 idles state session (Active own) (Get key) e = locked_again state own key (refuted (holds state own key) e)
 idles state session (Idle own) (Get key) e = refl
-idles state session seat (Put key value) e = absurd (true≢false e)
-idles state session seat (Del key) e = absurd (true≢false e)
+idles state session association (Put key value) e = absurd (true≢false e)
+idles state session association (Del key) e = absurd (true≢false e)
 idles state session Free Disconnect e = refl
 idles state session (Active own) Disconnect e = absurd (true≢false e)
 idles state session (Idle own) Disconnect e = absurd (true≢false e)
@@ -44,4 +44,5 @@ unentered_leaves state session statement e = by (is_refused (reply_to state sess
     by : (b : Bool) → is_refused (reply_to state session statement) ≡ b → after state session statement ≡ state
     by true refused = refused_leaves state session statement refused
     by false accepted = accepted_done state session statement accepted
-        ∙ idles state session (seat_of state session) statement (sym (ap (λ b. not b && may_enter state (seat_of state session) statement) accepted) ∙ e)
+        ∙ idles state session (association_of state session) statement
+        (sym (ap (λ b. not b && may_enter state (association_of state session) statement) accepted) ∙ e)

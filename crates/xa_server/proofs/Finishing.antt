@@ -11,9 +11,9 @@ use Rattle.xa_xid.specs.declared.statement.Statement.{Statement}
 use Rattle.xa_xid.specs.declared.statement.Statement.TheVariants.{Start, End, Prepare, Commit, Rollback, Recover, Unsupported, Get, Put, Del, Disconnect}
 use Rattle.xa_server.specs.declared.reply.Reply.TheVariants.{Ok as Accepted}
 use Rattle.xa_server.specs.declared.xa_error.XaError.{XaError}
-use Rattle.xa_server.specs.declared.seat.Seat.{Seat}
-use Rattle.xa_server.specs.declared.seat.Seat.TheVariants.{Free, Active, Idle}
-use Rattle.xa_server.specs.State.{Write, Branch, State, is_prepared, is_prepared_phase, seat_of}
+use Rattle.xa_server.specs.declared.association.Association.{Association}
+use Rattle.xa_server.specs.declared.association.Association.TheVariants.{Free, Active, Idle}
+use Rattle.xa_server.specs.State.{Write, Branch, State, is_prepared, is_prepared_phase, association_of}
 use Rattle.xa_server.specs.Replies.{ok_if, table, reply_to}
 use Rattle.xa_server.specs.Step.{started_by, with_lock, with_own_write, is_refused, after, after_all}
 use Rattle.xa_server.specs.Finish.{Finishes, commits, rolls_back, FinishesAt, PreparesAt}
@@ -51,19 +51,19 @@ never : {A : Type 0} (b : Bool) → b ≡ false → b ≡ true → A
 never b e f = absurd (true≢false (sym f ∙ e))
 
 -- only an XA PREPARE of a branch makes it PREPARED
-turns : (session : ℕ) (seat : Seat) (statement : Statement) (at : Xid) (found : Option Branch) →
-    is_ready found ≡ false → is_ready (branch_after session seat statement at found) ≡ true → statement ≡ Prepare at
+turns : (session : ℕ) (association : Association) (statement : Statement) (at : Xid) (found : Option Branch) →
+    is_ready found ≡ false → is_ready (branch_after session association statement at found) ≡ true → statement ≡ Prepare at
 unfolding branch_after is_ready
-turns session seat (Start xid) at found e f = never _ (stays (same_xid at xid) (Some (started_by session)) found e refl) f
-turns session seat (End xid) at found e f = never _ (stays (same_xid at xid) (option_map idle found) found e (idle_isn't found)) f
-turns session seat (Prepare xid) at found e f = elim (same_or_apart xids_total exact_xids at xid) [
+turns session association (Start xid) at found e f = never _ (stays (same_xid at xid) (Some (started_by session)) found e refl) f
+turns session association (End xid) at found e f = never _ (stays (same_xid at xid) (option_map idle found) found e (idle_isn't found)) f
+turns session association (Prepare xid) at found e f = elim (same_or_apart xids_total exact_xids at xid) [
   | inl is ↦ ap Prepare (sym is)
   | inr apart ↦ never (is_ready found) e (ap (λ b. is_ready (cond b (option_map detached found) found)) (sym apart) ∙ f)
 ]
-turns session seat (Commit xid one_phase) at found e f = never _ (stays (same_xid at xid) None found e refl) f
-turns session seat (Rollback xid) at found e f = never _ (stays (same_xid at xid) None found e refl) f
-turns session seat (Recover convert) at found e f = never _ e f
-turns session seat Unsupported at found e f = never _ e f
+turns session association (Commit xid one_phase) at found e f = never _ (stays (same_xid at xid) None found e refl) f
+turns session association (Rollback xid) at found e f = never _ (stays (same_xid at xid) None found e refl) f
+turns session association (Recover convert) at found e f = never _ e f
+turns session association Unsupported at found e f = never _ e f
 turns session Free (Get key) at found e f = never _ e f
 turns session (Active own) (Get key) at found e f = never _ (stays (same_xid at own) (option_map (with_lock key) found) found e (locked key found ∙ e)) f
 turns session (Idle own) (Get key) at found e f = never _ e f
@@ -83,7 +83,8 @@ passed : (b : Bool) (error : XaError) → is_refused (ok_if b error) ≡ false �
 passed true error e = refl
 passed false error e = absurd (true≢false e)
 
-prepare_answer : (state : State) (seat : Seat) (xid : Xid) → is_refused (table state seat (Prepare xid)) ≡ false → table state seat (Prepare xid) ≡ Accepted
+prepare_answer : (state : State) (association : Association) (xid : Xid) → is_refused (table state association (Prepare xid)) ≡ false
+    → table state association (Prepare xid) ≡ Accepted
 unfolding table
 prepare_answer state Free xid e = absurd (true≢false e)
 prepare_answer state (Active own) xid e = absurd (true≢false e)
@@ -97,19 +98,20 @@ unfolding is_ready reply_to
 becomes_prepared state session statement xid e f = elim (outcome state session statement) [
   | inl (refused, same) ↦ never (is_prepared state xid) e (sym (ap (λ s. is_prepared s xid) same) ∙ f)
   | inr (accepted, done) ↦
-      let is : statement ≡ Prepare xid = turns session (seat_of state session) statement xid (map.get state.branches xid) e
-      (ap is_ready (sym (effect-branch state session (seat_of state session) statement xid)) ∙ sym (ap (λ s. is_prepared s xid) done) ∙ f) in
-      (is, prepare_answer state (seat_of state session) xid (sym (ap (λ s. is_refused (table state (seat_of state session) s)) is) ∙ accepted))
+      let is : statement ≡ Prepare xid = turns session (association_of state session) statement xid (map.get state.branches xid) e
+      (ap is_ready (sym (effect-branch state session (association_of state session) statement xid)) ∙ sym (ap (λ s. is_prepared s xid) done) ∙ f) in
+      (is, prepare_answer state (association_of state session) xid (sym (ap (λ s. is_refused (table state (association_of state session) s)) is) ∙ accepted))
 ]
 
 -- ---- what finishes a branch
 
 gone : (state : State) (session : ℕ) (statement : Statement) (xid : Xid) → reply_to state session statement ≡ Accepted →
-    branch_after session (seat_of state session) statement xid (map.get state.branches xid) ≡ None → is_prepared (after state session statement) xid ≡ false
+    branch_after session (association_of state session) statement xid (map.get state.branches xid) ≡ None
+    → is_prepared (after state session statement) xid ≡ false
 unfolding is_ready
 gone state session statement xid accepted none =
     ap (λ s. is_prepared s xid) (accepted_done state session statement (ap is_refused accepted))
-    ∙ ap is_ready (effect-branch state session (seat_of state session) statement xid ∙ none)
+    ∙ ap is_ready (effect-branch state session (association_of state session) statement xid ∙ none)
 
 -- a branch that is finished isn't PREPARED any more
 finished : (state : State) (session : ℕ) (statement : Statement) (xid : Xid) → Finishes statement xid → reply_to state session statement ≡ Accepted

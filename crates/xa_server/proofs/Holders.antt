@@ -12,8 +12,8 @@ use Rattle.xa_xid.proofs.Orders.{xids_total, exact_xids}
 use Rattle.xa_server.specs.declared.lock.Lock.{Lock}
 use Rattle.xa_server.specs.declared.lock.Lock.TheVariants.{Exclusive as HeldBy, Shared as SharedBy}
 use Rattle.xa_server.specs.declared.row.RowRecord.{RowRecord}
-use Rattle.xa_server.specs.declared.seat.Seat.{Seat}
-use Rattle.xa_server.specs.declared.seat.Seat.TheVariants.{Active}
+use Rattle.xa_server.specs.declared.association.Association.{Association}
+use Rattle.xa_server.specs.declared.association.Association.TheVariants.{Active}
 use Rattle.xa_server.specs.State.{Write, LockMode, Shared, Exclusive}
 use Rattle.xa_server.specs.Locks.{is_another, is_exclusive}
 use Rattle.xa_server.specs.Rows.{lock_of, write_of, write_in, write_by, mode_in, lock_by, held_beside, locked_beside, held_against, locked_against, with_sharer}
@@ -115,13 +115,13 @@ pub mode_of-lock : (xid : Xid) (found : Option RowRecord) → mode_of xid found 
 mode_of-lock xid None = sym (ap (λ b. cond b (Some Shared) None) (contains-empty xid_cmp xid))
 mode_of-lock xid (Some row) = refl
 
-pub held_against-lock : (seat : Seat) (found : Option RowRecord) → held_against seat found ≡ held_beside seat (lock_of found)
-held_against-lock seat None = sym (none_passes (is_another seat))
-held_against-lock seat (Some row) = refl
+pub held_against-lock : (association : Association) (found : Option RowRecord) → held_against association found ≡ held_beside association (lock_of found)
+held_against-lock association None = sym (none_passes (is_another association))
+held_against-lock association (Some row) = refl
 
-pub locked_against-lock : (seat : Seat) (found : Option RowRecord) → locked_against seat found ≡ locked_beside seat (lock_of found)
-locked_against-lock seat None = refl
-locked_against-lock seat (Some row) = refl
+pub locked_against-lock : (association : Association) (found : Option RowRecord) → locked_against association found ≡ locked_beside association (lock_of found)
+locked_against-lock association None = refl
+locked_against-lock association (Some row) = refl
 
 -- who holds a row exclusively holds it alone
 pub alone_in : (xid other : Xid) (lock : Lock) → is_exclusive (mode_in xid lock) ≡ true → is_some (mode_in other lock) ≡ true → xid ≡ other
@@ -139,27 +139,29 @@ writes_in xid (HeldBy holder change) e = exclusive_if (same_xid holder xid) ∙ 
 writes_in xid (SharedBy sharers) e = absurd (true≢false (sym e))
 
 -- a holder that isn't the session's own is among those beside it
-pub beside_there : (seat : Seat) (lock : Lock) (xid : Xid) → is_some (mode_in xid lock) ≡ true → is_another seat xid ≡ true → held_beside seat lock ≡ true
-beside_there seat (HeldBy holder change) xid e f = ap (is_another seat) (one_xid holder xid (sym (some_if (same_xid holder xid) Exclusive) ∙ e)) ∙ f
-beside_there seat (SharedBy sharers) xid e f =
-    any_some (is_another seat) (set.items sharers) xid (sym (contains-items sharers xid) ∙ sym (some_if (set.contains sharers xid) Shared) ∙ e) f
+pub beside_there : (association : Association) (lock : Lock) (xid : Xid) → is_some (mode_in xid lock) ≡ true → is_another association xid ≡ true
+    → held_beside association lock ≡ true
+beside_there association (HeldBy holder change) xid e f =
+    ap (is_another association) (one_xid holder xid (sym (some_if (same_xid holder xid) Exclusive) ∙ e)) ∙ f
+beside_there association (SharedBy sharers) xid e f =
+    any_some (is_another association) (set.items sharers) xid (sym (contains-items sharers xid) ∙ sym (some_if (set.contains sharers xid) Shared) ∙ e) f
 
-pub beside_witness : (seat : Seat) (lock : Lock) → held_beside seat lock ≡ true
-    → (xid : Xid) × (is_some (mode_in xid lock) ≡ true) × (is_another seat xid ≡ true)
-beside_witness seat (HeldBy holder change) e = (holder, some_if (same_xid holder holder) Exclusive ∙ itself holder, e)
-beside_witness seat (SharedBy sharers) e =
-    let found = any_witness (is_another seat) (set.items sharers) e in
+pub beside_witness : (association : Association) (lock : Lock) → held_beside association lock ≡ true
+    → (xid : Xid) × (is_some (mode_in xid lock) ≡ true) × (is_another association xid ≡ true)
+beside_witness association (HeldBy holder change) e = (holder, some_if (same_xid holder holder) Exclusive ∙ itself holder, e)
+beside_witness association (SharedBy sharers) e =
+    let found = any_witness (is_another association) (set.items sharers) e in
     (found.0, some_if (set.contains sharers found.0) Shared ∙ contains-items sharers found.0 ∙ found.1, found.2)
 
-pub locked_there : (seat : Seat) (lock : Lock) (xid : Xid) → is_exclusive (mode_in xid lock) ≡ true → is_another seat xid ≡ true
-    → locked_beside seat lock ≡ true
-locked_there seat (HeldBy holder change) xid e f = ap (is_another seat) (one_xid holder xid (sym (exclusive_if (same_xid holder xid)) ∙ e)) ∙ f
-locked_there seat (SharedBy sharers) xid e f = absurd (true≢false (sym e ∙ share_only (set.contains sharers xid)))
+pub locked_there : (association : Association) (lock : Lock) (xid : Xid) → is_exclusive (mode_in xid lock) ≡ true → is_another association xid ≡ true
+    → locked_beside association lock ≡ true
+locked_there association (HeldBy holder change) xid e f = ap (is_another association) (one_xid holder xid (sym (exclusive_if (same_xid holder xid)) ∙ e)) ∙ f
+locked_there association (SharedBy sharers) xid e f = absurd (true≢false (sym e ∙ share_only (set.contains sharers xid)))
 
-pub locked_witness : (seat : Seat) (lock : Lock) → locked_beside seat lock ≡ true
-    → (xid : Xid) × (is_exclusive (mode_in xid lock) ≡ true) × (is_another seat xid ≡ true)
-locked_witness seat (HeldBy holder change) e = (holder, exclusive_if (same_xid holder holder) ∙ itself holder, e)
-locked_witness seat (SharedBy sharers) e = absurd (true≢false (sym e))
+pub locked_witness : (association : Association) (lock : Lock) → locked_beside association lock ≡ true
+    → (xid : Xid) × (is_exclusive (mode_in xid lock) ≡ true) × (is_another association xid ≡ true)
+locked_witness association (HeldBy holder change) e = (holder, exclusive_if (same_xid holder holder) ∙ itself holder, e)
+locked_witness association (SharedBy sharers) e = absurd (true≢false (sym e))
 
 -- what doesn't hold a row doesn't write it
 pub unwritten : (xid : Xid) (found : Option RowRecord) → is_some (mode_of xid found) ≡ false → option_and_then (write_by xid) found ≡ None

@@ -12,16 +12,17 @@ use Rattle.xa_xid.specs.declared.statement.Statement.{Statement}
 use Rattle.xa_xid.specs.declared.statement.Statement.TheVariants.{Start, End, Prepare, Commit, Rollback, Recover, Unsupported, Get, Put, Del, Disconnect}
 use Rattle.xa_server.specs.declared.branch.Phase.{Phase}
 use Rattle.xa_server.specs.declared.branch.Phase.TheVariants.{Active as PhaseActive, Idle as PhaseIdle, Prepared as PhasePrepared}
-use Rattle.xa_server.specs.declared.seat.Seat.{Seat}
-use Rattle.xa_server.specs.declared.seat.Seat.TheVariants.{Free, Active, Idle}
-use Rattle.xa_server.specs.State.{Write, Exclusive, Branch, State, no_state, is_prepared, is_prepared_phase, owns, phase_at, seat_in, seat_of, IsOpen}
+use Rattle.xa_server.specs.declared.association.Association.{Association}
+use Rattle.xa_server.specs.declared.association.Association.TheVariants.{Free, Active, Idle}
+use Rattle.xa_server.specs.State.{Write, Exclusive, Branch, State, no_state, is_prepared, is_prepared_phase, owns, phase_at, association_in, association_of}
+use Rattle.xa_server.specs.State.{IsOpen}
 use Rattle.xa_server.specs.Locks.{LockLaw, is_exclusive}
 use Rattle.xa_server.specs.Replies.{table}
 use Rattle.xa_server.specs.Step.{started_by, with_lock, with_own_write, effect, is_refused, after, after_all}
 use Rattle.xa_server.proofs.Maps.{same_or_apart, get_inserted, get_inserted_apart}
 use Rattle.xa_server.proofs.Index.{not_none}
 use Rattle.xa_server.proofs.Taking.{mode_in, share_exclusive, Before, held_before, exclusive_before, one_holder}
-use Rattle.xa_server.proofs.Accepted.{open_seat, accepted_start, accepted_end}
+use Rattle.xa_server.proofs.Accepted.{open_association, accepted_start, accepted_end}
 use Rattle.xa_server.proofs.Changes.{idle, detached, branch_after, effect-branch, outcome}
 use Rattle.xa_server.proofs.Others.{is_owned, IsStarted, owned_before, own_found, nobodys, known_owned}
 use Rattle.xa_server.proofs.Steps.{seen_empty}
@@ -102,53 +103,56 @@ idle_at state xid at e sound = elim (same_or_apart xids_total exact_xids at xid)
   | inr apart ↦ subst (λ b. IsSound (cond b (option_map idle (map.get state.branches at)) (map.get state.branches at))) (sym apart) sound
 ]
 
-sound_after : (state : State) (session : ℕ) (seat : Seat) → IsOpen state seat → (statement : Statement) → is_refused (table state seat statement) ≡ false
+sound_after : (state : State) (session : ℕ) (association : Association) → IsOpen state association → (statement : Statement)
+    → is_refused (table state association statement) ≡ false
     → (at : Xid) → IsSound (map.get state.branches at) →
-    IsSound (branch_after session seat statement at (map.get state.branches at))
+    IsSound (branch_after session association statement at (map.get state.branches at))
 unfolding branch_after
-sound_after state session seat seated (Start xid) accepted at sound = one_of (same_xid at xid) _ _ (sound_started session) sound
-sound_after state session seat seated (End xid) accepted at sound = idle_at state xid at (accepted_end state seat xid seated accepted) sound
-sound_after state session seat seated (Prepare xid) accepted at sound = one_of (same_xid at xid) _ _ (sound_detached (map.get state.branches at) sound) sound
-sound_after state session seat seated (Commit xid one_phase) accepted at sound = one_of (same_xid at xid) _ _ sound_none sound
-sound_after state session seat seated (Rollback xid) accepted at sound = one_of (same_xid at xid) _ _ sound_none sound
-sound_after state session seat seated (Recover convert) accepted at sound = sound
-sound_after state session seat seated Unsupported accepted at sound = sound
-sound_after state session Free seated (Get key) accepted at sound = sound
-sound_after state session (Active own) seated (Get key) accepted at sound =
+sound_after state session association associated (Start xid) accepted at sound = one_of (same_xid at xid) _ _ (sound_started session) sound
+sound_after state session association associated (End xid) accepted at sound =
+    idle_at state xid at (accepted_end state association xid associated accepted) sound
+sound_after state session association associated (Prepare xid) accepted at sound =
+    one_of (same_xid at xid) _ _ (sound_detached (map.get state.branches at) sound) sound
+sound_after state session association associated (Commit xid one_phase) accepted at sound = one_of (same_xid at xid) _ _ sound_none sound
+sound_after state session association associated (Rollback xid) accepted at sound = one_of (same_xid at xid) _ _ sound_none sound
+sound_after state session association associated (Recover convert) accepted at sound = sound
+sound_after state session association associated Unsupported accepted at sound = sound
+sound_after state session Free associated (Get key) accepted at sound = sound
+sound_after state session (Active own) associated (Get key) accepted at sound =
     one_of (same_xid at own) _ _ (sound_locked key (map.get state.branches at) sound) sound
-sound_after state session (Idle own) seated (Get key) accepted at sound = sound
-sound_after state session Free seated (Put key value) accepted at sound = sound
-sound_after state session (Active own) seated (Put key value) accepted at sound =
+sound_after state session (Idle own) associated (Get key) accepted at sound = sound
+sound_after state session Free associated (Put key value) accepted at sound = sound
+sound_after state session (Active own) associated (Put key value) accepted at sound =
     one_of (same_xid at own) _ _ (sound_written key (Some value) (map.get state.branches at) sound) sound
-sound_after state session (Idle own) seated (Put key value) accepted at sound = sound
-sound_after state session Free seated (Del key) accepted at sound = sound
-sound_after state session (Active own) seated (Del key) accepted at sound =
+sound_after state session (Idle own) associated (Put key value) accepted at sound = sound
+sound_after state session Free associated (Del key) accepted at sound = sound
+sound_after state session (Active own) associated (Del key) accepted at sound =
     one_of (same_xid at own) _ _ (sound_written key None (map.get state.branches at) sound) sound
-sound_after state session (Idle own) seated (Del key) accepted at sound = sound
-sound_after state session Free seated Disconnect accepted at sound = sound
-sound_after state session (Active own) seated Disconnect accepted at sound = one_of (same_xid at own) _ _ sound_none sound
-sound_after state session (Idle own) seated Disconnect accepted at sound = one_of (same_xid at own) _ _ sound_none sound
+sound_after state session (Idle own) associated (Del key) accepted at sound = sound
+sound_after state session Free associated Disconnect accepted at sound = sound
+sound_after state session (Active own) associated Disconnect accepted at sound = one_of (same_xid at own) _ _ sound_none sound
+sound_after state session (Idle own) associated Disconnect accepted at sound = one_of (same_xid at own) _ _ sound_none sound
 
 -- ---- one branch for a session
 
-is_free : Seat → Bool
+is_free : Association → Bool
 is_free Free = true
 is_free (Active own) = false
 is_free (Idle own) = false
 
 -- a session that owns a branch isn't free
-owner_seated : (state : State) (session : ℕ) (xid : Xid) → LockLaw state → owns state session xid ≡ true → is_free (seat_of state session) ≡ false
-unfolding seat_of is_owned is_free
-owner_seated state session xid law e =
-    ap (λ own. is_free (option_map_or (λ xid. seat_in (phase_at state xid) xid) own Free))
+owner_associated : (state : State) (session : ℕ) (xid : Xid) → LockLaw state → owns state session xid ≡ true → is_free (association_of state session) ≡ false
+unfolding association_of is_owned is_free
+owner_associated state session xid law e =
+    ap (λ own. is_free (option_map_or (λ xid. association_in (phase_at state xid) xid) own Free))
     (own_found state session xid e (λ other f. law.one_branch session xid other e f))
     ∙ by (phase_at state xid) refl
   where
-    nothing : (found : Option Branch) → is_some found ≡ true → option_map (λ (b : Branch). b.phase) found ≡ None → is_free (seat_in None xid) ≡ false
+    nothing : (found : Option Branch) → is_some found ≡ true → option_map (λ (b : Branch). b.phase) found ≡ None → is_free (association_in None xid) ≡ false
     nothing None there none = absurd (true≢false (sym there))
     nothing (Some branch) there none = not_none branch.phase (sym none)
 
-    by : (phase : Option Phase) → phase_at state xid ≡ phase → is_free (seat_in phase xid) ≡ false
+    by : (phase : Option Phase) → phase_at state xid ≡ phase → is_free (association_in phase xid) ≡ false
     by None is = nothing (map.get state.branches xid) (known_owned session (map.get state.branches xid) e) is
     by (Some PhaseActive) is = refl
     by (Some PhaseIdle) is = refl
@@ -159,15 +163,17 @@ start_of xid other e = cc
 
 -- a session that starts a branch owned none
 starter_free : {A : Type 0} (state : State) (session who : ℕ) (statement : Statement) → LockLaw state
-    → is_refused (table state (seat_of state session) statement) ≡ false →
+    → is_refused (table state (association_of state session) statement) ≡ false →
     (xid other : Xid) → IsStarted session who statement xid → owns state who other ≡ true → A
 unfolding is_free
 starter_free state session who statement law accepted xid other started e =
-    let free : seat_of state session ≡ Free =
-    (accepted_start state (seat_of state session) xid (sym (ap (λ s. is_refused (table state (seat_of state session) s)) started.0) ∙ accepted)).0 in
-    absurd (true≢false (sym (ap is_free free) ∙ owner_seated state session other law (ap (λ s. owns state s other) started.1 ∙ e)))
+    let free : association_of state session ≡ Free =
+    (accepted_start state (association_of state session) xid
+    (sym (ap (λ s. is_refused (table state (association_of state session) s)) started.0) ∙ accepted)).0 in
+    absurd (true≢false (sym (ap is_free free) ∙ owner_associated state session other law (ap (λ s. owns state s other) started.1 ∙ e)))
 
-one_branch : (state : State) (session who : ℕ) (statement : Statement) → LockLaw state → is_refused (table state (seat_of state session) statement) ≡ false
+one_branch : (state : State) (session who : ℕ) (statement : Statement) → LockLaw state
+    → is_refused (table state (association_of state session) statement) ≡ false
     → (xid other : Xid) →
     (owns state who xid ≡ true) ⊎ IsStarted session who statement xid → (owns state who other ≡ true) ⊎ IsStarted session who statement other → xid ≡ other
 one_branch state session who statement law accepted xid other (inl e) (inl f) = law.one_branch who xid other e f
@@ -177,29 +183,30 @@ one_branch state session who statement law accepted xid other (inr e) (inr f) = 
 
 -- ---- the law
 
-carried_out : (state : State) (session : ℕ) (statement : Statement) → LockLaw state → is_refused (table state (seat_of state session) statement) ≡ false
-    → LockLaw (effect state session (seat_of state session) statement)
+carried_out : (state : State) (session : ℕ) (statement : Statement) → LockLaw state → is_refused (table state (association_of state session) statement) ≡ false
+    → LockLaw (effect state session (association_of state session) statement)
 unfolding is_ready owner_in mode_in is_writing is_owned Before
 carried_out state session statement law accepted = record {
-  one_holder = λ xid other key e f. one_holder state (seat_of state session) law xid other key
-      (exclusive_before state session (seat_of state session) statement accepted xid key (sym (ap (λ found. is_exclusive (mode_in key found)) (is xid)) ∙ e))
-      (held_before state session (seat_of state session) statement accepted other key (sym (ap (λ found. is_some (mode_in key found)) (is other)) ∙ f));
+  one_holder = λ xid other key e f. one_holder state (association_of state session) law xid other key
+      (exclusive_before state session (association_of state session) statement accepted xid key
+      (sym (ap (λ found. is_exclusive (mode_in key found)) (is xid)) ∙ e))
+      (held_before state session (association_of state session) statement accepted other key (sym (ap (λ found. is_some (mode_in key found)) (is other)) ∙ f));
   one_branch = λ who xid other e f. one_branch state session who statement law accepted xid other
-      (owned_before session who (seat_of state session) statement xid (map.get state.branches xid) (sym (ap (is_owned who) (is xid)) ∙ e))
-      (owned_before session who (seat_of state session) statement other (map.get state.branches other) (sym (ap (is_owned who) (is other)) ∙ f));
+      (owned_before session who (association_of state session) statement xid (map.get state.branches xid) (sym (ap (is_owned who) (is xid)) ∙ e))
+      (owned_before session who (association_of state session) statement other (map.get state.branches other) (sym (ap (is_owned who) (is other)) ∙ f));
   detached = λ xid. (sound xid).detached;
   attached = λ xid. (sound xid).attached;
   held_writes = λ xid. (sound xid).held;
 }
   where
-    is : (xid : Xid) → map.get (effect state session (seat_of state session) statement).branches xid
-        ≡ branch_after session (seat_of state session) statement xid (map.get state.branches xid)
-    is xid = effect-branch state session (seat_of state session) statement xid
+    is : (xid : Xid) → map.get (effect state session (association_of state session) statement).branches xid
+        ≡ branch_after session (association_of state session) statement xid (map.get state.branches xid)
+    is xid = effect-branch state session (association_of state session) statement xid
 
-    sound : (xid : Xid) → IsSound (map.get (effect state session (seat_of state session) statement).branches xid)
+    sound : (xid : Xid) → IsSound (map.get (effect state session (association_of state session) statement).branches xid)
     sound xid =
         subst IsSound (sym (is xid))
-        (sound_after state session (seat_of state session) (open_seat state session) statement accepted xid (sound_in state law xid))
+        (sound_after state session (association_of state session) (open_association state session) statement accepted xid (sound_in state law xid))
 
 pub law_after : (state : State) (session : ℕ) (statement : Statement) → LockLaw state → LockLaw (after state session statement)
 law_after state session statement law = elim (outcome state session statement) [

@@ -15,9 +15,9 @@ use Rattle.xa_server.specs.declared.branch.Phase.TheVariants.{Active as PhaseAct
 use Rattle.xa_server.specs.declared.xa_error.XaError.TheVariants.{Nota, Rmfail}
 use Rattle.xa_server.specs.declared.xa_error.BranchState.TheVariants.{Prepared as StatePrepared}
 use Rattle.xa_server.specs.declared.reply.Reply.TheVariants.{Refused}
-use Rattle.xa_server.specs.declared.seat.Seat.{Seat}
-use Rattle.xa_server.specs.declared.seat.Seat.TheVariants.{Free, Active, Idle}
-use Rattle.xa_server.specs.State.{Branch, State, is_prepared, owner_at, owns, own_xid, phase_at, seat_in, seat_of}
+use Rattle.xa_server.specs.declared.association.Association.{Association}
+use Rattle.xa_server.specs.declared.association.Association.TheVariants.{Free, Active, Idle}
+use Rattle.xa_server.specs.State.{Branch, State, is_prepared, owner_at, owns, own_xid, phase_at, association_in, association_of}
 use Rattle.xa_server.specs.Locks.{LockLaw}
 use Rattle.xa_server.specs.Replies.{refused_if, table}
 use Rattle.xa_server.specs.Step.{started_by, with_lock, with_own_write, is_refused, after}
@@ -34,8 +34,8 @@ is_owned session found = option_map_or (λ owner. owner == session) (option_and_
 
 -- ---- what a session has open, it owns
 
--- the branch that a seat names is the session's
-abbrev pub IsOwn : State → ℕ → Seat → Type 0
+-- the branch that an association names is the session's
+abbrev pub IsOwn : State → ℕ → Association → Type 0
 IsOwn state session Free = Unit {0}
 IsOwn state session (Active own) = owns state session own ≡ true
 IsOwn state session (Idle own) = owns state session own ≡ true
@@ -50,17 +50,17 @@ find_passes : (p : Xid → Bool) (xs : List Xid) (xid : Xid) → find p xs ≡ S
 find_passes p [] xid e = not_none xid e
 find_passes p (x ∷ xs) xid e = passing p x (find p xs) xid (find_passes p xs xid) (p x) refl e
 
-in_phase : (state : State) (session : ℕ) (phase : Option Phase) (xid : Xid) → owns state session xid ≡ true → IsOwn state session (seat_in phase xid)
+in_phase : (state : State) (session : ℕ) (phase : Option Phase) (xid : Xid) → owns state session xid ≡ true → IsOwn state session (association_in phase xid)
 in_phase state session None xid e = tt
 in_phase state session (Some PhaseActive) xid e = e
 in_phase state session (Some PhaseIdle) xid e = e
 in_phase state session (Some PhasePrepared) xid e = tt
 
-pub own_seat : (state : State) (session : ℕ) → IsOwn state session (seat_of state session)
-unfolding seat_of own_xid
-own_seat state session = by (own_xid state session) refl
+pub own_association : (state : State) (session : ℕ) → IsOwn state session (association_of state session)
+unfolding association_of own_xid
+own_association state session = by (own_xid state session) refl
   where
-    by : (own : Option Xid) → own_xid state session ≡ own → IsOwn state session (option_map_or (λ xid. seat_in (phase_at state xid) xid) own Free)
+    by : (own : Option Xid) → own_xid state session ≡ own → IsOwn state session (option_map_or (λ xid. association_in (phase_at state xid) xid) own Free)
     by None e = tt
     by (Some xid) e = in_phase state session (phase_at state xid) xid (find_passes (owns state session) (map.keys state.branches) xid e)
 
@@ -92,19 +92,20 @@ none_found state session none = find_none (owns state session) (map.keys state.b
 
 -- ---- whose branch an accepted statement changes
 
-pub accepted_end_own : (state : State) (session : ℕ) (seat : Seat) (xid : Xid) → IsOwn state session seat → is_refused (table state seat (End xid)) ≡ false
+pub accepted_end_own : (state : State) (session : ℕ) (association : Association) (xid : Xid) → IsOwn state session association
+    → is_refused (table state association (End xid)) ≡ false
     → owns state session xid ≡ true
 unfolding table
 accepted_end_own state session Free xid own e = absurd (true≢false e)
-accepted_end_own state session (Active seated) xid own e = ap (owns state session) (own_is xid seated _ e) ∙ own
-accepted_end_own state session (Idle seated) xid own e = absurd (true≢false e)
+accepted_end_own state session (Active associated) xid own e = ap (owns state session) (own_is xid associated _ e) ∙ own
+accepted_end_own state session (Idle associated) xid own e = absurd (true≢false e)
 
-pub accepted_prepare_own : (state : State) (session : ℕ) (seat : Seat) (xid : Xid) → IsOwn state session seat
-    → is_refused (table state seat (Prepare xid)) ≡ false → owns state session xid ≡ true
+pub accepted_prepare_own : (state : State) (session : ℕ) (association : Association) (xid : Xid) → IsOwn state session association
+    → is_refused (table state association (Prepare xid)) ≡ false → owns state session xid ≡ true
 unfolding table
 accepted_prepare_own state session Free xid own e = absurd (true≢false e)
-accepted_prepare_own state session (Active seated) xid own e = absurd (true≢false e)
-accepted_prepare_own state session (Idle seated) xid own e = ap (owns state session) (own_is xid seated _ e) ∙ own
+accepted_prepare_own state session (Active associated) xid own e = absurd (true≢false e)
+accepted_prepare_own state session (Idle associated) xid own e = ap (owns state session) (own_is xid associated _ e) ∙ own
 
 never_done : {A : Type 0} (b : Bool) → is_refused (refused_if (not b) Nota (Refused (Rmfail StatePrepared))) ≡ false → A
 never_done true e = absurd (true≢false e)
@@ -114,22 +115,22 @@ never_done false e = absurd (true≢false e)
 abbrev pub IsFinishable : State → ℕ → Xid → Type 0
 IsFinishable state session xid = (owns state session xid ≡ true) ⊎ (is_prepared state xid ≡ true)
 
-pub accepted_commit_own : (state : State) (session : ℕ) (seat : Seat) (xid : Xid) (one_phase : Bool) → IsOwn state session seat
-    → is_refused (table state seat (Commit xid one_phase)) ≡ false → IsFinishable state session xid
+pub accepted_commit_own : (state : State) (session : ℕ) (association : Association) (xid : Xid) (one_phase : Bool) → IsOwn state session association
+    → is_refused (table state association (Commit xid one_phase)) ≡ false → IsFinishable state session xid
 unfolding table
 accepted_commit_own state session Free xid false own e = inr (passes (is_prepared state xid) _ e)
 accepted_commit_own state session Free xid true own e = never_done (is_prepared state xid) e
-accepted_commit_own state session (Active seated) xid false own e = absurd (true≢false e)
-accepted_commit_own state session (Active seated) xid true own e = absurd (true≢false e)
-accepted_commit_own state session (Idle seated) xid false own e = absurd (true≢false e)
-accepted_commit_own state session (Idle seated) xid true own e = inl (ap (owns state session) (own_is xid seated _ e) ∙ own)
+accepted_commit_own state session (Active associated) xid false own e = absurd (true≢false e)
+accepted_commit_own state session (Active associated) xid true own e = absurd (true≢false e)
+accepted_commit_own state session (Idle associated) xid false own e = absurd (true≢false e)
+accepted_commit_own state session (Idle associated) xid true own e = inl (ap (owns state session) (own_is xid associated _ e) ∙ own)
 
-pub accepted_rollback_own : (state : State) (session : ℕ) (seat : Seat) (xid : Xid) → IsOwn state session seat
-    → is_refused (table state seat (Rollback xid)) ≡ false → IsFinishable state session xid
+pub accepted_rollback_own : (state : State) (session : ℕ) (association : Association) (xid : Xid) → IsOwn state session association
+    → is_refused (table state association (Rollback xid)) ≡ false → IsFinishable state session xid
 unfolding table
 accepted_rollback_own state session Free xid own e = inr (passes (is_prepared state xid) _ e)
-accepted_rollback_own state session (Active seated) xid own e = absurd (true≢false e)
-accepted_rollback_own state session (Idle seated) xid own e = inl (ap (owns state session) (own_is xid seated _ e) ∙ own)
+accepted_rollback_own state session (Active associated) xid own e = absurd (true≢false e)
+accepted_rollback_own state session (Idle associated) xid own e = inl (ap (owns state session) (own_is xid associated _ e) ∙ own)
 
 -- ---- such a branch isn't another session's
 
@@ -165,39 +166,40 @@ spared state other touched at new no_owner e = elim (same_or_apart xids_total ex
   | inr apart ↦ ap (λ b. cond b new (map.get state.branches at)) apart
 ]
 
-kept : (state : State) (session other : ℕ) → LockLaw state → session ≢ other → (seat : Seat) → IsOwn state session seat → (statement : Statement)
-    → is_refused (table state seat statement) ≡ false →
-    (at : Xid) → owns state other at ≡ true → branch_after session seat statement at (map.get state.branches at) ≡ map.get state.branches at
+kept : (state : State) (session other : ℕ) → LockLaw state → session ≢ other → (association : Association) → IsOwn state session association
+    → (statement : Statement)
+    → is_refused (table state association statement) ≡ false →
+    (at : Xid) → owns state other at ≡ true → branch_after session association statement at (map.get state.branches at) ≡ map.get state.branches at
 unfolding branch_after is_owned
-kept state session other law apart seat own (Start xid) accepted at e =
-    spared state other xid at _ (unknown_owned other (map.get state.branches xid) (accepted_start state seat xid accepted).1) e
-kept state session other law apart seat own (End xid) accepted at e =
-    spared state other xid at _ (not_others state session other xid apart (accepted_end_own state session seat xid own accepted)) e
-kept state session other law apart seat own (Prepare xid) accepted at e =
-    spared state other xid at _ (not_others state session other xid apart (accepted_prepare_own state session seat xid own accepted)) e
-kept state session other law apart seat own (Commit xid one_phase) accepted at e =
-    spared state other xid at _ (not_anothers state session other xid law apart (accepted_commit_own state session seat xid one_phase own accepted)) e
-kept state session other law apart seat own (Rollback xid) accepted at e =
-    spared state other xid at _ (not_anothers state session other xid law apart (accepted_rollback_own state session seat xid own accepted)) e
-kept state session other law apart seat own (Recover convert) accepted at e = refl
-kept state session other law apart seat own Unsupported accepted at e = refl
+kept state session other law apart association own (Start xid) accepted at e =
+    spared state other xid at _ (unknown_owned other (map.get state.branches xid) (accepted_start state association xid accepted).1) e
+kept state session other law apart association own (End xid) accepted at e =
+    spared state other xid at _ (not_others state session other xid apart (accepted_end_own state session association xid own accepted)) e
+kept state session other law apart association own (Prepare xid) accepted at e =
+    spared state other xid at _ (not_others state session other xid apart (accepted_prepare_own state session association xid own accepted)) e
+kept state session other law apart association own (Commit xid one_phase) accepted at e =
+    spared state other xid at _ (not_anothers state session other xid law apart (accepted_commit_own state session association xid one_phase own accepted)) e
+kept state session other law apart association own (Rollback xid) accepted at e =
+    spared state other xid at _ (not_anothers state session other xid law apart (accepted_rollback_own state session association xid own accepted)) e
+kept state session other law apart association own (Recover convert) accepted at e = refl
+kept state session other law apart association own Unsupported accepted at e = refl
 kept state session other law apart Free own (Get key) accepted at e = refl
-kept state session other law apart (Active seated) own (Get key) accepted at e =
-    spared state other seated at _ (not_others state session other seated apart own) e
-kept state session other law apart (Idle seated) own (Get key) accepted at e = refl
+kept state session other law apart (Active associated) own (Get key) accepted at e =
+    spared state other associated at _ (not_others state session other associated apart own) e
+kept state session other law apart (Idle associated) own (Get key) accepted at e = refl
 kept state session other law apart Free own (Put key value) accepted at e = refl
-kept state session other law apart (Active seated) own (Put key value) accepted at e =
-    spared state other seated at _ (not_others state session other seated apart own) e
-kept state session other law apart (Idle seated) own (Put key value) accepted at e = refl
+kept state session other law apart (Active associated) own (Put key value) accepted at e =
+    spared state other associated at _ (not_others state session other associated apart own) e
+kept state session other law apart (Idle associated) own (Put key value) accepted at e = refl
 kept state session other law apart Free own (Del key) accepted at e = refl
-kept state session other law apart (Active seated) own (Del key) accepted at e =
-    spared state other seated at _ (not_others state session other seated apart own) e
-kept state session other law apart (Idle seated) own (Del key) accepted at e = refl
+kept state session other law apart (Active associated) own (Del key) accepted at e =
+    spared state other associated at _ (not_others state session other associated apart own) e
+kept state session other law apart (Idle associated) own (Del key) accepted at e = refl
 kept state session other law apart Free own Disconnect accepted at e = refl
-kept state session other law apart (Active seated) own Disconnect accepted at e =
-    spared state other seated at _ (not_others state session other seated apart own) e
-kept state session other law apart (Idle seated) own Disconnect accepted at e =
-    spared state other seated at _ (not_others state session other seated apart own) e
+kept state session other law apart (Active associated) own Disconnect accepted at e =
+    spared state other associated at _ (not_others state session other associated apart own) e
+kept state session other law apart (Idle associated) own Disconnect accepted at e =
+    spared state other associated at _ (not_others state session other associated apart own) e
 
 -- ---- another session gets no branch
 
@@ -226,11 +228,11 @@ abbrev pub IsStarted : ℕ → ℕ → Statement → Xid → Type 0
 IsStarted session who statement at = (statement ≡ Start at) × (session ≡ who)
 
 -- a branch that a session owns after a statement, it owned before, or has just started
-pub owned_before : (session who : ℕ) (seat : Seat) (statement : Statement) (at : Xid) (found : Option Branch)
-    → is_owned who (branch_after session seat statement at found) ≡ true →
+pub owned_before : (session who : ℕ) (association : Association) (statement : Statement) (at : Xid) (found : Option Branch)
+    → is_owned who (branch_after session association statement at found) ≡ true →
     (is_owned who found ≡ true) ⊎ IsStarted session who statement at
 unfolding branch_after idle is_owned
-owned_before session who seat (Start xid) at found e = elim (same_or_apart xids_total exact_xids at xid) [
+owned_before session who association (Start xid) at found e = elim (same_or_apart xids_total exact_xids at xid) [
   | inl is ↦ inr (
     ap Start (sym is),
     same_value session who (owned_is (Some session) who
@@ -238,12 +240,12 @@ owned_before session who seat (Start xid) at found e = elim (same_or_apart xids_
   )
   | inr apart ↦ inl (ap (λ b. is_owned who (cond b (Some (started_by session)) found)) (sym apart) ∙ e)
 ]
-owned_before session who seat (End xid) at found e = inl (either who (same_xid at xid) _ found (same_owner who idle (λ b. refl) found) e)
-owned_before session who seat (Prepare xid) at found e = inl (either who (same_xid at xid) _ found (ownerless who found) e)
-owned_before session who seat (Commit xid one_phase) at found e = inl (either who (same_xid at xid) _ found (removed who found) e)
-owned_before session who seat (Rollback xid) at found e = inl (either who (same_xid at xid) _ found (removed who found) e)
-owned_before session who seat (Recover convert) at found e = inl e
-owned_before session who seat Unsupported at found e = inl e
+owned_before session who association (End xid) at found e = inl (either who (same_xid at xid) _ found (same_owner who idle (λ b. refl) found) e)
+owned_before session who association (Prepare xid) at found e = inl (either who (same_xid at xid) _ found (ownerless who found) e)
+owned_before session who association (Commit xid one_phase) at found e = inl (either who (same_xid at xid) _ found (removed who found) e)
+owned_before session who association (Rollback xid) at found e = inl (either who (same_xid at xid) _ found (removed who found) e)
+owned_before session who association (Recover convert) at found e = inl e
+owned_before session who association Unsupported at found e = inl e
 owned_before session who Free (Get key) at found e = inl e
 owned_before session who (Active own) (Get key) at found e = inl (either who (same_xid at own) _ found (same_owner who (with_lock key) (λ b. refl) found) e)
 owned_before session who (Idle own) (Get key) at found e = inl e
@@ -260,9 +262,9 @@ owned_before session who (Active own) Disconnect at found e = inl (either who (s
 owned_before session who (Idle own) Disconnect at found e = inl (either who (same_xid at own) _ found (removed who found) e)
 
 -- so another session gets none
-gained : (session other : ℕ) → session ≢ other → (seat : Seat) (statement : Statement) (at : Xid) (found : Option Branch)
-    → is_owned other (branch_after session seat statement at found) ≡ true → is_owned other found ≡ true
-gained session other apart seat statement at found e = elim (owned_before session other seat statement at found e) [
+gained : (session other : ℕ) → session ≢ other → (association : Association) (statement : Statement) (at : Xid) (found : Option Branch)
+    → is_owned other (branch_after session association statement at found) ≡ true → is_owned other found ≡ true
+gained session other apart association statement at found e = elim (owned_before session other association statement at found e) [
   | inl before ↦ before
   | inr started ↦ absurd (apart started.1)
 ]
@@ -273,8 +275,8 @@ gained session other apart seat statement at found e = elim (owned_before sessio
 same_session : (old new : State) (session : ℕ) → LockLaw old
     → ((xid : Xid) → owns old session xid ≡ true → map.get new.branches xid ≡ map.get old.branches xid) →
     ((xid : Xid) → owns new session xid ≡ true → owns old session xid ≡ true) → LeavesSession old new session
-unfolding is_owned seat_of
-same_session old new session law same back = record { own = own; seat = seat (own_xid old session) refl; phase = phase; branch = same }
+unfolding is_owned association_of
+same_session old new session law same back = record { own = own; association = association (own_xid old session) refl; phase = phase; branch = same }
   where
     phase : (xid : Xid) → owns old session xid ≡ true → phase_at new xid ≡ phase_at old xid
     phase xid e = ap (option_map (λ (b : Branch). b.phase)) (same xid e)
@@ -291,14 +293,14 @@ same_session old new session law same back = record { own = own; seat = seat (ow
     own : own_xid new session ≡ own_xid old session
     own = by (own_xid old session) refl
 
-    seat : (was : Option Xid) → own_xid old session ≡ was → seat_of new session ≡ seat_of old session
-    seat None is =
-        ap (λ own. option_map_or (λ xid. seat_in (phase_at new xid) xid) own Free) (own ∙ is)
-        ∙ sym (ap (λ own. option_map_or (λ xid. seat_in (phase_at old xid) xid) own Free) is)
-    seat (Some xid) is =
-        ap (λ own. option_map_or (λ xid. seat_in (phase_at new xid) xid) own Free) (own ∙ is)
-        ∙ ap (λ p. seat_in p xid) (phase xid (find_owned old session xid is))
-        ∙ sym (ap (λ own. option_map_or (λ xid. seat_in (phase_at old xid) xid) own Free) is)
+    association : (was : Option Xid) → own_xid old session ≡ was → association_of new session ≡ association_of old session
+    association None is =
+        ap (λ own. option_map_or (λ xid. association_in (phase_at new xid) xid) own Free) (own ∙ is)
+        ∙ sym (ap (λ own. option_map_or (λ xid. association_in (phase_at old xid) xid) own Free) is)
+    association (Some xid) is =
+        ap (λ own. option_map_or (λ xid. association_in (phase_at new xid) xid) own Free) (own ∙ is)
+        ∙ ap (λ p. association_in p xid) (phase xid (find_owned old session xid is))
+        ∙ sym (ap (λ own. option_map_or (λ xid. association_in (phase_at old xid) xid) own Free) is)
 
 pub others_left : (state : State) → LockLaw state → (session other : ℕ) (statement : Statement) → session ≢ other
     → LeavesSession state (after state session statement) other
@@ -308,8 +310,8 @@ others_left state law session other statement apart = elim (outcome state sessio
       (λ xid e. ap (λ (s : State). map.get s.branches xid) same)
       (λ xid e. sym (ap (λ s. owns s other xid) same) ∙ e)
   | inr (accepted, done) ↦ same_session state (after state session statement) other law
-      (λ xid e. ap (λ (s : State). map.get s.branches xid) done ∙ effect-branch state session (seat_of state session) statement xid
-      ∙ kept state session other law apart (seat_of state session) (own_seat state session) statement accepted xid e)
-      (λ xid e. gained session other apart (seat_of state session) statement xid (map.get state.branches xid)
-      (ap (is_owned other) (sym (effect-branch state session (seat_of state session) statement xid)) ∙ sym (ap (λ s. owns s other xid) done) ∙ e))
+      (λ xid e. ap (λ (s : State). map.get s.branches xid) done ∙ effect-branch state session (association_of state session) statement xid
+      ∙ kept state session other law apart (association_of state session) (own_association state session) statement accepted xid e)
+      (λ xid e. gained session other apart (association_of state session) statement xid (map.get state.branches xid)
+      (ap (is_owned other) (sym (effect-branch state session (association_of state session) statement xid)) ∙ sym (ap (λ s. owns s other xid) done) ∙ e))
 ]

@@ -14,9 +14,9 @@ use Rattle.xa_xid.proofs.Orders.{xids_total, exact_xids, bytes_total, exact_text
 use Rattle.xa_server.specs.declared.branch.Phase.{Phase}
 use Rattle.xa_server.specs.declared.branch.BranchRecord.{BranchRecord}
 use Rattle.xa_server.specs.declared.row.RowRecord.{RowRecord}
-use Rattle.xa_server.specs.declared.seat.Seat.{Seat}
-use Rattle.xa_server.specs.declared.seat.Seat.TheVariants.{Free, Active}
-use Rattle.xa_server.specs.State.{LockMode, Branch, is_known, phase_at, is_prepared_phase, is_prepared, owner_at, owns, own_xid, seat_in, seat_of}
+use Rattle.xa_server.specs.declared.association.Association.{Association}
+use Rattle.xa_server.specs.declared.association.Association.TheVariants.{Free, Active}
+use Rattle.xa_server.specs.State.{LockMode, Branch, is_known, phase_at, is_prepared_phase, is_prepared, owner_at, owns, own_xid, association_in, association_of}
 use Rattle.xa_server.specs.State.{committed_value, write_at, value_within, prepared_xids}
 use Rattle.xa_server.specs.Locks.{lock_at, holds, is_exclusive, is_another, is_held_against, is_locked_against}
 use Rattle.xa_server.specs.Tables.{BranchMap, owner_of, prepared_among}
@@ -150,21 +150,21 @@ own_xid-free branches rows session free =
     find_none (owns (state_of branches rows) session) (map.keys (state_of branches rows).branches)
     (λ xid. owns-seen branches rows session xid ∙ not_owned (owner_of branches xid) session (free xid))
 
--- the seat of a session that owns a branch
-pub seat-owned : (branches : BranchMap) (rows : RowMap) (session : ℕ) (xid : Xid) (phase : Option Phase) → IsWhole branches rows →
+-- the association of a session that owns a branch
+pub association-owned : (branches : BranchMap) (rows : RowMap) (session : ℕ) (xid : Xid) (phase : Option Phase) → IsWhole branches rows →
     owner_of branches xid ≡ Some session → option_map (λ (b : BranchRecord). b.phase) (map.get branches xid) ≡ phase
-    → seat_of (state_of branches rows) session ≡ seat_in phase xid
-unfolding seat_of
-seat-owned branches rows session xid phase whole owner is =
-    ap (λ own. option_map_or (λ xid. seat_in (phase_at (state_of branches rows) xid) xid) own Free) (own_xid-owned branches rows session xid whole owner)
-    ∙ ap (λ p. seat_in p xid) (phase_at-seen branches rows xid ∙ is)
+    → association_of (state_of branches rows) session ≡ association_in phase xid
+unfolding association_of
+association-owned branches rows session xid phase whole owner is =
+    ap (λ own. option_map_or (λ xid. association_in (phase_at (state_of branches rows) xid) xid) own Free) (own_xid-owned branches rows session xid whole owner)
+    ∙ ap (λ p. association_in p xid) (phase_at-seen branches rows xid ∙ is)
 
--- the seat of a session that owns none
-pub seat-free : (branches : BranchMap) (rows : RowMap) (session : ℕ) → ((xid : Xid) → owner_of branches xid ≢ Some session)
-    → seat_of (state_of branches rows) session ≡ Free
-unfolding seat_of
-seat-free branches rows session free =
-    ap (λ own. option_map_or (λ xid. seat_in (phase_at (state_of branches rows) xid) xid) own Free) (own_xid-free branches rows session free)
+-- the association of a session that owns none
+pub association-free : (branches : BranchMap) (rows : RowMap) (session : ℕ) → ((xid : Xid) → owner_of branches xid ≢ Some session)
+    → association_of (state_of branches rows) session ≡ Free
+unfolding association_of
+association-free branches rows session free =
+    ap (λ own. option_map_or (λ xid. association_in (phase_at (state_of branches rows) xid) xid) own Free) (own_xid-free branches rows session free)
 
 -- ---- who holds a row
 
@@ -208,19 +208,20 @@ pub holds-seen : (branches : BranchMap) (rows : RowMap) (xid : Xid) (key : List 
 holds-seen branches rows xid key whole = ap is_some (lock_at-seen branches rows xid key whole)
 
 -- a test of how the branches of others hold a row, by the row's record
-against : (branches : BranchMap) (rows : RowMap) (seat : Seat) (key : List ℕ) (passes : Option LockMode → Bool) (b : Bool) → IsWhole branches rows
+against : (branches : BranchMap) (rows : RowMap) (association : Association) (key : List ℕ) (passes : Option LockMode → Bool) (b : Bool) → IsWhole branches rows
     → passes None ≡ false →
-    (b ≡ true → (xid : Xid) × (passes (mode_of xid (map.get rows key)) ≡ true) × (is_another seat xid ≡ true)) →
-    ((xid : Xid) → passes (mode_of xid (map.get rows key)) ≡ true → is_another seat xid ≡ true → b ≡ true) →
-    list_any (λ xid. is_another seat xid && passes (lock_at (state_of branches rows) xid key)) (map.keys (state_of branches rows).branches) ≡ b
-against branches rows seat key passes b whole nothing witness there = same_truth _ b
+    (b ≡ true → (xid : Xid) × (passes (mode_of xid (map.get rows key)) ≡ true) × (is_another association xid ≡ true)) →
+    ((xid : Xid) → passes (mode_of xid (map.get rows key)) ≡ true → is_another association xid ≡ true → b ≡ true) →
+    list_any (λ xid. is_another association xid && passes (lock_at (state_of branches rows) xid key)) (map.keys (state_of branches rows).branches) ≡ b
+against branches rows association key passes b whole nothing witness there = same_truth _ b
     (λ e.
-    let found = any_witness (λ xid. is_another seat xid && passes (lock_at (state_of branches rows) xid key)) (map.keys (state_of branches rows).branches) e in
-    let parts = both (is_another seat found.0) (passes (lock_at (state_of branches rows) found.0 key)) found.2 in
+    let found =
+    any_witness (λ xid. is_another association xid && passes (lock_at (state_of branches rows) xid key)) (map.keys (state_of branches rows).branches) e in
+    let parts = both (is_another association found.0) (passes (lock_at (state_of branches rows) found.0 key)) found.2 in
     there found.0 (ap passes (sym (lock_at-seen branches rows found.0 key whole)) ∙ parts.1) parts.0)
     (λ e.
     let found = witness e in
-    any_some (λ xid. is_another seat xid && passes (lock_at (state_of branches rows) xid key)) (map.keys (state_of branches rows).branches) found.0
+    any_some (λ xid. is_another association xid && passes (lock_at (state_of branches rows) xid key)) (map.keys (state_of branches rows).branches) found.0
     (key_there branches rows found.0 (holder_known branches rows found.0 key whole (something (mode_of found.0 (map.get rows key)) found.1)))
     (ap (λ a. a && passes (lock_at (state_of branches rows) found.0 key)) found.2 ∙ ap passes (lock_at-seen branches rows found.0 key whole) ∙ found.1))
   where
@@ -229,34 +230,35 @@ against branches rows seat key passes b whole nothing witness there = same_truth
     something (Some mode) e = refl
 
 -- a row is held against a session where its record says that another branch holds it
-pub held_against-seen : (branches : BranchMap) (rows : RowMap) (seat : Seat) (key : List ℕ) → IsWhole branches rows
-    → is_held_against (state_of branches rows) seat key ≡ held_against seat (map.get rows key)
+pub held_against-seen : (branches : BranchMap) (rows : RowMap) (association : Association) (key : List ℕ) → IsWhole branches rows
+    → is_held_against (state_of branches rows) association key ≡ held_against association (map.get rows key)
 unfolding is_held_against
-held_against-seen branches rows seat key whole = against branches rows seat key is_some (held_against seat (map.get rows key)) whole refl
-    (λ e. let found = beside_witness seat (lock_of (map.get rows key)) (sym (held_against-lock seat (map.get rows key)) ∙ e) in
+held_against-seen branches rows association key whole = against branches rows association key is_some (held_against association (map.get rows key)) whole refl
+    (λ e. let found = beside_witness association (lock_of (map.get rows key)) (sym (held_against-lock association (map.get rows key)) ∙ e) in
     (found.0, ap is_some (mode_of-lock found.0 (map.get rows key)) ∙ found.1, found.2))
-    (λ xid e f. held_against-lock seat (map.get rows key)
-    ∙ beside_there seat (lock_of (map.get rows key)) xid (sym (ap is_some (mode_of-lock xid (map.get rows key))) ∙ e) f)
+    (λ xid e f. held_against-lock association (map.get rows key)
+    ∙ beside_there association (lock_of (map.get rows key)) xid (sym (ap is_some (mode_of-lock xid (map.get rows key))) ∙ e) f)
 
 -- and locked against it where the record says that another branch holds it exclusively
-pub locked_against-seen : (branches : BranchMap) (rows : RowMap) (seat : Seat) (key : List ℕ) → IsWhole branches rows
-    → is_locked_against (state_of branches rows) seat key ≡ locked_against seat (map.get rows key)
+pub locked_against-seen : (branches : BranchMap) (rows : RowMap) (association : Association) (key : List ℕ) → IsWhole branches rows
+    → is_locked_against (state_of branches rows) association key ≡ locked_against association (map.get rows key)
 unfolding is_locked_against
-locked_against-seen branches rows seat key whole = against branches rows seat key is_exclusive (locked_against seat (map.get rows key)) whole refl
-    (λ e. let found = locked_witness seat (lock_of (map.get rows key)) (sym (locked_against-lock seat (map.get rows key)) ∙ e) in
+locked_against-seen branches rows association key whole =
+    against branches rows association key is_exclusive (locked_against association (map.get rows key)) whole refl
+    (λ e. let found = locked_witness association (lock_of (map.get rows key)) (sym (locked_against-lock association (map.get rows key)) ∙ e) in
     (found.0, ap is_exclusive (mode_of-lock found.0 (map.get rows key)) ∙ found.1, found.2))
-    (λ xid e f. locked_against-lock seat (map.get rows key)
-    ∙ locked_there seat (lock_of (map.get rows key)) xid (sym (ap is_exclusive (mode_of-lock xid (map.get rows key))) ∙ e) f)
+    (λ xid e f. locked_against-lock association (map.get rows key)
+    ∙ locked_there association (lock_of (map.get rows key)) xid (sym (ap is_exclusive (mode_of-lock xid (map.get rows key))) ∙ e) f)
 
 -- a row that isn't held against a session is held by no other branch
-not_beside : (seat : Seat) (found : Option RowRecord) (xid : Xid) → held_against seat found ≡ false → is_another seat xid ≡ true
+not_beside : (association : Association) (found : Option RowRecord) (xid : Xid) → held_against association found ≡ false → is_another association xid ≡ true
     → is_some (mode_of xid found) ≡ false
-not_beside seat found xid e another = by (is_some (mode_of xid found)) refl
+not_beside association found xid e another = by (is_some (mode_of xid found)) refl
   where
     by : (b : Bool) → is_some (mode_of xid found) ≡ b → b ≡ false
     by true held =
-        absurd (true≢false (sym (held_against-lock seat found
-        ∙ beside_there seat (lock_of found) xid (sym (ap is_some (mode_of-lock xid found)) ∙ held) another) ∙ e))
+        absurd (true≢false (sym (held_against-lock association found
+        ∙ beside_there association (lock_of found) xid (sym (ap is_some (mode_of-lock xid found)) ∙ held) another) ∙ e))
     by false none = refl
 
 -- not by any, where the session is free

@@ -15,7 +15,7 @@ use Rattle.xa_server.specs.declared.branch.BranchRecord.{BranchRecord}
 use Rattle.xa_server.specs.declared.lock.Change.{Change}
 use Rattle.xa_server.specs.declared.lock.Lock.TheVariants.{Shared as SharedBy}
 use Rattle.xa_server.specs.declared.row.RowRecord.{RowRecord}
-use Rattle.xa_server.specs.declared.seat.Seat.TheVariants.{Active}
+use Rattle.xa_server.specs.declared.association.Association.TheVariants.{Active}
 use Rattle.xa_server.specs.State.{LockMode, Shared, Exclusive, Branch, State, no_state}
 use Rattle.xa_server.specs.Locks.{is_exclusive}
 use Rattle.xa_server.specs.Step.{started_by, with_branch, with_changed, with_lock, with_write}

@@ -12,8 +12,8 @@ use Rattle.xa_xid.specs.Xid.{bytes_cmp, same_xid}
 use Rattle.xa_xid.proofs.Orders.{xids_total, exact_xids, bytes_total, exact_texts}
 use Rattle.xa_xid.specs.declared.statement.Statement.{Statement}
 use Rattle.xa_xid.specs.declared.statement.Statement.TheVariants.{Start, End, Prepare, Commit, Rollback, Recover, Unsupported, Get, Put, Del, Disconnect}
-use Rattle.xa_server.specs.declared.seat.Seat.{Seat}
-use Rattle.xa_server.specs.declared.seat.Seat.TheVariants.{Free, Active, Idle}
+use Rattle.xa_server.specs.declared.association.Association.{Association}
+use Rattle.xa_server.specs.declared.association.Association.TheVariants.{Free, Active, Idle}
 use Rattle.xa_server.specs.State.{Write, LockMode, Shared, Exclusive, RowLocks, Branch, State}
 use Rattle.xa_server.specs.Locks.{LockLaw, lock_at, holds, is_exclusive, holds_exclusively, is_another, is_held_against, is_locked_against}
 use Rattle.xa_server.specs.Replies.{table}
@@ -66,12 +66,12 @@ share_exclusive locks key other = elim (same_or_apart bytes_total exact_texts ot
 -- ---- one branch for a row that is held exclusively
 
 -- a branch that comes to hold a row is the session's, and no other holds it exclusively
-abbrev pub IsTaking : State → Seat → Xid → List ℕ → Type 0
-IsTaking state seat at key = (seat ≡ Active at) × ((other : Xid) → holds_exclusively state other key ≡ true → other ≡ at)
+abbrev pub IsTaking : State → Association → Xid → List ℕ → Type 0
+IsTaking state association at key = (association ≡ Active at) × ((other : Xid) → holds_exclusively state other key ≡ true → other ≡ at)
 
 -- one that comes to hold it exclusively is the session's, and no other holds it in either way
-abbrev pub IsLocking : State → Seat → Xid → List ℕ → Type 0
-IsLocking state seat at key = (seat ≡ Active at) × ((other : Xid) → holds state other key ≡ true → other ≡ at)
+abbrev pub IsLocking : State → Association → Xid → List ℕ → Type 0
+IsLocking state association at key = (association ≡ Active at) × ((other : Xid) → holds state other key ≡ true → other ≡ at)
 
 -- a test of how a branch holds a row that a new branch passes only where the old one did, or where this holds
 unfoldable pub Before : (Option LockMode → Bool) → Type 0 → List ℕ → Option Branch → Option Branch → Type 0
@@ -174,25 +174,26 @@ locks state own at key other none same is =
     (ap Active (sym here), λ xid e. unheld state own key none xid (ap (holds state xid) (sym is) ∙ e) ∙ sym here)
 
 -- who locks a row takes it
-locking_takes : (state : State) (seat : Seat) (at : Xid) (key : List ℕ) → IsLocking state seat at key → IsTaking state seat at key
-locking_takes state seat at key locking = (locking.0, λ xid e. locking.1 xid (exclusive_some (lock_at state xid key) e))
+locking_takes : (state : State) (association : Association) (at : Xid) (key : List ℕ) → IsLocking state association at key → IsTaking state association at key
+locking_takes state association at key locking = (locking.0, λ xid e. locking.1 xid (exclusive_some (lock_at state xid key) e))
 
-pub held_before : (state : State) (session : ℕ) (seat : Seat) (statement : Statement) → is_refused (table state seat statement) ≡ false
+pub held_before : (state : State) (session : ℕ) (association : Association) (statement : Statement) → is_refused (table state association statement) ≡ false
     → (at : Xid) (key : List ℕ) →
-    Before is_some (IsTaking state seat at key) key (branch_after session seat statement at (map.get state.branches at)) (map.get state.branches at)
+    Before is_some (IsTaking state association at key) key (branch_after session association statement at (map.get state.branches at))
+    (map.get state.branches at)
 unfolding branch_after idle detached
-held_before state session seat (Start xid) accepted at key =
+held_before state session association (Start xid) accepted at key =
     before_if is_some _ key (same_xid at xid) _ (map.get state.branches at) (λ same. before_started is_some _ refl key session (map.get state.branches at))
-held_before state session seat (End xid) accepted at key =
+held_before state session association (End xid) accepted at key =
     before_if is_some _ key (same_xid at xid) _ (map.get state.branches at) (λ same. before_same is_some _ key idle (λ b. refl) (map.get state.branches at))
-held_before state session seat (Prepare xid) accepted at key =
+held_before state session association (Prepare xid) accepted at key =
     before_if is_some _ key (same_xid at xid) _ (map.get state.branches at) (λ same. before_same is_some _ key detached (λ b. refl) (map.get state.branches at))
-held_before state session seat (Commit xid one_phase) accepted at key =
+held_before state session association (Commit xid one_phase) accepted at key =
     before_if is_some _ key (same_xid at xid) _ (map.get state.branches at) (λ same. before_none is_some _ refl key (map.get state.branches at))
-held_before state session seat (Rollback xid) accepted at key =
+held_before state session association (Rollback xid) accepted at key =
     before_if is_some _ key (same_xid at xid) _ (map.get state.branches at) (λ same. before_none is_some _ refl key (map.get state.branches at))
-held_before state session seat (Recover convert) accepted at key = before_still is_some _ key (map.get state.branches at)
-held_before state session seat Unsupported accepted at key = before_still is_some _ key (map.get state.branches at)
+held_before state session association (Recover convert) accepted at key = before_still is_some _ key (map.get state.branches at)
+held_before state session association Unsupported accepted at key = before_still is_some _ key (map.get state.branches at)
 held_before state session Free (Get row) accepted at key = before_still is_some _ key (map.get state.branches at)
 held_before state session (Active own) (Get row) accepted at key = before_if is_some _ key (same_xid at own) _ (map.get state.branches at)
     (λ same. read_held _ row key (map.get state.branches at) (takes state own at row key (accepted_get state own row accepted) same))
@@ -213,25 +214,27 @@ held_before state session (Active own) Disconnect accepted at key =
 held_before state session (Idle own) Disconnect accepted at key =
     before_if is_some _ key (same_xid at own) _ (map.get state.branches at) (λ same. before_none is_some _ refl key (map.get state.branches at))
 
-pub exclusive_before : (state : State) (session : ℕ) (seat : Seat) (statement : Statement) → is_refused (table state seat statement) ≡ false
+pub exclusive_before : (state : State) (session : ℕ) (association : Association) (statement : Statement)
+    → is_refused (table state association statement) ≡ false
     → (at : Xid) (key : List ℕ) →
-    Before is_exclusive (IsLocking state seat at key) key (branch_after session seat statement at (map.get state.branches at)) (map.get state.branches at)
+    Before is_exclusive (IsLocking state association at key) key (branch_after session association statement at (map.get state.branches at))
+    (map.get state.branches at)
 unfolding branch_after idle detached
-exclusive_before state session seat (Start xid) accepted at key =
+exclusive_before state session association (Start xid) accepted at key =
     before_if is_exclusive _ key (same_xid at xid) _ (map.get state.branches at)
     (λ same. before_started is_exclusive _ refl key session (map.get state.branches at))
-exclusive_before state session seat (End xid) accepted at key =
+exclusive_before state session association (End xid) accepted at key =
     before_if is_exclusive _ key (same_xid at xid) _ (map.get state.branches at)
     (λ same. before_same is_exclusive _ key idle (λ b. refl) (map.get state.branches at))
-exclusive_before state session seat (Prepare xid) accepted at key =
+exclusive_before state session association (Prepare xid) accepted at key =
     before_if is_exclusive _ key (same_xid at xid) _ (map.get state.branches at)
     (λ same. before_same is_exclusive _ key detached (λ b. refl) (map.get state.branches at))
-exclusive_before state session seat (Commit xid one_phase) accepted at key =
+exclusive_before state session association (Commit xid one_phase) accepted at key =
     before_if is_exclusive _ key (same_xid at xid) _ (map.get state.branches at) (λ same. before_none is_exclusive _ refl key (map.get state.branches at))
-exclusive_before state session seat (Rollback xid) accepted at key =
+exclusive_before state session association (Rollback xid) accepted at key =
     before_if is_exclusive _ key (same_xid at xid) _ (map.get state.branches at) (λ same. before_none is_exclusive _ refl key (map.get state.branches at))
-exclusive_before state session seat (Recover convert) accepted at key = before_still is_exclusive _ key (map.get state.branches at)
-exclusive_before state session seat Unsupported accepted at key = before_still is_exclusive _ key (map.get state.branches at)
+exclusive_before state session association (Recover convert) accepted at key = before_still is_exclusive _ key (map.get state.branches at)
+exclusive_before state session association Unsupported accepted at key = before_still is_exclusive _ key (map.get state.branches at)
 exclusive_before state session Free (Get row) accepted at key = before_still is_exclusive _ key (map.get state.branches at)
 exclusive_before state session (Active own) (Get row) accepted at key =
     before_if is_exclusive _ key (same_xid at own) _ (map.get state.branches at) (λ same. read_exclusive _ row key (map.get state.branches at))
@@ -254,9 +257,10 @@ exclusive_before state session (Idle own) Disconnect accepted at key =
 active_of : (xid other : Xid) → Active xid ≡ Active other → xid ≡ other
 active_of xid other e = cc
 
-pub one_holder : (state : State) (seat : Seat) → LockLaw state → (xid other : Xid) (key : List ℕ)
-    → (holds_exclusively state xid key ≡ true) ⊎ IsLocking state seat xid key → (holds state other key ≡ true) ⊎ IsTaking state seat other key → xid ≡ other
-one_holder state seat law xid other key (inl e) (inl f) = law.one_holder xid other key e f
-one_holder state seat law xid other key (inl e) (inr f) = f.1 xid e
-one_holder state seat law xid other key (inr e) (inl f) = sym (e.1 other f)
-one_holder state seat law xid other key (inr e) (inr f) = active_of xid other (sym e.0 ∙ f.0)
+pub one_holder : (state : State) (association : Association) → LockLaw state → (xid other : Xid) (key : List ℕ)
+    → (holds_exclusively state xid key ≡ true) ⊎ IsLocking state association xid key → (holds state other key ≡ true) ⊎ IsTaking state association other key
+    → xid ≡ other
+one_holder state association law xid other key (inl e) (inl f) = law.one_holder xid other key e f
+one_holder state association law xid other key (inl e) (inr f) = f.1 xid e
+one_holder state association law xid other key (inr e) (inl f) = sym (e.1 other f)
+one_holder state association law xid other key (inr e) (inr f) = active_of xid other (sym e.0 ∙ f.0)

@@ -5,7 +5,7 @@ use Rattle.std.specs.Prelude.{◌≡◌, ℕ, ◌<◌, true, List}
 use Rattle.std.specs.FinMap as map
 use Rattle.xa_xid.specs.declared.xid.Xid.{Xid}
 use Rattle.xa_xid.specs.declared.statement.Statement.{Statement}
-use Rattle.xa_server.specs.State.{State, owns, own_xid, phase_at, seat_of}
+use Rattle.xa_server.specs.State.{State, owns, own_xid, phase_at, association_of}
 use Rattle.xa_server.specs.Finish.{PreparesAt}
 
 -- an accepted XA PREPARE of the branch stands between two places of a history
@@ -20,7 +20,7 @@ pub record LeavesSession (old new : State) (session : ℕ) : Type 0 where
   -- the session owns the branch that it owned
   pub own : own_xid new session ≡ own_xid old session
   -- and has it open as it had
-  pub seat : seat_of new session ≡ seat_of old session
+  pub association : association_of new session ≡ association_of old session
   -- the branch is in the phase in which it was
   pub phase : (xid : Xid) → owns old session xid ≡ true → phase_at new xid ≡ phase_at old xid
   -- and has the owner, the writes and the locks that it had

@@ -10,8 +10,8 @@ use Rattle.std.specs.Option.{option_and_then}
 use Rattle.std.specs.FinMap as map
 use Rattle.xa_xid.specs.declared.xid.Xid.{Xid}
 use Rattle.xa_xid.specs.Xid.{same_xid}
-use Rattle.xa_server.specs.declared.seat.Seat.{Seat}
-use Rattle.xa_server.specs.declared.seat.Seat.TheVariants.{Free, Active, Idle}
+use Rattle.xa_server.specs.declared.association.Association.{Association}
+use Rattle.xa_server.specs.declared.association.Association.TheVariants.{Free, Active, Idle}
 use Rattle.xa_server.specs.State.{State, LockMode, Shared, Exclusive, is_known, is_prepared, owner_at, owns, write_at}
 
 -- how the branch holds the row until it ends, where it does (own rule)
@@ -32,18 +32,18 @@ abbrev pub holds_exclusively : State → Xid → List ℕ → Bool
 holds_exclusively state xid key = is_exclusive (lock_at state xid key)
 
 -- the branch isn't the session's own
-abbrev pub is_another : Seat → Xid → Bool
+abbrev pub is_another : Association → Xid → Bool
 is_another Free xid = true
 is_another (Active own) xid = not (same_xid xid own)
 is_another (Idle own) xid = not (same_xid xid own)
 
 -- a branch that isn't the session's own holds the row, in either way
-unfoldable pub is_held_against : State → Seat → List ℕ → Bool
-is_held_against state seat key = list_any (λ xid. is_another seat xid && holds state xid key) (map.keys state.branches)
+unfoldable pub is_held_against : State → Association → List ℕ → Bool
+is_held_against state association key = list_any (λ xid. is_another association xid && holds state xid key) (map.keys state.branches)
 
 -- a branch that isn't the session's own holds the row exclusively
-unfoldable pub is_locked_against : State → Seat → List ℕ → Bool
-is_locked_against state seat key = list_any (λ xid. is_another seat xid && holds_exclusively state xid key) (map.keys state.branches)
+unfoldable pub is_locked_against : State → Association → List ℕ → Bool
+is_locked_against state association key = list_any (λ xid. is_another association xid && holds_exclusively state xid key) (map.keys state.branches)
 
 -- what every state of a server keeps
 pub record LockLaw (state : State) : Type 0 where

@@ -14,9 +14,9 @@ use Rattle.xa_server.specs.declared.hold.Hold.{Hold}
 use Rattle.xa_server.specs.declared.hold.Hold.TheVariants.{Shared as Shares, Put as Puts, Delete as Deletes}
 use Rattle.xa_server.specs.declared.hold.HeldRow.{HeldRow}
 use Rattle.xa_server.specs.declared.overview.BranchEntry.{BranchEntry}
-use Rattle.xa_server.specs.declared.seat.Seat.{Seat}
-use Rattle.xa_server.specs.declared.seat.Seat.TheVariants.{Free, Active, Idle}
-use Rattle.xa_server.specs.State.{Write, LockMode, Branch, State, seat_of}
+use Rattle.xa_server.specs.declared.association.Association.{Association}
+use Rattle.xa_server.specs.declared.association.Association.TheVariants.{Free, Active, Idle}
+use Rattle.xa_server.specs.State.{Write, LockMode, Branch, State, association_of}
 
 -- a branch, without its rows
 abbrev pub entry_of : Xid × Branch → BranchEntry
@@ -48,7 +48,7 @@ abbrev pub keys_of : List HeldRow → List (List ℕ)
 keys_of rows = map (λ row. row.key) rows
 
 -- the rows that the session's branch holds
-abbrev pub keys_open : State → Seat → List (List ℕ)
+abbrev pub keys_open : State → Association → List (List ℕ)
 keys_open state Free = []
 keys_open state (Active own) = keys_of (rows_of state own)
 keys_open state (Idle own) = keys_of (rows_of state own)
@@ -65,4 +65,4 @@ keys_about state session Unsupported = []
 keys_about state session (Get key) = key ∷ []
 keys_about state session (Put key value) = key ∷ []
 keys_about state session (Del key) = key ∷ []
-keys_about state session Disconnect = keys_open state (seat_of state session)
+keys_about state session Disconnect = keys_open state (association_of state session)

@@ -10,9 +10,9 @@ use Rattle.xa_server.specs.declared.reply.Reply.TheVariants.{Ok as Accepted, Val
 use Rattle.xa_server.specs.declared.xa_error.XaError.{XaError}
 use Rattle.xa_server.specs.declared.xa_error.XaError.TheVariants.{Nota, Inval, Rmfail, Dupid, RowLocked}
 use Rattle.xa_server.specs.declared.xa_error.BranchState.TheVariants.{NonExisting, Active as StateActive, Idle as StateIdle, Prepared as StatePrepared}
-use Rattle.xa_server.specs.declared.seat.Seat.{Seat}
-use Rattle.xa_server.specs.declared.seat.Seat.TheVariants.{Free, Active, Idle}
-use Rattle.xa_server.specs.State.{State, is_known, is_prepared, seat_of, committed_value, value_within, prepared_xids}
+use Rattle.xa_server.specs.declared.association.Association.{Association}
+use Rattle.xa_server.specs.declared.association.Association.TheVariants.{Free, Active, Idle}
+use Rattle.xa_server.specs.State.{State, is_known, is_prepared, association_of, committed_value, value_within, prepared_xids}
 use Rattle.xa_server.specs.Locks.{is_held_against, is_locked_against}
 
 -- the statement is carried out where the test holds, and else refused
@@ -28,7 +28,7 @@ refused_if false error reply = reply
 -- One line a row and column of docs/BEHAVIOR.md, 'Replies', in its order. `own` is the branch that the session has open.
 -- Which statement is allowed in which state is the manual's ('XA Transaction States') and C193's; the order of the refusals,
 -- what answers an identifier that isn't the session's, ONE PHASE of a PREPARED branch, and the rows are our own rules.
-unfoldable pub table : State → Seat → Statement → Reply
+unfoldable pub table : State → Association → Statement → Reply
 table state Free (Start xid) = refused_if (is_known state xid) Dupid Accepted
 table state (Active own) (Start xid) = Refused (Rmfail StateActive)
 table state (Idle own) (Start xid) = Refused (Rmfail StateIdle)
@@ -47,8 +47,8 @@ table state (Idle own) (Commit xid true) = ok_if (same_xid xid own) (Rmfail Stat
 table state Free (Rollback xid) = ok_if (is_prepared state xid) Nota
 table state (Active own) (Rollback xid) = Refused (Rmfail StateActive)
 table state (Idle own) (Rollback xid) = ok_if (same_xid xid own) (Rmfail StateIdle)
-table state seat (Recover convert) = Recovered (prepared_xids state)
-table state seat Unsupported = Refused Inval
+table state association (Recover convert) = Recovered (prepared_xids state)
+table state association Unsupported = Refused Inval
 table state Free (Get key) = Value (committed_value state key)
 table state (Active own) (Get key) = refused_if (is_locked_against state (Active own) key) RowLocked (Value (value_within state own key))
 table state (Idle own) (Get key) = Refused (Rmfail StateIdle)
@@ -58,8 +58,8 @@ table state (Idle own) (Put key value) = Refused (Rmfail StateIdle)
 table state Free (Del key) = refused_if (is_held_against state Free key) RowLocked Accepted
 table state (Active own) (Del key) = refused_if (is_held_against state (Active own) key) RowLocked Accepted
 table state (Idle own) (Del key) = Refused (Rmfail StateIdle)
-table state seat Disconnect = Accepted
+table state association Disconnect = Accepted
 
 -- the reply to a session's statement
 unfoldable pub reply_to : State → ℕ → Statement → Reply
-reply_to state session statement = table state (seat_of state session) statement
+reply_to state session statement = table state (association_of state session) statement

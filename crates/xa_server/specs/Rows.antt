@@ -22,8 +22,8 @@ use Rattle.xa_server.specs.declared.lock.Change.TheVariants.{Put, Delete}
 use Rattle.xa_server.specs.declared.lock.Lock.{Lock}
 use Rattle.xa_server.specs.declared.lock.Lock.TheVariants.{Exclusive as HeldBy, Shared as SharedBy}
 use Rattle.xa_server.specs.declared.row.RowRecord.{RowRecord}
-use Rattle.xa_server.specs.declared.seat.Seat.{Seat}
-use Rattle.xa_server.specs.declared.seat.Seat.TheVariants.{Free}
+use Rattle.xa_server.specs.declared.association.Association.{Association}
+use Rattle.xa_server.specs.declared.association.Association.TheVariants.{Free}
 use Rattle.xa_server.specs.State.{Write, LockMode, Shared, Exclusive, Branch}
 use Rattle.xa_server.specs.Step.{with_own_write}
 use Rattle.xa_server.specs.Locks.{is_another}
@@ -65,22 +65,22 @@ abbrev pub lock_by : Xid → RowRecord → Option LockMode
 lock_by xid row = mode_in xid row.lock
 
 -- a branch that isn't the session's own is among those that hold the row
-abbrev pub held_beside : Seat → Lock → Bool
-held_beside seat (HeldBy holder change) = is_another seat holder
-held_beside seat (SharedBy sharers) = list_any (is_another seat) (set.items sharers)
+abbrev pub held_beside : Association → Lock → Bool
+held_beside association (HeldBy holder change) = is_another association holder
+held_beside association (SharedBy sharers) = list_any (is_another association) (set.items sharers)
 
 -- such a branch holds the row exclusively
-abbrev pub locked_beside : Seat → Lock → Bool
-locked_beside seat (HeldBy holder change) = is_another seat holder
-locked_beside seat (SharedBy sharers) = false
+abbrev pub locked_beside : Association → Lock → Bool
+locked_beside association (HeldBy holder change) = is_another association holder
+locked_beside association (SharedBy sharers) = false
 
 -- a branch that isn't the session's own holds the row, in either way
-abbrev pub held_against : Seat → Option RowRecord → Bool
-held_against seat found = option_map_or (λ row. held_beside seat row.lock) found false
+abbrev pub held_against : Association → Option RowRecord → Bool
+held_against association found = option_map_or (λ row. held_beside association row.lock) found false
 
 -- such a branch holds it exclusively
-abbrev pub locked_against : Seat → Option RowRecord → Bool
-locked_against seat found = option_map_or (λ row. locked_beside seat row.lock) found false
+abbrev pub locked_against : Association → Option RowRecord → Bool
+locked_against association found = option_map_or (λ row. locked_beside association row.lock) found false
 
 -- the value that the branch sees
 abbrev pub value_seen : Xid → Option RowRecord → Option Text

@@ -4,8 +4,8 @@
 --     no_state             no branch, no row
 --     is_known, is_prepared      whether a branch has this identifier;  and is PREPARED
 --     owns                 whether the session owns the branch
---     seat_of              what the session has open
---     IsOpen               the branch that a seat names is in that phase
+--     association_of       what the session has open
+--     IsOpen               the branch that an association names is in that phase
 --     committed_value, value_within      the value of a row as all see it;  as the branch sees it
 --     prepared_xids        the prepared branches, ascending
 use Rattle.std.specs.Prelude.{◌≡◌, ℕ, Bool, true, false, ◌==◌, Option, Some, None, List, find, filter}
@@ -15,8 +15,8 @@ use Rattle.xa_xid.specs.declared.xid.Xid.{Xid}
 use Rattle.xa_xid.specs.Xid.{Text, bytes_cmp, xid_cmp}
 use Rattle.xa_server.specs.declared.branch.Phase.{Phase}
 use Rattle.xa_server.specs.declared.branch.Phase.TheVariants.{Active as PhaseActive, Idle as PhaseIdle, Prepared as PhasePrepared}
-use Rattle.xa_server.specs.declared.seat.Seat.{Seat}
-use Rattle.xa_server.specs.declared.seat.Seat.TheVariants.{Free, Active, Idle}
+use Rattle.xa_server.specs.declared.association.Association.{Association}
+use Rattle.xa_server.specs.declared.association.Association.TheVariants.{Free, Active, Idle}
 
 -- what commit does to a row: it gets this value, or with None it loses its value
 abbrev pub Write : Type 0
@@ -78,15 +78,15 @@ unfoldable pub own_xid : State → ℕ → Option Xid
 own_xid state session = find (owns state session) (map.keys state.branches)
 
 -- a session whose branch is in this phase; a branch that is PREPARED is nobody's
-abbrev pub seat_in : Option Phase → Xid → Seat
-seat_in None xid = Free
-seat_in (Some PhaseActive) xid = Active xid
-seat_in (Some PhaseIdle) xid = Idle xid
-seat_in (Some PhasePrepared) xid = Free
+abbrev pub association_in : Option Phase → Xid → Association
+association_in None xid = Free
+association_in (Some PhaseActive) xid = Active xid
+association_in (Some PhaseIdle) xid = Idle xid
+association_in (Some PhasePrepared) xid = Free
 
 -- what the session has open (manual, 'XA Transaction States')
-unfoldable pub seat_of : State → ℕ → Seat
-seat_of state session = option_map_or (λ xid. seat_in (phase_at state xid) xid) (own_xid state session) Free
+unfoldable pub association_of : State → ℕ → Association
+association_of state session = option_map_or (λ xid. association_in (phase_at state xid) xid) (own_xid state session) Free
 
 -- the value that all sessions see
 abbrev pub committed_value : State → List ℕ → Option Text
@@ -104,8 +104,8 @@ value_within state xid key = unwrap_or (write_at state xid key) (committed_value
 unfoldable pub prepared_xids : State → List Xid
 prepared_xids state = filter (is_prepared state) (map.keys state.branches)
 
--- the branch that a seat names is in the phase that it names
-abbrev pub IsOpen : State → Seat → Type 0
+-- the branch that an association names is in the phase that it names
+abbrev pub IsOpen : State → Association → Type 0
 IsOpen state Free = Unit {0}
 IsOpen state (Active own) = phase_at state own ≡ Some PhaseActive
 IsOpen state (Idle own) = phase_at state own ≡ Some PhaseIdle

@@ -15,9 +15,9 @@ use Rattle.xa_xid.specs.declared.statement.Statement.TheVariants.{Start, End, Pr
 use Rattle.xa_server.specs.declared.branch.Phase.TheVariants.{Active as PhaseActive, Idle as PhaseIdle, Prepared as PhasePrepared}
 use Rattle.xa_server.specs.declared.reply.Reply.{Reply}
 use Rattle.xa_server.specs.declared.reply.Reply.TheVariants.{Ok as Accepted, Value, Recovered, Refused}
-use Rattle.xa_server.specs.declared.seat.Seat.{Seat}
-use Rattle.xa_server.specs.declared.seat.Seat.TheVariants.{Free, Active, Idle}
-use Rattle.xa_server.specs.State.{Write, Shared, Exclusive, RowLocks, Branch, State, seat_of}
+use Rattle.xa_server.specs.declared.association.Association.{Association}
+use Rattle.xa_server.specs.declared.association.Association.TheVariants.{Free, Active, Idle}
+use Rattle.xa_server.specs.State.{Write, Shared, Exclusive, RowLocks, Branch, State, association_of}
 use Rattle.xa_server.specs.Locks.{holds}
 use Rattle.xa_server.specs.Replies.{reply_to}
 
@@ -66,25 +66,25 @@ abbrev pub with_own_write : List ℕ → Write → Branch → Branch
 with_own_write key write branch = record branch { locks = map.insert branch.locks key Exclusive; writes = map.insert branch.writes key write }
 
 -- a row is written: by a free session at once, in a branch under its exclusive lock
-abbrev pub row_written : State → Seat → List ℕ → Write → State
+abbrev pub row_written : State → Association → List ℕ → Write → State
 row_written state Free key write = record state { rows = with_write key write state.rows }
 row_written state (Active own) key write = with_changed state own (with_own_write key write)
 row_written state (Idle own) key write = state
 
 -- what an accepted statement does, one line a statement (the phases are the manual's and C193's; rows and DISCONNECT are our own)
-unfoldable pub effect : State → ℕ → Seat → Statement → State
-effect state session seat (Start xid) = with_branch state xid (started_by session)
-effect state session seat (End xid) = with_changed state xid (λ branch. record branch { phase = PhaseIdle })
-effect state session seat (Prepare xid) = with_changed state xid (λ branch. record branch { phase = PhasePrepared; owner = None })
-effect state session seat (Commit xid one_phase) = committed state xid
-effect state session seat (Rollback xid) = without_branch state xid
-effect state session seat (Recover convert) = state
-effect state session seat Unsupported = state
+unfoldable pub effect : State → ℕ → Association → Statement → State
+effect state session association (Start xid) = with_branch state xid (started_by session)
+effect state session association (End xid) = with_changed state xid (λ branch. record branch { phase = PhaseIdle })
+effect state session association (Prepare xid) = with_changed state xid (λ branch. record branch { phase = PhasePrepared; owner = None })
+effect state session association (Commit xid one_phase) = committed state xid
+effect state session association (Rollback xid) = without_branch state xid
+effect state session association (Recover convert) = state
+effect state session association Unsupported = state
 effect state session Free (Get key) = state
 effect state session (Active own) (Get key) = with_changed state own (with_lock key)
 effect state session (Idle own) (Get key) = state
-effect state session seat (Put key value) = row_written state seat key (Some value)
-effect state session seat (Del key) = row_written state seat key None
+effect state session association (Put key value) = row_written state association key (Some value)
+effect state session association (Del key) = row_written state association key None
 effect state session Free Disconnect = state
 effect state session (Active own) Disconnect = without_branch state own
 effect state session (Idle own) Disconnect = without_branch state own
@@ -98,7 +98,7 @@ unless_refused (Refused error) old new = old
 
 -- the state after a session's statement
 unfoldable pub after : State → ℕ → Statement → State
-after state session statement = unless_refused (reply_to state session statement) state (effect state session (seat_of state session) statement)
+after state session statement = unless_refused (reply_to state session statement) state (effect state session (association_of state session) statement)
 
 -- the statement is answered so, and leaves this state
 abbrev pub Step : State → ℕ → Statement → Reply → State → Type 0
@@ -111,26 +111,26 @@ is_refused (Recovered xids) = false
 is_refused (Refused error) = true
 
 -- whether the statement, if it is accepted, has a place in the history (own rule)
-unfoldable pub may_enter : State → Seat → Statement → Bool
-may_enter state seat (Start xid) = true
-may_enter state seat (End xid) = true
-may_enter state seat (Prepare xid) = true
-may_enter state seat (Commit xid one_phase) = true
-may_enter state seat (Rollback xid) = true
-may_enter state seat (Recover convert) = false
-may_enter state seat Unsupported = false
+unfoldable pub may_enter : State → Association → Statement → Bool
+may_enter state association (Start xid) = true
+may_enter state association (End xid) = true
+may_enter state association (Prepare xid) = true
+may_enter state association (Commit xid one_phase) = true
+may_enter state association (Rollback xid) = true
+may_enter state association (Recover convert) = false
+may_enter state association Unsupported = false
 may_enter state Free (Get key) = false
 may_enter state (Active own) (Get key) = not (holds state own key)
 may_enter state (Idle own) (Get key) = false
-may_enter state seat (Put key value) = true
-may_enter state seat (Del key) = true
+may_enter state association (Put key value) = true
+may_enter state association (Del key) = true
 may_enter state Free Disconnect = false
 may_enter state (Active own) Disconnect = true
 may_enter state (Idle own) Disconnect = true
 
 -- whether the statement enters the history: it isn't refused, and has a place there
 unfoldable pub enters : State → ℕ → Statement → Bool
-enters state session statement = not (is_refused (reply_to state session statement)) && may_enter state (seat_of state session) statement
+enters state session statement = not (is_refused (reply_to state session statement)) && may_enter state (association_of state session) statement
 
 -- the state after a history of statements, each with its session; one that is refused at its place leaves the state
 abbrev pub after_all : State → List (ℕ × Statement) → State

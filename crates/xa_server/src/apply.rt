@@ -1,12 +1,12 @@
 //! What an accepted statement does.
 ghost use Rattle.std.specs.Prelude.{◌≡◌, ℕ, true, false, IfOk, OnOk, OnErr};
 ghost use Rattle.xa_server.specs.Replies.{table, reply_to};
-ghost use Rattle.xa_server.specs.State.{seat_of};
+ghost use Rattle.xa_server.specs.State.{association_of};
 ghost use Rattle.xa_server.specs.Step.{Step, after, effect, is_refused, makes_record, may_enter, may_take_memory, row_written};
 ghost use Rattle.xa_xid.specs.declared.statement.Statement.TheVariants.{Get, Put, Del, Disconnect};
 
+use crate::association::Association;
 use crate::lock::Change;
-use crate::seat::Seat;
 use crate::{Reply, Server};
 use xa_xid::{Bytes, Key, NoMemory, SessionNo, Statement, copy_of};
 
@@ -15,12 +15,12 @@ impl Server {
     #[tactic(auto, unfolding(crate::specs::Step::effect, crate::specs::Step::may_enter))]
     fn lock_row(&mut self, session: SessionNo, key: &Key) -> Result<(), NoMemory>
         requires { is_refused (reply_to self.old session (Get key.now)) ≡ false }
-        ensures ok { OnOk result (self.new ≡ effect self.old session (seat_of self.old session) (Get key.now)) }
+        ensures ok { OnOk result (self.new ≡ effect self.old session (association_of self.old session) (Get key.now)) }
         ensures err { OnErr result (self.new ≡ self.old) }
-        ensures memory { OnErr result (may_enter self.old (seat_of self.old session) (Get key.now) ≡ true) }
+        ensures memory { OnErr result (may_enter self.old (association_of self.old session) (Get key.now) ≡ true) }
     {
-        let seat = self.seat(session);
-        let Seat::Active(own) = &seat else {
+        let association = self.association(session);
+        let Association::Active(own) = &association else {
             return Ok(());
         };
         if self.holds(own, key) {
@@ -33,14 +33,14 @@ impl Server {
     #[tactic(auto, unfolding(crate::specs::Step::effect))]
     fn put(&mut self, session: SessionNo, key: &Key, value: &Bytes) -> Result<(), NoMemory>
         requires { is_refused (reply_to self.old session (Put key.now value.now)) ≡ false }
-        ensures ok { OnOk result (self.new ≡ effect self.old session (seat_of self.old session) (Put key.now value.now)) }
+        ensures ok { OnOk result (self.new ≡ effect self.old session (association_of self.old session) (Put key.now value.now)) }
         ensures err { OnErr result (self.new ≡ self.old) }
     {
-        let seat = self.seat(session);
-        match &seat {
-            Seat::Free => self.put_row(key, value),
-            Seat::Active(own) => self.hold(own, key, Change::Put(copy_of(value))),
-            Seat::Idle(_) => Ok(()),
+        let association = self.association(session);
+        match &association {
+            Association::Free => self.put_row(key, value),
+            Association::Active(own) => self.hold(own, key, Change::Put(copy_of(value))),
+            Association::Idle(_) => Ok(()),
         }
     }
 
@@ -48,30 +48,30 @@ impl Server {
     #[tactic(auto, unfolding(crate::specs::Step::effect))]
     fn delete(&mut self, session: SessionNo, key: &Key) -> Result<(), NoMemory>
         requires { is_refused (reply_to self.old session (Del key.now)) ≡ false }
-        ensures ok { OnOk result (self.new ≡ effect self.old session (seat_of self.old session) (Del key.now)) }
+        ensures ok { OnOk result (self.new ≡ effect self.old session (association_of self.old session) (Del key.now)) }
         ensures err { OnErr result (self.new ≡ self.old) }
     {
-        let seat = self.seat(session);
-        match &seat {
-            Seat::Free => {
+        let association = self.association(session);
+        match &association {
+            Association::Free => {
                 self.delete_row(key);
                 Ok(())
             }
-            Seat::Active(own) => self.hold(own, key, Change::Delete),
-            Seat::Idle(_) => Ok(()),
+            Association::Active(own) => self.hold(own, key, Change::Delete),
+            Association::Idle(_) => Ok(()),
         }
     }
 
     /// Rolls back the branch that a session leaves open.
     #[tactic(auto, unfolding(crate::specs::Step::effect))]
     fn disconnect(&mut self, session: SessionNo)
-        ensures { self.new ≡ effect self.old session (seat_of self.old session) Disconnect }
+        ensures { self.new ≡ effect self.old session (association_of self.old session) Disconnect }
     {
-        let seat = self.seat(session);
-        match &seat {
-            Seat::Free => {}
-            Seat::Active(own) => self.end_branch(own, false),
-            Seat::Idle(own) => self.end_branch(own, false),
+        let association = self.association(session);
+        match &association {
+            Association::Free => {}
+            Association::Active(own) => self.end_branch(own, false),
+            Association::Idle(own) => self.end_branch(own, false),
         }
     }
 
@@ -80,10 +80,10 @@ impl Server {
     #[tactic(auto, unfolding(crate::specs::Step::effect, crate::specs::Step::may_enter))]
     fn carry_out(&mut self, session: SessionNo, statement: &Statement) -> Result<(), NoMemory>
         requires { is_refused (reply_to self.old session statement.now) ≡ false }
-        ensures ok { OnOk result (self.new ≡ effect self.old session (seat_of self.old session) statement.now) }
+        ensures ok { OnOk result (self.new ≡ effect self.old session (association_of self.old session) statement.now) }
         ensures err { OnErr result (self.new ≡ self.old) }
         ensures memory { OnErr result (makes_record statement.now ≡ true) }
-        ensures enters { OnErr result (may_enter self.old (seat_of self.old session) statement.now ≡ true) }
+        ensures enters { OnErr result (may_enter self.old (association_of self.old session) statement.now ≡ true) }
     {
         match statement {
             Statement::Start(xid) => return self.start_branch(session, xid),
@@ -126,8 +126,8 @@ impl Server {
         ensures unchanged { OnErr result (self.new ≡ self.old) }
         ensures memory { OnErr result (may_take_memory self.old session statement.now ≡ true) }
     {
-        let seat = self.seat(session);
-        let reply = self.decide(&seat, statement)?;
+        let association = self.association(session);
+        let reply = self.decide(&association, statement)?;
         if !reply.is_refused() {
             self.accept(session, statement)?;
         }

@@ -6,7 +6,7 @@ ghost use Rattle.xa_server.specs.Step.{may_enter as may_enter_in, enters, is_rec
 ghost use Rattle.xa_xid.specs.declared.statement.Statement.TheVariants.{Start, End, Prepare, Commit, Rollback, Get, Put, Del};
 ghost use Rattle.xa_xid.specs.Xid.{Text};
 
-use crate::seat::{Seat, is_same};
+use crate::association::{Association, is_same};
 use crate::{BranchState, Reply, Server, XaError};
 use xa_xid::{Key, NoMemory, SessionNo, Statement, Xid};
 
@@ -33,53 +33,58 @@ fn rmfail(state: BranchState) -> Result<Reply, NoMemory>
 impl Server {
     /// The reply to `XA START`.
     #[tactic(auto, unfolding(crate::specs::Replies::table))]
-    fn reply_to_start(&self, seat: &Seat, xid: &Xid) -> Result<Reply, NoMemory>
-        ensures { result ≡ Ok (table self.now seat.now (Start xid.now)) }
+    fn reply_to_start(&self, association: &Association, xid: &Xid) -> Result<Reply, NoMemory>
+        ensures { result ≡ Ok (table self.now association.now (Start xid.now)) }
     {
-        match seat {
-            Seat::Free => {
+        match association {
+            Association::Free => {
                 if self.knows(xid) {
                     Ok(Reply::Refused(XaError::Dupid))
                 } else {
                     Ok(Reply::Ok)
                 }
             }
-            Seat::Active(_) => rmfail(BranchState::Active),
-            Seat::Idle(_) => rmfail(BranchState::Idle),
+            Association::Active(_) => rmfail(BranchState::Active),
+            Association::Idle(_) => rmfail(BranchState::Idle),
         }
     }
 
     /// The reply to `XA END`.
     #[tactic(auto, unfolding(crate::specs::Replies::table))]
-    fn reply_to_end(&self, seat: &Seat, xid: &Xid) -> Result<Reply, NoMemory>
-        ensures { result ≡ Ok (table self.now seat.now (End xid.now)) }
+    fn reply_to_end(&self, association: &Association, xid: &Xid) -> Result<Reply, NoMemory>
+        ensures { result ≡ Ok (table self.now association.now (End xid.now)) }
     {
-        match seat {
-            Seat::Free => rmfail(BranchState::NonExisting),
-            Seat::Active(own) => ok_if(is_same(xid, own), XaError::Nota),
-            Seat::Idle(_) => rmfail(BranchState::Idle),
+        match association {
+            Association::Free => rmfail(BranchState::NonExisting),
+            Association::Active(own) => ok_if(is_same(xid, own), XaError::Nota),
+            Association::Idle(_) => rmfail(BranchState::Idle),
         }
     }
 
     /// The reply to `XA PREPARE`.
     #[tactic(auto, unfolding(crate::specs::Replies::table))]
-    fn reply_to_prepare(&self, seat: &Seat, xid: &Xid) -> Result<Reply, NoMemory>
-        ensures { result ≡ Ok (table self.now seat.now (Prepare xid.now)) }
+    fn reply_to_prepare(&self, association: &Association, xid: &Xid) -> Result<Reply, NoMemory>
+        ensures { result ≡ Ok (table self.now association.now (Prepare xid.now)) }
     {
-        match seat {
-            Seat::Free => rmfail(BranchState::NonExisting),
-            Seat::Active(_) => rmfail(BranchState::Active),
-            Seat::Idle(own) => ok_if(is_same(xid, own), XaError::Nota),
+        match association {
+            Association::Free => rmfail(BranchState::NonExisting),
+            Association::Active(_) => rmfail(BranchState::Active),
+            Association::Idle(own) => ok_if(is_same(xid, own), XaError::Nota),
         }
     }
 
     /// The reply to `XA COMMIT`.
     #[tactic(auto, unfolding(crate::specs::Replies::table))]
-    fn reply_to_commit(&self, seat: &Seat, xid: &Xid, one_phase: bool) -> Result<Reply, NoMemory>
-        ensures { result ≡ Ok (table self.now seat.now (Commit xid.now one_phase)) }
+    fn reply_to_commit(
+        &self,
+        association: &Association,
+        xid: &Xid,
+        one_phase: bool,
+    ) -> Result<Reply, NoMemory>
+        ensures { result ≡ Ok (table self.now association.now (Commit xid.now one_phase)) }
     {
-        match seat {
-            Seat::Free => {
+        match association {
+            Association::Free => {
                 if !self.has_prepared(xid) {
                     Ok(Reply::Refused(XaError::Nota))
                 } else if one_phase {
@@ -88,8 +93,8 @@ impl Server {
                     Ok(Reply::Ok)
                 }
             }
-            Seat::Active(_) => rmfail(BranchState::Active),
-            Seat::Idle(own) => {
+            Association::Active(_) => rmfail(BranchState::Active),
+            Association::Idle(own) => {
                 if one_phase {
                     ok_if(is_same(xid, own), XaError::Rmfail(BranchState::Idle))
                 } else {
@@ -101,72 +106,83 @@ impl Server {
 
     /// The reply to `XA ROLLBACK`.
     #[tactic(auto, unfolding(crate::specs::Replies::table))]
-    fn reply_to_rollback(&self, seat: &Seat, xid: &Xid) -> Result<Reply, NoMemory>
-        ensures { result ≡ Ok (table self.now seat.now (Rollback xid.now)) }
+    fn reply_to_rollback(&self, association: &Association, xid: &Xid) -> Result<Reply, NoMemory>
+        ensures { result ≡ Ok (table self.now association.now (Rollback xid.now)) }
     {
-        match seat {
-            Seat::Free => ok_if(self.has_prepared(xid), XaError::Nota),
-            Seat::Active(_) => rmfail(BranchState::Active),
-            Seat::Idle(own) => ok_if(is_same(xid, own), XaError::Rmfail(BranchState::Idle)),
+        match association {
+            Association::Free => ok_if(self.has_prepared(xid), XaError::Nota),
+            Association::Active(_) => rmfail(BranchState::Active),
+            Association::Idle(own) => ok_if(is_same(xid, own), XaError::Rmfail(BranchState::Idle)),
         }
     }
 
     /// The reply to `GET`.
     #[tactic(auto, unfolding(crate::specs::Replies::table))]
-    fn reply_to_get(&self, seat: &Seat, key: &Key) -> Result<Reply, NoMemory>
-        ensures { result ≡ Ok (table self.now seat.now (Get key.now)) }
+    fn reply_to_get(&self, association: &Association, key: &Key) -> Result<Reply, NoMemory>
+        ensures { result ≡ Ok (table self.now association.now (Get key.now)) }
     {
-        match seat {
-            Seat::Free => Ok(Reply::Value(self.committed_value(key))),
-            Seat::Active(own) => {
-                if self.is_locked_against(seat, key) {
+        match association {
+            Association::Free => Ok(Reply::Value(self.committed_value(key))),
+            Association::Active(own) => {
+                if self.is_locked_against(association, key) {
                     Ok(Reply::Refused(XaError::RowLocked))
                 } else {
                     Ok(Reply::Value(self.value_within(own, key)))
                 }
             }
-            Seat::Idle(_) => rmfail(BranchState::Idle),
+            Association::Idle(_) => rmfail(BranchState::Idle),
         }
     }
 
     /// The reply to `PUT` and `DEL`.
     #[tactic(auto, unfolding(crate::specs::Replies::table))]
-    fn reply_to_write(&self, seat: &Seat, key: &Key) -> Result<Reply, NoMemory>
-        ensures put { (value : Text) → result ≡ Ok (table self.now seat.now (Put key.now value)) }
-        ensures del { result ≡ Ok (table self.now seat.now (Del key.now)) }
+    fn reply_to_write(&self, association: &Association, key: &Key) -> Result<Reply, NoMemory>
+        ensures put { (value : Text) → result ≡ Ok (table self.now association.now (Put key.now value)) }
+        ensures del { result ≡ Ok (table self.now association.now (Del key.now)) }
     {
-        match seat {
-            Seat::Idle(_) => rmfail(BranchState::Idle),
-            Seat::Free => ok_if(!self.is_held_against(seat, key), XaError::RowLocked),
-            Seat::Active(_) => ok_if(!self.is_held_against(seat, key), XaError::RowLocked),
+        match association {
+            Association::Idle(_) => rmfail(BranchState::Idle),
+            Association::Free => ok_if(!self.is_held_against(association, key), XaError::RowLocked),
+            Association::Active(_) => ok_if(
+                !self.is_held_against(association, key),
+                XaError::RowLocked,
+            ),
         }
     }
 
     /// The reply to a statement of a session that has this open.
     #[tactic(auto, unfolding(crate::specs::Replies::table))]
-    pub(crate) fn decide(&self, seat: &Seat, statement: &Statement) -> Result<Reply, NoMemory>
-        ensures reply { IfOk result (λ reply. reply ≡ table self.now seat.now statement.now) }
+    pub(crate) fn decide(
+        &self,
+        association: &Association,
+        statement: &Statement,
+    ) -> Result<Reply, NoMemory>
+        ensures reply { IfOk result (λ reply. reply ≡ table self.now association.now statement.now) }
         ensures memory { OnErr result (is_recover statement.now ≡ true) }
     {
         match statement {
-            Statement::Start(xid) => self.reply_to_start(seat, xid),
-            Statement::End(xid) => self.reply_to_end(seat, xid),
-            Statement::Prepare(xid) => self.reply_to_prepare(seat, xid),
-            Statement::Commit { xid, one_phase } => self.reply_to_commit(seat, xid, *one_phase),
-            Statement::Rollback(xid) => self.reply_to_rollback(seat, xid),
+            Statement::Start(xid) => self.reply_to_start(association, xid),
+            Statement::End(xid) => self.reply_to_end(association, xid),
+            Statement::Prepare(xid) => self.reply_to_prepare(association, xid),
+            Statement::Commit { xid, one_phase } => self.reply_to_commit(
+                association,
+                xid,
+                *one_phase,
+            ),
+            Statement::Rollback(xid) => self.reply_to_rollback(association, xid),
             Statement::Recover { convert: _ } => Ok(Reply::Recovered(self.prepared_xids()?)),
             Statement::Unsupported => Ok(Reply::Refused(XaError::Inval)),
-            Statement::Get(key) => self.reply_to_get(seat, key),
-            Statement::Put(key, _) => self.reply_to_write(seat, key),
-            Statement::Del(key) => self.reply_to_write(seat, key),
+            Statement::Get(key) => self.reply_to_get(association, key),
+            Statement::Put(key, _) => self.reply_to_write(association, key),
+            Statement::Del(key) => self.reply_to_write(association, key),
             Statement::Disconnect => Ok(Reply::Ok),
         }
     }
 
     /// Whether the statement has a place in the history, where it is accepted.
     #[tactic(auto, unfolding(crate::specs::Step::may_enter))]
-    fn may_enter(&self, seat: &Seat, statement: &Statement) -> bool
-        ensures { result ≡ may_enter_in self.now seat.now statement.now }
+    fn may_enter(&self, association: &Association, statement: &Statement) -> bool
+        ensures { result ≡ may_enter_in self.now association.now statement.now }
     {
         match statement {
             Statement::Start(_) => true,
@@ -181,15 +197,15 @@ impl Server {
             Statement::Del(_) => true,
             Statement::Recover { convert: _ } => false,
             Statement::Unsupported => false,
-            Statement::Get(key) => match seat {
-                Seat::Active(own) => !self.holds(own, key),
-                Seat::Free => false,
-                Seat::Idle(_) => false,
+            Statement::Get(key) => match association {
+                Association::Active(own) => !self.holds(own, key),
+                Association::Free => false,
+                Association::Idle(_) => false,
             },
-            Statement::Disconnect => match seat {
-                Seat::Free => false,
-                Seat::Active(_) => true,
-                Seat::Idle(_) => true,
+            Statement::Disconnect => match association {
+                Association::Free => false,
+                Association::Active(_) => true,
+                Association::Idle(_) => true,
             },
         }
     }
@@ -210,9 +226,9 @@ impl Server {
         ensures memory { OnErr result (is_recover statement.now ≡ true) }
         ensures lock_law { LockLaw self.now }
     {
-        let seat = self.seat(session);
-        let reply = self.decide(&seat, statement)?;
-        let enters = !reply.is_refused() && self.may_enter(&seat, statement);
+        let association = self.association(session);
+        let reply = self.decide(&association, statement)?;
+        let enters = !reply.is_refused() && self.may_enter(&association, statement);
         Ok((reply, enters))
     }
 }

@@ -4,9 +4,9 @@ ghost use Rattle.std.specs.BTreeMap as tree;
 ghost use Rattle.xa_xid.specs.Xid.{bytes_cmp};
 ghost use Rattle.xa_server.specs.Held.{hold_in as hold_in_lock, held_among};
 
+use crate::association::is_same;
 use crate::lock::{Change, Lock};
 use crate::row::RowRecord;
-use crate::seat::is_same;
 use std::alloc::Global;
 use std::collections::BTreeMap;
 use xa_xid::{Bytes, Key, NoMemory, Xid, copy_of};

@@ -2,6 +2,7 @@
 #![tactic(auto)]
 
 mod apply;
+mod association;
 mod branch;
 mod branch_table;
 mod decide;
@@ -13,7 +14,6 @@ mod overview;
 mod reply;
 mod row;
 mod row_table;
-mod seat;
 mod server;
 mod sharers;
 mod xa_error;

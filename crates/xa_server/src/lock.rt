@@ -4,7 +4,7 @@ ghost use Rattle.std.specs.FinSet as set;
 ghost use Rattle.std.specs.Option.{option_map};
 ghost use Rattle.xa_server.specs.Rows.{write_of, write_in, mode_in, held_beside, locked_beside, with_sharer, freed_lock};
 
-use crate::seat::{Seat, is_same};
+use crate::association::{Association, is_same};
 use crate::sharers::Sharers;
 use std::alloc::Global;
 use xa_xid::{Bytes, NoMemory, Xid, copy_of};
@@ -125,21 +125,21 @@ impl Lock {
     }
 
     /// Whether a branch that isn't the session's own holds the row, in either way.
-    pub fn is_held_beside(&self, seat: &Seat) -> bool
-        ensures { result ≡ held_beside seat.now self.now }
+    pub fn is_held_beside(&self, association: &Association) -> bool
+        ensures { result ≡ held_beside association.now self.now }
     {
         match self {
-            Lock::Exclusive { holder, change: _ } => seat.is_another(holder),
-            Lock::Shared(sharers) => sharers.has_another(seat),
+            Lock::Exclusive { holder, change: _ } => association.is_another(holder),
+            Lock::Shared(sharers) => sharers.has_another(association),
         }
     }
 
     /// Whether a branch that isn't the session's own holds the row exclusively.
-    pub fn is_locked_beside(&self, seat: &Seat) -> bool
-        ensures { result ≡ locked_beside seat.now self.now }
+    pub fn is_locked_beside(&self, association: &Association) -> bool
+        ensures { result ≡ locked_beside association.now self.now }
     {
         match self {
-            Lock::Exclusive { holder, change: _ } => seat.is_another(holder),
+            Lock::Exclusive { holder, change: _ } => association.is_another(holder),
             Lock::Shared(_) => false,
         }
     }

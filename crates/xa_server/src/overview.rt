@@ -5,8 +5,8 @@ ghost use Rattle.xa_xid.specs.Xid.{xid_cmp};
 ghost use Rattle.xa_server.specs.Held.{recorded_entry};
 ghost use Rattle.xa_server.specs.Overview.{keys_of as keys_of_rows};
 
+use crate::association::Association;
 use crate::branch::{BranchRecord, Phase};
-use crate::seat::Seat;
 use crate::{HeldRow, Server};
 use std::alloc::Global;
 use std::collections::BTreeMap;
@@ -63,7 +63,7 @@ fn one_key(alloc: Global, key: &Key) -> Result<Vec<Key>, NoMemory>
 }
 
 impl Server {
-    ghost use Rattle.xa_server.specs.State.{committed_value as committed_value_of, seat_of};
+    ghost use Rattle.xa_server.specs.State.{committed_value as committed_value_of, association_of};
     ghost use Rattle.xa_server.specs.Overview.{branches_of, rows_of as rows_of_branch, keys_open as keys_open_at, keys_about as keys_about_statement};
 
     /// Every branch, once, ascending by identifier.
@@ -98,12 +98,12 @@ impl Server {
 
     /// The keys of the rows that the session's branch holds.
     fn keys_open(&self, alloc: Global, session: SessionNo) -> Result<Vec<Key>, NoMemory>
-        ensures { IfOk result (λ keys. keys.items ≡ keys_open_at self.now (seat_of self.now session)) }
+        ensures { IfOk result (λ keys. keys.items ≡ keys_open_at self.now (association_of self.now session)) }
     {
-        match self.seat(session) {
-            Seat::Free => Ok(Vec::new(alloc)),
-            Seat::Active(own) => self.keys_held(alloc, &own),
-            Seat::Idle(own) => self.keys_held(alloc, &own),
+        match self.association(session) {
+            Association::Free => Ok(Vec::new(alloc)),
+            Association::Active(own) => self.keys_held(alloc, &own),
+            Association::Idle(own) => self.keys_held(alloc, &own),
         }
     }
 

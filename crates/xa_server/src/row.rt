@@ -3,8 +3,8 @@ ghost use Rattle.std.specs.Prelude.{◌≡◌, true, is_some};
 ghost use Rattle.std.specs.Option.{option_copied, option_and_then};
 ghost use Rattle.xa_server.specs.Rows.{committed_of, held_against, locked_against, value_seen, lock_by, freed_row, is_needed};
 
+use crate::association::{Association, is_same};
 use crate::lock::{Change, Lock, is_same_text};
-use crate::seat::{Seat, is_same};
 use std::alloc::{AllocError, Global};
 use xa_xid::{Bytes, Xid, copy_of};
 
@@ -71,22 +71,22 @@ pub fn committed_value(row: Option<&RowRecord>) -> Option<Bytes>
 }
 
 /// Whether a branch that isn't the session's own holds the row, in either way.
-pub fn is_held_against(seat: &Seat, row: Option<&RowRecord>) -> bool
-    ensures { result ≡ held_against seat.now (option_copied row.entry) }
+pub fn is_held_against(association: &Association, row: Option<&RowRecord>) -> bool
+    ensures { result ≡ held_against association.now (option_copied row.entry) }
 {
     match row {
         None => false,
-        Some(record) => record.lock.is_held_beside(seat),
+        Some(record) => record.lock.is_held_beside(association),
     }
 }
 
 /// Whether a branch that isn't the session's own holds the row exclusively.
-pub fn is_locked_against(seat: &Seat, row: Option<&RowRecord>) -> bool
-    ensures { result ≡ locked_against seat.now (option_copied row.entry) }
+pub fn is_locked_against(association: &Association, row: Option<&RowRecord>) -> bool
+    ensures { result ≡ locked_against association.now (option_copied row.entry) }
 {
     match row {
         None => false,
-        Some(record) => record.lock.is_locked_beside(seat),
+        Some(record) => record.lock.is_locked_beside(association),
     }
 }
 
@@ -104,7 +104,7 @@ pub fn free(row: &mut RowRecord, alloc: Global, xid: &Xid, commits: bool) -> boo
             row.committed = change.into_value();
         }
     }
-    row.committed.is_some() || row.lock.is_held_beside(&Seat::Free)
+    row.committed.is_some() || row.lock.is_held_beside(&Association::Free)
 }
 
 /// Whether this branch holds the row, in either way.

@@ -1,9 +1,10 @@
 //! The server: its records, and what they say of its state.
 ghost use Rattle.std.specs.Prelude.{◌≡◌, true, false, cond, is_some, Some, None, OnOk, OnErr, IfOk};
 ghost use Rattle.std.specs.FinMap as map;
-ghost use Rattle.xa_server.specs.State.{seat_in as seat_in_phase};
+ghost use Rattle.xa_server.specs.State.{association_in as association_in_phase};
 ghost use Rattle.xa_server.specs.Tables.{with_record, without_last};
 
+use crate::association::Association;
 use crate::branch::{self, Phase};
 use crate::branch_table::BranchTable;
 use crate::hold::HeldRow;
@@ -12,7 +13,6 @@ use crate::overview::BranchEntry;
 use crate::reply::XidList;
 use crate::row;
 use crate::row_table::RowTable;
-use crate::seat::Seat;
 use std::alloc::Global;
 use std::marker::Model;
 use xa_xid::{Bytes, Key, NoMemory, SessionNo, Xid};
@@ -42,14 +42,14 @@ impl Model for Server {
 }
 
 /// What a session has open that owns a branch in this phase.
-fn seat_in(phase: Option<Phase>, own: &Xid) -> Seat
-    ensures { result ≡ seat_in_phase phase own.now }
+fn association_in(phase: Option<Phase>, own: &Xid) -> Association
+    ensures { result ≡ association_in_phase phase own.now }
 {
     match phase {
-        Some(Phase::Active) => Seat::Active(own.copy()),
-        Some(Phase::Idle) => Seat::Idle(own.copy()),
-        Some(Phase::Prepared) => Seat::Free,
-        None => Seat::Free,
+        Some(Phase::Active) => Association::Active(own.copy()),
+        Some(Phase::Idle) => Association::Idle(own.copy()),
+        Some(Phase::Prepared) => Association::Free,
+        None => Association::Free,
     }
 }
 
@@ -64,13 +64,13 @@ fn unlist_refused(branches: &mut BranchTable, own: &Xid, held: &Result<(), NoMem
 }
 
 impl Server {
-    ghost use Rattle.xa_server.specs.State.{no_state, is_known, is_prepared, seat_of, prepared_xids as prepared_xids_of, committed_value as committed_value_of, value_within as value_within_of};
+    ghost use Rattle.xa_server.specs.State.{no_state, is_known, is_prepared, association_of, prepared_xids as prepared_xids_of, committed_value as committed_value_of, value_within as value_within_of};
     ghost use Rattle.xa_server.specs.Locks.{LockLaw, holds as holds_of, is_held_against as is_held_against_of, is_locked_against as is_locked_against_of};
     ghost use Rattle.xa_server.specs.Step.{started_by, with_branch, with_changed, with_lock, with_write, without_branch, committed};
     ghost use Rattle.xa_server.specs.Overview.{branches_of, rows_of};
     ghost use Rattle.xa_server.specs.Rows.{with_change};
     ghost use Rattle.xa_server.specs.declared.branch.Phase.TheVariants.{Idle as PhaseIdle, Prepared as PhasePrepared};
-    ghost use Rattle.xa_server.specs.declared.seat.Seat.TheVariants.{Free, Active};
+    ghost use Rattle.xa_server.specs.declared.association.Association.TheVariants.{Free, Active};
 
     /// A server with no branches and no rows.
     ///
@@ -123,14 +123,14 @@ impl Server {
     }
 
     /// What the session has open. Every server keeps the lock law.
-    pub(crate) fn seat(&self, session: SessionNo) -> Seat
-        ensures seat { result ≡ seat_of self.now session }
+    pub(crate) fn association(&self, session: SessionNo) -> Association
+        ensures association { result ≡ association_of self.now session }
         ensures lock_law { LockLaw self.now }
     {
         let Some(own) = self.branches.owned_by(session) else {
-            return Seat::Free;
+            return Association::Free;
         };
-        seat_in(self.branches.phase_of(own), own)
+        association_in(self.branches.phase_of(own), own)
     }
 
     /// Whether a branch has this identifier.
@@ -162,17 +162,17 @@ impl Server {
     }
 
     /// Whether a branch that isn't the session's own holds the row, in either way.
-    pub(crate) fn is_held_against(&self, seat: &Seat, key: &Key) -> bool
-        ensures { result ≡ is_held_against_of self.now seat.now key.now }
+    pub(crate) fn is_held_against(&self, association: &Association, key: &Key) -> bool
+        ensures { result ≡ is_held_against_of self.now association.now key.now }
     {
-        row::is_held_against(seat, self.rows.row(key))
+        row::is_held_against(association, self.rows.row(key))
     }
 
     /// Whether a branch that isn't the session's own holds the row exclusively.
-    pub(crate) fn is_locked_against(&self, seat: &Seat, key: &Key) -> bool
-        ensures { result ≡ is_locked_against_of self.now seat.now key.now }
+    pub(crate) fn is_locked_against(&self, association: &Association, key: &Key) -> bool
+        ensures { result ≡ is_locked_against_of self.now association.now key.now }
     {
-        row::is_locked_against(seat, self.rows.row(key))
+        row::is_locked_against(association, self.rows.row(key))
     }
 
     /// Whether the branch holds the row, in either way.
@@ -207,7 +207,7 @@ impl Server {
     /// Starts a branch for a free session, under an identifier that no branch has. After `NoMemory` the server is as before.
     pub(crate) fn start_branch(&mut self, session: SessionNo, xid: &Xid) -> Result<(), NoMemory>
         requires unknown { is_known self.old xid.now ≡ false }
-        requires free { seat_of self.old session ≡ Free }
+        requires free { association_of self.old session ≡ Free }
         ensures ok { OnOk result (self.new ≡ with_branch self.old xid.now (started_by session)) }
         ensures err { OnErr result (self.new ≡ self.old) }
     {

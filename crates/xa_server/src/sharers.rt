@@ -5,8 +5,8 @@ ghost use Rattle.std.specs.BTreeSet.{keys};
 ghost use Rattle.std.specs.List.{list_any};
 ghost use Rattle.xa_server.specs.Locks.{is_another as is_another_of};
 
+use crate::association::Association;
 use crate::lock::is_same_xid;
-use crate::seat::Seat;
 use std::alloc::Global;
 use std::collections::BTreeSet;
 use std::marker::Model;
@@ -30,11 +30,11 @@ impl Model for Sharers {
 }
 
 /// Whether a branch that isn't the session's own is in the set.
-fn has_another_in(xids: &BTreeSet<Xid>, seat: &Seat) -> bool
-    ensures { result ≡ list_any (is_another_of seat.now) (keys xids.now) }
+fn has_another_in(xids: &BTreeSet<Xid>, association: &Association) -> bool
+    ensures { result ≡ list_any (is_another_of association.now) (keys xids.now) }
 {
     for xid in xids {
-        if seat.is_another(xid) {
+        if association.is_another(xid) {
             return true;
         }
     }
@@ -96,10 +96,10 @@ impl Sharers {
     }
 
     /// Whether a branch that isn't the session's own is one of them. Looks at two of them at most.
-    pub fn has_another(&self, seat: &Seat) -> bool
-        ensures { result ≡ list_any (is_another_of seat.now) (set.items self.now) }
+    pub fn has_another(&self, association: &Association) -> bool
+        ensures { result ≡ list_any (is_another_of association.now) (set.items self.now) }
     {
-        has_another_in(&self.xids, seat)
+        has_another_in(&self.xids, association)
     }
 
     /// Adds a branch. After `NoMemory` the set is as before.

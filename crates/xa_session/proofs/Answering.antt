@@ -4,7 +4,7 @@ use Rattle.std.proofs.Common.{arith, length-append}
 use Rattle.std.specs.Prelude.{slice_get, ◌⊎◌, Result, OnOk, OnErr, not, ◌&&◌}
 use Rattle.xa_words.specs.Entry.{Entry}
 use Rattle.xa_xid.specs.declared.statement.Statement.{Statement}
-use Rattle.xa_server.specs.State.{State, seat_of}
+use Rattle.xa_server.specs.State.{State, association_of}
 use Rattle.xa_server.specs.Replies.{reply_to}
 use Rattle.xa_server.specs.Step.{enters, may_enter, is_refused, may_take_memory}
 use Rattle.decision_log.specs.History.{Begins}
@@ -257,6 +257,7 @@ refused_unanswered base statement answer old new is refused =
     record {
       advances = is.advances;
       mine =
-          (is.outside (ap (λ b. not b && may_enter (state_at base new.seen answer.place) (seat_of (state_at base new.seen answer.place) old.number) statement)
+          (is.outside (ap (λ b. not b && may_enter (state_at base new.seen answer.place)
+          (association_of (state_at base new.seen answer.place) old.number) statement)
           there)).mine;
     }

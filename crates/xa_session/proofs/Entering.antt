@@ -5,10 +5,10 @@ use Rattle.xa_words.specs.Entry.{Entry}
 use Rattle.xa_xid.specs.declared.statement.Statement.{Statement}
 use Rattle.xa_xid.specs.declared.statement.Statement.TheVariants.{Start, End, Prepare, Commit, Rollback, Recover, Unsupported, Get, Put, Del, Disconnect}
 use Rattle.xa_words.specs.Entry.{may_be_entry as makes_entry}
-use Rattle.xa_server.specs.State.{State, seat_of, prepared_xids}
+use Rattle.xa_server.specs.State.{State, association_of, prepared_xids}
 use Rattle.xa_server.specs.Replies.{table, reply_to}
-use Rattle.xa_server.specs.declared.seat.Seat.{Seat}
-use Rattle.xa_server.specs.declared.seat.Seat.TheVariants.{Free, Active, Idle}
+use Rattle.xa_server.specs.declared.association.Association.{Association}
+use Rattle.xa_server.specs.declared.association.Association.TheVariants.{Free, Active, Idle}
 use Rattle.xa_server.specs.declared.reply.Reply.TheVariants.{Ok as Accepted, Recovered}
 use Rattle.xa_server.specs.Step.{enters, may_enter, is_refused}
 
@@ -34,13 +34,13 @@ entering_makes_entry state session Disconnect is = refl
 pub entering_accepted : (state : State) (session : ℕ) (statement : Statement) → enters state session statement ≡ true
     → is_refused (reply_to state session statement) ≡ false
 unfolding enters
-entering_accepted state session statement is = by (is_refused (reply_to state session statement)) (may_enter state (seat_of state session) statement) is
+entering_accepted state session statement is = by (is_refused (reply_to state session statement)) (may_enter state (association_of state session) statement) is
   where
     by : (refused rest : Bool) → not refused && rest ≡ true → refused ≡ false
     by true rest e = absurd (cc)
     by false rest e = refl
 
-disconnect_in : (state : State) (seat : Seat) → table state seat Disconnect ≡ Accepted
+disconnect_in : (state : State) (association : Association) → table state association Disconnect ≡ Accepted
 unfolding table
 disconnect_in state Free = refl
 disconnect_in state (Active own) = refl
@@ -48,7 +48,7 @@ disconnect_in state (Idle own) = refl
 
 pub disconnect_accepted : (state : State) (session : ℕ) → reply_to state session Disconnect ≡ Accepted
 unfolding reply_to
-disconnect_accepted state session = disconnect_in state (seat_of state session)
+disconnect_accepted state session = disconnect_in state (association_of state session)
 
 -- XA RECOVER enters no history
 pub recover_outside : (state : State) (session : ℕ) (convert : Bool) → enters state session (Recover convert) ≡ false
@@ -62,9 +62,9 @@ recover_outside state session convert = none (not (is_refused (reply_to state se
 -- and is answered the list of the prepared branches
 pub recover_reply : (state : State) (session : ℕ) (convert : Bool) → reply_to state session (Recover convert) ≡ Recovered (prepared_xids state)
 unfolding reply_to table
-recover_reply state session convert = by (seat_of state session)
+recover_reply state session convert = by (association_of state session)
   where
-    by : (seat : Seat) → table state seat (Recover convert) ≡ Recovered (prepared_xids state)
+    by : (association : Association) → table state association (Recover convert) ≡ Recovered (prepared_xids state)
     by Free = refl
     by (Active own) = refl
     by (Idle own) = refl

@@ -2,5 +2,5 @@ pub mod Replaying
 pub mod Answering
 pub mod Entering
 pub mod Views
-pub mod OwnSeats
-pub mod Seats
+pub mod OwnAssociations
+pub mod Associations

@@ -4,7 +4,7 @@ use Rattle.xa_coordinator.specs.Recovery.{IsDisconnected}
 use Rattle.xa_coordinator.specs.Told.{IsUndone}
 use Rattle.xa_coordinator.specs.declared.cause.Cause.TheVariants.{Session}
 use Rattle.xa_coordinator.proofs.Keeping.{marked, unmarked, at_place, changes_at}
-use Rattle.xa_coordinator.proofs.Telling.{seat_refused}
+use Rattle.xa_coordinator.proofs.Telling.{association_refused}
 use Rattle.xa_coordinator.proofs.coordinator.Coordinator.disconnect.Goals as goal
 
 pub invariant_of-self : goal.invariant_of-self
@@ -27,7 +27,7 @@ invariant_of-self-in-Err-1 g c =
       named = me.named;
       sized = me.sized;
       open_there = unmarked view me.name.items me.stores.items me.branches c.args.store old new c.index_mut.ensures.value me.open_there
-          (seat_refused Disconnect (Session c.in-Err.fault) (view old) (view new) (g.met.S.Speak.lawful new) (g.met.S.Speak.own_part old)
+          (association_refused Disconnect (Session c.in-Err.fault) (view old) (view new) (g.met.S.Speak.lawful new) (g.met.S.Speak.own_part old)
           (g.met.S.Speak.own_part new) c.in-Err.ensures.undone);
     }
 

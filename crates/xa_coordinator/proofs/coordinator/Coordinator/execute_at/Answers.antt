@@ -1,6 +1,6 @@
 use Rattle.xa_coordinator.specs.Told.{IsDone, IsUndone}
-use Rattle.xa_coordinator.proofs.Keeping.{marked, unmarked, at_place, changes_at, leaves_seat}
-use Rattle.xa_coordinator.proofs.Telling.{seat_refused}
+use Rattle.xa_coordinator.proofs.Keeping.{marked, unmarked, at_place, changes_at, leaves_association}
+use Rattle.xa_coordinator.proofs.Telling.{association_refused}
 use Rattle.xa_coordinator.proofs.coordinator.Coordinator.execute_at.Goals as goal
 
 pub invariant_of-self : goal.invariant_of-self
@@ -13,7 +13,7 @@ invariant_of-self g c =
       named = me.named;
       sized = me.sized;
       open_there = marked view me.name.items me.stores.items me.branches c.args.store new c.args.then me.open_there
-          (leaves_seat me.name.items c.args.store c.args.statement.now c.args.then (view old) (view new) c.requires.leaves (g.met.S.Speak.lawful new)
+          (leaves_association me.name.items c.args.store c.args.statement.now c.args.then (view old) (view new) c.requires.leaves (g.met.S.Speak.lawful new)
           (g.met.S.Speak.own_part old) (g.met.S.Speak.own_part new) c.in-Ok.ensures.says);
     }
 
@@ -27,7 +27,7 @@ invariant_of-self-in-Err-1 g c =
       named = me.named;
       sized = me.sized;
       open_there = unmarked view me.name.items me.stores.items me.branches c.args.store old new c.index_mut.ensures.value me.open_there
-          (seat_refused c.args.statement.now c.in-Err.cause (view old) (view new) (g.met.S.Speak.lawful new)
+          (association_refused c.args.statement.now c.in-Err.cause (view old) (view new) (g.met.S.Speak.lawful new)
           (g.met.S.Speak.own_part old) (g.met.S.Speak.own_part new) c.in-Err.ensures.says);
     }
 

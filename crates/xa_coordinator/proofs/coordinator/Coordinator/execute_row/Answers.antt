@@ -2,11 +2,11 @@ use Rattle.std.proofs.Common.{◌≡◌, ap, sym, ◌∙◌, Some, arith}
 use Rattle.std.specs.Prelude.{slice_get}
 use Rattle.std.proofs.lemmas.Option.{slice_get-get_or}
 use Rattle.xa_xid.specs.declared.xid.Xid.{Xid}
-use Rattle.xa_server.specs.declared.seat.Seat.TheVariants.{Active}
+use Rattle.xa_server.specs.declared.association.Association.TheVariants.{Active}
 use Rattle.xa_coordinator.specs.declared.cause.Cause.TheVariants.{Session}
 use Rattle.xa_coordinator.specs.declared.open_branch.Phase.TheVariants.{Active as PhaseActive}
 use Rattle.xa_coordinator.specs.Branch.{branch_xid}
-use Rattle.xa_coordinator.specs.OpenBranches.{seat_seen}
+use Rattle.xa_coordinator.specs.OpenBranches.{association_seen}
 use Rattle.xa_coordinator.specs.Told.{IsUndone}
 use Rattle.xa_coordinator.specs.Work.{IsReplied}
 use Rattle.xa_coordinator.proofs.Keeping.{unmarked, at_place, changes_at}
@@ -23,14 +23,14 @@ invariant_of-self g c =
     let xid : Xid = branch_xid me.name.items c.args.number c.args.store in
     let there : slice_get me.stores.items c.args.store ≡ Some old =
     slice_get-get_or me.stores.items c.args.store old (omega (arith, c.requires.store)) ∙ ap Some (sym c.index_mut.ensures.value) in
-    let seat : seat_seen (view old) ≡ Active xid =
+    let association : association_seen (view old) ≡ Active xid =
     me.open_there c.args.store old (record { number = c.args.number; phase = PhaseActive }) there c.requires.working in
     record {
       named = me.named;
       sized = me.sized;
       open_there = unmarked view me.name.items me.stores.items me.branches c.args.store old new c.index_mut.ensures.value me.open_there
           (active_still c.args.statement.now c.execute.result xid (view old) (view new) (g.met.S.Speak.lawful new) c.execute.ensures.stays
-          (g.met.S.Speak.own_part old) (g.met.S.Speak.own_part new) seat c.requires.row
+          (g.met.S.Speak.own_part old) (g.met.S.Speak.own_part new) association c.requires.row
           c.execute.ensures.answered c.execute.ensures.fails c.execute.ensures.lasts);
     }
 
@@ -46,7 +46,7 @@ returns-in-Ok-clause-replied g c =
     let xid : Xid = branch_xid me.name.items c.args.number c.args.store in
     let there : slice_get me.stores.items c.args.store ≡ Some old =
     slice_get-get_or me.stores.items c.args.store old (omega (arith, c.requires.store)) ∙ ap Some (sym c.index_mut.ensures.value) in
-    let seat : seat_seen (view old) ≡ Active xid =
+    let association : association_seen (view old) ≡ Active xid =
     me.open_there c.args.store old (record { number = c.args.number; phase = PhaseActive }) there c.requires.working in
     at_place view me.name.items (IsReplied c.args.statement.now c.in-Ok.answer.reply xid) me.stores.items c.args.store old new c.index_mut.ensures.value
     (record {
@@ -55,7 +55,7 @@ returns-in-Ok-clause-replied g c =
       answered = c.in-Ok.ensures.answered;
       active =
           active_there c.args.statement.now c.in-Ok.answer xid (view old) (view new) (g.met.S.Speak.lawful new) c.in-Ok.ensures.stays
-          (g.met.S.Speak.own_part old) (g.met.S.Speak.own_part new) seat c.in-Ok.ensures.answered;
+          (g.met.S.Speak.own_part old) (g.met.S.Speak.own_part new) association c.in-Ok.ensures.answered;
     })
 
 pub returns-in-Err-clause-frame : goal.returns-in-Err-clause-frame

@@ -14,7 +14,7 @@ invariant_of-self g c =
       sized = me.sized;
       open_there =
           unmarked g.S.Speak.view me.name.items me.stores.items me.branches c.args.store c.index_mut.result.now c.list_prepared.new.session
-          c.index_mut.ensures.value me.open_there c.list_prepared.ensures.seat;
+          c.index_mut.ensures.value me.open_there c.list_prepared.ensures.association;
     }
 
 pub returns-in-Ok-clause-frame : goal.returns-in-Ok-clause-frame

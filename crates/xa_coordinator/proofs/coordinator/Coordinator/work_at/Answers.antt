@@ -1,8 +1,8 @@
 use Rattle.std.proofs.Common.{◌≡◌, ℕ, List, Option, Some, ap, sym, ◌∙◌, subst}
 use Rattle.std.specs.Prelude.{slice_get}
-use Rattle.xa_server.specs.declared.seat.Seat.TheVariants.{Active}
+use Rattle.xa_server.specs.declared.association.Association.TheVariants.{Active}
 use Rattle.xa_coordinator.specs.Branch.{branch_xid}
-use Rattle.xa_coordinator.specs.OpenBranches.{seat_seen, IsWorking}
+use Rattle.xa_coordinator.specs.OpenBranches.{association_seen, IsWorking}
 use Rattle.xa_coordinator.specs.declared.open_branch.OpenBranch.{OpenBranch}
 use Rattle.xa_coordinator.specs.declared.open_branch.Phase.TheVariants.{Active as PhaseActive}
 use Rattle.xa_coordinator.proofs.Opening.{working}
@@ -17,7 +17,7 @@ returns-then-is_working-clause-works g c =
     works_open g.S.Speak.view me.branches c.work_within.new.self.branches transaction c.work_within.new.transaction c.args.store c.args.statement.now
     c.work_within.result
     me.stores.items c.work_within.new.self.stores.items
-    (λ s is_s. subst (λ (name : List ℕ). seat_seen (g.S.Speak.view s) ≡ Active (branch_xid name transaction.number c.args.store)) (sym c.requires.name)
+    (λ s is_s. subst (λ (name : List ℕ). association_seen (g.S.Speak.view s) ≡ Active (branch_xid name transaction.number c.args.store)) (sym c.requires.name)
     (me.open_there c.args.store s (record { number = transaction.number; phase = PhaseActive }) is_s mark))
     c.work_within.ensures.part
     (ap (λ (list : List (Option OpenBranch)). slice_get list c.args.store) c.work_within.ensures.marks ∙ mark) c.work_within.ensures.works

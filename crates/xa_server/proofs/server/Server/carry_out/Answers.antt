@@ -11,15 +11,15 @@ start_branch-requires-clause-free c =
 
 pub end_work-requires : goal.end_work-requires
 end_work-requires c =
-    Accepted.accepted_end c.args.self.now _ c.in-End.xid (Accepted.open_seat c.args.self.now c.args.session)
+    Accepted.accepted_end c.args.self.now _ c.in-End.xid (Accepted.open_association c.args.self.now c.args.session)
     (Accepted.accepted_there c.args.self.now c.args.session _ (rw c.in-End.is at c.requires))
 
 pub end_branch-requires : goal.end_branch-requires
 end_branch-requires c =
-    Accepted.accepted_commit c.args.self.now _ c.in-Commit.xid c.in-Commit.one_phase (Accepted.open_seat c.args.self.now c.args.session)
+    Accepted.accepted_commit c.args.self.now _ c.in-Commit.xid c.in-Commit.one_phase (Accepted.open_association c.args.self.now c.args.session)
     (Accepted.accepted_there c.args.self.now c.args.session _ (rw c.in-Commit.is at c.requires))
 
 pub end_branch-requires-in-Rollback : goal.end_branch-requires-in-Rollback
 end_branch-requires-in-Rollback c =
-    Accepted.accepted_rollback c.args.self.now _ c.in-Rollback.xid (Accepted.open_seat c.args.self.now c.args.session)
+    Accepted.accepted_rollback c.args.self.now _ c.in-Rollback.xid (Accepted.open_association c.args.self.now c.args.session)
     (Accepted.accepted_there c.args.self.now c.args.session _ (rw c.in-Rollback.is at c.requires))

@@ -1,5 +1,5 @@
 use Rattle.std.proofs.Common.{ap, ◌∙◌, Some}
-use Rattle.xa_server.specs.declared.seat.Seat.TheVariants.{Free}
+use Rattle.xa_server.specs.declared.association.Association.TheVariants.{Free}
 use Rattle.xa_server.specs.State.{State}
 use Rattle.xa_server.specs.Locks.{is_held_against}
 use Rattle.xa_server.specs.Step.{with_write}

@@ -7,5 +7,5 @@ use Rattle.xa_server.proofs.sharers.Sharers.has_another.Goals as goal
 
 pub returns : goal.returns
 returns c =
-    c.has_another_in.ensures ∙ sym (any-view (is_another c.args.seat.now) c.self.inside.xids)
-    ∙ ap (λ sharers. list_any (is_another c.args.seat.now) (set.items sharers)) c.self.view_is
+    c.has_another_in.ensures ∙ sym (any-view (is_another c.args.association.now) c.self.inside.xids)
+    ∙ ap (λ sharers. list_any (is_another c.args.association.now) (set.items sharers)) c.self.view_is

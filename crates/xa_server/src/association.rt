@@ -8,7 +8,7 @@ use xa_xid::Xid;
 ///
 /// Source: MySQL 8.0 Reference Manual, 'XA Transaction States'.
 #[derive(Debug, Drop)]
-pub enum Seat {
+pub enum Association {
     /// No branch: the session is free, also right after its own `XA PREPARE`.
     Free,
     /// The ACTIVE branch of this identifier.
@@ -24,7 +24,7 @@ pub fn is_same(left: &Xid, right: &Xid) -> bool
     left.cmp(right).is_eq()
 }
 
-impl Seat {
+impl Association {
     ghost use Rattle.xa_server.specs.Locks.{is_another as is_another_of};
 
     /// Whether the branch isn't the session's own.
@@ -32,9 +32,9 @@ impl Seat {
         ensures { result ≡ is_another_of self.now xid.now }
     {
         match self {
-            Seat::Free => true,
-            Seat::Active(own) => !is_same(xid, own),
-            Seat::Idle(own) => !is_same(xid, own),
+            Association::Free => true,
+            Association::Active(own) => !is_same(xid, own),
+            Association::Idle(own) => !is_same(xid, own),
         }
     }
 }

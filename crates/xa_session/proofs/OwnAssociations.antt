@@ -11,14 +11,14 @@ use Rattle.xa_xid.specs.Xid.{same_xid, Text}
 use Rattle.xa_xid.proofs.Orders.{xids_total, exact_xids}
 use Rattle.xa_xid.specs.declared.statement.Statement.{Statement}
 use Rattle.xa_xid.specs.declared.statement.Statement.TheVariants.{Start, End, Get, Put, Del, Disconnect}
-use Rattle.xa_server.specs.declared.seat.Seat.{Seat}
-use Rattle.xa_server.specs.declared.seat.Seat.TheVariants.{Free, Active, Idle}
-use Rattle.xa_server.specs.State.{Branch, State, owns, phase_at, seat_in, seat_of}
+use Rattle.xa_server.specs.declared.association.Association.{Association}
+use Rattle.xa_server.specs.declared.association.Association.TheVariants.{Free, Active, Idle}
+use Rattle.xa_server.specs.State.{Branch, State, owns, phase_at, association_in, association_of}
 use Rattle.xa_server.specs.Locks.{LockLaw}
 use Rattle.xa_server.specs.Replies.{reply_to, table}
 use Rattle.xa_server.specs.Step.{started_by, with_lock, with_own_write, is_refused, after, effect, enters, may_enter, without_branch, unless_refused}
 use Rattle.xa_server.proofs.Maps.{same_or_apart, same_itself}
-use Rattle.xa_server.proofs.Others.{IsOwn, own_seat, own_found, none_found, accepted_end_own}
+use Rattle.xa_server.proofs.Others.{IsOwn, own_association, own_found, none_found, accepted_end_own}
 use Rattle.xa_server.proofs.Changes.{idle, branch_after, effect-branch, accepted_done}
 use Rattle.xa_server.proofs.Keeping.{law_after}
 
@@ -47,81 +47,83 @@ owned_found session state xid is = by (map.get state.branches xid) refl
     }
 
 -- the session has the branch that it owns open, in its phase
-seated : (state : State) → LockLaw state → (session : ℕ) (xid : Xid) (branch : Branch) → map.get state.branches xid ≡ Some branch → branch.owner ≡ Some session
-    → seat_of state session ≡ seat_in (Some branch.phase) xid
-unfolding seat_of
-seated state law session xid branch found owner =
+associated : (state : State) → LockLaw state → (session : ℕ) (xid : Xid) (branch : Branch) → map.get state.branches xid ≡ Some branch
+    → branch.owner ≡ Some session
+    → association_of state session ≡ association_in (Some branch.phase) xid
+unfolding association_of
+associated state law session xid branch found owner =
     let owned : owns state session xid ≡ true =
     ap (λ (f : Option Branch). option_map_or (λ o. o == session) (option_and_then (λ (b : Branch). b.owner) f) false) found
     ∙ ap (λ o. option_map_or (λ n. n == session) o false) owner ∙ eq-eqb session session refl in
-    ap (λ own. option_map_or (λ x. seat_in (phase_at state x) x) own Free)
+    ap (λ own. option_map_or (λ x. association_in (phase_at state x) x) own Free)
     (own_found state session xid owned (λ other also. law.one_branch session xid other owned also))
-    ∙ ap (λ (f : Option Branch). seat_in (option_map (λ (b : Branch). b.phase) f) xid) found
+    ∙ ap (λ (f : Option Branch). association_in (option_map (λ (b : Branch). b.phase) f) xid) found
 
 -- the branches after an accepted statement
 done : (state : State) (session : ℕ) (statement : Statement) (at : Xid) → is_refused (reply_to state session statement) ≡ false →
-    map.get (after state session statement).branches at ≡ branch_after session (seat_of state session) statement at (map.get state.branches at)
+    map.get (after state session statement).branches at ≡ branch_after session (association_of state session) statement at (map.get state.branches at)
 done state session statement at accepted =
     ap (λ (s : State). map.get s.branches at) (accepted_done state session statement accepted)
-    ∙ effect-branch state session (seat_of state session) statement at
+    ∙ effect-branch state session (association_of state session) statement at
 
 -- after XA START the branch is ACTIVE
 pub started : (state : State) → LockLaw state → (session : ℕ) (xid : Xid) → is_refused (reply_to state session (Start xid)) ≡ false
-    → seat_of (after state session (Start xid)) session ≡ Active xid
+    → association_of (after state session (Start xid)) session ≡ Active xid
 unfolding branch_after
 started state law session xid accepted =
-    seated (after state session (Start xid)) (law_after state session (Start xid) law) session xid (started_by session)
+    associated (after state session (Start xid)) (law_after state session (Start xid) law) session xid (started_by session)
     (done state session (Start xid) xid accepted
     ∙ ap (λ b. cond b (Some (started_by session)) (map.get state.branches xid)) (same_itself xids_total exact_xids xid)) refl
 
 -- after XA END it is IDLE
 pub ended : (state : State) → LockLaw state → (session : ℕ) (xid : Xid) → is_refused (reply_to state session (End xid)) ≡ false
-    → seat_of (after state session (End xid)) session ≡ Idle xid
+    → association_of (after state session (End xid)) session ≡ Idle xid
 unfolding branch_after idle reply_to
 ended state law session xid accepted =
-    let own = owned_found session state xid (accepted_end_own state session (seat_of state session) xid (own_seat state session) accepted) in
-    seated (after state session (End xid)) (law_after state session (End xid) law) session xid (idle own.branch)
+    let own = owned_found session state xid (accepted_end_own state session (association_of state session) xid (own_association state session) accepted) in
+    associated (after state session (End xid)) (law_after state session (End xid) law) session xid (idle own.branch)
     (done state session (End xid) xid accepted
     ∙ ap (λ b. cond b (option_map idle (map.get state.branches xid)) (map.get state.branches xid)) (same_itself xids_total exact_xids xid)
     ∙ ap (option_map idle) own.found) own.owner
 
 -- a row statement leaves the ACTIVE branch of its session ACTIVE
 changed_within : (state : State) → LockLaw state → (session : ℕ) (xid : Xid) (statement : Statement) (change : Branch → Branch)
-    → seat_of state session ≡ Active xid →
+    → association_of state session ≡ Active xid →
     is_refused (reply_to state session statement) ≡ false →
     ((found : Option Branch) → branch_after session (Active xid) statement xid found ≡ cond (same_xid xid xid) (option_map change found) found) →
     ((branch : Branch) → (change branch).owner ≡ branch.owner) → ((branch : Branch) → (change branch).phase ≡ branch.phase)
-    → seat_of (after state session statement) session ≡ Active xid
-changed_within state law session xid statement change seat accepted is owner phase =
-    let own = owned_found session state xid (subst (IsOwn state session) seat (own_seat state session)) in
+    → association_of (after state session statement) session ≡ Active xid
+changed_within state law session xid statement change association accepted is owner phase =
+    let own = owned_found session state xid (subst (IsOwn state session) association (own_association state session)) in
     let new : map.get (after state session statement).branches xid ≡ Some (change own.branch) =
     done state session statement xid accepted
-    ∙ ap (λ there. branch_after session there statement xid (map.get state.branches xid)) seat
+    ∙ ap (λ there. branch_after session there statement xid (map.get state.branches xid)) association
     ∙ is (map.get state.branches xid)
     ∙ ap (λ b. cond b (option_map change (map.get state.branches xid)) (map.get state.branches xid)) (same_itself xids_total exact_xids xid)
     ∙ ap (option_map change) own.found in
-    seated (after state session statement) (law_after state session statement law) session xid (change own.branch) new (owner own.branch ∙ own.owner)
-    ∙ ap (λ p. seat_in (Some p) xid) (phase own.branch)
-    ∙ sym (seated state law session xid own.branch own.found own.owner)
-    ∙ seat
+    associated (after state session statement) (law_after state session statement law) session xid (change own.branch) new (owner own.branch ∙ own.owner)
+    ∙ ap (λ p. association_in (Some p) xid) (phase own.branch)
+    ∙ sym (associated state law session xid own.branch own.found own.owner)
+    ∙ association
 
-pub read : (state : State) → LockLaw state → (session : ℕ) (xid : Xid) (key : List ℕ) → seat_of state session ≡ Active xid
-    → is_refused (reply_to state session (Get key)) ≡ false → seat_of (after state session (Get key)) session ≡ Active xid
+pub read : (state : State) → LockLaw state → (session : ℕ) (xid : Xid) (key : List ℕ) → association_of state session ≡ Active xid
+    → is_refused (reply_to state session (Get key)) ≡ false → association_of (after state session (Get key)) session ≡ Active xid
 unfolding branch_after
-read state law session xid key seat accepted =
-    changed_within state law session xid (Get key) (with_lock key) seat accepted (λ found. refl) (λ branch. refl) (λ branch. refl)
+read state law session xid key association accepted =
+    changed_within state law session xid (Get key) (with_lock key) association accepted (λ found. refl) (λ branch. refl) (λ branch. refl)
 
-pub written : (state : State) → LockLaw state → (session : ℕ) (xid : Xid) (key : List ℕ) (value : Text) → seat_of state session ≡ Active xid
-    → is_refused (reply_to state session (Put key value)) ≡ false → seat_of (after state session (Put key value)) session ≡ Active xid
+pub written : (state : State) → LockLaw state → (session : ℕ) (xid : Xid) (key : List ℕ) (value : Text) → association_of state session ≡ Active xid
+    → is_refused (reply_to state session (Put key value)) ≡ false → association_of (after state session (Put key value)) session ≡ Active xid
 unfolding branch_after
-written state law session xid key value seat accepted =
-    changed_within state law session xid (Put key value) (with_own_write key (Some value)) seat accepted (λ found. refl) (λ branch. refl) (λ branch. refl)
+written state law session xid key value association accepted =
+    changed_within state law session xid (Put key value) (with_own_write key (Some value)) association accepted (λ found. refl) (λ branch. refl)
+    (λ branch. refl)
 
-pub deleted : (state : State) → LockLaw state → (session : ℕ) (xid : Xid) (key : List ℕ) → seat_of state session ≡ Active xid
-    → is_refused (reply_to state session (Del key)) ≡ false → seat_of (after state session (Del key)) session ≡ Active xid
+pub deleted : (state : State) → LockLaw state → (session : ℕ) (xid : Xid) (key : List ℕ) → association_of state session ≡ Active xid
+    → is_refused (reply_to state session (Del key)) ≡ false → association_of (after state session (Del key)) session ≡ Active xid
 unfolding branch_after
-deleted state law session xid key seat accepted =
-    changed_within state law session xid (Del key) (with_own_write key None) seat accepted (λ found. refl) (λ branch. refl) (λ branch. refl)
+deleted state law session xid key association accepted =
+    changed_within state law session xid (Del key) (with_own_write key None) association accepted (λ found. refl) (λ branch. refl) (λ branch. refl)
 
 -- ---- DISCONNECT
 
@@ -146,30 +148,31 @@ unowned state law session own owned at is =
     itself : (xid : Xid) → same_xid xid xid ≡ true
     itself xid = same_itself xids_total exact_xids xid
 
-freed : (state : State) → LockLaw state → (session : ℕ) (own : Xid) → owns state session own ≡ true → seat_of (without_branch state own) session ≡ Free
-unfolding seat_of
+freed : (state : State) → LockLaw state → (session : ℕ) (own : Xid) → owns state session own ≡ true → association_of (without_branch state own) session ≡ Free
+unfolding association_of
 freed state law session own owned =
-    ap (λ found. option_map_or (λ xid. seat_in (phase_at (without_branch state own) xid) xid) found Free)
+    ap (λ found. option_map_or (λ xid. association_in (phase_at (without_branch state own) xid) xid) found Free)
     (none_found (without_branch state own) session (unowned state law session own owned))
 
 -- after DISCONNECT a session has nothing open
-pub let_go : (state : State) → LockLaw state → (session : ℕ) → seat_of (after state session Disconnect) session ≡ Free
+pub let_go : (state : State) → LockLaw state → (session : ℕ) → association_of (after state session Disconnect) session ≡ Free
 unfolding after reply_to table effect
-let_go state law session = by (seat_of state session) refl (own_seat state session)
+let_go state law session = by (association_of state session) refl (own_association state session)
   where
-    by : (seat : Seat) → seat_of state session ≡ seat → IsOwn state session seat
-        → seat_of (unless_refused (table state seat Disconnect) state (effect state session seat Disconnect)) session ≡ Free
+    by : (association : Association) → association_of state session ≡ association → IsOwn state session association
+        → association_of (unless_refused (table state association Disconnect) state (effect state session association Disconnect)) session ≡ Free
     by Free is own = is
     by (Active owned) is own = freed state law session owned own
     by (Idle owned) is own = freed state law session owned own
 
 -- where it doesn't enter, the session had nothing open
-pub outside_free : (state : State) (session : ℕ) → enters state session Disconnect ≡ false → seat_of state session ≡ Free
+pub outside_free : (state : State) (session : ℕ) → enters state session Disconnect ≡ false → association_of state session ≡ Free
 unfolding enters may_enter reply_to table
-outside_free state session outside = by (seat_of state session) refl outside
+outside_free state session outside = by (association_of state session) refl outside
   where
-    by : (seat : Seat) → seat_of state session ≡ seat → (not (is_refused (table state seat Disconnect)) && may_enter state seat Disconnect) ≡ false
-        → seat_of state session ≡ Free
+    by : (association : Association) → association_of state session ≡ association
+        → (not (is_refused (table state association Disconnect)) && may_enter state association Disconnect) ≡ false
+        → association_of state session ≡ Free
     by Free is e = is
     by (Active owned) is e = absurd (true≢false e)
     by (Idle owned) is e = absurd (true≢false e)

@@ -5,7 +5,7 @@ use Rattle.std.proofs.lemmas.Bool.{eqb-false}
 use Rattle.std.proofs.lemmas.List.{append_cancel_left, append_cancel_right, take_all, length-take}
 use Rattle.xa_words.specs.Entry.{Entry}
 use Rattle.xa_xid.specs.declared.statement.Statement.{Statement}
-use Rattle.xa_server.specs.State.{State, seat_of}
+use Rattle.xa_server.specs.State.{State, association_of}
 use Rattle.xa_server.specs.Locks.{LockLaw}
 use Rattle.xa_server.specs.Step.{after, enters}
 use Rattle.xa_server.proofs.Others.{others_left}
@@ -25,14 +25,14 @@ left_out false entry rest none = (refl, none)
 
 -- what others add leaves what the session has open
 others_only : (number : ℕ) (rest : List Entry) (state : State) → LockLaw state → entries_of number rest ≡ []
-    → seat_of (state_after state rest) number ≡ seat_of state number
+    → association_of (state_after state rest) number ≡ association_of state number
 unfolding state_after
 others_only number [] state law none = refl
 others_only number (entry ∷ rest) state law none =
     let out = left_out (nat_eq entry.session number) entry (entries_of number rest) none in
     let next : State = after state entry.session entry.statement in
     others_only number rest next (law_after state entry.session entry.statement law) out.1
-    ∙ (others_left state law entry.session number entry.statement (eqb-false entry.session number out.0)).seat
+    ∙ (others_left state law entry.session number entry.statement (eqb-false entry.session number out.0)).association
 
 state_after-append : (base : State) (xs ys : List Entry) → state_after base (xs ++ ys) ≡ state_after (state_after base xs) ys
 unfolding state_after
@@ -45,25 +45,25 @@ law_seen base [] law = law
 law_seen base (x ∷ xs) law = law_seen (after base x.session x.statement) xs (law_after base x.session x.statement law)
 
 -- a longer history in which the session has no more entries
-pub seat_kept : (base : State) → LockLaw base → (number : ℕ) (old new : List Entry) → Begins old new → entries_of number new ≡ entries_of number old
-    → seat_of (state_after base new) number ≡ seat_of (state_after base old) number
-seat_kept base law number old new begins own =
+pub association_kept : (base : State) → LockLaw base → (number : ℕ) (old new : List Entry) → Begins old new → entries_of number new ≡ entries_of number old
+    → association_of (state_after base new) number ≡ association_of (state_after base old) number
+association_kept base law number old new begins own =
     let rest : List Entry = drop (length old) new in
     let whole : old ++ rest ≡ new = behind old new begins in
     let none : entries_of number rest ≡ [] =
     append_cancel_left (entries_of number old) (entries_of number rest) []
     (sym (own_append number old rest) ∙ ap (entries_of number) whole ∙ own ∙ sym (append-nil (entries_of number old))) in
-    ap (λ history. seat_of (state_after base history) number) (sym whole)
-    ∙ ap (λ state. seat_of state number) (state_after-append base old rest)
+    ap (λ history. association_of (state_after base history) number) (sym whole)
+    ∙ ap (λ state. association_of state number) (state_after-append base old rest)
     ∙ others_only number rest (state_after base old) (law_seen base old law) none
 
 -- nothing was added
-pub seat_unanswered : (base : State) → LockLaw base → (old new : Known) → IsUnanswered old new → entries_of old.number old.seen ≡ old.mine
+pub association_unanswered : (base : State) → LockLaw base → (old new : Known) → IsUnanswered old new → entries_of old.number old.seen ≡ old.mine
     → entries_of new.number new.seen ≡ new.mine →
-    seat_of (state_after base new.seen) new.number ≡ seat_of (state_after base old.seen) old.number
-seat_unanswered base law old new is own_old own_new =
-    ap (seat_of (state_after base new.seen)) is.advances.number
-    ∙ seat_kept base law old.number old.seen new.seen is.advances.seen
+    association_of (state_after base new.seen) new.number ≡ association_of (state_after base old.seen) old.number
+association_unanswered base law old new is own_old own_new =
+    ap (association_of (state_after base new.seen)) is.advances.number
+    ∙ association_kept base law old.number old.seen new.seen is.advances.seen
     (ap (λ n. entries_of n new.seen) (sym is.advances.number) ∙ own_new ∙ is.mine ∙ sym own_old)
 
 -- what stands before an answer's place is more of what had been seen, with no more of the session's own
@@ -100,12 +100,12 @@ before base statement answer old new is own_old own_new = by (enters (state_at b
         }
 
 -- at an answer's place the session has open what it had
-pub seat_at : (base : State) → LockLaw base → (statement : Statement) (answer : Answer) (old new : Known) → IsAnswered base statement answer old new →
+pub association_at : (base : State) → LockLaw base → (statement : Statement) (answer : Answer) (old new : Known) → IsAnswered base statement answer old new →
     entries_of old.number old.seen ≡ old.mine → entries_of new.number new.seen ≡ new.mine →
-    seat_of (state_at base new.seen answer.place) old.number ≡ seat_of (state_after base old.seen) old.number
-seat_at base law statement answer old new is own_old own_new =
+    association_of (state_at base new.seen answer.place) old.number ≡ association_of (state_after base old.seen) old.number
+association_at base law statement answer old new is own_old own_new =
     let front = before base statement answer old new is own_old own_new in
-    seat_kept base law old.number old.seen (take answer.place new.seen) front.begins front.own
+    association_kept base law old.number old.seen (take answer.place new.seen) front.begins front.own
 
 -- what an answered statement leaves
 pub state_entered : (base : State) (statement : Statement) (answer : Answer) (old new : Known) → IsAnswered base statement answer old new
