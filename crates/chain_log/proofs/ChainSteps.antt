@@ -8,9 +8,9 @@ use Rattle.atomic_table.specs.Table.{State, Allows}
 use Rattle.xa_words.specs.Entry.{Entry}
 use Rattle.xa_words.specs.Words.{words_of}
 use Rattle.xa_words.proofs.Spelling.{length-words_of}
-use Rattle.decision_log.specs.declared.view.Hand.{Hand}
-use Rattle.decision_log.specs.declared.view.View.{View}
-use Rattle.decision_log.specs.declared.view.View.TheVariants.{One}
+use Rattle.decision_log.specs.declared.view.PassView.{PassView}
+use Rattle.decision_log.specs.declared.view.SeatView.{SeatView}
+use Rattle.decision_log.specs.declared.view.SeatView.TheVariants.{Single}
 use Rattle.decision_log.specs.declared.sizes.Sizes.{Sizes}
 use Rattle.decision_log.specs.History.{Begins, entries_of}
 use Rattle.decision_log.specs.Seats.{seated}
@@ -23,32 +23,32 @@ use Rattle.chain_log.specs.ChainRule.{own_cell, HasDraft, Knows, ChainRule}
 use Rattle.chain_log.specs.ChainPlays.{with_look, Sees, Reads}
 use Rattle.chain_log.proofs.Names.{name_begins}
 
-abbrev pub Rules : Sizes → State Entry View → Type 0
+abbrev pub Rules : Sizes → State Entry SeatView → Type 0
 Rules sizes state = ChainRule sizes state.words state.views
 
 -- a pass with no draft
-pub blank : (words : List ℕ) (log : List Entry) (k : Hand) → k.draft ≡ [] → HasDraft words log k
+pub blank : (words : List ℕ) (log : List Entry) (k : PassView) → k.draft ≡ [] → HasDraft words log k
 blank words log k empty = record {
   short = omega (arith, ap length empty);
   column = λ some. absurd (omega (arith, ap length empty));
   draft = holds_nothing words (own_cell k) k.draft empty;
 }
 
-module _ {sizes : Sizes} {words : List ℕ} {views : List View} (r : ChainRule sizes words views) where
+module _ {sizes : Sizes} {words : List ℕ} {views : List SeatView} (r : ChainRule sizes words views) where
   -- the newest cell's name, by the pass's own count of the sessions
-  pub newest_by : (h : Hand) → h.sessions ≡ sizes.sessions → get_or words 0 0 ≡ newest_of h.sessions r.log
+  pub newest_by : (h : PassView) → h.sessions ≡ sizes.sessions → get_or words 0 0 ≡ newest_of h.sessions r.log
   newest_by h sessions = r.spelled.newest ∙ ap (λ s. newest_of s r.log) (sym sessions)
 
   -- a pass has seen the whole history
-  pub seen_keeps : (id : ℕ) (h k : Hand) → get_elem? views id ≡ some (One h) → k.sessions ≡ h.sessions → k.capacity ≡ h.capacity
+  pub seen_keeps : (id : ℕ) (h k : PassView) → get_elem? views id ≡ some (Single h) → k.sessions ≡ h.sessions → k.capacity ≡ h.capacity
       → k.known.number ≡ h.known.number → k.known.mine ≡ h.known.mine → k.draft ≡ [] → k.known.seen ≡ r.log
-      → ChainRule sizes words (set views id (One k))
+      → ChainRule sizes words (set views id (Single k))
   seen_keeps id h k here sessions capacity number mine draft all =
       (stepped r words id h k here r.spelled sessions capacity number mine (subst (λ list. Begins list r.log) (sym all) (begins_itself r.log))
       (ap (entries_of h.known.number) all ∙ (known r id h here).fact_is.mine) (blank words r.log k draft) (λ g apart low other. other.own)).0
 
   -- a word of the cell of an entry that was seen
-  pub read_there : (h : Hand) (row index : ℕ) (entry : Entry) → Knows sizes words r.log h → index < 22 → slice_get h.known.seen row ≡ Some entry
+  pub read_there : (h : PassView) (row index : ℕ) (entry : Entry) → Knows sizes words r.log h → index < 22 → slice_get h.known.seen row ≡ Some entry
       → get_or words (cell_at (name_at h.sessions row entry.session) + index) 0 ≡ get_or (name_before h.sessions h.known.seen row ∷ words_of entry) index 0
   read_there h row index entry k below is =
       let there = get_begins h.known.seen r.log row entry k.seen is in
@@ -58,14 +58,14 @@ module _ {sizes : Sizes} {words : List ℕ} {views : List View} (r : ChainRule s
       (sym (name_begins sizes.sessions h.known.seen r.log row k.seen (omega (arith, slice_get_within h.known.seen row entry is)))
       ∙ ap (λ s. name_before s h.known.seen row) (sym k.sessions))
 
-pub look_step : (sizes : Sizes) (slots id : ℕ) (h : Hand) → Allows (Rules sizes) slots id (seated h) 0 (λ n. n) (Tells (Sees 0 h))
+pub look_step : (sizes : Sizes) (slots id : ℕ) (h : PassView) → Allows (Rules sizes) slots id (seated h) 0 (λ n. n) (Tells (Sees 0 h))
 look_step sizes slots id h =
     load_step sizes slots id 0 h (Sees 0 h)
     (λ words views r here.
     let k = (known r id h here).fact_is in
     (with_look h r.log, seen_keeps r id h (with_look h r.log) here refl refl refl refl refl refl, (refl, r.log, refl, newest_by r h k.sessions, history r h k)))
 
-pub read_step : (sizes : Sizes) (slots id word : ℕ) (h : Hand) → word ≢ 0 → Allows (Rules sizes) slots id (seated h) word (λ n. n) (Tells (Reads word h))
+pub read_step : (sizes : Sizes) (slots id word : ℕ) (h : PassView) → word ≢ 0 → Allows (Rules sizes) slots id (seated h) word (λ n. n) (Tells (Reads word h))
 read_step sizes slots id word h behind =
     load_step sizes slots id word h (Reads word h)
     (λ words views r here.

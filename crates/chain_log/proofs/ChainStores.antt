@@ -14,9 +14,9 @@ use Rattle.atomic_table.proofs.Lists.{exchanged}
 use Rattle.xa_words.specs.Entry.{Entry, IsEntry}
 use Rattle.xa_words.specs.Words.{words_of}
 use Rattle.xa_words.proofs.Spelling.{length-words_of}
-use Rattle.decision_log.specs.declared.view.Hand.{Hand}
-use Rattle.decision_log.specs.declared.view.View.{View}
-use Rattle.decision_log.specs.declared.view.View.TheVariants.{One}
+use Rattle.decision_log.specs.declared.view.PassView.{PassView}
+use Rattle.decision_log.specs.declared.view.SeatView.{SeatView}
+use Rattle.decision_log.specs.declared.view.SeatView.TheVariants.{Single}
 use Rattle.decision_log.specs.declared.sizes.Sizes.{Sizes}
 use Rattle.decision_log.specs.Seats.{seated}
 use Rattle.decision_log.specs.Draft.{HasWordsAt, drafted}
@@ -31,22 +31,22 @@ use Rattle.chain_log.proofs.Chains.{chain_of, one_chain}
 use Rattle.chain_log.proofs.ChainSteps.{Rules, blank, newest_by, seen_keeps}
 use Rattle.chain_log.proofs.Names.{name_begins, name_low, newest_added, one_cell, one_length, within_words, words_apart}
 
-one_log : (sizes : Sizes) (words : List ℕ) (one other : List View) (p : ChainRule sizes words one) (q : ChainRule sizes words other) → p.log ≡ q.log
+one_log : (sizes : Sizes) (words : List ℕ) (one other : List SeatView) (p : ChainRule sizes words one) (q : ChainRule sizes words other) → p.log ≡ q.log
 one_log sizes words one other p q = one_chain words p.log q.log (chain_of sizes words one p) (chain_of sizes words other q)
 
-module _ {sizes : Sizes} {words : List ℕ} {views : List View} (r : ChainRule sizes words views) where
+module _ {sizes : Sizes} {words : List ℕ} {views : List SeatView} (r : ChainRule sizes words views) where
   -- the number of a pass is one of the log's sessions
-  numbered : (id : ℕ) (h : Hand) → get_elem? views id ≡ some (One h) → (1 ≤ h.known.number) × (h.known.number ≤ sizes.sessions)
+  numbered : (id : ℕ) (h : PassView) → get_elem? views id ≡ some (Single h) → (1 ≤ h.known.number) × (h.known.number ≤ sizes.sessions)
   numbered id h here =
       let p = known r id h here in
       (omega (arith, p.low), omega (arith, p.high, r.within))
 
   -- a pass's own cell, by the log's count of the sessions
-  own_by : (h : Hand) → h.sessions ≡ sizes.sessions → own_cell h ≡ cell_at (name_at sizes.sessions (length h.known.seen) h.known.number)
+  own_by : (h : PassView) → h.sessions ≡ sizes.sessions → own_cell h ≡ cell_at (name_at sizes.sessions (length h.known.seen) h.known.number)
   own_by h sessions = ap (λ s. cell_at (name_at s (length h.known.seen) h.known.number)) sessions
 
   -- a word of a pass's own cell isn't one of the history's cells
-  not_of_history : (id : ℕ) (h : Hand) (index row i : ℕ) (entry : Entry) → get_elem? views id ≡ some (One h) → index < 22 → i < 22
+  not_of_history : (id : ℕ) (h : PassView) (index row i : ℕ) (entry : Entry) → get_elem? views id ≡ some (Single h) → index < 22 → i < 22
       → slice_get r.log row ≡ Some entry
       → cell_at (name_at sizes.sessions row entry.session) + i ≢ own_cell h + index
   not_of_history id h index row i entry here below below' is same =
@@ -61,7 +61,8 @@ module _ {sizes : Sizes} {words : List ℕ} {views : List View} (r : ChainRule s
       below' below (same ∙ ap (λ a. a + index) (own_by h k.sessions))
 
   -- nor is it a word of the draft of a pass of another number
-  not_of_other : (id : ℕ) (h g : Hand) (index i : ℕ) → get_elem? views id ≡ some (One h) → index < 22 → g.known.number ≢ h.known.number → 0 < g.known.number
+  not_of_other : (id : ℕ) (h g : PassView) (index i : ℕ) → get_elem? views id ≡ some (Single h) → index < 22 → g.known.number ≢ h.known.number
+      → 0 < g.known.number
       → Knows sizes words r.log g → i < length g.draft
       → own_cell g + i ≢ own_cell h + index
   not_of_other id h g index i here below apart low k less same =
@@ -74,7 +75,7 @@ module _ {sizes : Sizes} {words : List ℕ} {views : List View} (r : ChainRule s
       (omega (arith, less, k.own.short)) below (sym (ap (λ a. a + i) (own_by g k.sessions)) ∙ same ∙ ap (λ a. a + index) (own_by h p.sessions))
 
   -- the own cell is within the log
-  own_within : (id : ℕ) (h : Hand) (index : ℕ) → get_elem? views id ≡ some (One h) → index < 22 → length h.known.seen < h.capacity
+  own_within : (id : ℕ) (h : PassView) (index : ℕ) → get_elem? views id ≡ some (Single h) → index < 22 → length h.known.seen < h.capacity
       → own_cell h + index < length words
   own_within id h index here below room =
       let k = (known r id h here).fact_is in
@@ -84,9 +85,9 @@ module _ {sizes : Sizes} {words : List ℕ} {views : List View} (r : ChainRule s
       (subst (λ n. cell_at (name_at sizes.sessions (length h.known.seen) h.known.number) + index < n) (sym r.spelled.wide) w)
 
   -- a word of the own cell is stored
-  pub draft_keeps : (id : ℕ) (h : Hand) (index new : ℕ) → get_elem? views id ≡ some (One h) → index ≤ length h.draft → index < 22
+  pub draft_keeps : (id : ℕ) (h : PassView) (index new : ℕ) → get_elem? views id ≡ some (Single h) → index ≤ length h.draft → index < 22
       → length h.known.seen < h.capacity
-      → RuleOf HasCells HasDraft sizes (set words (own_cell h + index) new) (set views id (One (drafted h index new))) r.log
+      → RuleOf HasCells HasDraft sizes (set words (own_cell h + index) new) (set views id (Single (drafted h index new))) r.log
   draft_keeps id h index new here along below room =
       let k = (known r id h here).fact_is in
       let n = numbered id h here in
@@ -114,9 +115,9 @@ module _ {sizes : Sizes} {words : List ℕ} {views : List View} (r : ChainRule s
       })
 
   -- who has seen all that there is wins, and the own cell is the newest
-  pub win_keeps : (id : ℕ) (h : Hand) (entry : Entry) → get_elem? views id ≡ some (One h) → h.known.seen ≡ r.log → IsEntry entry
+  pub win_keeps : (id : ℕ) (h : PassView) (entry : Entry) → get_elem? views id ≡ some (Single h) → h.known.seen ≡ r.log → IsEntry entry
       → entry.session ≡ h.known.number → h.draft ≡ newest_of sizes.sessions r.log ∷ words_of entry → length r.log < sizes.capacity
-      → RuleOf HasCells HasDraft sizes (set words 0 (name_at sizes.sessions (length r.log) h.known.number)) (set views id (One (won h entry)))
+      → RuleOf HasCells HasDraft sizes (set words 0 (name_at sizes.sessions (length r.log) h.known.number)) (set views id (Single (won h entry)))
       (r.log ++ entry ∷ [])
   win_keeps id h entry here all is own whole room =
       let k = (known r id h here).fact_is in
@@ -158,7 +159,7 @@ module _ {sizes : Sizes} {words : List ℕ} {views : List View} (r : ChainRule s
       })
 
   -- an equal name means an equal history
-  pub all_seen : (h : Hand) → Knows sizes words r.log h → newest_of h.sessions h.known.seen ≡ get_or words 0 0 → h.known.seen ≡ r.log
+  pub all_seen : (h : PassView) → Knows sizes words r.log h → newest_of h.sessions h.known.seen ≡ get_or words 0 0 → h.known.seen ≡ r.log
   all_seen h k same =
       let low = length_begins h.known.seen r.log k.seen in
       let mine : newest_of h.sessions h.known.seen ≡ name_before sizes.sessions r.log (length h.known.seen) =
@@ -168,14 +169,14 @@ module _ {sizes : Sizes} {words : List ℕ} {views : List View} (r : ChainRule s
       begins_same h.known.seen r.log k.seen (omega (arith, lengths))
 
   -- words that a step leaves spell what the rule has after it
-  pub stored_log : (views' : List View) (id : ℕ) (h : Hand) (index new : ℕ) → get_elem? views id ≡ some (One h) → index ≤ length h.draft → index < 22
+  pub stored_log : (views' : List SeatView) (id : ℕ) (h : PassView) (index new : ℕ) → get_elem? views id ≡ some (Single h) → index ≤ length h.draft → index < 22
       → length h.known.seen < h.capacity
       → (after : ChainRule sizes (set words (own_cell h + index) new) views') → after.log ≡ r.log
   stored_log views' id h index new here along below room after =
       let t = draft_keeps id h index new here along below room in
-      one_log sizes (set words (own_cell h + index) new) views' (set views id (One (drafted h index new))) after t.0 ∙ t.1
+      one_log sizes (set words (own_cell h + index) new) views' (set views id (Single (drafted h index new))) after t.0 ∙ t.1
 
-  pub won_log : (views' : List View) (id : ℕ) (h : Hand) (entry : Entry) → get_elem? views id ≡ some (One h)
+  pub won_log : (views' : List SeatView) (id : ℕ) (h : PassView) (entry : Entry) → get_elem? views id ≡ some (Single h)
       → get_or words 0 0 ≡ newest_of h.sessions h.known.seen → IsEntry entry → entry.session ≡ h.known.number
       → h.draft ≡ newest_of h.sessions h.known.seen ∷ words_of entry → length h.known.seen < h.capacity
       → (after : ChainRule sizes (set words 0 (name_at h.sessions (length h.known.seen) h.known.number)) views') → after.log ≡ r.log ++ entry ∷ []
@@ -188,25 +189,25 @@ module _ {sizes : Sizes} {words : List ℕ} {views : List View} (r : ChainRule s
       ap (λ s. name_at s (length h.known.seen) h.known.number) k.sessions ∙ ap (λ list. name_at sizes.sessions (length list) h.known.number) all in
       let t = win_keeps id h entry here all is own (whole ∙ ap (λ n. n ∷ words_of entry) last) (omega (arith, ap length all, room, k.capacity)) in
       subst (λ n. (after : ChainRule sizes (set words 0 n) views') → after.log ≡ r.log ++ entry ∷ []) (sym name)
-      (λ after. one_log sizes (set words 0 (name_at sizes.sessions (length r.log) h.known.number)) views' (set views id (One (won h entry))) after t.0 ∙ t.1)
+      (λ after. one_log sizes (set words 0 (name_at sizes.sessions (length r.log) h.known.number)) views' (set views id (Single (won h entry))) after t.0 ∙ t.1)
       after
 
   -- another name means a longer history
-  more_there : (h : Hand) → Knows sizes words r.log h → newest_of h.sessions h.known.seen ≢ get_or words 0 0 → length h.known.seen < length r.log
+  more_there : (h : PassView) → Knows sizes words r.log h → newest_of h.sessions h.known.seen ≢ get_or words 0 0 → length h.known.seen < length r.log
   more_there h k other =
       let low = length_begins h.known.seen r.log k.seen in
       dite (dec_le (length r.log) (length h.known.seen))
       (λ short. absurd (other (ap (newest_of h.sessions) (begins_same h.known.seen r.log k.seen short) ∙ sym (newest_by r h k.sessions))))
       (λ longer. omega arith)
 
-pub draft_step : (sizes : Sizes) (slots id word index new : ℕ) (h : Hand) → word ≡ own_cell h + index → index ≤ length h.draft → index < 22
+pub draft_step : (sizes : Sizes) (slots id word index new : ℕ) (h : PassView) → word ≡ own_cell h + index → index ≤ length h.draft → index < 22
     → length h.known.seen < h.capacity
     → Allows (Rules sizes) slots id (seated h) word (λ n. new) (λ n. Tells (Drafts word new h) new)
 draft_step sizes slots id word index new h at along below room =
     store_step sizes slots id (own_cell h) word index new h at (λ words views r here. (draft_keeps r id h index new here along below room).0)
 
 -- a 0 that is found in the own cell is a word of the draft; any other word leaves the draft
-pub find_step : (sizes : Sizes) (slots id word index : ℕ) (h : Hand) → word ≡ own_cell h + index → index ≤ length h.draft → index < 22
+pub find_step : (sizes : Sizes) (slots id word index : ℕ) (h : PassView) → word ≡ own_cell h + index → index ≤ length h.draft → index < 22
     → length h.known.seen < h.capacity
     → Allows (Rules sizes) slots id (seated h) word (λ n. n) (Tells (Finds word h))
 find_step sizes slots id word index h at along below room =
@@ -218,16 +219,16 @@ find_step sizes slots id word index h at along below room =
     dite (ℕ_discrete n 0)
     (λ blank. (
       drafted h (word - own_cell h) 0,
-      subst (λ ws. ChainRule sizes ws (set views id (One (drafted h (word - own_cell h) 0)))) (set-get_or words word 0)
-          (subst (λ new. ChainRule sizes (set words word n) (set views id (One (drafted h (word - own_cell h) new)))) blank
-          (subst (λ i. ChainRule sizes (set words word n) (set views id (One (drafted h i n)))) (sym back)
-          (subst (λ w. ChainRule sizes (set words w n) (set views id (One (drafted h index n)))) (sym at)
+      subst (λ ws. ChainRule sizes ws (set views id (Single (drafted h (word - own_cell h) 0)))) (set-get_or words word 0)
+          (subst (λ new. ChainRule sizes (set words word n) (set views id (Single (drafted h (word - own_cell h) new)))) blank
+          (subst (λ i. ChainRule sizes (set words word n) (set views id (Single (drafted h i n)))) (sym back)
+          (subst (λ w. ChainRule sizes (set words w n) (set views id (Single (drafted h index n)))) (sym at)
           (draft_keeps r id h index n here along below room).0))),
       (behind, (λ _. refl), (λ other. absurd (other blank))),
     ))
     (λ other. (h, unmoved r id h here, (behind, (λ blank. absurd (other blank)), (λ _. refl)))))
 
-pub exchange_step : (sizes : Sizes) (slots id old own : ℕ) (h : Hand) (entry : Entry) → old ≡ newest_of h.sessions h.known.seen
+pub exchange_step : (sizes : Sizes) (slots id old own : ℕ) (h : PassView) (entry : Entry) → old ≡ newest_of h.sessions h.known.seen
     → own ≡ name_at h.sessions (length h.known.seen) h.known.number
     → IsEntry entry → entry.session ≡ h.known.number → h.draft ≡ old ∷ words_of entry → length h.known.seen < h.capacity
     → Allows (Rules sizes) slots id (seated h) 0 (λ n. either (eqb n old) own n) (Tells (Exchanges 0 old own (some entry) h))
@@ -242,21 +243,21 @@ exchange_step sizes slots id old own h entry last name is mine whole room state 
     let own_is : name_at sizes.sessions (length r.log) h.known.number ≡ own =
     sym (name ∙ ap (λ s. name_at s (length h.known.seen) h.known.number) k.sessions ∙ ap (λ n. name_at sizes.sessions n h.known.number) lengths) in
     let link : old ≡ newest_of sizes.sessions r.log = sym e ∙ r.spelled.newest in (
-      One (won h entry),
+      Single (won h entry),
       keeps,
       tt,
-      exchanged n old own (λ w. ChainRule sizes (set state.words 0 w) (set state.views id (One (won h entry))))
-          (λ f. subst (λ w. ChainRule sizes (set state.words 0 w) (set state.views id (One (won h entry)))) own_is
+      exchanged n old own (λ w. ChainRule sizes (set state.words 0 w) (set state.views id (Single (won h entry))))
+          (λ f. subst (λ w. ChainRule sizes (set state.words 0 w) (set state.views id (Single (won h entry)))) own_is
           (win_keeps r id h entry here all is mine (whole ∙ ap (λ name. name ∷ words_of entry) link) (omega arith)).0)
           (λ ne. absurd (ne e)),
       (won h entry, refl, (refl, last, name, (λ f. refl), (λ ne. absurd (ne e)))),
     ))
     (λ ne. (
-      One (lost h r.log),
+      Single (lost h r.log),
       keeps,
       tt,
-      exchanged n old own (λ w. ChainRule sizes (set state.words 0 w) (set state.views id (One (lost h r.log)))) (λ f. absurd (ne f))
-          (λ f. loaded sizes state.words 0 (set state.views id (One (lost h r.log)))
+      exchanged n old own (λ w. ChainRule sizes (set state.words 0 w) (set state.views id (Single (lost h r.log)))) (λ f. absurd (ne f))
+          (λ f. loaded sizes state.words 0 (set state.views id (Single (lost h r.log)))
           (seen_keeps r id h (lost h r.log) here refl refl refl refl refl refl)),
       (
         lost h r.log,
@@ -277,8 +278,8 @@ exchange_step sizes slots id old own h entry last name is mine whole room state 
       ),
     ))
 
-pub look_sees : (sizes : Sizes) (words words' : List ℕ) (views views' : List View) (r : ChainRule sizes words views) (after : ChainRule sizes words' views')
-    (step : Atomic) (found id : ℕ) (old new : Hand) → Does step words found words'
-    → Counts newest_for try_word step found old new → new.known.looks ≢ old.known.looks → get_elem? views' id ≡ some (One new)
+pub look_sees : (sizes : Sizes) (words words' : List ℕ) (views views' : List SeatView) (r : ChainRule sizes words views) (after : ChainRule sizes words' views')
+    (step : Atomic) (found id : ℕ) (old new : PassView) → Does step words found words'
+    → Counts newest_for try_word step found old new → new.known.looks ≢ old.known.looks → get_elem? views' id ≡ some (Single new)
     → (new.known.seen ≡ after.log) × (after.log ≡ r.log)
 look_sees sizes = looked_log newest_for try_word (one_log sizes) (λ words views r h k same. all_seen r h k (sym same))

@@ -6,7 +6,7 @@ use Rattle.xa_words.specs.Entry.{Entry}
 use Rattle.xa_words.specs.Words.{words_of}
 use Rattle.xa_words.proofs.Spelling.{one_entry, length-words_of}
 use Rattle.decision_log.specs.declared.sizes.Sizes.{Sizes}
-use Rattle.decision_log.specs.declared.view.View.{View}
+use Rattle.decision_log.specs.declared.view.SeatView.{SeatView}
 use Rattle.decision_log.specs.Draft.{HasWordsAt}
 use Rattle.decision_log.proofs.Histories.{there, take_next}
 use Rattle.chain_log.specs.Cells.{name_at, cell_at, name_before, newest_of}
@@ -25,7 +25,7 @@ holds_rest words at word rest holds i below =
     let here : at + 1 + i ≡ at + suc i = omega arith in
     ap (λ n. get_or words n 0) here ∙ holds (suc i) (omega arith)
 
-module _ (sizes : Sizes) (words : List ℕ) (views : List View) (r : ChainRule sizes words views) where
+module _ (sizes : Sizes) (words : List ℕ) (views : List SeatView) (r : ChainRule sizes words views) where
   -- from the cell of each row the walk meets the entries up to that row
   walk_below : (row : ℕ) → row ≤ length r.log → Walk words (name_before sizes.sessions r.log row) (reverse (take row r.log))
   walk_below zero within = name_zero sizes.sessions r.log

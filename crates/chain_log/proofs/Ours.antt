@@ -1,13 +1,13 @@
 -- Names that a pass of the log computes are those of the log's cells.
 use Rattle.std.proofs.Common.{◌≡◌, ℕ, ◌+◌, ◌<◌, length, subst, arith}
-use Rattle.decision_log.specs.declared.view.Hand.{Hand}
+use Rattle.decision_log.specs.declared.view.PassView.{PassView}
 use Rattle.chain_log.specs.declared.chain.ChainLog.{ChainLog}
 use Rattle.chain_log.specs.Cells.{name_at, name_before}
 use Rattle.chain_log.specs.ChainSeat.{IsOurs}
 use Rattle.chain_log.proofs.Names.{IsName, seen_fits, cell_fits}
 
 -- the name of a cell that was seen
-pub seen_name : (log : ChainLog) (h : Hand) (name : ℕ) → IsOurs log h
+pub seen_name : (log : ChainLog) (h : PassView) (name : ℕ) → IsOurs log h
     → (row : ℕ) × (row < length h.known.seen) × (name ≡ name_before h.sessions h.known.seen (row + 1)) → IsName log.sessions log.capacity name
 seen_name log h name ours n =
     subst (λ sessions. IsName sessions log.capacity name) ours.sessions
@@ -15,7 +15,7 @@ seen_name log h name ours n =
     (omega (arith, ours.within, ours.capacity)) n.1 n.2)
 
 -- the name of the own cell
-pub own_name : (log : ChainLog) (h : Hand) (name : ℕ) → IsOurs log h → length h.known.seen < h.capacity
+pub own_name : (log : ChainLog) (h : PassView) (name : ℕ) → IsOurs log h → length h.known.seen < h.capacity
     → name ≡ name_at h.sessions (length h.known.seen) h.known.number → IsName log.sessions log.capacity name
 own_name log h name ours room is =
     subst (λ sessions. IsName sessions log.capacity name) ours.sessions

@@ -3,10 +3,10 @@ use Rattle.std.proofs.Common.{◌≡◌, ℕ, ◌<◌, ◌≤◌, List, length, 
 use mathlib.Core.Logic.{dite}
 use native.Mathlib.Decide.{ℕ_discrete}
 use Rattle.xa_words.specs.Entry.{Entry}
-use Rattle.decision_log.specs.declared.view.Hand.{Hand}
+use Rattle.decision_log.specs.declared.view.PassView.{PassView}
 use Rattle.decision_log.specs.History.{Begins}
 use Rattle.decision_log.specs.Known.{LogIdentity, AllOf}
-use Rattle.decision_log.specs.Seats.{hand}
+use Rattle.decision_log.specs.Seats.{pass_view}
 use Rattle.chain_log.specs.declared.chain.ChainLog.{ChainLog}
 use Rattle.chain_log.specs.declared.pass.ChainPass.{ChainPass}
 use Rattle.chain_log.specs.Cells.{newest_of}
@@ -21,32 +21,33 @@ CountsBy sessions newest count = (seen : List Entry) → AllOf sessions seen →
 
 -- the name of the last cell tells how many entries the pass has seen
 pub seen_count : (log : ChainLog) (pass : ChainPass) (count : ℕ) → log_of pass ≡ identity_of log → CountsBy log.sessions pass.newest count
-    → count ≡ length (hand pass.seat).known.seen
+    → count ≡ length (pass_view pass.seat).known.seen
 seen_count log pass count belongs counts =
-    let h = hand pass.seat in
+    let h = pass_view pass.seat in
     let sessions = ap (λ (identity : LogIdentity). identity.sessions) belongs in
     counts h.known.seen (subst (λ n. AllOf n h.known.seen) sessions pass.state.among) (pass.named ∙ ap (λ n. newest_of n h.known.seen) sessions)
 
 -- after a step that saw more, the table has the rows that were seen before
-pub kept_before : (log : ChainLog) (pass : ChainPass) (at after : Hand) (count : ℕ) → at ≡ after → log_of pass ≡ identity_of log
+pub kept_before : (log : ChainLog) (pass : ChainPass) (at after : PassView) (count : ℕ) → at ≡ after → log_of pass ≡ identity_of log
     → CountsBy log.sessions pass.newest count
-    → after.capacity ≡ (hand pass.seat).capacity → Begins (hand pass.seat).known.seen after.known.seen
+    → after.capacity ≡ (pass_view pass.seat).capacity → Begins (pass_view pass.seat).known.seen after.known.seen
     → HasColumns at.capacity count at.known.seen pass.columns.items
 kept_before log pass at after count is belongs counts capacity begins =
-    let h = hand pass.seat in
+    let h = pass_view pass.seat in
     let longer = columns_longer h.capacity h.known.seen after.known.seen pass.columns.items begins pass.kept in
     subst (λ k. HasColumns k.capacity count k.known.seen pass.columns.items) (sym is)
     (subst (λ c. HasColumns c count after.known.seen pass.columns.items) (sym capacity)
     (subst (λ n. HasColumns h.capacity n after.known.seen pass.columns.items) (sym (seen_count log pass count belongs counts)) longer))
 
 -- after an exchange that won, the table has the added entry's row too
-pub kept_after : (log : ChainLog) (pass : ChainPass) (at before : Hand) (entry : Entry) (count column : ℕ) → at ≡ won before entry
+pub kept_after : (log : ChainLog) (pass : ChainPass) (at before : PassView) (entry : Entry) (count column : ℕ) → at ≡ won before entry
     → log_of pass ≡ identity_of log
     → CountsBy log.sessions pass.newest count
-    → before.known.seen ≡ (hand pass.seat).known.seen → before.capacity ≡ (hand pass.seat).capacity → (count ≡ log.capacity → ⊥) → column ≡ entry.session
+    → before.known.seen ≡ (pass_view pass.seat).known.seen → before.capacity ≡ (pass_view pass.seat).capacity → (count ≡ log.capacity → ⊥)
+    → column ≡ entry.session
     → HasColumns at.capacity (length at.known.seen) at.known.seen (set pass.columns.items count column)
 kept_after log pass at before entry count column is belongs counts seen capacity room own =
-    let h = hand pass.seat in
+    let h = pass_view pass.seat in
     let counted = seen_count log pass count belongs counts in
     let fits = ap (λ (identity : LogIdentity). identity.capacity) belongs in
     let here : HasColumns h.capacity (length h.known.seen) h.known.seen pass.columns.items = pass.kept in

@@ -6,7 +6,7 @@ use mathlib.Core.Option.{Option, none, some}
 use mathlib.Core.Logic.{dite}
 use native.Mathlib.Decide.{ℕ_discrete}
 use Rattle.xa_words.specs.Entry.{Entry}
-use Rattle.decision_log.specs.declared.view.Hand.{Hand}
+use Rattle.decision_log.specs.declared.view.PassView.{PassView}
 use Rattle.decision_log.specs.Atomic.{Load, Exchange, AtLoad, AtStore, AtExchange, Counts}
 use Rattle.decision_log.specs.Counted.{IsCounted, leaves_counts, counts_at_load, counts_at_store, counts_at_exchange}
 use Rattle.chain_log.specs.ChainRule.{try_word, newest_for}
@@ -40,7 +40,7 @@ draft_counts = counts_at_store Drafts (λ word value old found new is. (ap (λ h
 pub exchange_counts : IsCounted newest_for try_word (AtExchange Exchanges)
 exchange_counts = counts_at_exchange Exchanges counted
   where
-    counted : (word from to : ℕ) (said : Option Entry) (old : Hand) (found : ℕ) (new : Hand) → Exchanges word from to said old found new
+    counted : (word from to : ℕ) (said : Option Entry) (old : PassView) (found : ℕ) (new : PassView) → Exchanges word from to said old found new
         → Counts newest_for try_word (Exchange word from to said) found old new
     counted word from to none old found new is = absurd is
     counted word from to (some entry) old found new is =

@@ -4,7 +4,7 @@
 --     known_of        what a pass knows
 use Rattle.decision_log.specs.declared.known.Known.{Known}
 use Rattle.decision_log.specs.Known.{LogIdentity}
-use Rattle.decision_log.specs.Seats.{hand_of}
+use Rattle.decision_log.specs.Seats.{pass_view_of}
 use Rattle.chain_log.specs.declared.chain.ChainLog.{ChainLog}
 use Rattle.chain_log.specs.declared.pass.ChainPass.{ChainPass}
 
@@ -14,8 +14,8 @@ identity_of log = record { table = log.table.inner.shared.table_id; sessions = l
 
 -- the table of its seat, and the sizes that it was given
 abbrev pub log_of : ChainPass → LogIdentity
-log_of pass = record { table = pass.seat.table_id; sessions = (hand_of pass.seat.me.0).sessions; capacity = (hand_of pass.seat.me.0).capacity }
+log_of pass = record { table = pass.seat.table_id; sessions = (pass_view_of pass.seat.me.0).sessions; capacity = (pass_view_of pass.seat.me.0).capacity }
 
 -- what its seat knows of it
 abbrev pub known_of : ChainPass → Known
-known_of pass = (hand_of pass.seat.me.0).known
+known_of pass = (pass_view_of pass.seat.me.0).known

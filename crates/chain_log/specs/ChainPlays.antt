@@ -5,14 +5,14 @@ use Rattle.std.specs.Prelude.{◌≡◌, ◌≢◌, ◌<◌, ◌+◌, ◌-◌, �
 use mathlib.Core.Option.{Option, none, some}
 use Rattle.xa_words.specs.Entry.{Entry, IsEntry}
 use Rattle.xa_words.specs.Words.{words_of}
-use Rattle.decision_log.specs.declared.view.Hand.{Hand}
+use Rattle.decision_log.specs.declared.view.PassView.{PassView}
 use Rattle.decision_log.specs.Draft.{drafted}
 use Rattle.decision_log.specs.Observed.{HistoryIs}
 use Rattle.chain_log.specs.Cells.{name_at, cell_at, name_before, newest_of}
 use Rattle.chain_log.specs.ChainRule.{own_cell, try_word, newest_for}
 
 -- after a look that saw this history: the own cell is another now, and its draft is empty
-abbrev pub with_look : Hand → List Entry → Hand
+abbrev pub with_look : PassView → List Entry → PassView
 with_look h seen = record {
   known = record { number = h.known.number; seen = seen; mine = h.known.mine; looks = h.known.looks + 1; tries = h.known.tries };
   sessions = h.sessions;
@@ -22,7 +22,7 @@ with_look h seen = record {
 }
 
 -- after an exchange that won: the entry is added
-abbrev pub won : Hand → Entry → Hand
+abbrev pub won : PassView → Entry → PassView
 won h entry = record {
   known =
       record {
@@ -39,7 +39,7 @@ won h entry = record {
 }
 
 -- after an exchange that lost: this history was seen
-abbrev pub lost : Hand → List Entry → Hand
+abbrev pub lost : PassView → List Entry → PassView
 lost h seen = record {
   known = record { number = h.known.number; seen = seen; mine = h.known.mine; looks = h.known.looks; tries = h.known.tries + 1 };
   sessions = h.sessions;
@@ -49,12 +49,12 @@ lost h seen = record {
 }
 
 -- a load of word 0, the newest cell's name
-abbrev pub Sees : ℕ → Hand → ℕ → Hand → Type 0
+abbrev pub Sees : ℕ → PassView → ℕ → PassView → Type 0
 Sees word old found new =
     (word ≡ 0) × (seen : List Entry) × (new ≡ with_look old seen) × (found ≡ newest_of old.sessions seen) × HistoryIs old seen
 
 -- a load of a word of a cell; one of the cell of an entry that was seen is its link or one of the entry's words
-abbrev pub Reads : ℕ → Hand → ℕ → Hand → Type 0
+abbrev pub Reads : ℕ → PassView → ℕ → PassView → Type 0
 Reads word old found new =
     (word ≢ 0) × (new ≡ old)
     × ((row index : ℕ) (entry : Entry) → word ≡ cell_at (name_at old.sessions row entry.session) + index → index < 22
@@ -62,16 +62,16 @@ Reads word old found new =
     → IsEntry entry × (found ≡ slice_index (name_before old.sessions old.known.seen row ∷ words_of entry) index))
 
 -- a load of a word of the own cell: a 0 that it finds is the draft's next word, without a store
-abbrev pub Finds : ℕ → Hand → ℕ → Hand → Type 0
+abbrev pub Finds : ℕ → PassView → ℕ → PassView → Type 0
 Finds word old found new = (word ≢ 0) × (found ≡ 0 → new ≡ drafted old (word - own_cell old) 0) × (found ≢ 0 → new ≡ old)
 
 -- a store of a word into the own cell
-abbrev pub Drafts : ℕ → ℕ → Hand → ℕ → Hand → Type 0
+abbrev pub Drafts : ℕ → ℕ → PassView → ℕ → PassView → Type 0
 Drafts word value old found new = new ≡ drafted old (word - own_cell old) value
 
 -- an exchange of word 0 from the last name that was seen to the own cell's, which is a try: the announced entry is added only where that name was found, and
 -- else more was seen
-abbrev pub Exchanges : ℕ → ℕ → ℕ → Option Entry → Hand → ℕ → Hand → Type 0
+abbrev pub Exchanges : ℕ → ℕ → ℕ → Option Entry → PassView → ℕ → PassView → Type 0
 Exchanges word from to none old found new = ⊥
 Exchanges word from to (some entry) old found new =
     (word ≡ try_word) × (from ≡ newest_for old) × (to ≡ name_at old.sessions (length old.known.seen) old.known.number) × (found ≡ from → new ≡ won old entry)

@@ -9,24 +9,24 @@
 use Rattle.std.specs.Prelude.{◌≡◌, ◌<◌, ◌≤◌, ℕ, List, ◌∷◌, length, slice_get, slice_index, Some}
 use Rattle.xa_words.specs.Entry.{Entry}
 use Rattle.xa_words.specs.Words.{words_of}
-use Rattle.decision_log.specs.declared.view.Hand.{Hand}
-use Rattle.decision_log.specs.declared.view.View.{View}
+use Rattle.decision_log.specs.declared.view.PassView.{PassView}
+use Rattle.decision_log.specs.declared.view.SeatView.{SeatView}
 use Rattle.decision_log.specs.declared.sizes.Sizes.{Sizes}
 use Rattle.decision_log.specs.Draft.{HasWordsAt}
 use Rattle.decision_log.specs.LogRule.{KnowsLog, LogRule}
 use Rattle.chain_log.specs.Cells.{word_count, name_at, cell_at, name_before, newest_of}
 
 -- in the pass's own column, in the row behind all that it has seen
-abbrev pub own_cell : Hand → ℕ
-own_cell hand = cell_at (name_at hand.sessions (length hand.known.seen) hand.known.number)
+abbrev pub own_cell : PassView → ℕ
+own_cell pass_view = cell_at (name_at pass_view.sessions (length pass_view.known.seen) pass_view.known.number)
 
 -- the word of the newest cell's name, at which passes also look
 abbrev pub try_word : ℕ
 try_word = 0
 
 -- the name of the last cell that the pass has seen
-abbrev pub newest_for : Hand → ℕ
-newest_for hand = newest_of hand.sessions hand.known.seen
+abbrev pub newest_for : PassView → ℕ
+newest_for pass_view = newest_of pass_view.sessions pass_view.known.seen
 
 -- word 0 names the newest cell, and each entry's cell stands in its row, in its session's column, and links to the cell of the row below
 pub record HasCells (sizes : Sizes) (words : List ℕ) (log : List Entry) : Type 0 where
@@ -36,15 +36,15 @@ pub record HasCells (sizes : Sizes) (words : List ℕ) (log : List Entry) : Type
       → HasWordsAt words (cell_at (name_at sizes.sessions row entry.session)) (name_before sizes.sessions log row ∷ words_of entry)
 
 -- a pass's draft is what its own cell begins with
-pub record HasDraft (words : List ℕ) (log : List Entry) (hand : Hand) : Type 0 where
-  pub short : length hand.draft ≤ 22
-  pub column : 0 < length hand.draft → hand.known.number ≤ hand.sessions
-  pub draft : HasWordsAt words (own_cell hand) hand.draft
+pub record HasDraft (words : List ℕ) (log : List Entry) (pass_view : PassView) : Type 0 where
+  pub short : length pass_view.draft ≤ 22
+  pub column : 0 < length pass_view.draft → pass_view.known.number ≤ pass_view.sessions
+  pub draft : HasWordsAt words (own_cell pass_view) pass_view.draft
 
 -- what a pass knows is so
-abbrev pub Knows : Sizes → List ℕ → List Entry → Hand → Type 0
-Knows sizes words log hand = KnowsLog HasDraft sizes words log hand
+abbrev pub Knows : Sizes → List ℕ → List Entry → PassView → Type 0
+Knows sizes words log pass_view = KnowsLog HasDraft sizes words log pass_view
 
 -- the words spell the log, whose entries are of sessions that were given out, and what all seats know is so
-abbrev pub ChainRule : Sizes → List ℕ → List View → Type 0
+abbrev pub ChainRule : Sizes → List ℕ → List SeatView → Type 0
 ChainRule sizes words views = LogRule HasCells HasDraft sizes words views

@@ -1,6 +1,6 @@
 //! The table of columns: for each row that a pass has seen, in whose column the row's cell stands.
 ghost use Rattle.std.specs.Prelude.{◌≡◌, ◌<◌, ◌+◌, length};
-ghost use Rattle.decision_log.specs.Seats.{hand};
+ghost use Rattle.decision_log.specs.Seats.{pass_view};
 ghost use Rattle.chain_log.specs.Cells.{name_before, newest_of};
 ghost use Rattle.chain_log.specs.ChainPass.{identity_of, log_of, known_of};
 ghost use Rattle.chain_log.specs.ChainSeat.{IsSeat, IsOurs};
@@ -9,7 +9,7 @@ ghost use Rattle.chain_log.specs.Columns.{HasColumns};
 use crate::layout::{cell_column, cell_name, row_count};
 use crate::{ChainLog, ChainPass};
 use atomic_table::Seat;
-use decision_log::View;
+use decision_log::SeatView;
 use xa_words::Entry;
 
 impl ChainLog {
@@ -25,18 +25,18 @@ impl ChainLog {
     /// Fills the table for the rows from `first` on, from the newest cell back along the links.
     pub(crate) fn fill(
         &self,
-        seat: &mut Seat<Entry, View>,
+        seat: &mut Seat<Entry, SeatView>,
         columns: &mut Vec<u8>,
         first: u64,
         newest: u64,
     )
         requires seat { IsSeat self.now seat.old }
-        requires ours { IsOurs self.now (hand seat.old) }
-        requires newest { newest ≡ newest_of (hand seat.old).sessions (hand seat.old).known.seen }
-        requires kept { HasColumns (hand seat.old).capacity first (hand seat.old).known.seen columns.old.items }
+        requires ours { IsOurs self.now (pass_view seat.old) }
+        requires newest { newest ≡ newest_of (pass_view seat.old).sessions (pass_view seat.old).known.seen }
+        requires kept { HasColumns (pass_view seat.old).capacity first (pass_view seat.old).known.seen columns.old.items }
         ensures seat { IsSeat self.now seat.new }
-        ensures same { hand seat.new ≡ hand seat.old }
-        ensures kept { HasColumns (hand seat.old).capacity (length (hand seat.old).known.seen) (hand seat.old).known.seen columns.new.items }
+        ensures same { pass_view seat.new ≡ pass_view seat.old }
+        ensures kept { HasColumns (pass_view seat.old).capacity (length (pass_view seat.old).known.seen) (pass_view seat.old).known.seen columns.new.items }
     {
         let count = row_count(self.sessions, newest);
         let mut name = newest;

@@ -6,7 +6,7 @@ ghost use Rattle.chain_log.specs.ChainPass.{identity_of, log_of, known_of};
 use crate::layout::count_words;
 use crate::{ChainLog, ChainPass};
 use atomic_table::Seat;
-use decision_log::{OpenFault, SeatedPass, Sizes, View, open_seats};
+use decision_log::{OpenFault, SeatView, SeatedPass, Sizes, open_seats};
 use std::alloc::{AllocError, Global};
 use xa_words::Entry;
 use xa_xid::SessionNo;
@@ -47,7 +47,7 @@ impl SeatedPass for ChainPass {
 
     fn at_seat(
         alloc: Global,
-        seat: Seat<Entry, View>,
+        seat: Seat<Entry, SeatView>,
         number: SessionNo,
         sizes: &Sizes,
     ) -> Result<ChainPass, AllocError> {

@@ -1,13 +1,13 @@
 //! The rule of the log.
 
 use atomic_table::TableRule;
-use decision_log::{LogWords, Sizes, View};
+use decision_log::{LogWords, SeatView, Sizes};
 use xa_words::Entry;
 
 /// The rule of a chain. It holds between any two steps.
 pub struct Links;
 
-impl TableRule<Entry, View, Sizes> for Links {
+impl TableRule<Entry, SeatView, Sizes> for Links {
     ghost use Rattle.decision_log.specs.Seats.{all_passes};
     ghost use Rattle.chain_log.specs.ChainRule.{ChainRule};
 

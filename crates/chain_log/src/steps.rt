@@ -20,7 +20,7 @@ ghost use Rattle.xa_words.specs.Entry.{Entry, IsEntry};
 ghost use Rattle.xa_words.specs.Words.{words_of};
 ghost use Rattle.decision_log.specs.Draft.{drafted};
 ghost use Rattle.decision_log.specs.Observed.{HistoryIs};
-ghost use Rattle.decision_log.specs.Seats.{hand};
+ghost use Rattle.decision_log.specs.Seats.{pass_view};
 ghost use Rattle.chain_log.specs.Cells.{name_at, name_before, newest_of};
 ghost use Rattle.chain_log.specs.ChainPlays.{with_look, won, lost};
 ghost use Rattle.chain_log.specs.ChainSeat.{IsSeat, IsOurs};
@@ -29,29 +29,29 @@ use crate::ChainLog;
 use crate::layout::{NEWEST, cell_start};
 use crate::plays::{DraftWord, FindBlank, Publish, ReadWord, SeeAll};
 use atomic_table::Seat;
-use decision_log::View;
+use decision_log::SeatView;
 use xa_words::Entry;
 
 impl ChainLog {
     /// Loads the newest cell's name: the pass has then seen the whole history.
-    pub(crate) fn load_newest(&self, seat: &mut Seat<Entry, View>) -> u64
+    pub(crate) fn load_newest(&self, seat: &mut Seat<Entry, SeatView>) -> u64
         requires { IsSeat self.now seat.old }
         ensures seat { IsSeat self.now seat.new }
-        ensures seen { (seen : List Entry) × (hand seat.new ≡ with_look (hand seat.old) seen) × (result ≡ newest_of (hand seat.old).sessions seen) × HistoryIs (hand seat.old) seen }
+        ensures seen { (seen : List Entry) × (pass_view seat.new ≡ with_look (pass_view seat.old) seen) × (result ≡ newest_of (pass_view seat.old).sessions seen) × HistoryIs (pass_view seat.old) seen }
     {
         // Nothing was loaded before that this load rests on.
         self.table.load::<SeeAll>(seat, NEWEST)
     }
 
     /// Loads a word of the cell of an entry that was seen: its link at 0, and the entry's words behind it.
-    pub(crate) fn load_word(&self, seat: &mut Seat<Entry, View>, name: u64, index: usize) -> u64
+    pub(crate) fn load_word(&self, seat: &mut Seat<Entry, SeatView>, name: u64, index: usize) -> u64
         requires seat { IsSeat self.now seat.old }
-        requires ours { IsOurs self.now (hand seat.old) }
+        requires ours { IsOurs self.now (pass_view seat.old) }
         requires index { index < 22 }
-        requires named { (row : ℕ) × (row < length (hand seat.old).known.seen) × (name ≡ name_before (hand seat.old).sessions (hand seat.old).known.seen (row + 1)) }
+        requires named { (row : ℕ) × (row < length (pass_view seat.old).known.seen) × (name ≡ name_before (pass_view seat.old).sessions (pass_view seat.old).known.seen (row + 1)) }
         ensures seat { IsSeat self.now seat.new }
-        ensures same { hand seat.new ≡ hand seat.old }
-        ensures read { (row : ℕ) (entry : Entry) → name ≡ name_before (hand seat.old).sessions (hand seat.old).known.seen (row + 1) → slice_get (hand seat.old).known.seen row ≡ Some entry → IsEntry entry × (result ≡ slice_index (name_before (hand seat.old).sessions (hand seat.old).known.seen row ∷ words_of entry) index) }
+        ensures same { pass_view seat.new ≡ pass_view seat.old }
+        ensures read { (row : ℕ) (entry : Entry) → name ≡ name_before (pass_view seat.old).sessions (pass_view seat.old).known.seen (row + 1) → slice_get (pass_view seat.old).known.seen row ≡ Some entry → IsEntry entry × (result ≡ slice_index (name_before (pass_view seat.old).sessions (pass_view seat.old).known.seen row ∷ words_of entry) index) }
     {
         let word = cell_start(name) + index;
         // The name still leads to that cell, with the same words: no cell of the history is written again.
@@ -59,16 +59,16 @@ impl ChainLog {
     }
 
     /// Loads a word of the own cell that is to be 0. The answer is whether it is.
-    fn find_blank(&self, seat: &mut Seat<Entry, View>, name: u64, index: usize) -> bool
+    fn find_blank(&self, seat: &mut Seat<Entry, SeatView>, name: u64, index: usize) -> bool
         requires seat { IsSeat self.now seat.old }
-        requires ours { IsOurs self.now (hand seat.old) }
-        requires room { length (hand seat.old).known.seen < (hand seat.old).capacity }
-        requires own { name ≡ name_at (hand seat.old).sessions (length (hand seat.old).known.seen) (hand seat.old).known.number }
-        requires along { index ≤ length (hand seat.old).draft }
+        requires ours { IsOurs self.now (pass_view seat.old) }
+        requires room { length (pass_view seat.old).known.seen < (pass_view seat.old).capacity }
+        requires own { name ≡ name_at (pass_view seat.old).sessions (length (pass_view seat.old).known.seen) (pass_view seat.old).known.number }
+        requires along { index ≤ length (pass_view seat.old).draft }
         requires index { index < 22 }
         ensures seat { IsSeat self.now seat.new }
-        ensures blank { result ≡ true → hand seat.new ≡ drafted (hand seat.old) index 0 }
-        ensures other { result ≡ false → hand seat.new ≡ hand seat.old }
+        ensures blank { result ≡ true → pass_view seat.new ≡ drafted (pass_view seat.old) index 0 }
+        ensures other { result ≡ false → pass_view seat.new ≡ pass_view seat.old }
     {
         let word = cell_start(name) + index;
         // No other pass stores in this column, so a 0 that is found stays until this pass stores there.
@@ -76,15 +76,15 @@ impl ChainLog {
     }
 
     /// Stores a word into the own cell.
-    fn store_word(&self, seat: &mut Seat<Entry, View>, name: u64, index: usize, new: u64)
+    fn store_word(&self, seat: &mut Seat<Entry, SeatView>, name: u64, index: usize, new: u64)
         requires seat { IsSeat self.now seat.old }
-        requires ours { IsOurs self.now (hand seat.old) }
-        requires room { length (hand seat.old).known.seen < (hand seat.old).capacity }
-        requires own { name ≡ name_at (hand seat.old).sessions (length (hand seat.old).known.seen) (hand seat.old).known.number }
-        requires along { index ≤ length (hand seat.old).draft }
+        requires ours { IsOurs self.now (pass_view seat.old) }
+        requires room { length (pass_view seat.old).known.seen < (pass_view seat.old).capacity }
+        requires own { name ≡ name_at (pass_view seat.old).sessions (length (pass_view seat.old).known.seen) (pass_view seat.old).known.number }
+        requires along { index ≤ length (pass_view seat.old).draft }
         requires index { index < 22 }
         ensures seat { IsSeat self.now seat.new }
-        ensures stored { hand seat.new ≡ drafted (hand seat.old) index new }
+        ensures stored { pass_view seat.new ≡ drafted (pass_view seat.old) index new }
     {
         let word = cell_start(name) + index;
         // The own cell is in no history yet: what was added since is in other columns, and no other pass stores in this one.
@@ -92,15 +92,21 @@ impl ChainLog {
     }
 
     /// Writes a word of the own cell. A 0 that stands there already isn't stored again: a load costs much less than a store.
-    pub(crate) fn put_word(&self, seat: &mut Seat<Entry, View>, name: u64, index: usize, new: u64)
+    pub(crate) fn put_word(
+        &self,
+        seat: &mut Seat<Entry, SeatView>,
+        name: u64,
+        index: usize,
+        new: u64,
+    )
         requires seat { IsSeat self.now seat.old }
-        requires ours { IsOurs self.now (hand seat.old) }
-        requires room { length (hand seat.old).known.seen < (hand seat.old).capacity }
-        requires own { name ≡ name_at (hand seat.old).sessions (length (hand seat.old).known.seen) (hand seat.old).known.number }
-        requires along { index ≤ length (hand seat.old).draft }
+        requires ours { IsOurs self.now (pass_view seat.old) }
+        requires room { length (pass_view seat.old).known.seen < (pass_view seat.old).capacity }
+        requires own { name ≡ name_at (pass_view seat.old).sessions (length (pass_view seat.old).known.seen) (pass_view seat.old).known.number }
+        requires along { index ≤ length (pass_view seat.old).draft }
         requires index { index < 22 }
         ensures seat { IsSeat self.now seat.new }
-        ensures put { hand seat.new ≡ drafted (hand seat.old) index new }
+        ensures put { pass_view seat.new ≡ drafted (pass_view seat.old) index new }
     {
         if new != 0 {
             self.store_word(seat, name, index, new);
@@ -115,21 +121,21 @@ impl ChainLog {
     /// Makes the own cell the newest, if the one that was seen last still is. The answer is the newest before.
     pub(crate) fn exchange(
         &self,
-        seat: &mut Seat<Entry, View>,
+        seat: &mut Seat<Entry, SeatView>,
         old: u64,
         own: u64,
         entry: &Entry,
     ) -> u64
         requires seat { IsSeat self.now seat.old }
-        requires room { length (hand seat.old).known.seen < (hand seat.old).capacity }
-        requires old { old ≡ newest_of (hand seat.old).sessions (hand seat.old).known.seen }
-        requires own { own ≡ name_at (hand seat.old).sessions (length (hand seat.old).known.seen) (hand seat.old).known.number }
-        requires entry { entry.now.session ≡ (hand seat.old).known.number }
-        requires whole { (hand seat.old).draft ≡ old ∷ words_of entry.now }
+        requires room { length (pass_view seat.old).known.seen < (pass_view seat.old).capacity }
+        requires old { old ≡ newest_of (pass_view seat.old).sessions (pass_view seat.old).known.seen }
+        requires own { own ≡ name_at (pass_view seat.old).sessions (length (pass_view seat.old).known.seen) (pass_view seat.old).known.number }
+        requires entry { entry.now.session ≡ (pass_view seat.old).known.number }
+        requires whole { (pass_view seat.old).draft ≡ old ∷ words_of entry.now }
         ensures seat { IsSeat self.now seat.new }
-        ensures won { result ≡ old → hand seat.new ≡ won (hand seat.old) entry.now }
-        ensures named { result ≡ old → own ≡ newest_of (hand seat.new).sessions (hand seat.new).known.seen }
-        ensures lost { result ≢ old → (seen : List Entry) × (hand seat.new ≡ lost (hand seat.old) seen) × (result ≡ newest_of (hand seat.old).sessions seen) × HistoryIs (hand seat.old) seen × (length (hand seat.old).known.seen < length seen) }
+        ensures won { result ≡ old → pass_view seat.new ≡ won (pass_view seat.old) entry.now }
+        ensures named { result ≡ old → own ≡ newest_of (pass_view seat.new).sessions (pass_view seat.new).known.seen }
+        ensures lost { result ≢ old → (seen : List Entry) × (pass_view seat.new ≡ lost (pass_view seat.old) seen) × (result ≡ newest_of (pass_view seat.old).sessions seen) × HistoryIs (pass_view seat.old) seen × (length (pass_view seat.old).known.seen < length seen) }
     {
         let _session = entry.session();
         // The exchange itself tests whether `old` is still the newest, and with it whether all that was seen is the history.

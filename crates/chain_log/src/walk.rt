@@ -3,24 +3,24 @@ ghost use Rattle.std.specs.Prelude.{◌≡◌, ◌<◌, ◌+◌, ℕ, ◌∷◌,
 ghost use Rattle.xa_words.specs.Entry.{Entry, IsEntry};
 ghost use Rattle.xa_words.specs.Words.{words_of};
 ghost use Rattle.decision_log.specs.Draft.{with_draft};
-ghost use Rattle.decision_log.specs.Seats.{hand};
+ghost use Rattle.decision_log.specs.Seats.{pass_view};
 ghost use Rattle.chain_log.specs.Cells.{name_at, name_before};
 ghost use Rattle.chain_log.specs.ChainSeat.{IsSeat, IsOurs};
 
 use crate::ChainLog;
 use atomic_table::Seat;
-use decision_log::View;
+use decision_log::SeatView;
 use xa_words::{Entry, WORDS, decode, encode};
 
 impl ChainLog {
     /// The entry's words in the cell of an entry that was seen.
-    fn read_cell(&self, seat: &mut Seat<Entry, View>, name: u64) -> [u64; WORDS]
+    fn read_cell(&self, seat: &mut Seat<Entry, SeatView>, name: u64) -> [u64; WORDS]
         requires seat { IsSeat self.now seat.old }
-        requires ours { IsOurs self.now (hand seat.old) }
-        requires named { (row : ℕ) × (row < length (hand seat.old).known.seen) × (name ≡ name_before (hand seat.old).sessions (hand seat.old).known.seen (row + 1)) }
+        requires ours { IsOurs self.now (pass_view seat.old) }
+        requires named { (row : ℕ) × (row < length (pass_view seat.old).known.seen) × (name ≡ name_before (pass_view seat.old).sessions (pass_view seat.old).known.seen (row + 1)) }
         ensures seat { IsSeat self.now seat.new }
-        ensures same { hand seat.new ≡ hand seat.old }
-        ensures read { (row : ℕ) (entry : Entry) → name ≡ name_before (hand seat.old).sessions (hand seat.old).known.seen (row + 1) → slice_get (hand seat.old).known.seen row ≡ Some entry → IsEntry entry × (result ≡ words_of entry) }
+        ensures same { pass_view seat.new ≡ pass_view seat.old }
+        ensures read { (row : ℕ) (entry : Entry) → name ≡ name_before (pass_view seat.old).sessions (pass_view seat.old).known.seen (row + 1) → slice_get (pass_view seat.old).known.seen row ≡ Some entry → IsEntry entry × (result ≡ words_of entry) }
     {
         let mut words = [0; WORDS];
         for index in 0..WORDS {
@@ -31,14 +31,14 @@ impl ChainLog {
     }
 
     /// The entry of a row that was seen, from the cell of a name.
-    pub(crate) fn read_entry(&self, seat: &mut Seat<Entry, View>, name: u64, row: u64) -> Entry
+    pub(crate) fn read_entry(&self, seat: &mut Seat<Entry, SeatView>, name: u64, row: u64) -> Entry
         requires seat { IsSeat self.now seat.old }
-        requires ours { IsOurs self.now (hand seat.old) }
-        requires seen { row < length (hand seat.old).known.seen }
-        requires name { name ≡ name_before (hand seat.old).sessions (hand seat.old).known.seen (row + 1) }
+        requires ours { IsOurs self.now (pass_view seat.old) }
+        requires seen { row < length (pass_view seat.old).known.seen }
+        requires name { name ≡ name_before (pass_view seat.old).sessions (pass_view seat.old).known.seen (row + 1) }
         ensures seat { IsSeat self.now seat.new }
-        ensures same { hand seat.new ≡ hand seat.old }
-        ensures entry { slice_get (hand seat.old).known.seen row ≡ Some result }
+        ensures same { pass_view seat.new ≡ pass_view seat.old }
+        ensures entry { slice_get (pass_view seat.old).known.seen row ≡ Some result }
     {
         let words = self.read_cell(seat, name);
         decode(&words).unwrap()
@@ -47,17 +47,17 @@ impl ChainLog {
     /// Writes a link and an entry's words into the own cell, over what was stored there before.
     pub(crate) fn write_cell(
         &self,
-        seat: &mut Seat<Entry, View>,
+        seat: &mut Seat<Entry, SeatView>,
         name: u64,
         link: u64,
         entry: &Entry,
     )
         requires seat { IsSeat self.now seat.old }
-        requires ours { IsOurs self.now (hand seat.old) }
-        requires room { length (hand seat.old).known.seen < (hand seat.old).capacity }
-        requires own { name ≡ name_at (hand seat.old).sessions (length (hand seat.old).known.seen) (hand seat.old).known.number }
+        requires ours { IsOurs self.now (pass_view seat.old) }
+        requires room { length (pass_view seat.old).known.seen < (pass_view seat.old).capacity }
+        requires own { name ≡ name_at (pass_view seat.old).sessions (length (pass_view seat.old).known.seen) (pass_view seat.old).known.number }
         ensures seat { IsSeat self.now seat.new }
-        ensures written { hand seat.new ≡ with_draft (hand seat.old) (link ∷ words_of entry.now) }
+        ensures written { pass_view seat.new ≡ with_draft (pass_view seat.old) (link ∷ words_of entry.now) }
     {
         self.put_word(seat, name, 0, link);
         let words = encode(entry);

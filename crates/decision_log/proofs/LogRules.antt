@@ -14,9 +14,9 @@ use lib.ListN.{get_elem?}
 use Rattle.std.proofs.lemmas.List.{set-get_or}
 use Rattle.atomic_table.specs.Table.{State, keeps, Allows}
 use Rattle.xa_words.specs.Entry.{Entry, IsEntry}
-use Rattle.decision_log.specs.declared.view.Hand.{Hand}
-use Rattle.decision_log.specs.declared.view.View.{View}
-use Rattle.decision_log.specs.declared.view.View.TheVariants.{One}
+use Rattle.decision_log.specs.declared.view.PassView.{PassView}
+use Rattle.decision_log.specs.declared.view.SeatView.{SeatView}
+use Rattle.decision_log.specs.declared.view.SeatView.TheVariants.{Single}
 use Rattle.decision_log.specs.declared.sizes.Sizes.{Sizes}
 use Rattle.decision_log.specs.History.{Begins, entries_of}
 use Rattle.decision_log.specs.Known.{AllOf}
@@ -32,20 +32,20 @@ use Rattle.decision_log.proofs.SeatLemmas.{step_seat}
 use Rattle.decision_log.proofs.MachineSeats.{has_passes}
 use Rattle.decision_log.proofs.Counting.{look_is}
 
-module _ (Spells : Sizes → List ℕ → List Entry → Type 0) (KnowsWords : List ℕ → List Entry → Hand → Type 0) where
+module _ (Spells : Sizes → List ℕ → List Entry → Type 0) (KnowsWords : List ℕ → List Entry → PassView → Type 0) where
   -- the rule, of a state of the table
-  abbrev pub Rules : Sizes → State Entry View → Type 0
+  abbrev pub Rules : Sizes → State Entry SeatView → Type 0
   Rules sizes state = LogRule Spells KnowsWords sizes state.words state.views
 
   -- the rule, with this history
-  abbrev pub RuleOf : Sizes → List ℕ → List View → List Entry → Type 0
+  abbrev pub RuleOf : Sizes → List ℕ → List SeatView → List Entry → Type 0
   RuleOf sizes words views log = (rule : LogRule Spells KnowsWords sizes words views) × (rule.log ≡ log)
 
-module _ {Spells : Sizes → List ℕ → List Entry → Type 0} {KnowsWords : List ℕ → List Entry → Hand → Type 0} {sizes : Sizes} {words : List ℕ}
-    {views : List View} (r : LogRule Spells KnowsWords sizes words views) where
+module _ {Spells : Sizes → List ℕ → List Entry → Type 0} {KnowsWords : List ℕ → List Entry → PassView → Type 0} {sizes : Sizes} {words : List ℕ}
+    {views : List SeatView} (r : LogRule Spells KnowsWords sizes words views) where
   -- what is known of a seat's pass
-  pub known : (id : ℕ) (h : Hand) → get_elem? views id ≡ some (One h) → Placed (KnowsLog KnowsWords sizes words r.log) r.home r.next id h
-  known id h here = r.seats id (One h) here
+  pub known : (id : ℕ) (h : PassView) → get_elem? views id ≡ some (Single h) → Placed (KnowsLog KnowsWords sizes words r.log) r.home r.next id h
+  known id h here = r.seats id (Single h) here
 
   -- each entry is of a session of the log
   pub ranged : (place : ℕ) (entry : Entry) → slice_get r.log place ≡ Some entry → (1 ≤ entry.session) × (entry.session ≤ sizes.sessions)
@@ -57,22 +57,22 @@ module _ {Spells : Sizes → List ℕ → List Entry → Type 0} {KnowsWords : L
   all_of = all_from_places (λ entry. (1 ≤ entry.session) × (entry.session ≤ sizes.sessions)) r.log ranged
 
   -- and so is all that was seen
-  pub among : (h : Hand) (seen : List Entry) → h.sessions ≡ sizes.sessions → Begins seen r.log → AllOf h.sessions seen
+  pub among : (h : PassView) (seen : List Entry) → h.sessions ≡ sizes.sessions → Begins seen r.log → AllOf h.sessions seen
   among h seen sessions begins =
       all_from_places (λ entry. (1 ≤ entry.session) × (entry.session ≤ h.sessions)) seen
       (λ place entry is. let e = ranged place entry (get_begins seen r.log place entry begins is) in (e.0, omega (arith, e.1, sessions)))
 
-  pub history : (h : Hand) → KnowsLog KnowsWords sizes words r.log h → HistoryIs h r.log
+  pub history : (h : PassView) → KnowsLog KnowsWords sizes words r.log h → HistoryIs h r.log
   history h k = record { begins = k.seen; room = omega (arith, r.room, k.capacity); all = among h r.log k.sessions (begins_itself r.log); part = k.mine }
 
   -- the history and the passes are a state of the log machine
   pub has_machine : (machine : Machine) × HasPasses sizes.sessions sizes.capacity r.log views machine
   has_machine =
-      has_passes r.log (KnowsLog KnowsWords sizes words r.log) r.home r.next (λ hand k. record { begins = k.seen; own = k.mine; part = k.part })
+      has_passes r.log (KnowsLog KnowsWords sizes words r.log) r.home r.next (λ pass_view k. record { begins = k.seen; own = k.mine; part = k.part })
       sizes.capacity views r.seats sizes.sessions r.room all_of
 
   -- other seats, and maybe more numbers that were given out
-  pub reseated : (home : ℕ → ℕ) (next : ℕ) (views' : List View) → r.next ≤ next → next ≤ sizes.sessions + 1
+  pub reseated : (home : ℕ → ℕ) (next : ℕ) (views' : List SeatView) → r.next ≤ next → next ≤ sizes.sessions + 1
       → Seats (KnowsLog KnowsWords sizes words r.log) home next views'
       → LogRule Spells KnowsWords sizes words views'
   reseated home next views' more within seats = record {
@@ -88,11 +88,11 @@ module _ {Spells : Sizes → List ℕ → List Entry → Type 0} {KnowsWords : L
   }
 
   -- the words change and spell the same history: of that the pass has seen a prefix, and no entry of its own was added
-  pub stepped : (words' : List ℕ) (id : ℕ) (h k : Hand) → get_elem? views id ≡ some (One h) → Spells sizes words' r.log → k.sessions ≡ h.sessions
+  pub stepped : (words' : List ℕ) (id : ℕ) (h k : PassView) → get_elem? views id ≡ some (Single h) → Spells sizes words' r.log → k.sessions ≡ h.sessions
       → k.capacity ≡ h.capacity → k.known.number ≡ h.known.number → k.known.mine ≡ h.known.mine
       → Begins k.known.seen r.log → entries_of h.known.number k.known.seen ≡ h.known.mine → KnowsWords words' r.log k
-      → ((g : Hand) → g.known.number ≢ h.known.number → 0 < g.known.number → KnowsLog KnowsWords sizes words r.log g → KnowsWords words' r.log g)
-      → RuleOf Spells KnowsWords sizes words' (set views id (One k)) r.log
+      → ((g : PassView) → g.known.number ≢ h.known.number → 0 < g.known.number → KnowsLog KnowsWords sizes words r.log g → KnowsWords words' r.log g)
+      → RuleOf Spells KnowsWords sizes words' (set views id (Single k)) r.log
   stepped words' id h k here spelled sessions capacity number mine begins part own others =
       let is = (known id h here).fact_is in (
         record {
@@ -127,19 +127,19 @@ module _ {Spells : Sizes → List ℕ → List Entry → Type 0} {KnowsWords : L
       )
 
   -- nothing changes
-  pub unmoved : (id : ℕ) (h : Hand) → get_elem? views id ≡ some (One h) → LogRule Spells KnowsWords sizes words (set views id (One h))
+  pub unmoved : (id : ℕ) (h : PassView) → get_elem? views id ≡ some (Single h) → LogRule Spells KnowsWords sizes words (set views id (Single h))
   unmoved id h here =
       let k = (known id h here).fact_is in
       (stepped words id h h here r.spelled refl refl refl refl k.seen k.part k.own (λ g apart low other. other.own)).0
 
   -- the words change and spell one entry more, of a pass that had seen the whole history
-  pub appended : (words' : List ℕ) (id : ℕ) (h k : Hand) (entry : Entry) → get_elem? views id ≡ some (One h) → h.known.seen ≡ r.log → IsEntry entry
+  pub appended : (words' : List ℕ) (id : ℕ) (h k : PassView) (entry : Entry) → get_elem? views id ≡ some (Single h) → h.known.seen ≡ r.log → IsEntry entry
       → entry.session ≡ h.known.number → length r.log < sizes.capacity → Spells sizes words' (r.log ++ entry ∷ []) → k.sessions ≡ h.sessions
       → k.capacity ≡ h.capacity → k.known.number ≡ h.known.number → k.known.seen ≡ h.known.seen ++ entry ∷ [] → k.known.mine ≡ h.known.mine ++ entry ∷ []
       → KnowsWords words' (r.log ++ entry ∷ []) k
-      → ((g : Hand) → g.known.number ≢ h.known.number → 0 < g.known.number → KnowsLog KnowsWords sizes words r.log g
+      → ((g : PassView) → g.known.number ≢ h.known.number → 0 < g.known.number → KnowsLog KnowsWords sizes words r.log g
       → KnowsWords words' (r.log ++ entry ∷ []) g)
-      → RuleOf Spells KnowsWords sizes words' (set views id (One k)) (r.log ++ entry ∷ [])
+      → RuleOf Spells KnowsWords sizes words' (set views id (Single k)) (r.log ++ entry ∷ [])
   appended words' id h k entry here all is own room spelled sessions capacity number seen mine knows others =
       let p = known id h here in
       let f = p.fact_is in
@@ -181,47 +181,48 @@ module _ {Spells : Sizes → List ℕ → List Entry → Type 0} {KnowsWords : L
         refl,
       )
 
-module _ {Spells : Sizes → List ℕ → List Entry → Type 0} {KnowsWords : List ℕ → List Entry → Hand → Type 0} (sizes : Sizes) where
+module _ {Spells : Sizes → List ℕ → List Entry → Type 0} {KnowsWords : List ℕ → List Entry → PassView → Type 0} (sizes : Sizes) where
   -- a load leaves the words
-  pub loaded : (words : List ℕ) (word : ℕ) (views : List View) → LogRule Spells KnowsWords sizes words views
+  pub loaded : (words : List ℕ) (word : ℕ) (views : List SeatView) → LogRule Spells KnowsWords sizes words views
       → LogRule Spells KnowsWords sizes (set words word (get_or words word 0)) views
   loaded words word views r = subst (λ ws. LogRule Spells KnowsWords sizes ws views) (sym (set-get_or words word 0)) r
 
   -- a load, after which the pass is another
-  pub load_step : (slots id word : ℕ) (h : Hand) (then : ℕ → Hand → Type 0)
-      → ((words : List ℕ) (views : List View) → LogRule Spells KnowsWords sizes words views → get_elem? views id ≡ some (One h)
-      → (k : Hand) × LogRule Spells KnowsWords sizes words (set views id (One k)) × then (get_or words word 0) k)
+  pub load_step : (slots id word : ℕ) (h : PassView) (then : ℕ → PassView → Type 0)
+      → ((words : List ℕ) (views : List SeatView) → LogRule Spells KnowsWords sizes words views → get_elem? views id ≡ some (Single h)
+      → (k : PassView) × LogRule Spells KnowsWords sizes words (set views id (Single k)) × then (get_or words word 0) k)
       → Allows (Rules Spells KnowsWords sizes) slots id (seated h) word (λ n. n) (Tells then)
   load_step slots id word h then each state r homes here small =
       let s = each state.words state.views r here in
-      (One s.0, keeps, tt, loaded state.words word (set state.views id (One s.0)) s.1, (s.0, refl, s.2))
+      (Single s.0, keeps, tt, loaded state.words word (set state.views id (Single s.0)) s.1, (s.0, refl, s.2))
 
   -- a store of a word of the draft, which begins at a word
-  pub store_step : (slots id at word index new : ℕ) (h : Hand) → word ≡ at + index
-      → ((words : List ℕ) (views : List View) → LogRule Spells KnowsWords sizes words views → get_elem? views id ≡ some (One h)
-      → LogRule Spells KnowsWords sizes (set words (at + index) new) (set views id (One (drafted h index new))))
+  pub store_step : (slots id at word index new : ℕ) (h : PassView) → word ≡ at + index
+      → ((words : List ℕ) (views : List SeatView) → LogRule Spells KnowsWords sizes words views → get_elem? views id ≡ some (Single h)
+      → LogRule Spells KnowsWords sizes (set words (at + index) new) (set views id (Single (drafted h index new))))
       → Allows (Rules Spells KnowsWords sizes) slots id (seated h) word (λ n. new) (λ n. Tells (λ found k. k ≡ drafted h (word - at) new) new)
   store_step slots id at word index new h is each state r homes here small =
       let back : word - at ≡ index = omega arith in (
-        One (drafted h (word - at) new),
+        Single (drafted h (word - at) new),
         keeps,
         tt,
-        subst (λ i. LogRule Spells KnowsWords sizes (set state.words word new) (set state.views id (One (drafted h i new)))) (sym back)
-            (subst (λ w. LogRule Spells KnowsWords sizes (set state.words w new) (set state.views id (One (drafted h index new)))) (sym is)
+        subst (λ i. LogRule Spells KnowsWords sizes (set state.words word new) (set state.views id (Single (drafted h i new)))) (sym back)
+            (subst (λ w. LogRule Spells KnowsWords sizes (set state.words w new) (set state.views id (Single (drafted h index new)))) (sym is)
             (each state.words state.views r here)),
         (drafted h (word - at) new, refl, refl),
       )
 
-module _ {Spells : Sizes → List ℕ → List Entry → Type 0} {KnowsWords : List ℕ → List Entry → Hand → Type 0} {sizes : Sizes} (newest : Hand → ℕ) (tried : ℕ)
-    (one_log : (words : List ℕ) (views views' : List View) (p : LogRule Spells KnowsWords sizes words views)
+module _ {Spells : Sizes → List ℕ → List Entry → Type 0} {KnowsWords : List ℕ → List Entry → PassView → Type 0} {sizes : Sizes} (newest : PassView → ℕ)
+    (tried : ℕ)
+    (one_log : (words : List ℕ) (views views' : List SeatView) (p : LogRule Spells KnowsWords sizes words views)
     (q : LogRule Spells KnowsWords sizes words views') → p.log ≡ q.log)
-    (all_seen : (words : List ℕ) (views : List View) (r : LogRule Spells KnowsWords sizes words views) (h : Hand)
+    (all_seen : (words : List ℕ) (views : List SeatView) (r : LogRule Spells KnowsWords sizes words views) (h : PassView)
     → KnowsLog KnowsWords sizes words r.log h → slice_index words 0 ≡ newest h → h.known.seen ≡ r.log) where
   -- who looks has seen the whole history, which stays
-  pub looked_log : (words words' : List ℕ) (views views' : List View) (r : LogRule Spells KnowsWords sizes words views)
-      (after : LogRule Spells KnowsWords sizes words' views') (step : Atomic) (found id : ℕ) (old new : Hand)
+  pub looked_log : (words words' : List ℕ) (views views' : List SeatView) (r : LogRule Spells KnowsWords sizes words views)
+      (after : LogRule Spells KnowsWords sizes words' views') (step : Atomic) (found id : ℕ) (old new : PassView)
       → Does step words found words' → Counts newest tried step found old new → new.known.looks ≢ old.known.looks
-      → get_elem? views' id ≡ some (One new) → (new.known.seen ≡ after.log) × (after.log ≡ r.log)
+      → get_elem? views' id ≡ some (Single new) → (new.known.seen ≡ after.log) × (after.log ≡ r.log)
   looked_log words words' views views' r after step found id old new does counts rose here =
       let look = look_is newest tried step found old new words words' does counts rose in
       subst (λ ws. (after : LogRule Spells KnowsWords sizes ws views') → (new.known.seen ≡ after.log) × (after.log ≡ r.log)) (sym look.1)

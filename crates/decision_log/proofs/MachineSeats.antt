@@ -5,9 +5,9 @@ use mathlib.Core.Logic.{dite}
 use native.Mathlib.Decide.{ℕ_discrete}
 use lib.ListN.{get_elem?}
 use Rattle.xa_words.specs.Entry.{Entry}
-use Rattle.decision_log.specs.declared.view.Hand.{Hand}
-use Rattle.decision_log.specs.declared.view.View.{View}
-use Rattle.decision_log.specs.declared.view.View.TheVariants.{Spent, One, Two, Rest}
+use Rattle.decision_log.specs.declared.view.PassView.{PassView}
+use Rattle.decision_log.specs.declared.view.SeatView.{SeatView}
+use Rattle.decision_log.specs.declared.view.SeatView.TheVariants.{Empty, Single, Pair, Unissued}
 use Rattle.decision_log.specs.History.{entries_of}
 use Rattle.decision_log.specs.Known.{AllOf}
 use Rattle.decision_log.specs.Machine.{Seen, Machine}
@@ -18,22 +18,22 @@ use Rattle.decision_log.proofs.MachineLaw.{Knows, Sound, state_of}
 use Rattle.decision_log.proofs.MachineReach.{reached}
 
 -- what the machine's session of a pass's number knows
-abbrev pub seen_by : Hand → Seen
-seen_by hand = record { seen = hand.known.seen; mine = hand.known.mine }
+abbrev pub seen_by : PassView → Seen
+seen_by pass_view = record { seen = pass_view.known.seen; mine = pass_view.known.mine }
 
 module _ (log : List Entry) where
   -- a session whose pass stands at no seat is taken as having seen all
   absent : ℕ → Seen
   absent session = record { seen = log; mine = entries_of session log }
 
-  known_at : ℕ → View → Seen
-  known_at session Spent = absent session
-  known_at session (One hand) = cond (nat_eq hand.known.number session) (seen_by hand) (absent session)
-  known_at session (Two first second) =
+  known_at : ℕ → SeatView → Seen
+  known_at session Empty = absent session
+  known_at session (Single pass_view) = cond (nat_eq pass_view.known.number session) (seen_by pass_view) (absent session)
+  known_at session (Pair first second) =
       cond (nat_eq first.known.number session) (seen_by first) (cond (nat_eq second.known.number session) (seen_by second) (absent session))
-  known_at session (Rest hand) = absent session
+  known_at session (Unissued pass_view) = absent session
 
-  known_in : ℕ → Option View → Seen
+  known_in : ℕ → Option SeatView → Seen
   known_in session none = absent session
   known_in session (some view) = known_at session view
 
@@ -41,29 +41,30 @@ module _ (log : List Entry) where
   unfolding absent
   absent_knows session = record { begins = begins_itself log; own = refl; part = refl }
 
-  module _ (F : Hand → Type 0) (home : ℕ → ℕ) (next : ℕ) (facts : (hand : Hand) → F hand → Knows log hand.known.number (seen_by hand)) where
+  module _ (F : PassView → Type 0) (home : ℕ → ℕ) (next : ℕ)
+      (facts : (pass_view : PassView) → F pass_view → Knows log pass_view.known.number (seen_by pass_view)) where
     -- where the number is the session's, the pass; else something that the session knows too
-    chosen : (hand : Hand) (session : ℕ) (other : Seen) → F hand → Knows log session other
-        → Knows log session (cond (nat_eq hand.known.number session) (seen_by hand) other)
-    chosen hand session other fact else_known =
-        dite (ℕ_discrete hand.known.number session)
-        (λ is. rw (eq-eqb hand.known.number session is) (subst (λ n. Knows log n (seen_by hand)) is (facts hand fact)))
-        (λ isnt. rw (ne_eqb hand.known.number session isnt) else_known)
+    chosen : (pass_view : PassView) (session : ℕ) (other : Seen) → F pass_view → Knows log session other
+        → Knows log session (cond (nat_eq pass_view.known.number session) (seen_by pass_view) other)
+    chosen pass_view session other fact else_known =
+        dite (ℕ_discrete pass_view.known.number session)
+        (λ is. rw (eq-eqb pass_view.known.number session is) (subst (λ n. Knows log n (seen_by pass_view)) is (facts pass_view fact)))
+        (λ isnt. rw (ne_eqb pass_view.known.number session isnt) else_known)
 
-    known_knows : (id session : ℕ) (view : View) → Fits F home next id view → Knows log session (known_at session view)
+    known_knows : (id session : ℕ) (view : SeatView) → Fits F home next id view → Knows log session (known_at session view)
     unfolding known_at
-    known_knows id session Spent fits = absent_knows session
-    known_knows id session (One hand) fits = chosen hand session (absent session) fits.fact_is (absent_knows session)
-    known_knows id session (Two first second) fits =
+    known_knows id session Empty fits = absent_knows session
+    known_knows id session (Single pass_view) fits = chosen pass_view session (absent session) fits.fact_is (absent_knows session)
+    known_knows id session (Pair first second) fits =
         chosen first session (cond (nat_eq second.known.number session) (seen_by second) (absent session)) fits.0.fact_is
         (chosen second session (absent session) fits.1.fact_is (absent_knows session))
-    known_knows id session (Rest hand) fits = absent_knows session
+    known_knows id session (Unissued pass_view) fits = absent_knows session
 
-    module _ (capacity : ℕ) (views : List View) (seats : Seats F home next views) where
+    module _ (capacity : ℕ) (views : List SeatView) (seats : Seats F home next views) where
       machine : Machine
       machine = record { history = log; capacity = capacity; knows = λ session. known_in session (get_elem? views (home session)) }
 
-      sound_at : (session : ℕ) (view : Option View) → get_elem? views (home session) ≡ view → Knows log session (known_in session view)
+      sound_at : (session : ℕ) (view : Option SeatView) → get_elem? views (home session) ≡ view → Knows log session (known_in session view)
       unfolding known_in
       sound_at session none is = absent_knows session
       sound_at session (some view) is = known_knows (home session) session view (seats (home session) view is)
@@ -73,24 +74,24 @@ module _ (log : List Entry) where
       sound session = sound_at session (get_elem? views (home session)) refl
 
       -- at the seat of its number a pass is found
-      found : (hand : Hand) (id : ℕ) (view : View) → home hand.known.number ≡ id → get_elem? views id ≡ some view
-          → known_at hand.known.number view ≡ seen_by hand → KnownTo machine hand
+      found : (pass_view : PassView) (id : ℕ) (view : SeatView) → home pass_view.known.number ≡ id → get_elem? views id ≡ some view
+          → known_at pass_view.known.number view ≡ seen_by pass_view → KnownTo machine pass_view
       unfolding machine known_in
-      found hand id view at here same = ap (λ v. known_in hand.known.number v) (ap (get_elem? views) at ∙ here) ∙ same
+      found pass_view id view at here same = ap (λ v. known_in pass_view.known.number v) (ap (get_elem? views) at ∙ here) ∙ same
 
-      passes : (id : ℕ) (view : View) → get_elem? views id ≡ some view → SeatKnownTo machine view
+      passes : (id : ℕ) (view : SeatView) → get_elem? views id ≡ some view → SeatKnownTo machine view
       unfolding known_at
-      passes id Spent here = tt
-      passes id (One hand) here =
-          let p = seats id (One hand) here in
-          found hand id (One hand) p.home_is here (rw (eq-eqb hand.known.number hand.known.number refl) refl)
-      passes id (Two first second) here =
-          let p = seats id (Two first second) here in (
-            found first id (Two first second) p.0.home_is here (rw (eq-eqb first.known.number first.known.number refl) refl),
-            found second id (Two first second) p.1.home_is here
+      passes id Empty here = tt
+      passes id (Single pass_view) here =
+          let p = seats id (Single pass_view) here in
+          found pass_view id (Single pass_view) p.home_is here (rw (eq-eqb pass_view.known.number pass_view.known.number refl) refl)
+      passes id (Pair first second) here =
+          let p = seats id (Pair first second) here in (
+            found first id (Pair first second) p.0.home_is here (rw (eq-eqb first.known.number first.known.number refl) refl),
+            found second id (Pair first second) p.1.home_is here
                 (rw (ne_eqb first.known.number second.known.number p.2, eq-eqb second.known.number second.known.number refl) refl),
           )
-      passes id (Rest hand) here = tt
+      passes id (Unissued pass_view) here = tt
 
       pub has_passes : (sessions : ℕ) → length log ≤ capacity → AllOf sessions log → (m : Machine) × HasPasses sessions capacity log views m
       unfolding machine

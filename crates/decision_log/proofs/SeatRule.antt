@@ -11,13 +11,13 @@ use lib.ListN.{get_elem?}
 use Rattle.std.proofs.lemmas.List.{set-get_or}
 use Rattle.atomic_table.specs.Table.{keeps, Allows}
 use Rattle.xa_words.specs.Entry.{Entry}
-use Rattle.decision_log.specs.declared.view.Hand.{Hand}
-use Rattle.decision_log.specs.declared.view.View.{View}
-use Rattle.decision_log.specs.declared.view.View.TheVariants.{Spent, One, Two, Rest}
+use Rattle.decision_log.specs.declared.view.PassView.{PassView}
+use Rattle.decision_log.specs.declared.view.SeatView.{SeatView}
+use Rattle.decision_log.specs.declared.view.SeatView.TheVariants.{Empty, Single, Pair, Unissued}
 use Rattle.decision_log.specs.declared.view.Turn.TheVariants.{Without}
 use Rattle.decision_log.specs.declared.sizes.Sizes.{Sizes}
 use Rattle.decision_log.specs.History.{Begins, entries_of}
-use Rattle.decision_log.specs.Seats.{Fits, Seats, newcomer_hand, all_passes, following, seated_two}
+use Rattle.decision_log.specs.Seats.{Fits, Seats, newcomer_view, all_passes, following, seated_two}
 use Rattle.decision_log.specs.Observed.{met}
 use Rattle.decision_log.specs.Atomic.{Meets}
 use Rattle.decision_log.specs.AtTable.{KeepsSeats, OpensSeats}
@@ -27,40 +27,42 @@ use Rattle.decision_log.proofs.SeatLemmas.{step_two, join_seats, split_two, spli
 use Rattle.decision_log.proofs.LogRules.{Rules, reseated, among}
 
 -- a pass with no draft and no turn knows nothing of the words; and what word 0 is where a pass has seen the whole history
-pub record HasWords (Spells : Sizes → List ℕ → List Entry → Type 0) (KnowsWords : List ℕ → List Entry → Hand → Type 0) (newest : Hand → ℕ) : Type 0 where
-  pub idle : (words : List ℕ) (log : List Entry) (hand : Hand) → hand.draft ≡ [] → hand.turn ≡ Without → KnowsWords words log hand
-  pub newest_is : (sizes : Sizes) (words : List ℕ) (log : List Entry) (hand : Hand) → Spells sizes words log → hand.sessions ≡ sizes.sessions
-      → slice_index words 0 ≡ newest (met hand log)
+pub record HasWords (Spells : Sizes → List ℕ → List Entry → Type 0) (KnowsWords : List ℕ → List Entry → PassView → Type 0)
+    (newest : PassView → ℕ) : Type 0 where
+  pub idle : (words : List ℕ) (log : List Entry) (pass_view : PassView) → pass_view.draft ≡ [] → pass_view.turn ≡ Without → KnowsWords words log pass_view
+  pub newest_is : (sizes : Sizes) (words : List ℕ) (log : List Entry) (pass_view : PassView) → Spells sizes words log → pass_view.sessions ≡ sizes.sessions
+      → slice_index words 0 ≡ newest (met pass_view log)
 
-module _ {Spells : Sizes → List ℕ → List Entry → Type 0} {KnowsWords : List ℕ → List Entry → Hand → Type 0} {newest : Hand → ℕ}
+module _ {Spells : Sizes → List ℕ → List Entry → Type 0} {KnowsWords : List ℕ → List Entry → PassView → Type 0} {newest : PassView → ℕ}
     (has : HasWords Spells KnowsWords newest) where
-  module _ {sizes : Sizes} {words : List ℕ} {views : List View} (r : LogRule Spells KnowsWords sizes words views) where
-    abbrev Rule : List View → Type 0
+  module _ {sizes : Sizes} {words : List ℕ} {views : List SeatView} (r : LogRule Spells KnowsWords sizes words views) where
+    abbrev Rule : List SeatView → Type 0
     Rule views' = LogRule Spells KnowsWords sizes words views'
 
-    abbrev Known : Hand → Type 0
-    Known hand = KnowsLog KnowsWords sizes words r.log hand
+    abbrev Known : PassView → Type 0
+    Known pass_view = KnowsLog KnowsWords sizes words r.log pass_view
 
     -- where no pass is issued
-    rehoused : (home : ℕ → ℕ) (views' : List View) → Seats Known home r.next views' → Rule views'
+    rehoused : (home : ℕ → ℕ) (views' : List SeatView) → Seats Known home r.next views' → Rule views'
     rehoused home views' seats = reseated r home r.next views' (omega arith) r.within seats
 
-    spare : (id : ℕ) (g : Hand) → get_elem? views id ≡ some (One g) → Rule (set views id (One g) ++ Spent ∷ [])
-    spare id g here = rehoused r.home (set views id (One g) ++ Spent ∷ []) (split_one Known r.home r.next views id g r.seats here)
+    split_empty : (id : ℕ) (g : PassView) → get_elem? views id ≡ some (Single g) → Rule (set views id (Single g) ++ Empty ∷ [])
+    split_empty id g here = rehoused r.home (set views id (Single g) ++ Empty ∷ []) (split_one Known r.home r.next views id g r.seats here)
 
-    split : (id : ℕ) (g h : Hand) → get_elem? views id ≡ some (Two g h) → Rule (set views id (One g) ++ One h ∷ [])
+    split : (id : ℕ) (g h : PassView) → get_elem? views id ≡ some (Pair g h) → Rule (set views id (Single g) ++ Single h ∷ [])
     split id g h here =
-        rehoused (moved r.home h.known.number (length views)) (set views id (One g) ++ One h ∷ [])
+        rehoused (moved r.home h.known.number (length views)) (set views id (Single g) ++ Single h ∷ [])
         (split_two Known r.home r.next views id g h r.seats here)
 
-    join : (id other : ℕ) (g h : Hand) → get_elem? views id ≡ some (One g) → (other ≡ id → ⊥) → get_elem? (set views id (Two g h)) other ≡ some (One h)
-        → Rule (set (set views id (Two g h)) other Spent)
+    join : (id other : ℕ) (g h : PassView) → get_elem? views id ≡ some (Single g) → (other ≡ id → ⊥)
+        → get_elem? (set views id (Pair g h)) other ≡ some (Single h)
+        → Rule (set (set views id (Pair g h)) other Empty)
     join id other g h here apart there =
-        rehoused (moved r.home h.known.number id) (set (set views id (Two g h)) other Spent)
+        rehoused (moved r.home h.known.number id) (set (set views id (Pair g h)) other Empty)
         (join_seats Known r.home r.next views id other g h r.seats here apart there)
 
     -- the next pass knows the history of which it has seen nothing
-    issued : (h : Hand) → Known h → h.known.number ≡ r.next → Known (following h)
+    issued : (h : PassView) → Known h → h.known.number ≡ r.next → Known (following h)
     issued h k number = record {
       sessions = k.sessions;
       capacity = k.capacity;
@@ -70,21 +72,22 @@ module _ {Spells : Sizes → List ℕ → List Entry → Type 0} {KnowsWords : L
       own = has.idle words r.log (following h) refl refl;
     }
 
-    issue : (id : ℕ) (h : Hand) → h.known.number ≤ h.sessions → get_elem? views id ≡ some (Rest h) → Rule (set views id (Rest (following h)) ++ One h ∷ [])
+    issue : (id : ℕ) (h : PassView) → h.known.number ≤ h.sessions → get_elem? views id ≡ some (Unissued h)
+        → Rule (set views id (Unissued (following h)) ++ Single h ∷ [])
     issue id h low here =
-        let p = r.seats id (Rest h) here in
+        let p = r.seats id (Unissued h) here in
         let number = p.1 in
         let sessions = p.2.sessions in
-        reseated r (moved r.home h.known.number (length views)) (r.next + 1) (set views id (Rest (following h)) ++ One h ∷ []) (omega arith)
+        reseated r (moved r.home h.known.number (length views)) (r.next + 1) (set views id (Unissued (following h)) ++ Single h ∷ []) (omega arith)
         (omega (arith, number, sessions, low))
         (deal_seat Known r.home r.next views id h r.begun r.seats here (issued h p.2 number))
 
-    meet_keeps : (id : ℕ) (g h : Hand) (seen : List Entry) → get_elem? views id ≡ some (Two g h) → Begins seen r.log
-        → entries_of h.known.number seen ≡ h.known.mine → Rule (set views id (Two g (met h seen)))
+    meet_keeps : (id : ℕ) (g h : PassView) (seen : List Entry) → get_elem? views id ≡ some (Pair g h) → Begins seen r.log
+        → entries_of h.known.number seen ≡ h.known.mine → Rule (set views id (Pair g (met h seen)))
     meet_keeps id g h seen here begins part =
-        let p = r.seats id (Two g h) here in
+        let p = r.seats id (Pair g h) here in
         let k = p.1.fact_is in
-        rehoused r.home (set views id (Two g (met h seen)))
+        rehoused r.home (set views id (Pair g (met h seen)))
         (step_two Known r.home r.next views id g h g (met h seen) r.seats here refl refl p.0.fact_is
         (record {
           sessions = k.sessions;
@@ -96,10 +99,10 @@ module _ {Spells : Sizes → List ℕ → List Entry → Type 0} {KnowsWords : L
         }))
 
     -- where the second pass has seen as much as the first it stays, and else it sees all
-    meet : (id : ℕ) (g h : Hand) → get_elem? views id ≡ some (Two g h)
-        → (seen : List Entry) × Rule (set views id (Two g (met h seen))) × Meets newest g h (slice_index words 0) (seated_two g (met h seen))
+    meet : (id : ℕ) (g h : PassView) → get_elem? views id ≡ some (Pair g h)
+        → (seen : List Entry) × Rule (set views id (Pair g (met h seen))) × Meets newest g h (slice_index words 0) (seated_two g (met h seen))
     meet id g h here =
-        let p = r.seats id (Two g h) here in
+        let p = r.seats id (Pair g h) here in
         let kg = p.0.fact_is in
         let kh = p.1.fact_is in
         dite (dec_le (length g.known.seen) (length h.known.seen))
@@ -142,20 +145,20 @@ module _ {Spells : Sizes → List ℕ → List Entry → Type 0} {KnowsWords : L
         ))
 
   -- the load leaves the words
-  meet_step : (sizes : Sizes) (slots id : ℕ) (g h : Hand)
+  meet_step : (sizes : Sizes) (slots id : ℕ) (g h : PassView)
       → Allows (Rules Spells KnowsWords sizes) slots id (seated_two g h) 0 (λ n. n) (Meets newest g h)
   meet_step sizes slots id g h state r homes here small =
       let m = meet r id g h here in (
-        Two g (met h m.0),
+        Pair g (met h m.0),
         keeps,
         tt,
-        subst (λ words. LogRule Spells KnowsWords sizes words (set state.views id (Two g (met h m.0)))) (sym (set-get_or state.words 0 0)) m.1,
+        subst (λ words. LogRule Spells KnowsWords sizes words (set state.views id (Pair g (met h m.0)))) (sym (set-get_or state.words 0 0)) m.1,
         m.2,
       )
 
   pub seats_kept : KeepsSeats (Rules Spells KnowsWords) newest
   seats_kept = record {
-    spare = λ sizes id g state r here. spare r id g here;
+    split_empty = λ sizes id g state r here. split_empty r id g here;
     join = λ sizes id other g h state r here apart there. join r id other g h here apart there;
     split = λ sizes id g h state r here. split r id g h here;
     issue = λ sizes id h low state r here. issue r id h low here;
@@ -191,7 +194,7 @@ module _ {Spells : Sizes → List ℕ → List Entry → Type 0} {KnowsWords : L
               seen = refl;
               mine = refl;
               part = refl;
-              own = has.idle words [] (newcomer_hand sizes.sessions sizes.capacity 1) refl refl;
+              own = has.idle words [] (newcomer_view sizes.sessions sizes.capacity 1) refl refl;
             },
           )
       first (suc id) view is = absurd (some-ne-none view (sym is))

@@ -7,9 +7,9 @@ use Rattle.std.proofs.lemmas.List.{ext_get_or, get_or-set_other}
 use Rattle.xa_words.specs.Entry.{Entry, IsEntry}
 use Rattle.xa_words.specs.Words.{words_of}
 use Rattle.xa_words.proofs.Spelling.{one_entry, length-words_of}
-use Rattle.decision_log.specs.declared.view.Hand.{Hand}
-use Rattle.decision_log.specs.declared.view.View.{View}
-use Rattle.decision_log.specs.declared.view.View.TheVariants.{One}
+use Rattle.decision_log.specs.declared.view.PassView.{PassView}
+use Rattle.decision_log.specs.declared.view.SeatView.{SeatView}
+use Rattle.decision_log.specs.declared.view.SeatView.TheVariants.{Single}
 use Rattle.decision_log.specs.declared.view.Turn.TheVariants.{Fresh}
 use Rattle.decision_log.specs.declared.sizes.Sizes.{Sizes}
 use Rattle.decision_log.specs.Draft.{HasWordsAt, drafted}
@@ -57,17 +57,17 @@ one_list words from (x ∷ xs) (y ∷ ys) same s t =
     let rest = one_list words (from + 1) xs ys (omega (arith, same)) (spelled_rest words from x xs s) (spelled_rest words from y ys t) in
     λ i. first i ∷ rest i
 
-module _ (sizes : Sizes) (words : List ℕ) (views : List View) (r : TurnRule sizes words views) where
+module _ (sizes : Sizes) (words : List ℕ) (views : List SeatView) (r : TurnRule sizes words views) where
   spelled : Spelled words 0 r.log
   unfolding Spelled
   spelled place entry is = first_rows words place entry ((r.entries place entry is).0, r.spelled.rows place entry is)
 
 -- words spell one history
-one_log : (sizes : Sizes) (words : List ℕ) (views views' : List View) (p : TurnRule sizes words views) (q : TurnRule sizes words views') → p.log ≡ q.log
+one_log : (sizes : Sizes) (words : List ℕ) (views views' : List SeatView) (p : TurnRule sizes words views) (q : TurnRule sizes words views') → p.log ≡ q.log
 one_log sizes words views views' p q =
     one_list words 0 p.log q.log (sym p.spelled.count ∙ q.spelled.count) (spelled sizes words views p) (spelled sizes words views' q)
 
-module _ (sizes : Sizes) (words : List ℕ) (views views' : List View) (r : TurnRule sizes words views) where
+module _ (sizes : Sizes) (words : List ℕ) (views views' : List SeatView) (r : TurnRule sizes words views) where
   pub turn_log : (new : ℕ) (after : TurnRule sizes (set words 1 new) views') → after.log ≡ r.log
   unfolding Spelled
   turn_log new after =
@@ -77,7 +77,7 @@ module _ (sizes : Sizes) (words : List ℕ) (views views' : List View) (r : Turn
       (λ place entry is. first_rows (set words 1 new) place entry
       ((r.entries place entry is).0, holds_beside words 1 new (row_at place) (words_of entry) (λ i below e. omega arith) (r.spelled.rows place entry is)))
 
-  pub stored_log : (id : ℕ) (h : Hand) (index new : ℕ) → get_elem? views id ≡ some (One h) → h.turn ≡ Fresh → index ≤ length h.draft → index < 21
+  pub stored_log : (id : ℕ) (h : PassView) (index new : ℕ) → get_elem? views id ≡ some (Single h) → h.turn ≡ Fresh → index ≤ length h.draft → index < 21
       → length h.known.seen < h.capacity
       → (after : TurnRule sizes (set words (row_at (length h.known.seen) + index) new) views') → after.log ≡ r.log
   stored_log id h index new here fresh along below room after =
@@ -86,9 +86,10 @@ module _ (sizes : Sizes) (words : List ℕ) (views views' : List View) (r : Turn
       subst (λ n. (after : TurnRule sizes (set words (row_at n + index) new) views') → after.log ≡ r.log) (ap length (sym f.0))
       (λ after.
       let t = draft_keeps r id h index new here f.0 f.1 fresh along below (omega (arith, ap length f.0, room, k.capacity)) in
-      one_log sizes (set words (row_at (length r.log) + index) new) views' (set views id (One (drafted h index new))) after t.0 ∙ t.1) after
+      one_log sizes (set words (row_at (length r.log) + index) new) views' (set views id (Single (drafted h index new))) after t.0 ∙ t.1) after
 
-  pub counted_log : (id : ℕ) (h : Hand) (entry : Entry) → get_elem? views id ≡ some (One h) → h.turn ≡ Fresh → IsEntry entry → entry.session ≡ h.known.number
+  pub counted_log : (id : ℕ) (h : PassView) (entry : Entry) → get_elem? views id ≡ some (Single h) → h.turn ≡ Fresh → IsEntry entry
+      → entry.session ≡ h.known.number
       → h.draft ≡ words_of entry → length h.known.seen < h.capacity
       → (after : TurnRule sizes (set words 0 (length h.known.seen + 1)) views') → after.log ≡ r.log ++ entry ∷ []
   counted_log id h entry here fresh is own whole room after =
@@ -97,15 +98,15 @@ module _ (sizes : Sizes) (words : List ℕ) (views views' : List View) (r : Turn
       subst (λ n. (after : TurnRule sizes (set words 0 (n + 1)) views') → after.log ≡ r.log ++ entry ∷ []) (ap length (sym f.0))
       (λ after.
       let t = publish_keeps r id h entry here f.0 f.1 is own whole (omega (arith, ap length f.0, room, k.capacity)) in
-      one_log sizes (set words 0 (length r.log + 1)) views' (set views id (One (published h entry))) after t.0 ∙ t.1) after
+      one_log sizes (set words 0 (length r.log + 1)) views' (set views id (Single (published h entry))) after t.0 ∙ t.1) after
 
 -- a count that is what a pass has seen means that it has seen all
-all_seen : (sizes : Sizes) (words : List ℕ) (views : List View) (r : TurnRule sizes words views) (h : Hand) → Knows sizes words r.log h
+all_seen : (sizes : Sizes) (words : List ℕ) (views : List SeatView) (r : TurnRule sizes words views) (h : PassView) → Knows sizes words r.log h
     → slice_index words 0 ≡ count_for h → h.known.seen ≡ r.log
 all_seen sizes words views r h k same = begins_same h.known.seen r.log k.seen (omega (arith, r.spelled.count, same))
 
-pub look_sees : (sizes : Sizes) (words words' : List ℕ) (views views' : List View) (r : TurnRule sizes words views) (after : TurnRule sizes words' views')
-    (step : Atomic) (found id : ℕ) (old new : Hand) → Does step words found words'
-    → Counts count_for turn_word step found old new → new.known.looks ≢ old.known.looks → get_elem? views' id ≡ some (One new)
+pub look_sees : (sizes : Sizes) (words words' : List ℕ) (views views' : List SeatView) (r : TurnRule sizes words views) (after : TurnRule sizes words' views')
+    (step : Atomic) (found id : ℕ) (old new : PassView) → Does step words found words'
+    → Counts count_for turn_word step found old new → new.known.looks ≢ old.known.looks → get_elem? views' id ≡ some (Single new)
     → (new.known.seen ≡ after.log) × (after.log ≡ r.log)
 look_sees sizes = looked_log count_for turn_word (one_log sizes) (all_seen sizes)

@@ -3,8 +3,8 @@ use Rattle.std.proofs.Common.{◌≢◌, ℕ, List, get_or, refl, ap, ◌∙◌,
 use Rattle.atomic_table.specs.Table.{State, Allows}
 use Rattle.xa_words.specs.Entry.{Entry}
 use Rattle.xa_words.proofs.Spelling.{length-words_of}
-use Rattle.decision_log.specs.declared.view.Hand.{Hand}
-use Rattle.decision_log.specs.declared.view.View.{View}
+use Rattle.decision_log.specs.declared.view.PassView.{PassView}
+use Rattle.decision_log.specs.declared.view.SeatView.{SeatView}
 use Rattle.decision_log.specs.declared.view.Turn.{Turn}
 use Rattle.decision_log.specs.declared.view.Turn.TheVariants.{Without, Won, Fresh}
 use Rattle.decision_log.specs.declared.sizes.Sizes.{Sizes}
@@ -15,15 +15,16 @@ use Rattle.decision_log.specs.TurnPlays.{looked_turn, with_look, Sees, Reads}
 use Rattle.decision_log.proofs.Histories.{begins_itself, get_begins}
 use Rattle.decision_log.proofs.LogRules.{known, history, stepped, unmoved, load_step}
 
-abbrev pub Rules : Sizes → State Entry View → Type 0
+abbrev pub Rules : Sizes → State Entry SeatView → Type 0
 Rules sizes state = TurnRule sizes state.words state.views
 
-looked_has : (words : List ℕ) (log : List Entry) (h : Hand) (turn : Turn) → HasTurn words log h turn → HasTurn words log (with_look h log) (looked_turn turn)
+looked_has : (words : List ℕ) (log : List Entry) (h : PassView) (turn : Turn) → HasTurn words log h turn
+    → HasTurn words log (with_look h log) (looked_turn turn)
 looked_has words log h Without has = has
 looked_has words log h Won has = (refl, has.1)
 looked_has words log h Fresh has = (refl, has.1)
 
-pub look_step : (sizes : Sizes) (slots id : ℕ) (h : Hand) → Allows (Rules sizes) slots id (seated h) 0 (λ n. n) (Tells (Sees 0 h))
+pub look_step : (sizes : Sizes) (slots id : ℕ) (h : PassView) → Allows (Rules sizes) slots id (seated h) 0 (λ n. n) (Tells (Sees 0 h))
 look_step sizes slots id h =
     load_step sizes slots id 0 h (Sees 0 h)
     (λ words views r here.
@@ -34,7 +35,7 @@ look_step sizes slots id h =
       (refl, r.log, refl, r.spelled.count, history r h k),
     ))
 
-pub read_step : (sizes : Sizes) (slots id word : ℕ) (h : Hand) → word ≢ 0 → Allows (Rules sizes) slots id (seated h) word (λ n. n) (Tells (Reads word h))
+pub read_step : (sizes : Sizes) (slots id word : ℕ) (h : PassView) → word ≢ 0 → Allows (Rules sizes) slots id (seated h) word (λ n. n) (Tells (Reads word h))
 read_step sizes slots id word h behind =
     load_step sizes slots id word h (Reads word h)
     (λ words views r here. (

@@ -14,9 +14,9 @@ use Rattle.atomic_table.proofs.Lists.{exchanged}
 use Rattle.xa_words.specs.Entry.{Entry, IsEntry}
 use Rattle.xa_words.specs.Words.{words_of}
 use Rattle.xa_words.proofs.Spelling.{length-words_of}
-use Rattle.decision_log.specs.declared.view.Hand.{Hand}
-use Rattle.decision_log.specs.declared.view.View.{View}
-use Rattle.decision_log.specs.declared.view.View.TheVariants.{One}
+use Rattle.decision_log.specs.declared.view.PassView.{PassView}
+use Rattle.decision_log.specs.declared.view.SeatView.{SeatView}
+use Rattle.decision_log.specs.declared.view.SeatView.TheVariants.{Single}
 use Rattle.decision_log.specs.declared.view.Turn.{Turn}
 use Rattle.decision_log.specs.declared.view.Turn.TheVariants.{Without, Won, Fresh}
 use Rattle.decision_log.specs.declared.sizes.Sizes.{Sizes}
@@ -31,23 +31,23 @@ use Rattle.decision_log.proofs.LogRules.{RuleOf, known, stepped, appended, loade
 use Rattle.decision_log.proofs.TurnSteps.{Rules}
 
 -- who isn't named by the turn word is without the turn
-without : (words words' : List ℕ) (log log' : List Entry) (g : Hand) (turn : Turn) → slice_index words 1 ≢ g.known.number → HasTurn words log g turn
+without : (words words' : List ℕ) (log log' : List Entry) (g : PassView) (turn : Turn) → slice_index words 1 ≢ g.known.number → HasTurn words log g turn
     → HasTurn words' log' g turn × (g.draft ≡ [])
 without words words' log log' g Without other has = (has, has)
 without words words' log log' g Won other has = absurd (other has.1)
 without words words' log log' g Fresh other has = absurd (other has.1)
 
 -- who is without the turn knows what it knew, whatever becomes of the words and of the history
-aside : (words words' : List ℕ) (log log' : List Entry) (g : Hand) → slice_index words 1 ≢ g.known.number → HasDraft words log g → HasDraft words' log' g
+aside : (words words' : List ℕ) (log log' : List Entry) (g : PassView) → slice_index words 1 ≢ g.known.number → HasDraft words log g → HasDraft words' log' g
 aside words words' log log' g other own =
     let w = without words words' log log' g g.turn other own.turn in
     record { draft = holds_nothing words' (row_at (length log')) g.draft w.1; turn = w.0 }
 
 -- a pass with no draft
-blank : (words : List ℕ) (log : List Entry) (k : Hand) → k.draft ≡ [] → HasTurn words log k k.turn → HasDraft words log k
+blank : (words : List ℕ) (log : List Entry) (k : PassView) → k.draft ≡ [] → HasTurn words log k k.turn → HasDraft words log k
 blank words log k empty turn = record { draft = holds_nothing words (row_at (length log)) k.draft empty; turn = turn }
 
-module _ {sizes : Sizes} {words : List ℕ} {views : List View} (r : TurnRule sizes words views) where
+module _ {sizes : Sizes} {words : List ℕ} {views : List SeatView} (r : TurnRule sizes words views) where
   two_words : 1 < length words
   two_words = omega (arith, r.spelled.wide)
 
@@ -60,8 +60,8 @@ module _ {sizes : Sizes} {words : List ℕ} {views : List View} (r : TurnRule si
   }
 
   -- the turn is free, and the pass takes it
-  take_keeps : (id : ℕ) (h : Hand) → get_elem? views id ≡ some (One h) → get_or words 1 0 ≡ 0
-      → TurnRule sizes (set words 1 h.known.number) (set views id (One (tried h Won)))
+  take_keeps : (id : ℕ) (h : PassView) → get_elem? views id ≡ some (Single h) → get_or words 1 0 ≡ 0
+      → TurnRule sizes (set words 1 h.known.number) (set views id (Single (tried h Won)))
   take_keeps id h here free =
       let k = (known r id h here).fact_is in
       let words' = set words 1 h.known.number in
@@ -70,25 +70,25 @@ module _ {sizes : Sizes} {words : List ℕ} {views : List View} (r : TurnRule si
       (λ g apart low other. aside words words' r.log r.log g (λ e. omega arith) other.own)).0
 
   -- the turn is another's
-  miss_keeps : (id : ℕ) (h : Hand) → get_elem? views id ≡ some (One h) → TurnRule sizes words (set views id (One (tried h Without)))
+  miss_keeps : (id : ℕ) (h : PassView) → get_elem? views id ≡ some (Single h) → TurnRule sizes words (set views id (Single (tried h Without)))
   miss_keeps id h here =
       let k = (known r id h here).fact_is in
       (stepped r words id h (tried h Without) here r.spelled refl refl refl refl k.seen k.part (blank words r.log (tried h Without) refl refl)
       (λ g apart low other. other.own)).0
 
   -- the turn is given back
-  release_keeps : (id : ℕ) (h : Hand) → get_elem? views id ≡ some (One h) → slice_index words 1 ≡ h.known.number
-      → TurnRule sizes (set words 1 0) (set views id (One (released h)))
+  release_keeps : (id : ℕ) (h : PassView) → get_elem? views id ≡ some (Single h) → slice_index words 1 ≡ h.known.number
+      → TurnRule sizes (set words 1 0) (set views id (Single (released h)))
   release_keeps id h here mine =
       let k = (known r id h here).fact_is in
       (stepped r (set words 1 0) id h (released h) here (retaken 0) refl refl refl refl k.seen k.part (blank (set words 1 0) r.log (released h) refl refl)
       (λ g apart low other. aside words (set words 1 0) r.log r.log g (λ e. apart (sym e ∙ mine)) other.own)).0
 
   -- a word of the row at the count is stored
-  pub draft_keeps : (id : ℕ) (h : Hand) (index new : ℕ) → get_elem? views id ≡ some (One h) → h.known.seen ≡ r.log → slice_index words 1 ≡ h.known.number
+  pub draft_keeps : (id : ℕ) (h : PassView) (index new : ℕ) → get_elem? views id ≡ some (Single h) → h.known.seen ≡ r.log → slice_index words 1 ≡ h.known.number
       → h.turn ≡ Fresh
       → index ≤ length h.draft → index < 21 → length r.log < sizes.capacity
-      → RuleOf HasRows HasDraft sizes (set words (row_at (length r.log) + index) new) (set views id (One (drafted h index new))) r.log
+      → RuleOf HasRows HasDraft sizes (set words (row_at (length r.log) + index) new) (set views id (Single (drafted h index new))) r.log
   draft_keeps id h index new here all mine fresh along below room =
       let k = (known r id h here).fact_is in
       let words' = set words (row_at (length r.log) + index) new in
@@ -111,9 +111,10 @@ module _ {sizes : Sizes} {words : List ℕ} {views : List View} (r : TurnRule si
       (λ g apart low other. aside words words' r.log r.log g (λ e. apart (sym e ∙ mine)) other.own)
 
   -- the count is stored, one higher
-  pub publish_keeps : (id : ℕ) (h : Hand) (entry : Entry) → get_elem? views id ≡ some (One h) → h.known.seen ≡ r.log → slice_index words 1 ≡ h.known.number
+  pub publish_keeps : (id : ℕ) (h : PassView) (entry : Entry) → get_elem? views id ≡ some (Single h) → h.known.seen ≡ r.log
+      → slice_index words 1 ≡ h.known.number
       → IsEntry entry → entry.session ≡ h.known.number → h.draft ≡ words_of entry → length r.log < sizes.capacity
-      → RuleOf HasRows HasDraft sizes (set words 0 (length r.log + 1)) (set views id (One (published h entry))) (r.log ++ entry ∷ [])
+      → RuleOf HasRows HasDraft sizes (set words 0 (length r.log + 1)) (set views id (Single (published h entry))) (r.log ++ entry ∷ [])
   publish_keeps id h entry here all mine is own whole room =
       let k = (known r id h here).fact_is in
       let new = length r.log + 1 in
@@ -136,39 +137,39 @@ module _ {sizes : Sizes} {words : List ℕ} {views : List View} (r : TurnRule si
       refl refl refl refl refl (record { draft = holds_nothing words' (row_at (length log')) [] refl; turn = (ap (λ list. list ++ entry ∷ []) all, named) })
       (λ g apart low other. aside words words' r.log log' g (λ e. apart (sym e ∙ mine)) other.own)
 
-pub fresh_has : (words : List ℕ) (log : List Entry) (h : Hand) → h.turn ≡ Fresh → HasTurn words log h h.turn
+pub fresh_has : (words : List ℕ) (log : List Entry) (h : PassView) → h.turn ≡ Fresh → HasTurn words log h h.turn
     → (h.known.seen ≡ log) × (slice_index words 1 ≡ h.known.number)
 fresh_has words log h fresh has = subst (λ t. HasTurn words log h t) fresh has
 
-pub take_step : (sizes : Sizes) (slots id : ℕ) (h : Hand)
+pub take_step : (sizes : Sizes) (slots id : ℕ) (h : PassView)
     → Allows (Rules sizes) slots id (seated h) 1 (λ n. either (eqb n 0) h.known.number n) (Tells (Takes 1 0 h.known.number none h))
 take_step sizes slots id h state r homes here small =
     let n = get_or state.words 1 0 in
     dite (ℕ_discrete n 0)
     (λ e. (
-      One (tried h Won),
+      Single (tried h Won),
       keeps,
       tt,
-      exchanged n 0 h.known.number (λ w. TurnRule sizes (set state.words 1 w) (set state.views id (One (tried h Won))))
+      exchanged n 0 h.known.number (λ w. TurnRule sizes (set state.words 1 w) (set state.views id (Single (tried h Won))))
           (λ f. take_keeps r id h here e) (λ ne. absurd (ne e)),
       (tried h Won, refl, (refl, refl, refl, (λ f. refl), (λ ne. absurd (ne e)))),
     ))
     (λ ne. (
-      One (tried h Without),
+      Single (tried h Without),
       keeps,
       tt,
-      exchanged n 0 h.known.number (λ w. TurnRule sizes (set state.words 1 w) (set state.views id (One (tried h Without)))) (λ f. absurd (ne f))
-          (λ f. loaded sizes state.words 1 (set state.views id (One (tried h Without))) (miss_keeps r id h here)),
+      exchanged n 0 h.known.number (λ w. TurnRule sizes (set state.words 1 w) (set state.views id (Single (tried h Without)))) (λ f. absurd (ne f))
+          (λ f. loaded sizes state.words 1 (set state.views id (Single (tried h Without))) (miss_keeps r id h here)),
       (tried h Without, refl, (refl, refl, refl, (λ f. absurd (ne f)), (λ f. refl))),
     ))
 
-pub release_step : (sizes : Sizes) (slots id : ℕ) (h : Hand) → h.turn ≡ Fresh
+pub release_step : (sizes : Sizes) (slots id : ℕ) (h : PassView) → h.turn ≡ Fresh
     → Allows (Rules sizes) slots id (seated h) 1 (λ n. 0) (λ n. Tells (Releases 1 0 h) 0)
 release_step sizes slots id h fresh state r homes here small =
     let f = fresh_has state.words r.log h fresh (known r id h here).fact_is.own.turn in
-    (One (released h), keeps, tt, release_keeps r id h here f.1, (released h, refl, (refl, refl, refl)))
+    (Single (released h), keeps, tt, release_keeps r id h here f.1, (released h, refl, (refl, refl, refl)))
 
-pub draft_step : (sizes : Sizes) (slots id word index new : ℕ) (h : Hand) → word ≡ row_at (length h.known.seen) + index → h.turn ≡ Fresh
+pub draft_step : (sizes : Sizes) (slots id word index new : ℕ) (h : PassView) → word ≡ row_at (length h.known.seen) + index → h.turn ≡ Fresh
     → index ≤ length h.draft → index < 21 → length h.known.seen < h.capacity
     → Allows (Rules sizes) slots id (seated h) word (λ n. new) (λ n. Tells (Drafts word new h) new)
 draft_step sizes slots id word index new h at fresh along below room =
@@ -178,10 +179,10 @@ draft_step sizes slots id word index new h at fresh along below room =
     let f = fresh_has words r.log h fresh k.own.turn in
     let lengths : length r.log ≡ length h.known.seen = ap length (sym f.0) in
     let capacity = k.capacity in
-    subst (λ n. TurnRule sizes (set words (row_at n + index) new) (set views id (One (drafted h index new)))) lengths
+    subst (λ n. TurnRule sizes (set words (row_at n + index) new) (set views id (Single (drafted h index new)))) lengths
     (draft_keeps r id h index new here f.0 f.1 fresh along below (omega arith)).0)
 
-pub publish_step : (sizes : Sizes) (slots id new : ℕ) (h : Hand) (entry : Entry) → new ≡ length h.known.seen + 1 → h.turn ≡ Fresh → IsEntry entry
+pub publish_step : (sizes : Sizes) (slots id new : ℕ) (h : PassView) (entry : Entry) → new ≡ length h.known.seen + 1 → h.turn ≡ Fresh → IsEntry entry
     → entry.session ≡ h.known.number → h.draft ≡ words_of entry → length h.known.seen < h.capacity
     → Allows (Rules sizes) slots id (seated h) 0 (λ n. new) (λ n. Tells (Publishes 0 new h) new)
 publish_step sizes slots id new h entry next fresh is own whole room state r homes here small =
@@ -189,10 +190,10 @@ publish_step sizes slots id new h entry next fresh is own whole room state r hom
     let f = fresh_has state.words r.log h fresh k.own.turn in
     let lengths : length h.known.seen ≡ length r.log = ap length f.0 in
     let capacity = k.capacity in (
-      One (published h entry),
+      Single (published h entry),
       keeps,
       tt,
-      subst (λ n. TurnRule sizes (set state.words 0 n) (set state.views id (One (published h entry)))) (sym (next ∙ ap (λ n. n + 1) lengths))
+      subst (λ n. TurnRule sizes (set state.words 0 n) (set state.views id (Single (published h entry)))) (sym (next ∙ ap (λ n. n + 1) lengths))
           (publish_keeps r id h entry here f.0 f.1 is own whole (omega arith)).0,
       (published h entry, refl, (refl, next, entry, is, whole, refl)),
     )

@@ -12,31 +12,31 @@ use Rattle.atomic_table.specs.Seated.{TableId}
 use Rattle.atomic_table.specs.Table.{State, Allows, Splits, Joins, opening}
 use Rattle.atomic_table.specs.declared.shared.Seat.{Seat}
 use Rattle.xa_words.specs.Entry.{Entry}
-use Rattle.decision_log.specs.declared.view.Hand.{Hand}
-use Rattle.decision_log.specs.declared.view.View.{View}
-use Rattle.decision_log.specs.declared.view.View.TheVariants.{Spent, One, Two, Rest}
+use Rattle.decision_log.specs.declared.view.PassView.{PassView}
+use Rattle.decision_log.specs.declared.view.SeatView.{SeatView}
+use Rattle.decision_log.specs.declared.view.SeatView.TheVariants.{Empty, Single, Pair, Unissued}
 use Rattle.decision_log.specs.declared.sizes.Sizes.{Sizes}
 use Rattle.decision_log.specs.Known.{LogIdentity}
-use Rattle.decision_log.specs.Seats.{hand_of, second_of, hand, seated, seated_two, seated_rest, spent, all_passes, following}
+use Rattle.decision_log.specs.Seats.{pass_view_of, second_of, pass_view, seated, seated_two, seated_rest, spent, all_passes, following}
 use Rattle.decision_log.specs.Atomic.{Meets}
 
 -- a seat at this table that knows one pass
-pub record KnowsOne (table_id : TableId) (seat : Seat Entry View) : Type 0 where
+pub record KnowsOne (table_id : TableId) (seat : Seat Entry SeatView) : Type 0 where
   pub table : seat.table_id ≡ table_id
-  pub held : seat.me ≡ seated (hand_of seat.me.0)
+  pub held : seat.me ≡ seated (pass_view_of seat.me.0)
 
 -- a seat at this table that knows two passes
-pub record KnowsTwo (table_id : TableId) (seat : Seat Entry View) : Type 0 where
+pub record KnowsTwo (table_id : TableId) (seat : Seat Entry SeatView) : Type 0 where
   pub table : seat.table_id ≡ table_id
-  pub held : seat.me ≡ seated_two (hand_of seat.me.0) (second_of seat.me.0)
+  pub held : seat.me ≡ seated_two (pass_view_of seat.me.0) (second_of seat.me.0)
 
 -- a seat at this table that knows the passes that weren't issued
-pub record KnowsRest (table_id : TableId) (seat : Seat Entry View) : Type 0 where
+pub record KnowsRest (table_id : TableId) (seat : Seat Entry SeatView) : Type 0 where
   pub table : seat.table_id ≡ table_id
-  pub held : seat.me ≡ seated_rest (hand_of seat.me.0)
+  pub held : seat.me ≡ seated_rest (pass_view_of seat.me.0)
 
 -- a seat at this table that knows no pass
-pub record KnowsNone (table_id : TableId) (seat : Seat Entry View) : Type 0 where
+pub record KnowsNone (table_id : TableId) (seat : Seat Entry SeatView) : Type 0 where
   pub table : seat.table_id ≡ table_id
   pub held : seat.me ≡ spent
 
@@ -45,21 +45,22 @@ abbrev pub identity_at : TableId → Sizes → LogIdentity
 identity_at table_id sizes = record { table = table_id; sessions = sizes.sessions; capacity = sizes.capacity }
 
 -- the seat's table, and the sizes that its pass was given
-abbrev pub belongs_at : Seat Entry View → LogIdentity
-belongs_at seat = record { table = seat.table_id; sessions = (hand seat).sessions; capacity = (hand seat).capacity }
+abbrev pub belongs_at : Seat Entry SeatView → LogIdentity
+belongs_at seat = record { table = seat.table_id; sessions = (pass_view seat).sessions; capacity = (pass_view seat).capacity }
 
 -- the rule holds after each of these steps where it held before; a pass is issued only while there are numbers left
-pub record KeepsSeats (holds : Sizes → State Entry View → Type 0) (newest : Hand → ℕ) : Type 0 where
-  pub spare : (sizes : Sizes) (id : ℕ) (pass : Hand) → Splits (holds sizes) id (One pass) (One pass) Spent
-  pub join : (sizes : Sizes) (id other : ℕ) (first second : Hand) → Joins (holds sizes) id (One first) other (One second) (Two first second) Spent
-  pub split : (sizes : Sizes) (id : ℕ) (first second : Hand) → Splits (holds sizes) id (Two first second) (One first) (One second)
-  pub issue : (sizes : Sizes) (id : ℕ) (pass : Hand) → pass.known.number ≤ pass.sessions
-      → Splits (holds sizes) id (Rest pass) (Rest (following pass)) (One pass)
-  pub meet : (sizes : Sizes) (slots id : ℕ) (first second : Hand)
+pub record KeepsSeats (holds : Sizes → State Entry SeatView → Type 0) (newest : PassView → ℕ) : Type 0 where
+  pub split_empty : (sizes : Sizes) (id : ℕ) (pass : PassView) → Splits (holds sizes) id (Single pass) (Single pass) Empty
+  pub join : (sizes : Sizes) (id other : ℕ) (first second : PassView) → Joins (holds sizes) id (Single first) other (Single second) (Pair first second) Empty
+  pub split : (sizes : Sizes) (id : ℕ) (first second : PassView) → Splits (holds sizes) id (Pair first second) (Single first) (Single second)
+  pub issue : (sizes : Sizes) (id : ℕ) (pass : PassView) → pass.known.number ≤ pass.sessions
+      → Splits (holds sizes) id (Unissued pass) (Unissued (following pass)) (Single pass)
+  pub meet : (sizes : Sizes) (slots id : ℕ) (first second : PassView)
       → Allows (holds sizes) slots id (seated_two first second) 0 (λ n. n) (Meets newest first second)
 
 -- a log begins with words of zeros and one seat that knows all passes, and seats are split and joined from there on
-pub record OpensSeats (holds : Sizes → State Entry View → Type 0) (first : Sizes → View) (newest : Hand → ℕ) (sizes : Sizes) (word_count : ℕ) : Type 0 where
+pub record OpensSeats (holds : Sizes → State Entry SeatView → Type 0) (first : Sizes → SeatView) (newest : PassView → ℕ) (sizes : Sizes)
+    (word_count : ℕ) : Type 0 where
   pub some : 0 < word_count
   pub all : first sizes ≡ all_passes sizes
   pub zeros : (words : List ℕ) → length words ≡ word_count → slice_index words 0 ≡ 0 → holds sizes (opening words [] (first sizes))

@@ -11,8 +11,8 @@ use Rattle.std.specs.Prelude.{◌≡◌, ◌≢◌, ◌⊎◌, ◌<◌, ◌+◌,
 use mathlib.Core.Option.{Option}
 use Rattle.atomic_table.specs.Table.{Me}
 use Rattle.xa_words.specs.Entry.{Entry}
-use Rattle.decision_log.specs.declared.view.Hand.{Hand}
-use Rattle.decision_log.specs.declared.view.View.{View}
+use Rattle.decision_log.specs.declared.view.PassView.{PassView}
+use Rattle.decision_log.specs.declared.view.SeatView.{SeatView}
 use Rattle.decision_log.specs.Seats.{seated, seated_two}
 use Rattle.decision_log.specs.Observed.{met, MetAt}
 
@@ -23,19 +23,19 @@ pub data Atomic : Type 0 where
   Exchange : ℕ → ℕ → ℕ → Option Entry → Atomic
 
 -- a play of loads
-abbrev pub AtLoad : (ℕ → Hand → ℕ → Hand → Type 0) → Atomic → Hand → ℕ → Hand → Type 0
+abbrev pub AtLoad : (ℕ → PassView → ℕ → PassView → Type 0) → Atomic → PassView → ℕ → PassView → Type 0
 AtLoad tells (Load word) old found new = tells word old found new
 AtLoad tells (Store word value) old found new = ⊥
 AtLoad tells (Exchange word from to said) old found new = ⊥
 
 -- a play of stores
-abbrev pub AtStore : (ℕ → ℕ → Hand → ℕ → Hand → Type 0) → Atomic → Hand → ℕ → Hand → Type 0
+abbrev pub AtStore : (ℕ → ℕ → PassView → ℕ → PassView → Type 0) → Atomic → PassView → ℕ → PassView → Type 0
 AtStore tells (Load word) old found new = ⊥
 AtStore tells (Store word value) old found new = tells word value old found new
 AtStore tells (Exchange word from to said) old found new = ⊥
 
 -- a play of exchanges
-abbrev pub AtExchange : (ℕ → ℕ → ℕ → Option Entry → Hand → ℕ → Hand → Type 0) → Atomic → Hand → ℕ → Hand → Type 0
+abbrev pub AtExchange : (ℕ → ℕ → ℕ → Option Entry → PassView → ℕ → PassView → Type 0) → Atomic → PassView → ℕ → PassView → Type 0
 AtExchange tells (Load word) old found new = ⊥
 AtExchange tells (Store word value) old found new = ⊥
 AtExchange tells (Exchange word from to said) old found new = tells word from to said old found new
@@ -60,16 +60,16 @@ IsTry at (Store word value) = ⊥
 IsTry at (Exchange word from to said) = word ≡ at
 
 -- a look is the load of word 0, which is then what the pass has seen; a try is an exchange of the word at which passes try
-pub record Counts (newest : Hand → ℕ) (tried : ℕ) (step : Atomic) (found : ℕ) (old new : Hand) : Type 0 where
+pub record Counts (newest : PassView → ℕ) (tried : ℕ) (step : Atomic) (found : ℕ) (old new : PassView) : Type 0 where
   pub looks : ((new.known.looks ≡ old.known.looks + 1) × IsLoad 0 step × (found ≡ newest new)) ⊎ ((new.known.looks ≡ old.known.looks) × (IsLoad 0 step → ⊥))
   pub tries : ((new.known.tries ≡ old.known.tries + 1) × IsTry tried step) ⊎ ((new.known.tries ≡ old.known.tries) × (IsTry tried step → ⊥))
 
 -- the seat knows one pass after the step too, and of that the play holds
-abbrev pub Tells : (ℕ → Hand → Type 0) → ℕ → Me Entry View → Type 0
-Tells then found me = (hand : Hand) × (me ≡ seated hand) × then found hand
+abbrev pub Tells : (ℕ → PassView → Type 0) → ℕ → Me Entry SeatView → Type 0
+Tells then found me = (pass_view : PassView) × (me ≡ seated pass_view) × then found pass_view
 
 -- the first pass stays; where the second had seen less, it has now seen the whole history
-abbrev pub Meets : (Hand → ℕ) → Hand → Hand → ℕ → Me Entry View → Type 0
+abbrev pub Meets : (PassView → ℕ) → PassView → PassView → ℕ → Me Entry SeatView → Type 0
 Meets newest first second found me =
     (seen : List Entry) × (me ≡ seated_two first (met second seen)) × (length second.known.seen < length first.known.seen → found ≡ newest (met second seen))
     × MetAt first second seen

@@ -6,29 +6,29 @@ use Rattle.std.specs.Prelude.{◌≡◌, ℕ}
 use Rattle.std.proofs.Common.{inr}
 use mathlib.Core.Option.{Option}
 use Rattle.xa_words.specs.Entry.{Entry}
-use Rattle.decision_log.specs.declared.view.Hand.{Hand}
+use Rattle.decision_log.specs.declared.view.PassView.{PassView}
 use Rattle.decision_log.specs.Atomic.{Atomic, Load, Store, Exchange, AtLoad, AtStore, AtExchange, IsLoad, IsTry, Counts}
 
 -- each step of the play raises the counts as it should
-abbrev pub IsCounted : (Hand → ℕ) → ℕ → (Atomic → Hand → ℕ → Hand → Type 0) → Type 0
-IsCounted newest tried then = (step : Atomic) (old : Hand) (found : ℕ) (new : Hand) → then step old found new → Counts newest tried step found old new
+abbrev pub IsCounted : (PassView → ℕ) → ℕ → (Atomic → PassView → ℕ → PassView → Type 0) → Type 0
+IsCounted newest tried then = (step : Atomic) (old : PassView) (found : ℕ) (new : PassView) → then step old found new → Counts newest tried step found old new
 
-module _ {newest : Hand → ℕ} {tried : ℕ} where
-  pub leaves_counts : (step : Atomic) (found : ℕ) (old new : Hand) → new.known.looks ≡ old.known.looks → new.known.tries ≡ old.known.tries
+module _ {newest : PassView → ℕ} {tried : ℕ} where
+  pub leaves_counts : (step : Atomic) (found : ℕ) (old new : PassView) → new.known.looks ≡ old.known.looks → new.known.tries ≡ old.known.tries
       → (IsLoad 0 step → ⊥) → (IsTry tried step → ⊥)
       → Counts newest tried step found old new
   leaves_counts step found old new looks tries no_look no_try = record { looks = inr (looks, no_look); tries = inr (tries, no_try) }
 
-  pub counts_at_load : (tells : ℕ → Hand → ℕ → Hand → Type 0)
-      → ((word : ℕ) (old : Hand) (found : ℕ) (new : Hand) → tells word old found new → Counts newest tried (Load word) found old new)
+  pub counts_at_load : (tells : ℕ → PassView → ℕ → PassView → Type 0)
+      → ((word : ℕ) (old : PassView) (found : ℕ) (new : PassView) → tells word old found new → Counts newest tried (Load word) found old new)
       → IsCounted newest tried (AtLoad tells)
   counts_at_load tells each (Load word) old found new is = each word old found new is
   counts_at_load tells each (Store word value) old found new is = absurd is
   counts_at_load tells each (Exchange word from to said) old found new is = absurd is
 
   -- a store neither looks nor tries
-  pub counts_at_store : (tells : ℕ → ℕ → Hand → ℕ → Hand → Type 0)
-      → ((word value : ℕ) (old : Hand) (found : ℕ) (new : Hand) → tells word value old found new
+  pub counts_at_store : (tells : ℕ → ℕ → PassView → ℕ → PassView → Type 0)
+      → ((word value : ℕ) (old : PassView) (found : ℕ) (new : PassView) → tells word value old found new
       → (new.known.looks ≡ old.known.looks) × (new.known.tries ≡ old.known.tries))
       → IsCounted newest tried (AtStore tells)
   counts_at_store tells each (Load word) old found new is = absurd is
@@ -37,8 +37,8 @@ module _ {newest : Hand → ℕ} {tried : ℕ} where
       leaves_counts (Store word value) found old new same.0 same.1 (λ never. never) (λ never. never)
   counts_at_store tells each (Exchange word from to said) old found new is = absurd is
 
-  pub counts_at_exchange : (tells : ℕ → ℕ → ℕ → Option Entry → Hand → ℕ → Hand → Type 0)
-      → ((word from to : ℕ) (said : Option Entry) (old : Hand) (found : ℕ) (new : Hand) → tells word from to said old found new
+  pub counts_at_exchange : (tells : ℕ → ℕ → ℕ → Option Entry → PassView → ℕ → PassView → Type 0)
+      → ((word from to : ℕ) (said : Option Entry) (old : PassView) (found : ℕ) (new : PassView) → tells word from to said old found new
       → Counts newest tried (Exchange word from to said) found old new)
       → IsCounted newest tried (AtExchange tells)
   counts_at_exchange tells each (Load word) old found new is = absurd is

@@ -3,18 +3,18 @@
 --     with_draft      a pass with these words stored
 --     drafted         a pass after one more store
 use Rattle.std.specs.Prelude.{◌≡◌, ◌<◌, ◌+◌, ℕ, List, [], ◌∷◌, ◌++◌, length, take, slice_index}
-use Rattle.decision_log.specs.declared.view.Hand.{Hand}
+use Rattle.decision_log.specs.declared.view.PassView.{PassView}
 
 -- the words from a place on begin with these
 abbrev pub HasWordsAt : List ℕ → ℕ → List ℕ → Type 0
 HasWordsAt words at draft = (i : ℕ) → i < length draft → slice_index words (at + i) ≡ slice_index draft i
 
 -- a pass with these words stored
-abbrev pub with_draft : Hand → List ℕ → Hand
+abbrev pub with_draft : PassView → List ℕ → PassView
 with_draft h words = record { known = h.known; sessions = h.sessions; capacity = h.capacity; draft = words; turn = h.turn }
 
 -- after a store of a word of the draft, which forgets what was stored behind it
-abbrev pub drafted : Hand → ℕ → ℕ → Hand
+abbrev pub drafted : PassView → ℕ → ℕ → PassView
 drafted h index word = record {
   known = h.known;
   sessions = h.sessions;

@@ -3,24 +3,25 @@
 --     LogRule         the rule, where it is told how words spell a history and what a pass knows of them
 use Rattle.std.specs.Prelude.{◌≡◌, ◌<◌, ◌≤◌, ◌+◌, ℕ, List, length, slice_get, Some}
 use Rattle.xa_words.specs.Entry.{Entry, IsEntry}
-use Rattle.decision_log.specs.declared.view.Hand.{Hand}
-use Rattle.decision_log.specs.declared.view.View.{View}
+use Rattle.decision_log.specs.declared.view.PassView.{PassView}
+use Rattle.decision_log.specs.declared.view.SeatView.{SeatView}
 use Rattle.decision_log.specs.declared.sizes.Sizes.{Sizes}
 use Rattle.decision_log.specs.History.{Begins, entries_of}
 use Rattle.decision_log.specs.Seats.{Seats}
 
 -- the pass knows the log's sizes, a prefix of its history with all entries of its own number, and something of the words
-pub record KnowsLog (KnowsWords : List ℕ → List Entry → Hand → Type 0) (sizes : Sizes) (words : List ℕ) (log : List Entry) (hand : Hand) : Type 0 where
-  pub sessions : hand.sessions ≡ sizes.sessions
-  pub capacity : hand.capacity ≡ sizes.capacity
-  pub seen : Begins hand.known.seen log
-  pub mine : entries_of hand.known.number log ≡ hand.known.mine
-  pub part : entries_of hand.known.number hand.known.seen ≡ hand.known.mine
-  pub own : KnowsWords words log hand
+pub record KnowsLog (KnowsWords : List ℕ → List Entry → PassView → Type 0) (sizes : Sizes) (words : List ℕ) (log : List Entry)
+    (pass_view : PassView) : Type 0 where
+  pub sessions : pass_view.sessions ≡ sizes.sessions
+  pub capacity : pass_view.capacity ≡ sizes.capacity
+  pub seen : Begins pass_view.known.seen log
+  pub mine : entries_of pass_view.known.number log ≡ pass_view.known.mine
+  pub part : entries_of pass_view.known.number pass_view.known.seen ≡ pass_view.known.mine
+  pub own : KnowsWords words log pass_view
 
 -- the words spell a history, whose entries are of sessions that were given out, and what all seats know is so
-pub record LogRule (Spells : Sizes → List ℕ → List Entry → Type 0) (KnowsWords : List ℕ → List Entry → Hand → Type 0) (sizes : Sizes) (words : List ℕ)
-    (views : List View) : Type 0 where
+pub record LogRule (Spells : Sizes → List ℕ → List Entry → Type 0) (KnowsWords : List ℕ → List Entry → PassView → Type 0) (sizes : Sizes) (words : List ℕ)
+    (views : List SeatView) : Type 0 where
   pub log : List Entry
   pub home : ℕ → ℕ
   pub next : ℕ

@@ -4,21 +4,21 @@
 --     met             a pass after a meeting
 use Rattle.std.specs.Prelude.{◌≡◌, ◌≤◌, List, [], length}
 use Rattle.xa_words.specs.Entry.{Entry}
-use Rattle.decision_log.specs.declared.view.Hand.{Hand}
+use Rattle.decision_log.specs.declared.view.PassView.{PassView}
 use Rattle.decision_log.specs.declared.view.Turn.TheVariants.{Without}
 use Rattle.decision_log.specs.History.{Begins, entries_of}
 use Rattle.decision_log.specs.Known.{AllOf}
 
 -- what a pass learns of a history that it sees: it begins with all that was seen, is no longer than the log can have, and the entries
 -- of one's number in it are one's own
-pub record HistoryIs (h : Hand) (seen : List Entry) : Type 0 where
+pub record HistoryIs (h : PassView) (seen : List Entry) : Type 0 where
   pub begins : Begins h.known.seen seen
   pub room : length seen ≤ h.capacity
   pub all : AllOf h.sessions seen
   pub part : entries_of h.known.number seen ≡ h.known.mine
 
 -- two passes meet: the second has seen all that the first has
-pub record MetAt (g h : Hand) (seen : List Entry) : Type 0 where
+pub record MetAt (g h : PassView) (seen : List Entry) : Type 0 where
   pub begins : Begins h.known.seen seen
   pub whole : Begins g.known.seen seen
   pub of_first : entries_of g.known.number seen ≡ g.known.mine
@@ -28,7 +28,7 @@ pub record MetAt (g h : Hand) (seen : List Entry) : Type 0 where
   pub part : entries_of h.known.number seen ≡ h.known.mine
 
 -- after a meeting
-abbrev pub met : Hand → List Entry → Hand
+abbrev pub met : PassView → List Entry → PassView
 met h seen = record {
   known = record { number = h.known.number; seen = seen; mine = h.known.mine; looks = h.known.looks; tries = h.known.tries };
   sessions = h.sessions;

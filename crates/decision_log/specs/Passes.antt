@@ -6,27 +6,27 @@ use Rattle.std.specs.Prelude.{◌≡◌, ℕ, List}
 use mathlib.Core.Option.{some}
 use lib.ListN.{get_elem?}
 use Rattle.xa_words.specs.Entry.{Entry}
-use Rattle.decision_log.specs.declared.view.Hand.{Hand}
-use Rattle.decision_log.specs.declared.view.View.{View}
-use Rattle.decision_log.specs.declared.view.View.TheVariants.{Spent, One, Two, Rest}
+use Rattle.decision_log.specs.declared.view.PassView.{PassView}
+use Rattle.decision_log.specs.declared.view.SeatView.{SeatView}
+use Rattle.decision_log.specs.declared.view.SeatView.TheVariants.{Empty, Single, Pair, Unissued}
 use Rattle.decision_log.specs.Machine.{Machine, IsState}
 use Rattle.decision_log.specs.Reached.{IsReached}
 
 -- the pass knows what the session of its number knows
-abbrev pub KnownTo : Machine → Hand → Type 0
-KnownTo machine hand = machine.knows hand.known.number ≡ record { seen = hand.known.seen; mine = hand.known.mine }
+abbrev pub KnownTo : Machine → PassView → Type 0
+KnownTo machine pass_view = machine.knows pass_view.known.number ≡ record { seen = pass_view.known.seen; mine = pass_view.known.mine }
 
 -- each pass that was given out and stands at the seat does
-abbrev pub SeatKnownTo : Machine → View → Type 0
-SeatKnownTo machine Spent = Unit {0}
-SeatKnownTo machine (One hand) = KnownTo machine hand
-SeatKnownTo machine (Two first second) = KnownTo machine first × KnownTo machine second
-SeatKnownTo machine (Rest hand) = Unit {0}
+abbrev pub SeatKnownTo : Machine → SeatView → Type 0
+SeatKnownTo machine Empty = Unit {0}
+SeatKnownTo machine (Single pass_view) = KnownTo machine pass_view
+SeatKnownTo machine (Pair first second) = KnownTo machine first × KnownTo machine second
+SeatKnownTo machine (Unissued pass_view) = Unit {0}
 
 -- a state of the machine that has this history and these passes, and that looks and adds of sessions 1 to a number lead to
-pub record HasPasses (sessions capacity : ℕ) (log : List Entry) (views : List View) (machine : Machine) : Type 0 where
+pub record HasPasses (sessions capacity : ℕ) (log : List Entry) (views : List SeatView) (machine : Machine) : Type 0 where
   pub state : IsState machine
   pub reached : IsReached sessions machine
   pub capacity_is : machine.capacity ≡ capacity
   pub history : machine.history ≡ log
-  pub passes : (id : ℕ) (view : View) → get_elem? views id ≡ some view → SeatKnownTo machine view
+  pub passes : (id : ℕ) (view : SeatView) → get_elem? views id ≡ some view → SeatKnownTo machine view

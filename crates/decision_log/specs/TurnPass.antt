@@ -6,7 +6,7 @@ use Rattle.decision_log.specs.declared.known.Known.{Known}
 use Rattle.decision_log.specs.declared.turn_log.TurnLog.{TurnLog}
 use Rattle.decision_log.specs.declared.turn_log.pass.TurnPass.{TurnPass}
 use Rattle.decision_log.specs.Known.{LogIdentity}
-use Rattle.decision_log.specs.Seats.{hand_of}
+use Rattle.decision_log.specs.Seats.{pass_view_of}
 
 -- its table and its sizes
 abbrev pub identity_of : TurnLog → LogIdentity
@@ -14,8 +14,8 @@ identity_of log = record { table = log.table.inner.shared.table_id; sessions = l
 
 -- the table of its seat, and the sizes that it was given
 abbrev pub log_of : TurnPass → LogIdentity
-log_of pass = record { table = pass.seat.table_id; sessions = (hand_of pass.seat.me.0).sessions; capacity = (hand_of pass.seat.me.0).capacity }
+log_of pass = record { table = pass.seat.table_id; sessions = (pass_view_of pass.seat.me.0).sessions; capacity = (pass_view_of pass.seat.me.0).capacity }
 
 -- what its seat knows of it
 abbrev pub known_of : TurnPass → Known
-known_of pass = (hand_of pass.seat.me.0).known
+known_of pass = (pass_view_of pass.seat.me.0).known

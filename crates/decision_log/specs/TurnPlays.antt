@@ -5,7 +5,7 @@ use Rattle.std.specs.Prelude.{◌≡◌, ◌≢◌, ◌<◌, ◌+◌, ◌-◌, �
 use mathlib.Core.Option.{Option}
 use Rattle.xa_words.specs.Entry.{Entry, IsEntry}
 use Rattle.xa_words.specs.Words.{words_of}
-use Rattle.decision_log.specs.declared.view.Hand.{Hand}
+use Rattle.decision_log.specs.declared.view.PassView.{PassView}
 use Rattle.decision_log.specs.declared.view.Turn.{Turn}
 use Rattle.decision_log.specs.declared.view.Turn.TheVariants.{Without, Won, Fresh}
 use Rattle.decision_log.specs.Draft.{drafted}
@@ -19,7 +19,7 @@ looked_turn Won = Fresh
 looked_turn Fresh = Fresh
 
 -- after a look that saw this history
-abbrev pub with_look : Hand → List Entry → Hand
+abbrev pub with_look : PassView → List Entry → PassView
 with_look h seen = record {
   known = record { number = h.known.number; seen = seen; mine = h.known.mine; looks = h.known.looks + 1; tries = h.known.tries };
   sessions = h.sessions;
@@ -29,7 +29,7 @@ with_look h seen = record {
 }
 
 -- after a try
-abbrev pub tried : Hand → Turn → Hand
+abbrev pub tried : PassView → Turn → PassView
 tried h turn = record {
   known = record { number = h.known.number; seen = h.known.seen; mine = h.known.mine; looks = h.known.looks; tries = h.known.tries + 1 };
   sessions = h.sessions;
@@ -39,7 +39,7 @@ tried h turn = record {
 }
 
 -- after the entry was added
-abbrev pub published : Hand → Entry → Hand
+abbrev pub published : PassView → Entry → PassView
 published h entry = record {
   known =
       record { number = h.known.number; seen = h.known.seen ++ entry ∷ []; mine = h.known.mine ++ entry ∷ []; looks = h.known.looks; tries = h.known.tries };
@@ -50,35 +50,35 @@ published h entry = record {
 }
 
 -- after the turn was given back
-abbrev pub released : Hand → Hand
+abbrev pub released : PassView → PassView
 released h = record { known = h.known; sessions = h.sessions; capacity = h.capacity; draft = []; turn = Without }
 
 -- a load of word 0, the count
-abbrev pub Sees : ℕ → Hand → ℕ → Hand → Type 0
+abbrev pub Sees : ℕ → PassView → ℕ → PassView → Type 0
 Sees word old found new =
     (word ≡ 0) × (seen : List Entry) × (new ≡ with_look old seen) × (found ≡ length seen) × HistoryIs old seen
 
 -- a load of a word behind the count; one of a row that was seen is the entry's there
-abbrev pub Reads : ℕ → Hand → ℕ → Hand → Type 0
+abbrev pub Reads : ℕ → PassView → ℕ → PassView → Type 0
 Reads word old found new =
     (word ≢ 0) × (new ≡ old)
     × ((place index : ℕ) (entry : Entry) → word ≡ row_at place + index → index < 21 → slice_get old.known.seen place ≡ Some entry
     → IsEntry entry × (found ≡ slice_index (words_of entry) index))
 
 -- an exchange of the turn's word from 0 to the pass's number, which is a try
-abbrev pub Takes : ℕ → ℕ → ℕ → Option Entry → Hand → ℕ → Hand → Type 0
+abbrev pub Takes : ℕ → ℕ → ℕ → Option Entry → PassView → ℕ → PassView → Type 0
 Takes word from to said old found new =
     (word ≡ turn_word) × (from ≡ 0) × (to ≡ old.known.number) × (found ≡ 0 → new ≡ tried old Won) × (found ≢ 0 → new ≡ tried old Without)
 
 -- a store of a word into the row at the count
-abbrev pub Drafts : ℕ → ℕ → Hand → ℕ → Hand → Type 0
+abbrev pub Drafts : ℕ → ℕ → PassView → ℕ → PassView → Type 0
 Drafts word value old found new = new ≡ drafted old (word - row_at (length old.known.seen)) value
 
 -- a store of the count, one higher
-abbrev pub Publishes : ℕ → ℕ → Hand → ℕ → Hand → Type 0
+abbrev pub Publishes : ℕ → ℕ → PassView → ℕ → PassView → Type 0
 Publishes word value old found new =
     (word ≡ 0) × (value ≡ length old.known.seen + 1) × (entry : Entry) × IsEntry entry × (old.draft ≡ words_of entry) × (new ≡ published old entry)
 
 -- a store of 0 to the turn's word
-abbrev pub Releases : ℕ → ℕ → Hand → ℕ → Hand → Type 0
+abbrev pub Releases : ℕ → ℕ → PassView → ℕ → PassView → Type 0
 Releases word value old found new = (word ≡ turn_word) × (value ≡ 0) × (new ≡ released old)

@@ -10,8 +10,8 @@
 use Rattle.std.specs.Prelude.{◌≡◌, ◌+◌, ◌*◌, ℕ, List, [], length, slice_get, slice_index, Some}
 use Rattle.xa_words.specs.Entry.{Entry}
 use Rattle.xa_words.specs.Words.{words_of}
-use Rattle.decision_log.specs.declared.view.Hand.{Hand}
-use Rattle.decision_log.specs.declared.view.View.{View}
+use Rattle.decision_log.specs.declared.view.PassView.{PassView}
+use Rattle.decision_log.specs.declared.view.SeatView.{SeatView}
 use Rattle.decision_log.specs.declared.view.Turn.{Turn}
 use Rattle.decision_log.specs.declared.view.Turn.TheVariants.{Without, Won, Fresh}
 use Rattle.decision_log.specs.declared.sizes.Sizes.{Sizes}
@@ -27,8 +27,8 @@ abbrev pub turn_word : ℕ
 turn_word = 1
 
 -- as many as the pass has seen
-abbrev pub count_for : Hand → ℕ
-count_for hand = length hand.known.seen
+abbrev pub count_for : PassView → ℕ
+count_for pass_view = length pass_view.known.seen
 
 -- the count is how many entries there are, and each entry's words are in its row
 pub record HasRows (sizes : Sizes) (words : List ℕ) (log : List Entry) : Type 0 where
@@ -37,20 +37,20 @@ pub record HasRows (sizes : Sizes) (words : List ℕ) (log : List Entry) : Type 
   pub rows : (place : ℕ) (entry : Entry) → slice_get log place ≡ Some entry → HasWordsAt words (row_at place) (words_of entry)
 
 -- without the turn there is no draft; with it the turn word is the pass's number; fresh, the pass has seen all
-abbrev pub HasTurn : List ℕ → List Entry → Hand → Turn → Type 0
-HasTurn words log hand Without = hand.draft ≡ []
-HasTurn words log hand Won = (hand.draft ≡ []) × (slice_index words 1 ≡ hand.known.number)
-HasTurn words log hand Fresh = (hand.known.seen ≡ log) × (slice_index words 1 ≡ hand.known.number)
+abbrev pub HasTurn : List ℕ → List Entry → PassView → Turn → Type 0
+HasTurn words log pass_view Without = pass_view.draft ≡ []
+HasTurn words log pass_view Won = (pass_view.draft ≡ []) × (slice_index words 1 ≡ pass_view.known.number)
+HasTurn words log pass_view Fresh = (pass_view.known.seen ≡ log) × (slice_index words 1 ≡ pass_view.known.number)
 
 -- a pass's draft is in the row behind the history, and what the pass knows of the turn is so
-pub record HasDraft (words : List ℕ) (log : List Entry) (hand : Hand) : Type 0 where
-  pub draft : HasWordsAt words (row_at (length log)) hand.draft
-  pub turn : HasTurn words log hand hand.turn
+pub record HasDraft (words : List ℕ) (log : List Entry) (pass_view : PassView) : Type 0 where
+  pub draft : HasWordsAt words (row_at (length log)) pass_view.draft
+  pub turn : HasTurn words log pass_view pass_view.turn
 
 -- what a pass knows is so
-abbrev pub Knows : Sizes → List ℕ → List Entry → Hand → Type 0
-Knows sizes words log hand = KnowsLog HasDraft sizes words log hand
+abbrev pub Knows : Sizes → List ℕ → List Entry → PassView → Type 0
+Knows sizes words log pass_view = KnowsLog HasDraft sizes words log pass_view
 
 -- the words spell the log, whose entries are of sessions that were given out, and what all seats know is so
-abbrev pub TurnRule : Sizes → List ℕ → List View → Type 0
+abbrev pub TurnRule : Sizes → List ℕ → List SeatView → Type 0
 TurnRule sizes words views = LogRule HasRows HasDraft sizes words views

@@ -2,10 +2,10 @@
 --     IsSeat          it is a seat of this log, and knows one pass
 use Rattle.atomic_table.specs.declared.shared.Seat.{Seat}
 use Rattle.xa_words.specs.Entry.{Entry}
-use Rattle.decision_log.specs.declared.view.View.{View}
+use Rattle.decision_log.specs.declared.view.SeatView.{SeatView}
 use Rattle.decision_log.specs.declared.turn_log.TurnLog.{TurnLog}
 use Rattle.decision_log.specs.AtTable.{KnowsOne}
 
 -- it is a seat of this log, and knows one pass
-abbrev pub IsSeat : TurnLog → Seat Entry View → Type 0
+abbrev pub IsSeat : TurnLog → Seat Entry SeatView → Type 0
 IsSeat log seat = KnowsOne log.table.inner.shared.table_id seat

@@ -22,4 +22,4 @@ pub use opening::{SeatedPass, open_seats};
 pub use seating::Seating;
 pub use sizes::{MOST_ENTRIES, Sizes};
 pub use turn_log::{TurnLog, TurnPass};
-pub use view::{Hand, Turn, View};
+pub use view::{PassView, SeatView, Turn};

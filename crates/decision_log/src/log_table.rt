@@ -8,7 +8,7 @@ mod plays;
 mod seats;
 mod steps;
 
-use crate::{LogWords, Sizes, View};
+use crate::{LogWords, SeatView, Sizes};
 use atomic_table::{Seat, Table};
 use std::alloc::{AllocError, Global};
 use xa_words::Entry;
@@ -16,7 +16,7 @@ use xa_words::Entry;
 /// The words of a log, shared by its passes, under the log's rule.
 #[derive(Drop)]
 pub struct LogTable<R: LogWords> {
-    inner: Table<Entry, View, Sizes, R, Global>,
+    inner: Table<Entry, SeatView, Sizes, R, Global>,
     ghost some: { 0 < inner.shared.table_id.words },
 }
 
@@ -28,7 +28,7 @@ impl<R: LogWords> LogTable<R> {
         alloc: Global,
         words: &[u64],
         sizes: &Sizes,
-    ) -> Result<(LogTable<R>, Seat<Entry, View>), AllocError>
+    ) -> Result<(LogTable<R>, Seat<Entry, SeatView>), AllocError>
         requires some { 0 < length words.now }
         requires rule { R.holds sizes.now (opening words.now [] (R.first sizes.now)) }
         ensures { IfOk result (λ made. (made.0.inner.shared.table_id.words ≡ length words.now) × (made.0.inner.shared.key ≡ sizes.now) × (made.1.table_id ≡ made.0.inner.shared.table_id) × (made.1.me ≡ (R.first sizes.now, []))) }

@@ -2,17 +2,17 @@
 ghost use Rattle.std.specs.Prelude.{ℕ};
 ghost use Rattle.atomic_table.specs.Table.{State};
 ghost use Rattle.xa_words.specs.Entry.{Entry};
-ghost use Rattle.decision_log.specs.declared.view.Hand.{Hand};
+ghost use Rattle.decision_log.specs.declared.view.PassView.{PassView};
 ghost use Rattle.decision_log.specs.Atomic.{Atomic, Counts};
 
-use crate::{Sizes, View};
+use crate::{SeatView, Sizes};
 use atomic_table::TableRule;
 use xa_words::Entry;
 
 /// The rule of a log, and which of its words a pass looks at and tries at. It has no value at run time.
-pub trait LogWords: TableRule<Entry, View, Sizes> {
+pub trait LogWords: TableRule<Entry, SeatView, Sizes> {
     // what word 0 is where the pass has seen the whole history
-    ghost newest: { Hand → ℕ };
+    ghost newest: { PassView → ℕ };
 
     // the word that a pass exchanges where it tries to add
     ghost tried: { ℕ };
@@ -21,8 +21,8 @@ pub trait LogWords: TableRule<Entry, View, Sizes> {
 /// What one kind of step tells of the pass that takes it. It has no value at run time.
 pub trait LogPlay<R: LogWords> {
     // of the step, the pass before, the number found (at a store, the number stored) and the pass after
-    ghost then: { Atomic → Hand → ℕ → Hand → Type 0 };
+    ghost then: { Atomic → PassView → ℕ → PassView → Type 0 };
 
     // whatever else it tells, the two counts rise as they should
-    ghost counts: { (step : Atomic) (old : Hand) (found : ℕ) (new : Hand) → then step old found new → Counts R.newest R.tried step found old new };
+    ghost counts: { (step : Atomic) (old : PassView) (found : ℕ) (new : PassView) → then step old found new → Counts R.newest R.tried step found old new };
 }

@@ -3,10 +3,10 @@ ghost use Rattle.std.specs.Prelude.{◌≡◌, ◌≤◌, IfOk, IfErr};
 ghost use Rattle.decision_log.specs.AtTable.{KnowsRest, KeepsSeats, OpensSeats, identity_at, belongs_at};
 ghost use Rattle.decision_log.specs.Known.{LogIdentity, newcomer};
 ghost use Rattle.decision_log.specs.Opens.{AreSizes, Opens, Refuses};
-ghost use Rattle.decision_log.specs.Seats.{hand, newcomer_hand, seated};
+ghost use Rattle.decision_log.specs.Seats.{pass_view, newcomer_view, seated};
 ghost use Rattle.decision_log.specs.declared.known.Known.{Known};
 
-use crate::{Known, LogTable, LogWords, OpenFault, Sizes, View};
+use crate::{Known, LogTable, LogWords, OpenFault, SeatView, Sizes};
 use atomic_table::Seat;
 use std::alloc::{AllocError, Global};
 use xa_words::Entry;
@@ -27,12 +27,12 @@ pub trait SeatedPass {
     /// May answer `AllocError`. Doesn't wait.
     fn at_seat(
         alloc: Global,
-        seat: Seat<Entry, View>,
+        seat: Seat<Entry, SeatView>,
         number: SessionNo,
         sizes: &Sizes,
     ) -> Result<Self, AllocError>
-        requires held { seat.me ≡ seated (hand seat) }
-        requires issued { hand seat ≡ newcomer_hand sizes.now.sessions sizes.now.capacity number }
+        requires held { seat.me ≡ seated (pass_view seat) }
+        requires issued { pass_view seat ≡ newcomer_view sizes.now.sessions sizes.now.capacity number }
         requires last { number ≤ sizes.now.sessions }
         ensures { IfOk result (λ pass. (belongs_to pass ≡ belongs_at seat) × (known pass ≡ newcomer number)) };
 }
@@ -69,12 +69,12 @@ fn lay_out<R: LogWords>(
     alloc: Global,
     sizes: &Sizes,
     word_count: usize,
-) -> Result<(LogTable<R>, Seat<Entry, View>), AllocError>
+) -> Result<(LogTable<R>, Seat<Entry, SeatView>), AllocError>
     requires rule { OpensSeats R.holds R.first R.newest sizes.now word_count }
     ensures wide { IfOk result (λ made. made.0.inner.shared.table_id.words ≡ word_count) }
     ensures sized { IfOk result (λ made. made.0.inner.shared.key ≡ sizes.now) }
     ensures rest { IfOk result (λ made. KnowsRest made.0.inner.shared.table_id made.1) }
-    ensures all { IfOk result (λ made. hand made.1 ≡ newcomer_hand sizes.now.sessions sizes.now.capacity 1) }
+    ensures all { IfOk result (λ made. pass_view made.1 ≡ newcomer_view sizes.now.sessions sizes.now.capacity 1) }
 {
     let words: Vec<u64> = vec![in alloc; 0; word_count]?;
     LogTable::of_words(alloc, &words, sizes)
@@ -84,13 +84,13 @@ fn lay_out<R: LogWords>(
 fn deal_all<R: LogWords, P: SeatedPass + Drop>(
     alloc: Global,
     table: &LogTable<R>,
-    mut rest: Seat<Entry, View>,
+    mut rest: Seat<Entry, SeatView>,
     sizes: &Sizes,
 ) -> Result<Vec<P>, AllocError>
     requires rule { KeepsSeats R.holds R.newest }
     requires sizes { AreSizes sizes.now }
     requires rest { KnowsRest table.now.inner.shared.table_id rest }
-    requires all { hand rest ≡ newcomer_hand sizes.now.sessions sizes.now.capacity 1 }
+    requires all { pass_view rest ≡ newcomer_view sizes.now.sessions sizes.now.capacity 1 }
     ensures { IfOk result (λ passes. Opens P.belongs_to P.known sizes.now.capacity sizes.now.sessions (identity_at table.now.inner.shared.table_id sizes.now) passes.items) }
 {
     let mut passes = Vec::with_capacity(alloc, sizes.sessions as usize)?;

@@ -1,21 +1,21 @@
 //! How the seats of a log are split and joined, whatever its words are.
 ghost use Rattle.decision_log.specs.Seats.{left_of, right_of, both_of};
-ghost use Rattle.decision_log.specs.declared.view.View.TheVariants.{Spent};
+ghost use Rattle.decision_log.specs.declared.view.SeatView.TheVariants.{Empty};
 
-use crate::View;
+use crate::SeatView;
 use atomic_table::{Join, Split};
 
 /// How seats are split and joined: two passes into one and one, one pass into it and nothing, the rest into the next pass and those after it; and one and one into two.
 pub struct Seating;
 
-impl Split<View> for Seating {
+impl Split<SeatView> for Seating {
     ghost left = { left_of };
 
     ghost right = { right_of };
 }
 
-impl Join<View> for Seating {
+impl Join<SeatView> for Seating {
     ghost both = { both_of };
 
-    ghost spent = { Spent };
+    ghost spent = { Empty };
 }

@@ -14,7 +14,7 @@ pub enum Turn {
 }
 
 /// What a seat knows of one pass.
-pub struct Hand {
+pub struct PassView {
     /// What contracts see of the pass.
     pub known: Known,
     /// How many sessions the log has.
@@ -28,13 +28,13 @@ pub struct Hand {
 }
 
 /// What a seat knows.
-pub enum View {
+pub enum SeatView {
     /// Nothing.
-    Spent,
+    Empty,
     /// One pass.
-    One(Hand),
+    Single(PassView),
     /// Two passes that meet.
-    Two(Hand, Hand),
+    Pair(PassView, PassView),
     /// The numbers that weren't given out, from this pass's on.
-    Rest(Hand),
+    Unissued(PassView),
 }

@@ -1,8 +1,8 @@
 //! The plays of a log, as the table below asks for them: the kind of each step is told here.
 ghost use Rattle.decision_log.specs.Atomic.{Load, Store, Exchange, Tells, Meets};
-ghost use Rattle.decision_log.specs.Seats.{hand_of, second_of};
+ghost use Rattle.decision_log.specs.Seats.{pass_view_of, second_of};
 
-use crate::{LogPlay, LogWords, View};
+use crate::{LogPlay, LogWords, SeatView};
 use atomic_table::Play;
 use std::marker::PhantomData;
 use xa_words::Entry;
@@ -12,8 +12,8 @@ pub(super) struct Loaded<R, M> {
     of: PhantomData<(R, M)>,
 }
 
-impl<R: LogWords, M: LogPlay<R>> Play<Entry, View> for Loaded<R, M> {
-    ghost then = { λ step me found after. Tells (M.then (Load step.word) (hand_of me.0)) found after };
+impl<R: LogWords, M: LogPlay<R>> Play<Entry, SeatView> for Loaded<R, M> {
+    ghost then = { λ step me found after. Tells (M.then (Load step.word) (pass_view_of me.0)) found after };
 }
 
 /// A store.
@@ -21,8 +21,8 @@ pub(super) struct Stored<R, M> {
     of: PhantomData<(R, M)>,
 }
 
-impl<R: LogWords, M: LogPlay<R>> Play<Entry, View> for Stored<R, M> {
-    ghost then = { λ step me found after. Tells (M.then (Store step.word step.first) (hand_of me.0)) found after };
+impl<R: LogWords, M: LogPlay<R>> Play<Entry, SeatView> for Stored<R, M> {
+    ghost then = { λ step me found after. Tells (M.then (Store step.word step.first) (pass_view_of me.0)) found after };
 }
 
 /// An exchange.
@@ -30,8 +30,8 @@ pub(super) struct Exchanged<R, M> {
     of: PhantomData<(R, M)>,
 }
 
-impl<R: LogWords, M: LogPlay<R>> Play<Entry, View> for Exchanged<R, M> {
-    ghost then = { λ step me found after. Tells (M.then (Exchange step.word step.first step.second step.said) (hand_of me.0)) found after };
+impl<R: LogWords, M: LogPlay<R>> Play<Entry, SeatView> for Exchanged<R, M> {
+    ghost then = { λ step me found after. Tells (M.then (Exchange step.word step.first step.second step.said) (pass_view_of me.0)) found after };
 }
 
 /// A load of word 0 at a seat with two passes.
@@ -39,6 +39,6 @@ pub(super) struct Met<R> {
     of: PhantomData<R>,
 }
 
-impl<R: LogWords> Play<Entry, View> for Met<R> {
-    ghost then = { λ step me found after. Meets R.newest (hand_of me.0) (second_of me.0) found after };
+impl<R: LogWords> Play<Entry, SeatView> for Met<R> {
+    ghost then = { λ step me found after. Meets R.newest (pass_view_of me.0) (second_of me.0) found after };
 }

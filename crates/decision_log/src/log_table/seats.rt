@@ -3,11 +3,11 @@ ghost use Rattle.std.specs.Prelude.{◌≡◌, ◌<◌, ◌≤◌, List, length}
 ghost use Rattle.xa_words.specs.Entry.{Entry};
 ghost use Rattle.decision_log.specs.AtTable.{KeepsSeats, KnowsNone, KnowsOne, KnowsTwo, KnowsRest};
 ghost use Rattle.decision_log.specs.Observed.{met, MetAt};
-ghost use Rattle.decision_log.specs.Seats.{following, hand, second};
+ghost use Rattle.decision_log.specs.Seats.{following, pass_view, second};
 
 use super::LogTable;
 use super::plays::Met;
-use crate::{LogWords, Seating, View};
+use crate::{LogWords, SeatView, Seating};
 use atomic_table::Seat;
 use xa_words::Entry;
 
@@ -15,12 +15,12 @@ impl<R: LogWords> LogTable<R> {
     /// Splits a seat into itself and one that knows nothing.
     ///
     /// Takes no memory. Doesn't wait.
-    pub fn spare(&self, seat: &mut Seat<Entry, View>) -> Seat<Entry, View>
+    pub fn split_empty(&self, seat: &mut Seat<Entry, SeatView>) -> Seat<Entry, SeatView>
         requires rule { KeepsSeats R.holds R.newest }
         requires seat { KnowsOne self.now.inner.shared.table_id seat.old }
         ensures seat { KnowsOne self.now.inner.shared.table_id seat.new }
-        ensures same { hand seat.new ≡ hand seat.old }
-        ensures spare { KnowsNone self.now.inner.shared.table_id result }
+        ensures same { pass_view seat.new ≡ pass_view seat.old }
+        ensures split_empty { KnowsNone self.now.inner.shared.table_id result }
     {
         self.inner.shared.split_seat::<Seating>(seat)
     }
@@ -28,13 +28,13 @@ impl<R: LogWords> LogTable<R> {
     /// Takes in the pass of another seat.
     ///
     /// Takes no memory. Doesn't wait.
-    pub fn join(&self, seat: &mut Seat<Entry, View>, other: Seat<Entry, View>)
+    pub fn join(&self, seat: &mut Seat<Entry, SeatView>, other: Seat<Entry, SeatView>)
         requires rule { KeepsSeats R.holds R.newest }
         requires seat { KnowsOne self.now.inner.shared.table_id seat.old }
         requires other { KnowsOne self.now.inner.shared.table_id other }
         ensures seat { KnowsTwo self.now.inner.shared.table_id seat.new }
-        ensures first { hand seat.new ≡ hand seat.old }
-        ensures second { second seat.new ≡ hand other }
+        ensures first { pass_view seat.new ≡ pass_view seat.old }
+        ensures second { second seat.new ≡ pass_view other }
     {
         self.inner.shared.join_seat::<Seating>(seat, other);
     }
@@ -42,12 +42,12 @@ impl<R: LogWords> LogTable<R> {
     /// Loads word 0 at a seat with two passes: the second has then seen all that the first has.
     ///
     /// Takes no memory. Doesn't wait.
-    pub fn load_both(&self, seat: &mut Seat<Entry, View>) -> u64
+    pub fn load_for_pair(&self, seat: &mut Seat<Entry, SeatView>) -> u64
         requires rule { KeepsSeats R.holds R.newest }
         requires seat { KnowsTwo self.now.inner.shared.table_id seat.old }
         ensures seat { KnowsTwo self.now.inner.shared.table_id seat.new }
-        ensures first { hand seat.new ≡ hand seat.old }
-        ensures met { (seen : List Entry) × (second seat.new ≡ met (second seat.old) seen) × (length (second seat.old).known.seen < length (hand seat.old).known.seen → result ≡ R.newest (met (second seat.old) seen)) × MetAt (hand seat.old) (second seat.old) seen }
+        ensures first { pass_view seat.new ≡ pass_view seat.old }
+        ensures met { (seen : List Entry) × (second seat.new ≡ met (second seat.old) seen) × (length (second seat.old).known.seen < length (pass_view seat.old).known.seen → result ≡ R.newest (met (second seat.old) seen)) × MetAt (pass_view seat.old) (second seat.old) seen }
     {
         // Both passes have seen prefixes of one history, which only grew since.
         self.inner.shared.load::<Met<R>>(seat, 0)
@@ -56,13 +56,13 @@ impl<R: LogWords> LogTable<R> {
     /// Splits a seat with two passes; the new seat has the second.
     ///
     /// Takes no memory. Doesn't wait.
-    pub fn split(&self, seat: &mut Seat<Entry, View>) -> Seat<Entry, View>
+    pub fn split(&self, seat: &mut Seat<Entry, SeatView>) -> Seat<Entry, SeatView>
         requires rule { KeepsSeats R.holds R.newest }
         requires seat { KnowsTwo self.now.inner.shared.table_id seat.old }
         ensures seat { KnowsOne self.now.inner.shared.table_id seat.new }
-        ensures first { hand seat.new ≡ hand seat.old }
+        ensures first { pass_view seat.new ≡ pass_view seat.old }
         ensures other { KnowsOne self.now.inner.shared.table_id result }
-        ensures second { hand result ≡ second seat.old }
+        ensures second { pass_view result ≡ second seat.old }
     {
         self.inner.shared.split_seat::<Seating>(seat)
     }
@@ -70,14 +70,14 @@ impl<R: LogWords> LogTable<R> {
     /// Issues the next pass.
     ///
     /// Takes no memory. Doesn't wait.
-    pub fn issue(&self, seat: &mut Seat<Entry, View>) -> Seat<Entry, View>
+    pub fn issue(&self, seat: &mut Seat<Entry, SeatView>) -> Seat<Entry, SeatView>
         requires rule { KeepsSeats R.holds R.newest }
         requires seat { KnowsRest self.now.inner.shared.table_id seat.old }
-        requires left { (hand seat.old).known.number ≤ (hand seat.old).sessions }
+        requires left { (pass_view seat.old).known.number ≤ (pass_view seat.old).sessions }
         ensures seat { KnowsRest self.now.inner.shared.table_id seat.new }
-        ensures rest { hand seat.new ≡ following (hand seat.old) }
+        ensures rest { pass_view seat.new ≡ following (pass_view seat.old) }
         ensures pass { KnowsOne self.now.inner.shared.table_id result }
-        ensures given { hand result ≡ hand seat.old }
+        ensures given { pass_view result ≡ pass_view seat.old }
     {
         self.inner.shared.split_seat::<Seating>(seat)
     }
@@ -85,19 +85,19 @@ impl<R: LogWords> LogTable<R> {
     /// Two passes meet: the second has then seen all that the first has. The answer is word 0.
     ///
     /// Takes no memory. Doesn't wait.
-    pub fn meet(&self, first: &mut Seat<Entry, View>, second: &mut Seat<Entry, View>) -> u64
+    pub fn meet(&self, first: &mut Seat<Entry, SeatView>, second: &mut Seat<Entry, SeatView>) -> u64
         requires rule { KeepsSeats R.holds R.newest }
         requires first { KnowsOne self.now.inner.shared.table_id first.old }
         requires second { KnowsOne self.now.inner.shared.table_id second.old }
         ensures first { KnowsOne self.now.inner.shared.table_id first.new }
         ensures second { KnowsOne self.now.inner.shared.table_id second.new }
-        ensures same { hand first.new ≡ hand first.old }
-        ensures met { (seen : List Entry) × (hand second.new ≡ met (hand second.old) seen) × (length (hand second.old).known.seen < length (hand first.old).known.seen → result ≡ R.newest (met (hand second.old) seen)) × MetAt (hand first.old) (hand second.old) seen }
+        ensures same { pass_view first.new ≡ pass_view first.old }
+        ensures met { (seen : List Entry) × (pass_view second.new ≡ met (pass_view second.old) seen) × (length (pass_view second.old).known.seen < length (pass_view first.old).known.seen → result ≡ R.newest (met (pass_view second.old) seen)) × MetAt (pass_view first.old) (pass_view second.old) seen }
     {
-        let spare = self.spare(first);
-        let other = std::mem::replace(second, spare);
+        let split_empty = self.split_empty(first);
+        let other = std::mem::replace(second, split_empty);
         self.join(first, other);
-        let found = self.load_both(first);
+        let found = self.load_for_pair(first);
         *second = self.split(first);
         found
     }

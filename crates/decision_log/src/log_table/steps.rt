@@ -4,11 +4,11 @@ ghost use mathlib.Core.Option.{none, some};
 ghost use prog.Atomic.{either};
 ghost use Rattle.atomic_table.specs.Table.{Allows};
 ghost use Rattle.decision_log.specs.Atomic.{Load, Store, Exchange, Tells, Counts};
-ghost use Rattle.decision_log.specs.Seats.{hand, seated};
+ghost use Rattle.decision_log.specs.Seats.{pass_view, seated};
 
 use super::LogTable;
 use super::plays::{Exchanged, Loaded, Stored};
-use crate::{LogPlay, LogWords, View};
+use crate::{LogPlay, LogWords, SeatView};
 use atomic_table::Seat;
 use xa_words::Entry;
 
@@ -16,15 +16,15 @@ impl<R: LogWords> LogTable<R> {
     /// Loads a word.
     ///
     /// Takes no memory. Doesn't wait.
-    pub fn load<M: LogPlay<R>>(&self, seat: &mut Seat<Entry, View>, word: usize) -> u64
+    pub fn load<M: LogPlay<R>>(&self, seat: &mut Seat<Entry, SeatView>, word: usize) -> u64
         requires table { seat.old.table_id ≡ self.now.inner.shared.table_id }
-        requires held { seat.old.me ≡ seated (hand seat.old) }
+        requires held { seat.old.me ≡ seated (pass_view seat.old) }
         requires word { word < self.now.inner.shared.table_id.words }
-        requires allowed { Allows (R.holds self.now.inner.shared.key) self.now.inner.shared.table_id.slots seat.old.id (seated (hand seat.old)) word (λ n. n) (Tells (M.then (Load word) (hand seat.old))) }
+        requires allowed { Allows (R.holds self.now.inner.shared.key) self.now.inner.shared.table_id.slots seat.old.id (seated (pass_view seat.old)) word (λ n. n) (Tells (M.then (Load word) (pass_view seat.old))) }
         ensures table { seat.new.table_id ≡ seat.old.table_id }
-        ensures held { seat.new.me ≡ seated (hand seat.new) }
-        ensures told { M.then (Load word) (hand seat.old) result (hand seat.new) }
-        ensures counted { Counts R.newest R.tried (Load word) result (hand seat.old) (hand seat.new) }
+        ensures held { seat.new.me ≡ seated (pass_view seat.new) }
+        ensures told { M.then (Load word) (pass_view seat.old) result (pass_view seat.new) }
+        ensures counted { Counts R.newest R.tried (Load word) result (pass_view seat.old) (pass_view seat.new) }
     {
         self.inner.shared.load::<Loaded<R, M>>(seat, word)
     }
@@ -32,15 +32,15 @@ impl<R: LogWords> LogTable<R> {
     /// Stores a word.
     ///
     /// Takes no memory. Doesn't wait.
-    pub fn store<M: LogPlay<R>>(&self, seat: &mut Seat<Entry, View>, word: usize, new: u64)
+    pub fn store<M: LogPlay<R>>(&self, seat: &mut Seat<Entry, SeatView>, word: usize, new: u64)
         requires table { seat.old.table_id ≡ self.now.inner.shared.table_id }
-        requires held { seat.old.me ≡ seated (hand seat.old) }
+        requires held { seat.old.me ≡ seated (pass_view seat.old) }
         requires word { word < self.now.inner.shared.table_id.words }
-        requires allowed { Allows (R.holds self.now.inner.shared.key) self.now.inner.shared.table_id.slots seat.old.id (seated (hand seat.old)) word (λ n. new) (λ n. Tells (M.then (Store word new) (hand seat.old)) new) }
+        requires allowed { Allows (R.holds self.now.inner.shared.key) self.now.inner.shared.table_id.slots seat.old.id (seated (pass_view seat.old)) word (λ n. new) (λ n. Tells (M.then (Store word new) (pass_view seat.old)) new) }
         ensures table { seat.new.table_id ≡ seat.old.table_id }
-        ensures held { seat.new.me ≡ seated (hand seat.new) }
-        ensures told { M.then (Store word new) (hand seat.old) new (hand seat.new) }
-        ensures counted { Counts R.newest R.tried (Store word new) new (hand seat.old) (hand seat.new) }
+        ensures held { seat.new.me ≡ seated (pass_view seat.new) }
+        ensures told { M.then (Store word new) (pass_view seat.old) new (pass_view seat.new) }
+        ensures counted { Counts R.newest R.tried (Store word new) new (pass_view seat.old) (pass_view seat.new) }
     {
         self.inner.shared.store::<Stored<R, M>>(seat, word, new)
     }
@@ -50,19 +50,19 @@ impl<R: LogWords> LogTable<R> {
     /// Takes no memory. Doesn't wait.
     pub fn compare_exchange<M: LogPlay<R>>(
         &self,
-        seat: &mut Seat<Entry, View>,
+        seat: &mut Seat<Entry, SeatView>,
         word: usize,
         old: u64,
         new: u64,
     ) -> u64
         requires table { seat.old.table_id ≡ self.now.inner.shared.table_id }
-        requires held { seat.old.me ≡ seated (hand seat.old) }
+        requires held { seat.old.me ≡ seated (pass_view seat.old) }
         requires word { word < self.now.inner.shared.table_id.words }
-        requires allowed { Allows (R.holds self.now.inner.shared.key) self.now.inner.shared.table_id.slots seat.old.id (seated (hand seat.old)) word (λ n. either (n == old) new n) (Tells (M.then (Exchange word old new none) (hand seat.old))) }
+        requires allowed { Allows (R.holds self.now.inner.shared.key) self.now.inner.shared.table_id.slots seat.old.id (seated (pass_view seat.old)) word (λ n. either (n == old) new n) (Tells (M.then (Exchange word old new none) (pass_view seat.old))) }
         ensures table { seat.new.table_id ≡ seat.old.table_id }
-        ensures held { seat.new.me ≡ seated (hand seat.new) }
-        ensures told { M.then (Exchange word old new none) (hand seat.old) result (hand seat.new) }
-        ensures counted { Counts R.newest R.tried (Exchange word old new none) result (hand seat.old) (hand seat.new) }
+        ensures held { seat.new.me ≡ seated (pass_view seat.new) }
+        ensures told { M.then (Exchange word old new none) (pass_view seat.old) result (pass_view seat.new) }
+        ensures counted { Counts R.newest R.tried (Exchange word old new none) result (pass_view seat.old) (pass_view seat.new) }
     {
         self.inner
             .shared
@@ -74,20 +74,20 @@ impl<R: LogWords> LogTable<R> {
     /// Takes no memory. Doesn't wait.
     pub fn compare_exchange_with<M: LogPlay<R>>(
         &self,
-        seat: &mut Seat<Entry, View>,
+        seat: &mut Seat<Entry, SeatView>,
         word: usize,
         old: u64,
         new: u64,
         said: &Entry,
     ) -> u64
         requires table { seat.old.table_id ≡ self.now.inner.shared.table_id }
-        requires held { seat.old.me ≡ seated (hand seat.old) }
+        requires held { seat.old.me ≡ seated (pass_view seat.old) }
         requires word { word < self.now.inner.shared.table_id.words }
-        requires allowed { Allows (R.holds self.now.inner.shared.key) self.now.inner.shared.table_id.slots seat.old.id (seated (hand seat.old)) word (λ n. either (n == old) new n) (Tells (M.then (Exchange word old new (some said.now)) (hand seat.old))) }
+        requires allowed { Allows (R.holds self.now.inner.shared.key) self.now.inner.shared.table_id.slots seat.old.id (seated (pass_view seat.old)) word (λ n. either (n == old) new n) (Tells (M.then (Exchange word old new (some said.now)) (pass_view seat.old))) }
         ensures table { seat.new.table_id ≡ seat.old.table_id }
-        ensures held { seat.new.me ≡ seated (hand seat.new) }
-        ensures told { M.then (Exchange word old new (some said.now)) (hand seat.old) result (hand seat.new) }
-        ensures counted { Counts R.newest R.tried (Exchange word old new (some said.now)) result (hand seat.old) (hand seat.new) }
+        ensures held { seat.new.me ≡ seated (pass_view seat.new) }
+        ensures told { M.then (Exchange word old new (some said.now)) (pass_view seat.old) result (pass_view seat.new) }
+        ensures counted { Counts R.newest R.tried (Exchange word old new (some said.now)) result (pass_view seat.old) (pass_view seat.new) }
     {
         self.inner
             .shared

@@ -5,7 +5,7 @@ ghost use Rattle.decision_log.specs.TurnPass.{identity_of, log_of, known_of};
 
 use super::layout::ROWS;
 use super::{TurnLog, TurnPass};
-use crate::{OpenFault, SeatedPass, Sizes, View, open_seats};
+use crate::{OpenFault, SeatView, SeatedPass, Sizes, open_seats};
 use atomic_table::Seat;
 use std::alloc::{AllocError, Global};
 use xa_words::{Entry, WORDS};
@@ -46,7 +46,7 @@ impl SeatedPass for TurnPass {
 
     fn at_seat(
         _alloc: Global,
-        seat: Seat<Entry, View>,
+        seat: Seat<Entry, SeatView>,
         number: SessionNo,
         _sizes: &Sizes,
     ) -> Result<TurnPass, AllocError> {

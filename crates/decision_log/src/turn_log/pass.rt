@@ -1,8 +1,8 @@
 //! A pass of a log with a turn.
 ghost use Rattle.std.specs.Prelude.{◌≡◌};
-ghost use Rattle.decision_log.specs.Seats.{hand_of, seated, IsPass};
+ghost use Rattle.decision_log.specs.Seats.{pass_view_of, seated, IsPass};
 
-use crate::View;
+use crate::SeatView;
 use atomic_table::Seat;
 use xa_words::Entry;
 use xa_xid::SessionNo;
@@ -10,9 +10,9 @@ use xa_xid::SessionNo;
 /// What one session knows of a log with a turn. At run time it keeps its number and how many entries it has seen.
 #[derive(Drop)]
 pub struct TurnPass {
-    pub(super) seat: Seat<Entry, View>,
+    pub(super) seat: Seat<Entry, SeatView>,
     pub(super) number: SessionNo,
     pub(super) front: u64,
-    ghost held: { seat.me ≡ seated (hand_of seat.me.0) },
-    ghost state: { IsPass number front (hand_of seat.me.0) },
+    ghost held: { seat.me ≡ seated (pass_view_of seat.me.0) },
+    ghost state: { IsPass number front (pass_view_of seat.me.0) },
 }

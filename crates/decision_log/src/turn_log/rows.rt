@@ -3,25 +3,25 @@ ghost use Rattle.std.specs.Prelude.{◌≡◌, ◌<◌, ◌≤◌, [], length, s
 ghost use Rattle.xa_words.specs.Entry.{Entry, IsEntry};
 ghost use Rattle.xa_words.specs.Words.{words_of};
 ghost use Rattle.decision_log.specs.Draft.{with_draft};
-ghost use Rattle.decision_log.specs.Seats.{hand};
+ghost use Rattle.decision_log.specs.Seats.{pass_view};
 ghost use Rattle.decision_log.specs.TurnSeat.{IsSeat};
 ghost use Rattle.decision_log.specs.declared.view.Turn.TheVariants.{Fresh};
 
 use super::TurnLog;
 use super::layout::ROWS;
-use crate::View;
+use crate::SeatView;
 use atomic_table::Seat;
 use xa_words::{Entry, WORDS, decode, encode};
 
 impl TurnLog {
     /// The words of the row of an entry that was seen.
-    fn read_row(&self, seat: &mut Seat<Entry, View>, place: u64) -> [u64; WORDS]
+    fn read_row(&self, seat: &mut Seat<Entry, SeatView>, place: u64) -> [u64; WORDS]
         requires seat { IsSeat self.now seat.old }
-        requires seen { place < length (hand seat.old).known.seen }
-        requires within { length (hand seat.old).known.seen ≤ self.now.capacity }
+        requires seen { place < length (pass_view seat.old).known.seen }
+        requires within { length (pass_view seat.old).known.seen ≤ self.now.capacity }
         ensures seat { IsSeat self.now seat.new }
-        ensures same { hand seat.new ≡ hand seat.old }
-        ensures read { (entry : Entry) → slice_get (hand seat.old).known.seen place ≡ Some entry → IsEntry entry × (result ≡ words_of entry) }
+        ensures same { pass_view seat.new ≡ pass_view seat.old }
+        ensures read { (entry : Entry) → slice_get (pass_view seat.old).known.seen place ≡ Some entry → IsEntry entry × (result ≡ words_of entry) }
     {
         let row = ROWS + place as usize * WORDS;
         let mut words = [0; WORDS];
@@ -33,28 +33,28 @@ impl TurnLog {
     }
 
     /// An entry that was seen.
-    pub(super) fn read_entry(&self, seat: &mut Seat<Entry, View>, place: u64) -> Entry
+    pub(super) fn read_entry(&self, seat: &mut Seat<Entry, SeatView>, place: u64) -> Entry
         requires seat { IsSeat self.now seat.old }
-        requires seen { place < length (hand seat.old).known.seen }
-        requires within { length (hand seat.old).known.seen ≤ self.now.capacity }
+        requires seen { place < length (pass_view seat.old).known.seen }
+        requires within { length (pass_view seat.old).known.seen ≤ self.now.capacity }
         ensures seat { IsSeat self.now seat.new }
-        ensures same { hand seat.new ≡ hand seat.old }
-        ensures entry { slice_get (hand seat.old).known.seen place ≡ Some result }
+        ensures same { pass_view seat.new ≡ pass_view seat.old }
+        ensures entry { slice_get (pass_view seat.old).known.seen place ≡ Some result }
     {
         let words = self.read_row(seat, place);
         decode(&words).unwrap()
     }
 
     /// Stores an entry's words into the row at the count.
-    pub(super) fn write_entry(&self, seat: &mut Seat<Entry, View>, place: u64, entry: &Entry)
+    pub(super) fn write_entry(&self, seat: &mut Seat<Entry, SeatView>, place: u64, entry: &Entry)
         requires seat { IsSeat self.now seat.old }
-        requires fresh { (hand seat.old).turn ≡ Fresh }
-        requires blank { (hand seat.old).draft ≡ [] }
-        requires place { place ≡ length (hand seat.old).known.seen }
-        requires room { place < (hand seat.old).capacity }
-        requires sized { (hand seat.old).capacity ≡ self.now.capacity }
+        requires fresh { (pass_view seat.old).turn ≡ Fresh }
+        requires blank { (pass_view seat.old).draft ≡ [] }
+        requires place { place ≡ length (pass_view seat.old).known.seen }
+        requires room { place < (pass_view seat.old).capacity }
+        requires sized { (pass_view seat.old).capacity ≡ self.now.capacity }
         ensures seat { IsSeat self.now seat.new }
-        ensures written { hand seat.new ≡ with_draft (hand seat.old) (words_of entry.now) }
+        ensures written { pass_view seat.new ≡ with_draft (pass_view seat.old) (words_of entry.now) }
     {
         let words = encode(entry);
         let row = ROWS + place as usize * WORDS;

@@ -1,13 +1,13 @@
 //! The rule of the log.
 
-use crate::{LogWords, Sizes, View};
+use crate::{LogWords, SeatView, Sizes};
 use atomic_table::TableRule;
 use xa_words::Entry;
 
 /// The rule of a log with a turn. It holds between any two steps.
 pub struct Turns;
 
-impl TableRule<Entry, View, Sizes> for Turns {
+impl TableRule<Entry, SeatView, Sizes> for Turns {
     ghost use Rattle.decision_log.specs.Seats.{all_passes};
     ghost use Rattle.decision_log.specs.TurnRule.{TurnRule};
 

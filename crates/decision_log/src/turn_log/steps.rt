@@ -17,47 +17,47 @@ ghost use Rattle.decision_log.specs.TurnRule.{row_at};
 ghost use Rattle.decision_log.specs.Draft.{drafted};
 ghost use Rattle.decision_log.specs.Observed.{HistoryIs};
 ghost use Rattle.decision_log.specs.TurnPlays.{with_look, tried, published, released};
-ghost use Rattle.decision_log.specs.Seats.{hand};
+ghost use Rattle.decision_log.specs.Seats.{pass_view};
 ghost use Rattle.decision_log.specs.TurnSeat.{IsSeat};
 ghost use Rattle.decision_log.specs.declared.view.Turn.TheVariants.{Without, Won, Fresh};
 
 use super::TurnLog;
 use super::layout::{COUNT, TURN};
 use super::plays::{DraftWord, Publish, ReadWord, Release, SeeAll, TakeTurn};
-use crate::View;
+use crate::SeatView;
 use atomic_table::Seat;
 use xa_words::Entry;
 
 impl TurnLog {
     /// Loads the count: the pass has then seen the whole history.
-    pub(super) fn load_count(&self, seat: &mut Seat<Entry, View>) -> u64
+    pub(super) fn load_count(&self, seat: &mut Seat<Entry, SeatView>) -> u64
         requires { IsSeat self.now seat.old }
         ensures seat { IsSeat self.now seat.new }
-        ensures seen { (seen : List Entry) × (hand seat.new ≡ with_look (hand seat.old) seen) × (result ≡ length seen) × HistoryIs (hand seat.old) seen }
+        ensures seen { (seen : List Entry) × (pass_view seat.new ≡ with_look (pass_view seat.old) seen) × (result ≡ length seen) × HistoryIs (pass_view seat.old) seen }
     {
         // Nothing was loaded before that this load rests on.
         self.table.load::<SeeAll>(seat, COUNT)
     }
 
     /// Loads a word of the row of an entry that was seen.
-    pub(super) fn load_word(&self, seat: &mut Seat<Entry, View>, word: usize) -> u64
+    pub(super) fn load_word(&self, seat: &mut Seat<Entry, SeatView>, word: usize) -> u64
         requires seat { IsSeat self.now seat.old }
         requires word { (0 < word) × (word < row_at self.now.capacity) }
         ensures seat { IsSeat self.now seat.new }
-        ensures same { hand seat.new ≡ hand seat.old }
-        ensures read { (place index : ℕ) (entry : Entry) → word ≡ row_at place + index → index < 21 → slice_get (hand seat.old).known.seen place ≡ Some entry → IsEntry entry × (result ≡ slice_index (words_of entry) index) }
+        ensures same { pass_view seat.new ≡ pass_view seat.old }
+        ensures read { (place index : ℕ) (entry : Entry) → word ≡ row_at place + index → index < 21 → slice_get (pass_view seat.old).known.seen place ≡ Some entry → IsEntry entry × (result ≡ slice_index (words_of entry) index) }
     {
         // The row was below the count when the count was loaded, and is so still: it has the same words.
         self.table.load::<ReadWord>(seat, word)
     }
 
     /// Tries to take the turn; the answer is who had it, or 0.
-    pub(super) fn take_turn(&self, seat: &mut Seat<Entry, View>, number: u64) -> u64
+    pub(super) fn take_turn(&self, seat: &mut Seat<Entry, SeatView>, number: u64) -> u64
         requires seat { IsSeat self.now seat.old }
-        requires number { number ≡ (hand seat.old).known.number }
+        requires number { number ≡ (pass_view seat.old).known.number }
         ensures seat { IsSeat self.now seat.new }
-        ensures won { result ≡ 0 → hand seat.new ≡ tried (hand seat.old) Won }
-        ensures lost { result ≢ 0 → hand seat.new ≡ tried (hand seat.old) Without }
+        ensures won { result ≡ 0 → pass_view seat.new ≡ tried (pass_view seat.old) Won }
+        ensures lost { result ≢ 0 → pass_view seat.new ≡ tried (pass_view seat.old) Without }
     {
         // Nothing was loaded before: the exchange itself tests whether the turn is free.
         self.table
@@ -65,29 +65,29 @@ impl TurnLog {
     }
 
     /// Stores a word of an entry into the row at the count.
-    pub(super) fn store_word(&self, seat: &mut Seat<Entry, View>, word: usize, new: u64)
+    pub(super) fn store_word(&self, seat: &mut Seat<Entry, SeatView>, word: usize, new: u64)
         requires seat { IsSeat self.now seat.old }
-        requires fresh { (hand seat.old).turn ≡ Fresh }
-        requires room { length (hand seat.old).known.seen < (hand seat.old).capacity }
-        requires sized { (hand seat.old).capacity ≡ self.now.capacity }
-        requires place { (index : ℕ) × (word ≡ row_at (length (hand seat.old).known.seen) + index) × (index ≤ length (hand seat.old).draft) × (index < 21) }
+        requires fresh { (pass_view seat.old).turn ≡ Fresh }
+        requires room { length (pass_view seat.old).known.seen < (pass_view seat.old).capacity }
+        requires sized { (pass_view seat.old).capacity ≡ self.now.capacity }
+        requires place { (index : ℕ) × (word ≡ row_at (length (pass_view seat.old).known.seen) + index) × (index ≤ length (pass_view seat.old).draft) × (index < 21) }
         ensures seat { IsSeat self.now seat.new }
-        ensures stored { (index : ℕ) → word ≡ row_at (length (hand seat.old).known.seen) + index → hand seat.new ≡ drafted (hand seat.old) index new }
+        ensures stored { (index : ℕ) → word ≡ row_at (length (pass_view seat.old).known.seen) + index → pass_view seat.new ≡ drafted (pass_view seat.old) index new }
     {
         // The count was loaded with the turn, so it is still the same, and no other pass stores in its row.
         self.table.store::<DraftWord>(seat, word, new)
     }
 
     /// Stores the count: the entry is added.
-    pub(super) fn store_count(&self, seat: &mut Seat<Entry, View>, entry: &Entry, new: u64)
+    pub(super) fn store_count(&self, seat: &mut Seat<Entry, SeatView>, entry: &Entry, new: u64)
         requires seat { IsSeat self.now seat.old }
-        requires fresh { (hand seat.old).turn ≡ Fresh }
-        requires room { length (hand seat.old).known.seen < (hand seat.old).capacity }
-        requires next { new ≡ length (hand seat.old).known.seen + 1 }
-        requires own { entry.now.session ≡ (hand seat.old).known.number }
-        requires whole { (hand seat.old).draft ≡ words_of entry.now }
+        requires fresh { (pass_view seat.old).turn ≡ Fresh }
+        requires room { length (pass_view seat.old).known.seen < (pass_view seat.old).capacity }
+        requires next { new ≡ length (pass_view seat.old).known.seen + 1 }
+        requires own { entry.now.session ≡ (pass_view seat.old).known.number }
+        requires whole { (pass_view seat.old).draft ≡ words_of entry.now }
         ensures seat { IsSeat self.now seat.new }
-        ensures added { hand seat.new ≡ published (hand seat.old) entry.now }
+        ensures added { pass_view seat.new ≡ published (pass_view seat.old) entry.now }
     {
         let _session = entry.session();
         // The pass still has the turn, so the count is still what it has seen, and the row's words are its own.
@@ -95,11 +95,11 @@ impl TurnLog {
     }
 
     /// Stores 0 to the turn.
-    pub(super) fn give_turn(&self, seat: &mut Seat<Entry, View>)
+    pub(super) fn give_turn(&self, seat: &mut Seat<Entry, SeatView>)
         requires seat { IsSeat self.now seat.old }
-        requires fresh { (hand seat.old).turn ≡ Fresh }
+        requires fresh { (pass_view seat.old).turn ≡ Fresh }
         ensures seat { IsSeat self.now seat.new }
-        ensures released { hand seat.new ≡ released (hand seat.old) }
+        ensures released { pass_view seat.new ≡ released (pass_view seat.old) }
     {
         // The pass has the turn until this store: no other pass stores there while it isn't free.
         self.table.store::<Release>(seat, TURN, 0)

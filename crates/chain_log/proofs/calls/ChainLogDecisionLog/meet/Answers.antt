@@ -1,5 +1,5 @@
 use Rattle.std.proofs.Common.{refl}
-use Rattle.decision_log.specs.Seats.{hand}
+use Rattle.decision_log.specs.Seats.{pass_view}
 use Rattle.decision_log.specs.Observed.{met}
 use Rattle.chain_log.proofs.PassColumns.{kept_before}
 use Rattle.chain_log.proofs.ChainSeats.{keeps_seats}
@@ -12,5 +12,6 @@ pub fill-requires-clause-kept : goal.fill-requires-clause-kept
 fill-requires-clause-kept c =
     let pass = c.args.second.now in
     let told = c.meet-newest.ensures.met in
-    kept_before c.args.self.now pass (hand c.meet-newest.new.second) (met (hand pass.seat) told.0) c.row_count-second_count.result told.1 c.requires.second
+    kept_before c.args.self.now pass (pass_view c.meet-newest.new.second)
+    (met (pass_view pass.seat) told.0) c.row_count-second_count.result told.1 c.requires.second
     c.row_count-second_count.ensures refl told.3.begins

@@ -3,7 +3,7 @@ use Rattle.std.specs.Prelude.{slice_get, slice_index}
 use Rattle.std.proofs.lemmas.List.{length-set, ext_get_or}
 use Rattle.xa_words.specs.Words.{words_of}
 use Rattle.xa_words.proofs.Spelling.{length-words_of}
-use Rattle.decision_log.specs.Seats.{hand}
+use Rattle.decision_log.specs.Seats.{pass_view}
 use Rattle.decision_log.proofs.Drafts.{one_more}
 use Rattle.chain_log.specs.Cells.{name_before}
 use Rattle.chain_log.proofs.chain.ChainLog.read_cell.Goals as goal
@@ -26,7 +26,7 @@ loop-index-preserved c =
       same = c.load_word.ensures.same ∙ inv.same;
       read =
           λ row entry named is.
-          let h = hand c.loop-index.seat in
+          let h = pass_view c.loop-index.seat in
           let there : slice_get h.known.seen row ≡ Some entry = ap (λ h. slice_get h.known.seen row) inv.same ∙ is in
           let name : c.args.name ≡ name_before h.sessions h.known.seen (row + 1) =
           named ∙ ap (λ h. name_before h.sessions h.known.seen (row + 1)) (sym inv.same) in

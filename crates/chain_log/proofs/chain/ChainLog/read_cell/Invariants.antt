@@ -2,7 +2,7 @@ use Rattle.std.proofs.Common.{◌≡◌, ◌+◌, ◌<◌, ℕ, Some, get_or, le
 use Rattle.std.specs.Prelude.{slice_get}
 use Rattle.xa_words.specs.Entry.{Entry, IsEntry}
 use Rattle.xa_words.specs.Words.{words_of}
-use Rattle.decision_log.specs.Seats.{hand}
+use Rattle.decision_log.specs.Seats.{pass_view}
 use Rattle.chain_log.specs.Cells.{name_before}
 use Rattle.chain_log.specs.ChainSeat.{IsSeat}
 use Rattle.chain_log.proofs.chain.ChainLog.read_cell.Given as goal
@@ -11,8 +11,8 @@ abbrev pub invariant-loop-index : goal.invariant-loop-index
 invariant-loop-index l = record {
   seat : IsSeat l.self l.seat;
   sized : length l.words ≡ 21;
-  same : hand l.seat ≡ hand l.fn.seat;
-  read : (row : ℕ) (entry : Entry) → l.name ≡ name_before (hand l.fn.seat).sessions (hand l.fn.seat).known.seen (row + 1)
-      → slice_get (hand l.fn.seat).known.seen row ≡ Some entry
+  same : pass_view l.seat ≡ pass_view l.fn.seat;
+  read : (row : ℕ) (entry : Entry) → l.name ≡ name_before (pass_view l.fn.seat).sessions (pass_view l.fn.seat).known.seen (row + 1)
+      → slice_get (pass_view l.fn.seat).known.seen row ≡ Some entry
       → (0 < l.index → IsEntry entry) × ((k : ℕ) → k < l.index → get_or l.words k 0 ≡ get_or (words_of entry) k 0);
 }

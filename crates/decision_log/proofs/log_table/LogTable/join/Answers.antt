@@ -1,5 +1,5 @@
 use Rattle.std.proofs.Common.{ap}
-use Rattle.decision_log.specs.Seats.{hand_of}
+use Rattle.decision_log.specs.Seats.{pass_view_of}
 use Rattle.decision_log.proofs.SeatSteps.{at_join}
 use Rattle.decision_log.proofs.log_table.LogTable.join.Goals as goal
 
@@ -10,5 +10,6 @@ join_seat-requires g c = (
   ap (λ me. me.1) c.requires.other.held,
   c.args.self.now.some,
   at_join c.args.seat.now.me c.args.other.me c.requires.seat.held c.requires.other.held
-      (c.requires.rule.join c.args.self.now.inner.shared.key c.args.seat.now.id c.args.other.id (hand_of c.args.seat.now.me.0) (hand_of c.args.other.me.0)),
+      (c.requires.rule.join c.args.self.now.inner.shared.key c.args.seat.now.id c.args.other.id (pass_view_of c.args.seat.now.me.0)
+      (pass_view_of c.args.other.me.0)),
 )

@@ -3,7 +3,7 @@ use Rattle.std.specs.Prelude.{slice_get}
 use Rattle.std.proofs.lemmas.List.{length-set, ext_get_or}
 use Rattle.xa_words.specs.Words.{words_of}
 use Rattle.xa_words.proofs.Spelling.{length-words_of}
-use Rattle.decision_log.specs.Seats.{hand_of}
+use Rattle.decision_log.specs.Seats.{pass_view_of}
 use Rattle.decision_log.proofs.Drafts.{one_more}
 use Rattle.decision_log.proofs.turn_log.TurnLog.read_row.Goals as goal
 
@@ -16,7 +16,7 @@ loop-index-preserved c =
       same = c.load_word.ensures.same ∙ inv.same;
       read =
           λ entry is.
-          let there : slice_get (hand_of c.loop-index.seat.me.0).known.seen c.args.place ≡ Some entry =
+          let there : slice_get (pass_view_of c.loop-index.seat.me.0).known.seen c.args.place ≡ Some entry =
           ap (λ h. slice_get h.known.seen c.args.place) inv.same ∙ is in
           let told = c.load_word.ensures.read c.args.place c.loop-index.index entry refl c.loop-index-test.true there in (
             (λ p. told.0),

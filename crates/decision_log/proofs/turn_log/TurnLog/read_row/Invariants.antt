@@ -2,7 +2,7 @@ use Rattle.std.proofs.Common.{◌≡◌, ◌<◌, ℕ, Some, get_or, length}
 use Rattle.std.specs.Prelude.{slice_get}
 use Rattle.xa_words.specs.Entry.{Entry, IsEntry}
 use Rattle.xa_words.specs.Words.{words_of}
-use Rattle.decision_log.specs.Seats.{hand}
+use Rattle.decision_log.specs.Seats.{pass_view}
 use Rattle.decision_log.specs.TurnSeat.{IsSeat}
 use Rattle.decision_log.proofs.turn_log.TurnLog.read_row.Given as goal
 
@@ -10,7 +10,7 @@ abbrev pub invariant-loop-index : goal.invariant-loop-index
 invariant-loop-index l = record {
   seat : IsSeat l.self l.seat;
   sized : length l.words ≡ 21;
-  same : hand l.seat ≡ hand l.fn.seat;
-  read : (entry : Entry) → slice_get (hand l.fn.seat).known.seen l.place ≡ Some entry
+  same : pass_view l.seat ≡ pass_view l.fn.seat;
+  read : (entry : Entry) → slice_get (pass_view l.fn.seat).known.seen l.place ≡ Some entry
       → (0 < l.index → IsEntry entry) × ((k : ℕ) → k < l.index → get_or l.words k 0 ≡ get_or (words_of entry) k 0);
 }

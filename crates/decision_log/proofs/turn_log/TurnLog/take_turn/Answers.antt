@@ -4,7 +4,7 @@ use Rattle.std.proofs.Common.{eqb}
 use mathlib.Core.Option.{none}
 use Rattle.atomic_table.specs.Table.{Allows}
 use Rattle.decision_log.specs.Atomic.{Tells}
-use Rattle.decision_log.specs.Seats.{hand_of, seated}
+use Rattle.decision_log.specs.Seats.{pass_view_of, seated}
 use Rattle.decision_log.specs.TurnPlays.{Takes}
 use Rattle.decision_log.proofs.TurnSteps.{Rules}
 use Rattle.decision_log.proofs.TurnStores.{take_step}
@@ -12,7 +12,7 @@ use Rattle.decision_log.proofs.turn_log.TurnLog.take_turn.Goals as goal
 
 pub compare_exchange-requires-clause-allowed : goal.compare_exchange-requires-clause-allowed
 compare_exchange-requires-clause-allowed c =
-    let h = hand_of c.args.seat.now.me.0 in
+    let h = pass_view_of c.args.seat.now.me.0 in
     subst (λ k. Allows (Rules c.args.self.now.table.inner.shared.key) c.args.self.now.table.inner.shared.table_id.slots c.args.seat.now.id (seated h) 1
     (λ n. either (eqb n 0) k n) (Tells (Takes 1 0 k none h))) (sym c.requires.number)
     (take_step c.args.self.now.table.inner.shared.key c.args.self.now.table.inner.shared.table_id.slots c.args.seat.now.id h)
