@@ -4,7 +4,7 @@ use Rattle.xa_xid.specs.declared.statement.Statement.{Statement}
 use Rattle.xa_xid.specs.declared.xid.Xid.{Xid}
 use Rattle.xa_xid.specs.declared.statement.Statement.TheVariants.{End, Prepare}
 use Rattle.xa_session.specs.View.{SessionView}
-use Rattle.xa_coordinator.specs.declared.cause.Cause.{Cause}
+use Rattle.xa_coordinator.specs.declared.fault.Cause.{Cause}
 use Rattle.xa_coordinator.specs.declared.closing.Closing.{Closing}
 use Rattle.xa_coordinator.specs.declared.closing.Closing.TheVariants.{InTwoPhases, InOnePhase, RollBack}
 use Rattle.xa_coordinator.specs.declared.closing.Found.{Found}

@@ -14,7 +14,7 @@ use Rattle.xa_coordinator.proofs.Telling.{association_done}
 use Rattle.xa_coordinator.specs.Branch.{branch_xid}
 use Rattle.xa_coordinator.specs.Stores.{AtStore, ChangesAt}
 use Rattle.xa_coordinator.specs.OpenBranches.{association_seen, association_in, OpenThere, LeavesOpen}
-use Rattle.xa_coordinator.specs.declared.open_branch.OpenBranch.{OpenBranch}
+use Rattle.xa_coordinator.specs.declared.branches.OpenBranch.{OpenBranch}
 use Rattle.xa_coordinator.proofs.Places.{get_set_other, get_set_is, get_before_set}
 
 module _ {S : Type 0} (view : S → SessionView) (name : List ℕ) where

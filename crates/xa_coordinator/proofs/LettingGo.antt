@@ -13,7 +13,7 @@ use Rattle.xa_session.specs.View.{SessionView, StaysOfLog}
 use Rattle.xa_session.proofs.Entering.{recover_outside, recover_reply}
 use Rattle.xa_session.proofs.OwnAssociations.{let_go, outside_free}
 use Rattle.xa_session.proofs.Associations.{law_seen, association_unanswered, state_entered, state_outside}
-use Rattle.xa_coordinator.specs.declared.cause.Cause.TheVariants.{Session}
+use Rattle.xa_coordinator.specs.declared.fault.Cause.TheVariants.{Session}
 use Rattle.xa_coordinator.proofs.Telling.{is_undone, association_refused}
 use Rattle.xa_session.specs.Answer.{IsAnswered, IsUnanswered, Fails, IsFinal}
 use Rattle.xa_session.specs.Replay.{state_after, state_at}

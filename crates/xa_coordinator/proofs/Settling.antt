@@ -14,13 +14,13 @@ use Rattle.xa_server.specs.State.{is_prepared, prepared_xids}
 use Rattle.xa_session.specs.Replay.{state_after, state_at}
 use Rattle.xa_session.proofs.Replaying.{state_at-begins, state_at-whole}
 use Rattle.decision_log.proofs.Histories.{length_begins}
-use Rattle.xa_coordinator.specs.declared.cause.Cause.{Cause}
-use Rattle.xa_coordinator.specs.declared.cause.Cause.TheVariants.{Session, Refused as RefusedBy}
+use Rattle.xa_coordinator.specs.declared.fault.Cause.{Cause}
+use Rattle.xa_coordinator.specs.declared.fault.Cause.TheVariants.{Session, Refused as RefusedBy}
 use Rattle.xa_session.specs.declared.fault.Fault.{Fault}
 use Rattle.xa_coordinator.specs.declared.closing.Found.{Found}
 use Rattle.xa_coordinator.specs.declared.closing.Found.TheVariants.{Closed, Missing}
-use Rattle.xa_coordinator.specs.declared.standing.Standing.{Standing}
-use Rattle.xa_coordinator.specs.declared.tally.Tally.{Tally}
+use Rattle.xa_coordinator.specs.declared.decisions.Standing.{Standing}
+use Rattle.xa_coordinator.specs.declared.report.Tally.{Tally}
 use Rattle.xa_coordinator.specs.Agreement.{AddsStatements, AgreesWith, Agrees}
 use Rattle.xa_coordinator.specs.Branch.{branch_xid, IsBranchOf}
 use Rattle.xa_coordinator.specs.Decisions.{is_decided}

@@ -7,8 +7,8 @@ use Rattle.std.proofs.lemmas.Option.{slice_get_within}
 use Rattle.std.specs.Prelude.{◌==◌, slice_get, slice_set, map}
 use Rattle.std.specs.Option.{option_map}
 use Rattle.std.proofs.lemmas.List.{take_all}
-use Rattle.xa_coordinator.specs.declared.standing.Standing.{Standing}
-use Rattle.xa_coordinator.specs.declared.standing.Standing.TheVariants.{Undecided, Decided, Closed}
+use Rattle.xa_coordinator.specs.declared.decisions.Standing.{Standing}
+use Rattle.xa_coordinator.specs.declared.decisions.Standing.TheVariants.{Undecided, Decided, Closed}
 use Rattle.xa_coordinator.specs.Decisions.{standing_of, is_not_closed, decides, may_be_decided, is_decided, with_decided, closed_of}
 use Rattle.xa_coordinator.proofs.Places.{get_set_same, get_set_other}
 

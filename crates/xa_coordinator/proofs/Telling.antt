@@ -24,10 +24,10 @@ use Rattle.xa_session.proofs.Associations.{law_seen, association_unanswered, sta
 use Rattle.xa_coordinator.specs.Agreement.{AddsStatements}
 use Rattle.xa_coordinator.specs.Told.{IsOfBranch, IsDone, IsUndone, HasCause}
 use Rattle.xa_coordinator.specs.OpenBranches.{association_seen, association_in, statement_into}
-use Rattle.xa_coordinator.specs.declared.open_branch.Phase.{Phase}
-use Rattle.xa_coordinator.specs.declared.open_branch.Phase.TheVariants.{Active, Idle}
-use Rattle.xa_coordinator.specs.declared.cause.Cause.{Cause}
-use Rattle.xa_coordinator.specs.declared.cause.Cause.TheVariants.{Session, Refused as RefusedBy}
+use Rattle.xa_coordinator.specs.declared.branches.Phase.{Phase}
+use Rattle.xa_coordinator.specs.declared.branches.Phase.TheVariants.{Active, Idle}
+use Rattle.xa_coordinator.specs.declared.fault.Cause.{Cause}
+use Rattle.xa_coordinator.specs.declared.fault.Cause.TheVariants.{Session, Refused as RefusedBy}
 
 -- a statement about a branch enters where it isn't refused
 enters_unrefused : (state : State) (session : ℕ) (statement : Statement) → IsOfBranch statement → is_refused (reply_to state session statement) ≡ false

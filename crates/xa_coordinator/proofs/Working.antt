@@ -15,7 +15,7 @@ use Rattle.xa_session.specs.declared.fault.Fault.{Fault}
 use Rattle.xa_session.specs.View.{SessionView, StaysOfLog}
 use Rattle.xa_session.proofs.OwnAssociations.{read, written, deleted}
 use Rattle.xa_session.proofs.Associations.{law_seen, association_at, state_entered, state_outside}
-use Rattle.xa_coordinator.specs.declared.cause.Cause.TheVariants.{Session}
+use Rattle.xa_coordinator.specs.declared.fault.Cause.TheVariants.{Session}
 use Rattle.xa_coordinator.proofs.Telling.{is_undone, association_refused}
 use Rattle.xa_session.specs.Answer.{IsAnswered, Fails, IsFinal}
 use Rattle.xa_session.specs.Replay.{state_after, state_at}

@@ -2,7 +2,7 @@
 use Rattle.std.proofs.Common.{◌≡◌, inl, inr, ℕ, Bool, true, false, List, [], ◌∷◌, ◌++◌, length, refl, ap, sym, ◌∙◌, subst, append-nil}
 use Rattle.std.specs.Prelude.{slice_get, Option, Some, Result, Ok, Err, All}
 use Rattle.xa_session.specs.View.{SessionView}
-use Rattle.xa_coordinator.specs.declared.open_branch.OpenBranch.{OpenBranch}
+use Rattle.xa_coordinator.specs.declared.branches.OpenBranch.{OpenBranch}
 use Rattle.std.proofs.lemmas.List.Elements.{All-nil, All-cons, All-append}
 use Rattle.xa_xid.specs.declared.xid.Xid.{Xid}
 use Rattle.xa_xid.specs.declared.statement.Statement.{Statement}
@@ -11,11 +11,11 @@ use Rattle.xa_server.specs.declared.association.Association.TheVariants.{Active}
 use Rattle.xa_server.specs.declared.reply.Reply.{Reply}
 use Rattle.xa_server.specs.Step.{enters}
 use Rattle.xa_session.specs.Replay.{state_at}
-use Rattle.xa_coordinator.specs.declared.cause.Cause.{Cause}
-use Rattle.xa_coordinator.specs.declared.cause.Cause.TheVariants.{Session as CauseSession, Refused as CauseRefused}
-use Rattle.xa_coordinator.specs.declared.work_fault.WorkFault.{WorkFault}
-use Rattle.xa_coordinator.specs.declared.work_fault.WorkFault.TheVariants.{Session, Refused, Lost}
-use Rattle.xa_coordinator.specs.declared.standing.Standing.{Standing}
+use Rattle.xa_coordinator.specs.declared.fault.Cause.{Cause}
+use Rattle.xa_coordinator.specs.declared.fault.Cause.TheVariants.{Session as CauseSession, Refused as CauseRefused}
+use Rattle.xa_coordinator.specs.declared.fault.WorkFault.{WorkFault}
+use Rattle.xa_coordinator.specs.declared.fault.WorkFault.TheVariants.{Session, Refused, Lost}
+use Rattle.xa_coordinator.specs.declared.decisions.Standing.{Standing}
 use Rattle.xa_coordinator.specs.declared.transaction.Transaction.{Transaction}
 use Rattle.xa_coordinator.specs.Agreement.{AddsStatements, AgreesWith, Agrees}
 use Rattle.xa_coordinator.specs.OpenBranches.{association_seen, IsWorking}

@@ -9,7 +9,7 @@ use Rattle.xa_session.specs.Answer.{Advances, entry_of}
 use Rattle.xa_session.specs.View.{SessionView, StaysOfLog}
 use Rattle.xa_coordinator.specs.Branch.{IsBranchOf}
 use Rattle.xa_coordinator.specs.Decisions.{is_decided}
-use Rattle.xa_coordinator.specs.declared.standing.Standing.{Standing}
+use Rattle.xa_coordinator.specs.declared.decisions.Standing.{Standing}
 
 -- the session is of its log, has seen no less than before, and added these statements, in this order
 pub record AddsStatements (statements : List Statement) (old new : SessionView) : Type 0 where

@@ -5,8 +5,8 @@
 --     with_decided     the decisions with this number decided
 --     closed_of        how a number stands once a recovery has closed what is undecided
 use Rattle.std.specs.Prelude.{ℕ, Bool, true, false, Option, Some, None, if◌then◌else◌, ◌==◌, ◌-◌, List, slice_get, slice_set}
-use Rattle.xa_coordinator.specs.declared.standing.Standing.{Standing}
-use Rattle.xa_coordinator.specs.declared.standing.Standing.TheVariants.{Undecided, Decided, Closed}
+use Rattle.xa_coordinator.specs.declared.decisions.Standing.{Standing}
+use Rattle.xa_coordinator.specs.declared.decisions.Standing.TheVariants.{Undecided, Decided, Closed}
 
 -- how the number stands; numbers are given from 1 on (own rule)
 unfoldable pub standing_of : List Standing → ℕ → Option Standing

@@ -5,13 +5,13 @@
 --     number_of_vote             what the stores voted
 --     number_of_ending           how a transaction ended
 use Rattle.std.specs.Prelude.{ℕ}
-use Rattle.xa_coordinator.specs.declared.begin_fault.BeginFault.{BeginFault}
-use Rattle.xa_coordinator.specs.declared.begin_fault.BeginFault.TheVariants.{NumbersSpent, NoMemory}
-use Rattle.xa_coordinator.specs.declared.work_fault.WorkFault.{WorkFault}
-use Rattle.xa_coordinator.specs.declared.work_fault.WorkFault.TheVariants.{Session, Refused, Lost}
-use Rattle.xa_coordinator.specs.declared.recover_fault.RecoverFault.{RecoverFault}
-use Rattle.xa_coordinator.specs.declared.recover_fault.RecoverFault.TheVariants.{Session as RecoverSession, StillPrepared, NoMemory as RecoverNoMemory}
-use Rattle.xa_coordinator.specs.declared.recover_fault.RecoverFault.TheVariants.{Refused as RecoverRefused}
+use Rattle.xa_coordinator.specs.declared.fault.BeginFault.{BeginFault}
+use Rattle.xa_coordinator.specs.declared.fault.BeginFault.TheVariants.{NumbersSpent, NoMemory}
+use Rattle.xa_coordinator.specs.declared.fault.WorkFault.{WorkFault}
+use Rattle.xa_coordinator.specs.declared.fault.WorkFault.TheVariants.{Session, Refused, Lost}
+use Rattle.xa_coordinator.specs.declared.fault.RecoverFault.{RecoverFault}
+use Rattle.xa_coordinator.specs.declared.fault.RecoverFault.TheVariants.{Session as RecoverSession, StillPrepared, NoMemory as RecoverNoMemory}
+use Rattle.xa_coordinator.specs.declared.fault.RecoverFault.TheVariants.{Refused as RecoverRefused}
 use Rattle.xa_coordinator.specs.declared.vote.Vote.{Vote}
 use Rattle.xa_coordinator.specs.declared.vote.Vote.TheVariants.{Ready, OnePhase, No, Nothing}
 use Rattle.xa_coordinator.specs.declared.ending.Ending.{Ending}

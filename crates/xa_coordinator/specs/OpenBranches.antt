@@ -20,9 +20,9 @@ use Rattle.xa_session.specs.View.{SessionView}
 use Rattle.xa_coordinator.specs.Branch.{branch_xid}
 use Rattle.xa_coordinator.specs.Participants.{takes_part}
 use Rattle.xa_coordinator.specs.declared.participants.Participants.{Participants}
-use Rattle.xa_coordinator.specs.declared.open_branch.OpenBranch.{OpenBranch}
-use Rattle.xa_coordinator.specs.declared.open_branch.Phase.{Phase}
-use Rattle.xa_coordinator.specs.declared.open_branch.Phase.TheVariants.{Active, Idle}
+use Rattle.xa_coordinator.specs.declared.branches.OpenBranch.{OpenBranch}
+use Rattle.xa_coordinator.specs.declared.branches.Phase.{Phase}
+use Rattle.xa_coordinator.specs.declared.branches.Phase.TheVariants.{Active, Idle}
 
 -- what the session has open after all that it has seen
 abbrev pub association_seen : SessionView → Association

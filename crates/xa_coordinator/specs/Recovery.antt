@@ -23,17 +23,17 @@ use Rattle.xa_server.specs.declared.association.Association.TheVariants.{Free}
 use Rattle.xa_server.specs.declared.xa_error.XaError.TheVariants.{Nota}
 use Rattle.xa_session.specs.Replay.{state_after, state_at}
 use Rattle.xa_session.specs.View.{SessionView}
-use Rattle.xa_coordinator.specs.declared.cause.Cause.{Cause}
-use Rattle.xa_coordinator.specs.declared.cause.Cause.TheVariants.{Session as CauseSession, Refused as CauseRefused}
+use Rattle.xa_coordinator.specs.declared.fault.Cause.{Cause}
+use Rattle.xa_coordinator.specs.declared.fault.Cause.TheVariants.{Session as CauseSession, Refused as CauseRefused}
 use Rattle.xa_coordinator.specs.declared.closing.Closing.{Closing}
 use Rattle.xa_coordinator.specs.declared.closing.Closing.TheVariants.{InTwoPhases, RollBack}
 use Rattle.xa_coordinator.specs.declared.closing.Found.{Found}
 use Rattle.xa_coordinator.specs.declared.closing.Found.TheVariants.{Closed, Missing}
-use Rattle.xa_coordinator.specs.declared.standing.Standing.{Standing}
-use Rattle.xa_coordinator.specs.declared.tally.Tally.{Tally}
+use Rattle.xa_coordinator.specs.declared.decisions.Standing.{Standing}
+use Rattle.xa_coordinator.specs.declared.report.Tally.{Tally}
 use Rattle.xa_coordinator.specs.declared.report.Report.{Report}
-use Rattle.xa_coordinator.specs.declared.recover_fault.RecoverFault.{RecoverFault}
-use Rattle.xa_coordinator.specs.declared.recover_fault.RecoverFault.TheVariants.{Session, StillPrepared, NoMemory, Refused}
+use Rattle.xa_coordinator.specs.declared.fault.RecoverFault.{RecoverFault}
+use Rattle.xa_coordinator.specs.declared.fault.RecoverFault.TheVariants.{Session, StillPrepared, NoMemory, Refused}
 use Rattle.xa_coordinator.specs.Agreement.{AddsStatements, AgreesWith, Agrees}
 use Rattle.xa_coordinator.specs.Branch.{branch_xid, IsBranchOf}
 use Rattle.xa_coordinator.specs.Decisions.{is_decided}

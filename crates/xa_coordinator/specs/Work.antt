@@ -19,14 +19,14 @@ use Rattle.xa_server.specs.declared.reply.Reply.{Reply}
 use Rattle.xa_session.specs.Answer.{IsAnswered}
 use Rattle.xa_session.specs.Replay.{state_at}
 use Rattle.xa_session.specs.View.{SessionView, StaysOfLog}
-use Rattle.xa_coordinator.specs.declared.cause.Cause.{Cause}
-use Rattle.xa_coordinator.specs.declared.cause.Cause.TheVariants.{Session as CauseSession, Refused as CauseRefused}
-use Rattle.xa_coordinator.specs.declared.work_fault.WorkFault.{WorkFault}
-use Rattle.xa_coordinator.specs.declared.work_fault.WorkFault.TheVariants.{Session, Refused, Lost}
+use Rattle.xa_coordinator.specs.declared.fault.Cause.{Cause}
+use Rattle.xa_coordinator.specs.declared.fault.Cause.TheVariants.{Session as CauseSession, Refused as CauseRefused}
+use Rattle.xa_coordinator.specs.declared.fault.WorkFault.{WorkFault}
+use Rattle.xa_coordinator.specs.declared.fault.WorkFault.TheVariants.{Session, Refused, Lost}
 use Rattle.xa_coordinator.specs.declared.transaction.Transaction.{Transaction}
 use Rattle.xa_coordinator.specs.Agreement.{AddsStatements}
 use Rattle.xa_coordinator.specs.OpenBranches.{association_seen, HasOpen, has_working_branch, IsWorking}
-use Rattle.xa_coordinator.specs.declared.open_branch.OpenBranch.{OpenBranch}
+use Rattle.xa_coordinator.specs.declared.branches.OpenBranch.{OpenBranch}
 use Rattle.xa_coordinator.specs.Outcomes.{branch_of}
 use Rattle.xa_coordinator.specs.Participants.{takes_part}
 use Rattle.xa_coordinator.specs.Stores.{AtStore}

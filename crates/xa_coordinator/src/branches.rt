@@ -10,7 +10,6 @@ ghost use Rattle.xa_xid.specs.declared.statement.Statement.{Statement};
 ghost use Rattle.xa_xid.specs.declared.statement.Statement.TheVariants.{Start, End, Prepare, Rollback};
 
 use crate::closing::{Closing, Found};
-use crate::open_branch::{OpenBranch, Phase};
 use crate::{Cause, Coordinator, Speak};
 use std::sync::Wait;
 use xa_server::XaError;
@@ -180,4 +179,24 @@ impl<S: Speak> Coordinator<S> {
         }
         self.finish_branch(rt, store, number, closing)
     }
+}
+
+/// The phase of a branch that a session owns.
+///
+/// Source: MySQL 8.0 Reference Manual, 'XA Transaction States'.
+#[derive(Clone, Copy, Debug, PartialEq, Eq)]
+pub enum Phase {
+    /// The branch takes work.
+    Active,
+    /// The branch's work has ended.
+    Idle,
+}
+
+/// A branch that a coordinator has open in a store.
+#[derive(Clone, Copy, Debug, PartialEq, Eq)]
+pub struct OpenBranch {
+    /// The number of its transaction.
+    pub number: u64,
+    /// Its phase.
+    pub phase: Phase,
 }

@@ -4,7 +4,7 @@ ghost use Rattle.arrayvec.specs.ArrayVec.{array_vec_len};
 ghost use Rattle.xa_coordinator.specs.Limits.{most_numbers};
 ghost use Rattle.xa_coordinator.specs.OpenBranches.{OpenThere};
 
-use crate::open_branch::OpenBranch;
+use crate::branches::OpenBranch;
 use crate::participants::Participants;
 use crate::{BeginFault, Decisions, Speak, Transaction};
 use xa_xid::{Bytes, copy_of};
@@ -22,7 +22,7 @@ pub struct Coordinator<S: Speak> {
 
 impl<S: Speak> Coordinator<S> {
     ghost use Rattle.xa_coordinator.specs.Participants.{takes_part};
-    ghost use Rattle.xa_coordinator.specs.declared.standing.Standing.TheVariants.{Undecided};
+    ghost use Rattle.xa_coordinator.specs.declared.decisions.Standing.TheVariants.{Undecided};
 
     /// The coordinator of this name, of 1 to 56 bytes, over these stores, 1 to 16, which has nothing open in them.
     ///

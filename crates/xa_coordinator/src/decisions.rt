@@ -1,12 +1,12 @@
-//! The decisions of a coordinator.
+//! The decisions of a coordinator, and how each number stands.
 ghost use Rattle.std.specs.Prelude.{ℕ, ◌≡◌, ◌≤◌, ◌<◌, ◌+◌, [], ◌∷◌, ◌++◌, true, false, length, map, OnOk, OnErr, IfOk, IfSome, IfNone};
-ghost use Rattle.xa_coordinator.specs.declared.standing.Standing.TheVariants.{Undecided as StandsUndecided};
+ghost use Rattle.xa_coordinator.specs.declared.decisions.Standing.TheVariants.{Undecided as StandsUndecided};
 ghost use Rattle.xa_coordinator.specs.Limits.{most_numbers};
 ghost use Rattle.xa_coordinator.specs.Decisions.{standing_of, is_decided as is_decided_by, may_be_decided, with_decided, closed_of};
 
 use crate::Standing;
-use crate::begin_fault::BeginFault;
-use crate::prepared::{Ballot, Prepared};
+use crate::fault::BeginFault;
+use crate::transaction::{Ballot, Prepared};
 use std::alloc::Global;
 use std::marker::Model;
 use thiserror::Error;
@@ -27,7 +27,7 @@ pub struct Decisions {
 impl Model for Decisions {
     ghost use Rattle.std.specs.Prelude.{List, length, ◌≤◌};
     ghost use Rattle.xa_coordinator.specs.Limits.{most_numbers};
-    ghost use Rattle.xa_coordinator.specs.declared.standing.Standing.{Standing};
+    ghost use Rattle.xa_coordinator.specs.declared.decisions.Standing.{Standing};
 
     ghost Value = { List Standing };
 
@@ -163,5 +163,29 @@ impl Decisions {
         };
         self.standings[place] = Standing::Decided;
         Ok(())
+    }
+}
+
+/// How a number stands that was given.
+#[derive(Clone, Copy, Debug, PartialEq, Eq)]
+pub enum Standing {
+    /// It isn't decided.
+    Undecided,
+    /// It is decided that its branches commit.
+    Decided,
+    /// A recovery closed it before it was decided: it never will be.
+    Closed,
+}
+
+impl Standing {
+    /// How the number stands once a recovery has closed what is undecided.
+    pub(crate) fn closed(self) -> Standing
+        ensures { result ≡ closed_of self }
+    {
+        match self {
+            Standing::Decided => Standing::Decided,
+            Standing::Undecided => Standing::Closed,
+            Standing::Closed => Standing::Closed,
+        }
     }
 }

@@ -8,10 +8,10 @@ ghost use Rattle.xa_coordinator.specs.Branch.{branch_xid};
 ghost use Rattle.arrayvec.specs.ArrayVec.{array_vec_len};
 ghost use Rattle.xa_coordinator.specs.OpenBranches.{has_working_branch, KeepsOpen};
 ghost use Rattle.xa_coordinator.specs.Outcomes.{EndsAs, ClosesNext, finish_statement, ends_first, asked_by_ending, finish_for as finish_of_vote};
-ghost use Rattle.xa_coordinator.specs.declared.standing.Standing.{Standing};
+ghost use Rattle.xa_coordinator.specs.declared.decisions.Standing.{Standing};
 
 use crate::closing::{Closing, Found};
-use crate::prepared::Ballot;
+use crate::transaction::Ballot;
 use crate::{Cause, Coordinator, Decisions, Ending, Prepared, Speak, Transaction};
 use arrayvec::ArrayVec;
 use std::sync::Wait;

@@ -1,50 +1,35 @@
 //! Two-phase commit over several stores, with presumed abort.
 #![tactic(auto)]
 
-mod begin_fault;
-mod branch_xid;
+mod branch_name;
 mod branches;
-mod cause;
 mod closing;
 mod coordinator;
 mod decisions;
 mod ending;
-mod execute_at;
-mod execute_on;
+mod execute;
+mod fault;
 mod finish;
 mod fused;
-mod fusing;
 mod listing;
-mod named;
-mod open_branch;
 mod participants;
 mod prepare;
-mod prepared;
 mod recover;
-mod recover_fault;
 mod report;
 mod settle;
 mod speak;
-mod standing;
-mod tally;
 mod transaction;
 mod vote;
 mod work;
-mod work_fault;
 
-pub use begin_fault::BeginFault;
-pub use branch_xid::{FORMAT_ID, branch_xid as xid_of_branch};
-pub use cause::Cause;
+pub use branch_name::{FORMAT_ID, branch_xid as xid_of_branch};
 pub use closing::Closing;
 pub use coordinator::Coordinator;
-pub use decisions::{Closed, Decisions};
+pub use decisions::{Closed, Decisions, Standing};
 pub use ending::Ending;
+pub use fault::{BeginFault, Cause, RecoverFault, WorkFault};
 pub use fused::Fused;
-pub use prepared::{Ballot, Prepared};
-pub use recover_fault::RecoverFault;
 pub use report::Report;
 pub use speak::Speak;
-pub use standing::Standing;
-pub use transaction::Transaction;
+pub use transaction::{Ballot, Prepared, Transaction};
 pub use vote::Vote;
-pub use work_fault::WorkFault;

@@ -5,10 +5,10 @@ ghost use Rattle.xa_coordinator.specs.Stores.{EachStore};
 ghost use Rattle.xa_coordinator.specs.OpenBranches.{KeepsOpen};
 ghost use Rattle.xa_coordinator.specs.Outcomes.{VotesAs, PollsAs, asked_by_vote, asked_by_poll};
 ghost use Rattle.xa_coordinator.specs.Participants.{TwoTakePart, OnlyTakesPart};
-ghost use Rattle.xa_coordinator.specs.declared.standing.Standing.{Standing};
+ghost use Rattle.xa_coordinator.specs.declared.decisions.Standing.{Standing};
 
 use crate::participants::Turnout;
-use crate::prepared::Ballot;
+use crate::transaction::Ballot;
 use crate::{Cause, Coordinator, Prepared, Speak, Transaction, Vote};
 use std::sync::Wait;
 

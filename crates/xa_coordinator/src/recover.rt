@@ -4,9 +4,9 @@ ghost use Rattle.xa_coordinator.specs.Agreement.{Agrees};
 ghost use Rattle.xa_coordinator.specs.Decisions.{closed_of, is_decided, standing_of};
 ghost use Rattle.xa_coordinator.specs.Recovery.{IsFinished, IsSettled, IsClear, IsRecovered, IsBroken, BreaksHere, Recovers, BreaksOff, asked_by_fault, fault_by};
 ghost use Rattle.xa_coordinator.specs.Stores.{AtStore, EachStore, ChangesAt};
-ghost use Rattle.xa_coordinator.specs.declared.standing.Standing.{Standing};
+ghost use Rattle.xa_coordinator.specs.declared.decisions.Standing.{Standing};
 
-use crate::tally::Tally;
+use crate::report::Tally;
 use crate::{Cause, Coordinator, Decisions, RecoverFault, Report, Speak};
 use std::alloc::Global;
 use std::sync::Wait;

@@ -1,7 +1,5 @@
-//! What a recovery found and did.
+//! What a recovery found and did, in all and in one store.
 ghost use Rattle.std.specs.Prelude.{◌≡◌, ◌<◌, ◌+◌, ◌^◌, ◌++◌, ◌∷◌, [], vec_len, vec_capacity};
-
-use crate::tally::Tally;
 
 /// What a recovery found and did, in all stores.
 #[derive(Debug, Drop)]
@@ -39,4 +37,15 @@ impl Report {
         self.rolled_back += u128::from(tally.rolled_back);
         self.missing += u128::from(tally.missing);
     }
+}
+
+/// What a recovery did with the branches of one store.
+#[derive(Clone, Copy, Debug, PartialEq, Eq)]
+pub struct Tally {
+    /// How many were committed.
+    pub committed: u64,
+    /// How many were rolled back.
+    pub rolled_back: u64,
+    /// How many were answered XAER_NOTA.
+    pub missing: u64,
 }

@@ -6,9 +6,9 @@ ghost use Rattle.xa_coordinator.specs.Branch.{branch_xid};
 ghost use Rattle.xa_coordinator.specs.Recovery.{finish_decided as finish_by_decision, counted, total, SettlesOne, Settled, IsBroken};
 ghost use Rattle.xa_coordinator.specs.Stores.{AtStore, ChangesAt};
 
+use crate::branch_name::number_of_branch;
 use crate::closing::{Closing, Found};
-use crate::named::number_of_branch;
-use crate::tally::Tally;
+use crate::report::Tally;
 use crate::{Cause, Coordinator, Decisions, Speak};
 use std::sync::Wait;
 use xa_xid::Xid;

@@ -8,8 +8,8 @@ ghost use Rattle.xa_coordinator.specs.Participants.{takes_part};
 ghost use Rattle.xa_coordinator.specs.Stores.{AtStore, EachStore, ChangesAt};
 ghost use Rattle.xa_coordinator.specs.Told.{IsUndone};
 ghost use Rattle.xa_coordinator.specs.Work.{IsRow, IsReplied, AddsWork, KeepsOthers, WorksWithin, WorksAs};
-ghost use Rattle.xa_coordinator.specs.declared.standing.Standing.{Standing};
-ghost use Rattle.xa_coordinator.specs.declared.open_branch.Phase.TheVariants.{Active as PhaseActive};
+ghost use Rattle.xa_coordinator.specs.declared.decisions.Standing.{Standing};
+ghost use Rattle.xa_coordinator.specs.declared.branches.Phase.TheVariants.{Active as PhaseActive};
 
 use crate::{Cause, Coordinator, Speak, Transaction, WorkFault};
 use std::sync::Wait;

@@ -5,7 +5,7 @@ use Rattle.std.specs.Global.{Vec}
 use Rattle.xa_session.specs.View.{SessionView}
 use Rattle.xa_coordinator.specs.Stores.{EachStore}
 use Rattle.xa_coordinator.specs.Agreement.{Agrees}
-use Rattle.xa_coordinator.specs.declared.standing.Standing.{Standing}
+use Rattle.xa_coordinator.specs.declared.decisions.Standing.{Standing}
 use Rattle.xa_coordinator_tests.specs.Sites.{sites}
 
 module _ {S : Type 0} (view : S → SessionView) where

@@ -2,7 +2,7 @@
 ghost use Rattle.std.specs.Prelude.{◌≡◌, ◌<◌, ◌∷◌, [], vec_len};
 ghost use Rattle.xa_coordinator.specs.Work.{IsRow};
 ghost use Rattle.xa_coordinator_tests.specs.Sites.{sites};
-ghost use Rattle.xa_coordinator.specs.declared.prepared.Ballot.TheVariants.{Ready as BallotReady};
+ghost use Rattle.xa_coordinator.specs.declared.transaction.Ballot.TheVariants.{Ready as BallotReady};
 
 use std::process::Abort;
 use std::sync::Wait;

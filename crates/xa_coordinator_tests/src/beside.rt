@@ -1,6 +1,6 @@
 //! Transactions beside one another: of two coordinators over the same stores, of one coordinator, and of one in one store.
 ghost use Rattle.std.specs.Prelude.{◌≡◌, vec_len};
-ghost use Rattle.xa_coordinator.specs.declared.prepared.Ballot.TheVariants.{Ready as BallotReady};
+ghost use Rattle.xa_coordinator.specs.declared.transaction.Ballot.TheVariants.{Ready as BallotReady};
 
 use crate::acts::{begun, get, has_none_prepared, is_value, put, puts, reads, ready, text, works};
 use crate::opened::{

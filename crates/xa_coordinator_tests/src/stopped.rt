@@ -1,6 +1,6 @@
 //! A coordinator whose sessions fail from a certain call on, and another one of its name that recovers.
 ghost use Rattle.std.specs.Prelude.{◌≡◌, ◌≤◌, vec_len, IfSome};
-ghost use Rattle.xa_coordinator.specs.declared.prepared.Ballot.TheVariants.{Ready as BallotReady};
+ghost use Rattle.xa_coordinator.specs.declared.transaction.Ballot.TheVariants.{Ready as BallotReady};
 
 use crate::acts::{begun, does, has_none_prepared, puts, reads, text};
 use crate::meddled::prepares;

@@ -5,7 +5,7 @@ use Rattle.std.proofs.lemmas.List.{take_more, get_or_default}
 use Rattle.std.proofs.lemmas.List.{length-take}
 use Rattle.xa_server.specs.declared.reply.Reply.{Reply}
 use Rattle.xa_session.specs.declared.fault.Fault.{Fault}
-use Rattle.xa_coordinator.specs.declared.standing.Standing.{Standing}
+use Rattle.xa_coordinator.specs.declared.decisions.Standing.{Standing}
 use Rattle.xa_manager.specs.Texts.{stores_text, store_text, stores_shown_text, number_text, numbers_text, stands_as}
 
 -- one element more, of a text that grows by each element

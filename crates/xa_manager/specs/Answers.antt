@@ -10,14 +10,14 @@ use Rattle.std.specs.Prelude.{◌≡◌, ◌⊎◌, ◌<◌, ◌+◌, ℕ, true,
 use Rattle.xa_xid.specs.declared.statement.Statement.{Statement}
 use Rattle.xa_server.specs.declared.reply.Reply.{Reply}
 use Rattle.xa_session.specs.declared.fault.Fault.{Fault}
-use Rattle.xa_coordinator.specs.declared.standing.Standing.{Standing}
-use Rattle.xa_coordinator.specs.declared.standing.Standing.TheVariants.{Undecided}
+use Rattle.xa_coordinator.specs.declared.decisions.Standing.{Standing}
+use Rattle.xa_coordinator.specs.declared.decisions.Standing.TheVariants.{Undecided}
 use Rattle.xa_coordinator.specs.declared.transaction.Transaction.{Transaction}
-use Rattle.xa_coordinator.specs.declared.prepared.Prepared.{Prepared}
+use Rattle.xa_coordinator.specs.declared.transaction.Prepared.{Prepared}
 use Rattle.xa_coordinator.specs.declared.ending.Ending.{Ending}
-use Rattle.xa_coordinator.specs.declared.recover_fault.RecoverFault.{RecoverFault}
+use Rattle.xa_coordinator.specs.declared.fault.RecoverFault.{RecoverFault}
 use Rattle.xa_coordinator.specs.declared.report.Report.{Report}
-use Rattle.xa_coordinator.specs.declared.work_fault.WorkFault.{WorkFault}
+use Rattle.xa_coordinator.specs.declared.fault.WorkFault.{WorkFault}
 use Rattle.xa_coordinator.specs.declared.vote.Vote.{Vote}
 use Rattle.xa_coordinator.specs.declared.vote.Vote.TheVariants.{Ready as VoteReady, OnePhase as VoteOnePhase, No as VoteNo, Nothing as VoteNothing}
 use Rattle.xa_coordinator.specs.Limits.{most_numbers}

@@ -3,7 +3,7 @@
 --     StartsAnew       nothing is open in any store, and no session fails
 use Rattle.std.specs.Prelude.{◌≡◌, ◌<◌, ◌-◌, ◌^◌, ℕ, List, length, map, Option, Some, None, slice_get}
 use Rattle.xa_coordinator.specs.declared.fused.Fused.{Fused}
-use Rattle.xa_coordinator.specs.declared.open_branch.OpenBranch.{OpenBranch}
+use Rattle.xa_coordinator.specs.declared.branches.OpenBranch.{OpenBranch}
 
 -- a store's session passes so many calls on, and then answers out of memory to all
 abbrev pub Passes : {S : Type 0} → (store calls : ℕ) → List (Fused S) → Type 0

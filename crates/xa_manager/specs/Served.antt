@@ -12,9 +12,9 @@ use Rattle.xa_server.specs.declared.reply.Reply.TheVariants.{Ok as Done, Value, 
 use Rattle.xa_session.specs.declared.fault.Fault.{Fault}
 use Rattle.xa_coordinator.specs.declared.ending.Ending.{Ending}
 use Rattle.xa_coordinator.specs.declared.ending.Ending.TheVariants.{Committed, RolledBack, Hazard, Unfinished}
-use Rattle.xa_coordinator.specs.declared.standing.Standing.{Standing}
-use Rattle.xa_coordinator.specs.declared.work_fault.WorkFault.{WorkFault}
-use Rattle.xa_coordinator.specs.declared.work_fault.WorkFault.TheVariants.{Session as WorkSession, Refused as WorkRefused, Lost}
+use Rattle.xa_coordinator.specs.declared.decisions.Standing.{Standing}
+use Rattle.xa_coordinator.specs.declared.fault.WorkFault.{WorkFault}
+use Rattle.xa_coordinator.specs.declared.fault.WorkFault.TheVariants.{Session as WorkSession, Refused as WorkRefused, Lost}
 use Rattle.xa_serve.specs.Heard.{Heard, Whole, TooLong}
 use Rattle.xa_manager.specs.declared.call.Call.{Call}
 use Rattle.xa_manager.specs.declared.call.Call.TheVariants.{Silent, Unread}

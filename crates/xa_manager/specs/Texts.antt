@@ -14,18 +14,18 @@ use Rattle.xa_server.specs.declared.reply.Reply.{Reply}
 use Rattle.xa_session.specs.declared.fault.Fault.{Fault}
 use Rattle.xa_session.specs.declared.fault.Fault.TheVariants.{Overtaken, Full, NoMemory, Busy}
 use Rattle.xa_transcript.specs.Printed.{reply_text, error_text, syntax_text}
-use Rattle.xa_coordinator.specs.declared.cause.Cause.{Cause}
-use Rattle.xa_coordinator.specs.declared.cause.Cause.TheVariants.{Session as SessionCause, Refused as RefusedCause}
-use Rattle.xa_coordinator.specs.declared.work_fault.WorkFault.{WorkFault}
-use Rattle.xa_coordinator.specs.declared.work_fault.WorkFault.TheVariants.{Session as WorkSession, Refused as WorkRefused, Lost}
+use Rattle.xa_coordinator.specs.declared.fault.Cause.{Cause}
+use Rattle.xa_coordinator.specs.declared.fault.Cause.TheVariants.{Session as SessionCause, Refused as RefusedCause}
+use Rattle.xa_coordinator.specs.declared.fault.WorkFault.{WorkFault}
+use Rattle.xa_coordinator.specs.declared.fault.WorkFault.TheVariants.{Session as WorkSession, Refused as WorkRefused, Lost}
 use Rattle.xa_coordinator.specs.declared.ending.Ending.{Ending}
 use Rattle.xa_coordinator.specs.declared.ending.Ending.TheVariants.{Committed, RolledBack, Hazard, Unfinished}
 use Rattle.xa_coordinator.specs.declared.report.Report.{Report}
-use Rattle.xa_coordinator.specs.declared.recover_fault.RecoverFault.{RecoverFault}
-use Rattle.xa_coordinator.specs.declared.recover_fault.RecoverFault.TheVariants.{Session as RecoverSession, StillPrepared, NoMemory as RecoverNoMemory}
-use Rattle.xa_coordinator.specs.declared.recover_fault.RecoverFault.TheVariants.{Refused as RecoverRefused}
-use Rattle.xa_coordinator.specs.declared.standing.Standing.{Standing}
-use Rattle.xa_coordinator.specs.declared.standing.Standing.TheVariants.{Undecided, Decided, Closed}
+use Rattle.xa_coordinator.specs.declared.fault.RecoverFault.{RecoverFault}
+use Rattle.xa_coordinator.specs.declared.fault.RecoverFault.TheVariants.{Session as RecoverSession, StillPrepared, NoMemory as RecoverNoMemory}
+use Rattle.xa_coordinator.specs.declared.fault.RecoverFault.TheVariants.{Refused as RecoverRefused}
+use Rattle.xa_coordinator.specs.declared.decisions.Standing.{Standing}
+use Rattle.xa_coordinator.specs.declared.decisions.Standing.TheVariants.{Undecided, Decided, Closed}
 use Rattle.xa_manager.specs.declared.poll.Poll.{Poll}
 use Rattle.xa_manager.specs.declared.poll.Poll.TheVariants.{Ready, OnePhase, Nothing, No}
 use Rattle.xa_manager.specs.declared.response.Response.{Response}

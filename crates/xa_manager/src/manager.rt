@@ -1,8 +1,8 @@
 //! A transaction manager.
 ghost use Rattle.std.specs.Prelude.{◌≡◌, ◌≤◌, ℕ, Some, [], vec_len, length, codes};
 ghost use Rattle.xa_manager.specs.Ledger.{stage_of, transaction_in, IsTransactionOf};
-ghost use Rattle.xa_coordinator.specs.declared.prepared.Ballot.TheVariants.{Ready as BallotReady};
-ghost use Rattle.xa_coordinator.specs.declared.prepared.Prepared.{Prepared};
+ghost use Rattle.xa_coordinator.specs.declared.transaction.Ballot.TheVariants.{Ready as BallotReady};
+ghost use Rattle.xa_coordinator.specs.declared.transaction.Prepared.{Prepared};
 ghost use Rattle.xa_coordinator.specs.declared.transaction.Transaction.{Transaction};
 ghost use Rattle.xa_manager.specs.declared.stage.Stage.{Stage};
 ghost use Rattle.xa_manager.specs.declared.stage.Stage.TheVariants.{Ready as StageReady};

@@ -3,14 +3,14 @@
 //! Nothing here takes memory or waits.
 #![tactic(auto)]
 
+mod decoding;
+mod encoding;
 mod entry;
 pub mod laws;
 mod layout;
 mod limits;
-mod reader;
-mod writer;
 
+pub use decoding::decode;
+pub use encoding::encode;
 pub use entry::Entry;
 pub use layout::WORDS;
-pub use reader::decode;
-pub use writer::encode;

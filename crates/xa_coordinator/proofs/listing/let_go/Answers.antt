@@ -1,5 +1,5 @@
 use Rattle.xa_xid.specs.declared.statement.Statement.TheVariants.{Disconnect}
-use Rattle.xa_coordinator.specs.declared.cause.Cause.TheVariants.{Session}
+use Rattle.xa_coordinator.specs.declared.fault.Cause.TheVariants.{Session}
 use Rattle.xa_coordinator.proofs.LettingGo.{disconnected_as}
 use Rattle.xa_coordinator.proofs.Telling.{is_undone}
 use Rattle.xa_coordinator.proofs.listing.let_go.Goals as goal

@@ -2,7 +2,7 @@ use Rattle.std.proofs.Common.{None}
 use Rattle.xa_xid.specs.declared.statement.Statement.TheVariants.{Disconnect}
 use Rattle.xa_coordinator.specs.Recovery.{IsDisconnected}
 use Rattle.xa_coordinator.specs.Told.{IsUndone}
-use Rattle.xa_coordinator.specs.declared.cause.Cause.TheVariants.{Session}
+use Rattle.xa_coordinator.specs.declared.fault.Cause.TheVariants.{Session}
 use Rattle.xa_coordinator.proofs.Keeping.{marked, unmarked, at_place, changes_at}
 use Rattle.xa_coordinator.proofs.Telling.{association_refused}
 use Rattle.xa_coordinator.proofs.coordinator.Coordinator.disconnect.Goals as goal

@@ -3,8 +3,8 @@ use Rattle.std.specs.Prelude.{slice_get}
 use Rattle.std.proofs.lemmas.Option.{slice_get-get_or}
 use Rattle.xa_xid.specs.declared.xid.Xid.{Xid}
 use Rattle.xa_server.specs.declared.association.Association.TheVariants.{Active}
-use Rattle.xa_coordinator.specs.declared.cause.Cause.TheVariants.{Session}
-use Rattle.xa_coordinator.specs.declared.open_branch.Phase.TheVariants.{Active as PhaseActive}
+use Rattle.xa_coordinator.specs.declared.fault.Cause.TheVariants.{Session}
+use Rattle.xa_coordinator.specs.declared.branches.Phase.TheVariants.{Active as PhaseActive}
 use Rattle.xa_coordinator.specs.Branch.{branch_xid}
 use Rattle.xa_coordinator.specs.OpenBranches.{association_seen}
 use Rattle.xa_coordinator.specs.Told.{IsUndone}

@@ -6,8 +6,8 @@ use Rattle.xa_xid.specs.declared.xid.Xid.{Xid}
 use Rattle.xa_xid.specs.Xid.{Text, same_xid}
 use Rattle.xa_xid.specs.declared.statement.Statement.TheVariants.{Recover, Disconnect}
 use Rattle.xa_session.specs.View.{SessionView}
-use Rattle.xa_coordinator.specs.declared.cause.Cause.TheVariants.{Session}
-use Rattle.xa_coordinator.specs.declared.open_branch.OpenBranch.{OpenBranch}
+use Rattle.xa_coordinator.specs.declared.fault.Cause.TheVariants.{Session}
+use Rattle.xa_coordinator.specs.declared.branches.OpenBranch.{OpenBranch}
 use Rattle.xa_coordinator.specs.Agreement.{Agrees}
 use Rattle.xa_coordinator.specs.Branch.{branch_xid}
 use Rattle.xa_coordinator.specs.Recovery.{ListsPrepared, IsClear, IsBroken, IsStillPrepared, BreaksHere}

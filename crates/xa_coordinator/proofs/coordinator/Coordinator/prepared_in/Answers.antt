@@ -2,7 +2,7 @@ use Rattle.std.proofs.Common.{false}
 use Rattle.xa_xid.specs.declared.statement.Statement.TheVariants.{Recover}
 use Rattle.xa_coordinator.specs.Recovery.{ListsPrepared}
 use Rattle.xa_coordinator.specs.Told.{IsUndone}
-use Rattle.xa_coordinator.specs.declared.cause.Cause.TheVariants.{Session}
+use Rattle.xa_coordinator.specs.declared.fault.Cause.TheVariants.{Session}
 use Rattle.xa_coordinator.proofs.Keeping.{unmarked, at_place, changes_at}
 use Rattle.xa_coordinator.proofs.coordinator.Coordinator.prepared_in.Goals as goal
 

@@ -1,6 +1,6 @@
 use Rattle.std.proofs.Common.{◌≡◌, ◌≢◌, ℕ, List, Some, ap, sym, ◌∙◌, subst}
-use Rattle.xa_coordinator.specs.declared.standing.Standing.{Standing}
-use Rattle.xa_coordinator.specs.declared.standing.Standing.TheVariants.{Undecided}
+use Rattle.xa_coordinator.specs.declared.decisions.Standing.{Standing}
+use Rattle.xa_coordinator.specs.declared.decisions.Standing.TheVariants.{Undecided}
 use Rattle.xa_coordinator.specs.Decisions.{standing_of, is_decided}
 use Rattle.xa_coordinator.proofs.Standings.{closed_none, closed_decides}
 use Rattle.xa_coordinator.proofs.Recovering.{ends_as}

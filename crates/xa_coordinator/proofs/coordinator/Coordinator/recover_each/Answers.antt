@@ -1,7 +1,7 @@
 use Rattle.std.proofs.Common.{◌≡◌, ◌<◌, ◌≤◌, ◌+◌, ℕ, refl, ap, ◌∙◌, subst, arith}
 use Rattle.xa_xid.specs.Xid.{Text}
 use Rattle.xa_session.specs.View.{SessionView}
-use Rattle.xa_coordinator.specs.declared.tally.Tally.{Tally}
+use Rattle.xa_coordinator.specs.declared.report.Tally.{Tally}
 use Rattle.xa_coordinator.specs.Recovery.{IsRecovered, BreaksHere}
 use Rattle.xa_coordinator.specs.Stores.{AtStore}
 use Rattle.xa_coordinator.proofs.Recovering.{frees_none, frees_next, recovers_none, recovers_next, recovers_all, breaks_at}

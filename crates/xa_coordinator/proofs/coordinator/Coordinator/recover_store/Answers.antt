@@ -3,11 +3,11 @@ use Rattle.std.specs.Prelude.{slice_get}
 use Rattle.xa_xid.specs.Xid.{Text}
 use Rattle.xa_xid.specs.declared.statement.Statement.TheVariants.{Recover, Disconnect}
 use Rattle.xa_session.specs.View.{SessionView}
-use Rattle.xa_coordinator.specs.declared.cause.Cause.TheVariants.{Session}
-use Rattle.xa_coordinator.specs.declared.open_branch.OpenBranch.{OpenBranch}
+use Rattle.xa_coordinator.specs.declared.fault.Cause.TheVariants.{Session}
+use Rattle.xa_coordinator.specs.declared.branches.OpenBranch.{OpenBranch}
 use Rattle.xa_coordinator.specs.Agreement.{Agrees}
 use Rattle.xa_coordinator.specs.Recovery.{IsSettled, IsClear, IsRecovered, BreaksHere}
-use Rattle.xa_coordinator.specs.declared.recover_fault.RecoverFault.{RecoverFault}
+use Rattle.xa_coordinator.specs.declared.fault.RecoverFault.{RecoverFault}
 use Rattle.xa_coordinator.specs.Stores.{AtStore, ChangesAt}
 use Rattle.xa_coordinator.proofs.Walk.{at_then, at_weaker, changes_then}
 use Rattle.xa_coordinator.proofs.Settling.{settled_store_agrees, recovered_store}

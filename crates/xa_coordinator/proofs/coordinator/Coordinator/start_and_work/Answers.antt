@@ -2,7 +2,7 @@ use Rattle.std.proofs.Common.{◌≡◌, ℕ, List, Option, Some, inr, refl, ap,
 use Rattle.std.specs.Prelude.{slice_get}
 use Rattle.xa_xid.specs.declared.statement.Statement.TheVariants.{Start}
 use Rattle.xa_coordinator.specs.Branch.{branch_xid}
-use Rattle.xa_coordinator.specs.declared.open_branch.OpenBranch.{OpenBranch}
+use Rattle.xa_coordinator.specs.declared.branches.OpenBranch.{OpenBranch}
 use Rattle.xa_coordinator.specs.Stores.{AtStore}
 use Rattle.xa_coordinator.specs.Told.{IsDone, IsUndone}
 use Rattle.xa_coordinator.proofs.Works.{works_started}

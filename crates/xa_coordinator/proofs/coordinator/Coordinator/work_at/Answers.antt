@@ -3,8 +3,8 @@ use Rattle.std.specs.Prelude.{slice_get}
 use Rattle.xa_server.specs.declared.association.Association.TheVariants.{Active}
 use Rattle.xa_coordinator.specs.Branch.{branch_xid}
 use Rattle.xa_coordinator.specs.OpenBranches.{association_seen, IsWorking}
-use Rattle.xa_coordinator.specs.declared.open_branch.OpenBranch.{OpenBranch}
-use Rattle.xa_coordinator.specs.declared.open_branch.Phase.TheVariants.{Active as PhaseActive}
+use Rattle.xa_coordinator.specs.declared.branches.OpenBranch.{OpenBranch}
+use Rattle.xa_coordinator.specs.declared.branches.Phase.TheVariants.{Active as PhaseActive}
 use Rattle.xa_coordinator.proofs.Opening.{working}
 use Rattle.xa_coordinator.proofs.Works.{works_open}
 use Rattle.xa_coordinator.proofs.coordinator.Coordinator.work_at.Goals as goal

@@ -1,5 +1,5 @@
 use Rattle.std.proofs.Common.{◌≡◌, ◌∙◌, ◌+◌, ◌∷◌, [], length, length-append, vec_len, ap, refl, sym, inl, inr}
-use Rattle.xa_coordinator.specs.declared.standing.Standing.TheVariants.{Undecided}
+use Rattle.xa_coordinator.specs.declared.decisions.Standing.TheVariants.{Undecided}
 use Rattle.xa_manager.specs.declared.stage.Stage.TheVariants.{Working}
 use Rattle.xa_manager.specs.declared.response.Response.TheVariants.{Begun}
 use Rattle.xa_manager.specs.Ledger.{IsTransactionOf}

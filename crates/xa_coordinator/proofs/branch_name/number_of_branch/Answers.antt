@@ -5,7 +5,7 @@ use Rattle.std.proofs.lemmas.Bool.{eqb-false}
 use Rattle.xa_xid.specs.declared.xid.Xid.{Xid}
 use Rattle.xa_coordinator.specs.Branch.{branch_xid}
 use Rattle.xa_coordinator.proofs.Listed.{number_behind_is, one_fails}
-use Rattle.xa_coordinator.proofs.named.number_of_branch.Goals as goal
+use Rattle.xa_coordinator.proofs.branch_name.number_of_branch.Goals as goal
 
 pub returns-in_default-clause-none : goal.returns-in_default-clause-none
 returns-in_default-clause-none c = λ number is.

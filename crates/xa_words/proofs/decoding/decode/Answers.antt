@@ -3,7 +3,7 @@ use Rattle.xa_words.specs.Entry.{Entry}
 use Rattle.xa_words.specs.Words.{parts_of}
 use Rattle.xa_words.proofs.KindTable.{within, one_statement}
 use Rattle.xa_words.proofs.Spelling.{Pieces, pieces_of, whole_of, parts_read, entry_by}
-use Rattle.xa_words.proofs.reader.decode.Goals as goal
+use Rattle.xa_words.proofs.decoding.decode.Goals as goal
 
 pub returns-in_err-session-clause-every : goal.returns-in_err-session-clause-every
 returns-in_err-session-clause-every c entry is same =

@@ -1,4 +1,4 @@
-//! Reading an entry.
+//! Words to an entry.
 ghost use Rattle.std.specs.Prelude.{◌≡◌, ◌<◌, ◌≤◌, ◌+◌, ◌++◌, ℕ, List, length, slice_index, Some, IfSome, IfNone, IsTrue};
 ghost use Rattle.xa_xid.specs.Limits.{text_bytes};
 ghost use Rattle.xa_words.specs.Entry.{IsText, IsEntry, KeepsLimits, may_be_entry};

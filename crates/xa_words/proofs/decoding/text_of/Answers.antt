@@ -4,7 +4,7 @@ use Rattle.std.specs.Cmp.Lexicographic.{pointwise}
 use lib.Dec.{eqb}
 use Rattle.xa_words.specs.Words.{text_words}
 use Rattle.xa_words.proofs.Texts.{only_text}
-use Rattle.xa_words.proofs.reader.text_of.Goals as goal
+use Rattle.xa_words.proofs.decoding.text_of.Goals as goal
 
 -- a list is the same as itself
 pointwise-itself : (xs : List ℕ) → pointwise eqb xs xs ≡ true

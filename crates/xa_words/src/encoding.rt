@@ -1,4 +1,4 @@
-//! Writing an entry.
+//! An entry to words.
 ghost use Rattle.std.specs.Prelude.{◌≡◌};
 ghost use Rattle.xa_words.specs.Entry.{IsEntry};
 ghost use Rattle.xa_words.specs.Words.{words_of};

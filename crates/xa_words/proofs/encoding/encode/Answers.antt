@@ -1,6 +1,6 @@
 use Rattle.std.proofs.Common.{rules}
 use Rattle.xa_words.specs.Words.{words_of}
-use Rattle.xa_words.proofs.writer.encode.Goals as goal
+use Rattle.xa_words.proofs.encoding.encode.Goals as goal
 
 pub returns-clause-words : goal.returns-clause-words
 unfolding words_of

@@ -1,5 +1,5 @@
 use Rattle.xa_coordinator.proofs.Telling.{is_done, refused}
-use Rattle.xa_coordinator.proofs.execute_on.execute_on.Goals as goal
+use Rattle.xa_coordinator.proofs.execute.execute_on.Goals as goal
 
 pub returns-in-None-clause-says : goal.returns-in-None-clause-says
 returns-in-None-clause-says g c = is_done c.args.statement.now c.in-Ok.answer _ _ c.requires c.in-Ok.ensures.stays c.in-Ok.ensures.answered c.in-None.ensures

@@ -1,0 +1,121 @@
+//! The faults of a coordinator's calls, and why a branch couldn't be brought on.
+ghost use Rattle.std.specs.Prelude.{◌≡◌};
+ghost use Rattle.xa_coordinator.specs.Faults.{number_of_work_fault, number_of_begin_fault, number_of_recover_fault};
+
+use thiserror::Error;
+use xa_server::XaError;
+use xa_session::Fault;
+
+/// Why work in a store wasn't answered.
+#[derive(Clone, Copy, Debug, Drop, PartialEq, Eq, Error)]
+pub enum WorkFault {
+    /// The session couldn't answer `XA START`, or the row statement.
+    #[error("{0}")]
+    Session(Fault),
+    /// `XA START` was refused.
+    #[error("{0}")]
+    Refused(XaError),
+    /// The store takes part, and this coordinator has no open branch of the transaction there. Nothing was said to the store.
+    #[error("this coordinator has no open branch of the transaction in the store")]
+    Lost,
+}
+
+impl WorkFault {
+    /// The fault's number, in `[1, 3]`.
+    ///
+    /// Takes no memory. Doesn't wait.
+    /// Own rule: docs/BEHAVIOR.md, 'Faults of a coordinator'.
+    pub fn number(&self) -> u64
+        ensures { result ≡ number_of_work_fault self.now }
+    {
+        match self {
+            WorkFault::Session(_) => 1,
+            WorkFault::Refused(_) => 2,
+            WorkFault::Lost => 3,
+        }
+    }
+}
+
+/// Why no number was given. The decisions are as before.
+#[derive(Clone, Copy, Debug, Drop, PartialEq, Eq, Error)]
+pub enum BeginFault {
+    /// All 1,000,000 numbers were given.
+    #[error("all 1,000,000 numbers were given")]
+    NumbersSpent,
+    /// There was no memory.
+    #[error("out of memory")]
+    NoMemory,
+}
+
+impl BeginFault {
+    /// The fault's number, in `[1, 2]`.
+    ///
+    /// Takes no memory. Doesn't wait.
+    /// Own rule: docs/BEHAVIOR.md, 'Faults of a coordinator'.
+    pub fn number(&self) -> u64
+        ensures { result ≡ number_of_begin_fault self.now }
+    {
+        match self {
+            BeginFault::NumbersSpent => 1,
+            BeginFault::NoMemory => 2,
+        }
+    }
+}
+
+/// Why a recovery didn't come to its end. Every undecided number is closed all the same, and the stores below are done with.
+#[derive(Clone, Copy, Debug, Drop, PartialEq, Eq, Error)]
+pub enum RecoverFault {
+    /// This store's session couldn't answer a statement.
+    #[error("store {store}: {fault}")]
+    Session {
+        /// The store, by its number.
+        store: u8,
+        /// Why it couldn't.
+        fault: Fault,
+    },
+    /// Somebody prepared another branch of this coordinator in this store meanwhile.
+    #[error("store {store}: another branch of this coordinator was prepared meanwhile")]
+    StillPrepared {
+        /// The store, by its number.
+        store: u8,
+    },
+    /// There was no memory for the report. Nothing was said to the stores.
+    #[error("out of memory")]
+    NoMemory,
+    /// This store refused a statement, for another cause than XAER_NOTA.
+    #[error("store {store}: {error}")]
+    Refused {
+        /// The store, by its number.
+        store: u8,
+        /// Why it was refused.
+        error: XaError,
+    },
+}
+
+impl RecoverFault {
+    /// The fault's number, in `[1, 4]`.
+    ///
+    /// Takes no memory. Doesn't wait.
+    /// Own rule: docs/BEHAVIOR.md, 'Faults of a coordinator'.
+    pub fn number(&self) -> u64
+        ensures { result ≡ number_of_recover_fault self.now }
+    {
+        match self {
+            RecoverFault::Session { store: _, fault: _ } => 1,
+            RecoverFault::StillPrepared { store: _ } => 2,
+            RecoverFault::NoMemory => 3,
+            RecoverFault::Refused { store: _, error: _ } => 4,
+        }
+    }
+}
+
+/// Why a store didn't carry a statement of a coordinator out.
+#[derive(Clone, Copy, Debug, Drop, PartialEq, Eq, Error)]
+pub enum Cause {
+    /// The session couldn't answer it.
+    #[error("{0}")]
+    Session(Fault),
+    /// The statement was refused.
+    #[error("{0}")]
+    Refused(XaError),
+}
