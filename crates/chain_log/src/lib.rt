@@ -2,6 +2,7 @@
 #![tactic(auto)]
 
 mod calls;
+mod cells;
 mod chain;
 mod columns;
 pub mod laws;
@@ -13,7 +14,6 @@ mod rule;
 mod steps;
 #[cfg(test)]
 mod tests;
-mod walk;
 
 pub use chain::ChainLog;
 pub use pass::ChainPass;

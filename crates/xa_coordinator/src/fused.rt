@@ -8,7 +8,7 @@ use std::sync::Wait;
 use xa_session::{Answer, Fault};
 use xa_xid::Statement;
 
-/// A session that passes so many calls on, and then answers NoMemory to all, though no growth was refused.
+/// A session that passes so many calls on, and then answers NoMemory to all, though no allocation failed.
 ///
 /// A contract sees it as the session within, so it keeps every promise of one.
 #[derive(Drop)]

@@ -53,7 +53,7 @@ fn association_in(phase: Option<Phase>, own: &Xid) -> Association
     }
 }
 
-/// Takes the key back that a branch listed last, where the row's growth was refused.
+/// Takes the key back that a branch listed last, where the row's allocation failed.
 fn unlist_refused(branches: &mut BranchTable, own: &Xid, held: &Result<(), NoMemory>)
     ensures held { OnOk held.now (branches.new ≡ branches.old) }
     ensures refused { OnErr held.now (branches.new ≡ with_record branches.old own.now (λ branch. record branch { held = without_last branch.held })) }

@@ -11,7 +11,7 @@
 --     IsFinal          trying again is of no use
 --     RepliesAfter     an answer, or Full, comes only once the replica stands for what it was found on
 --     IsKept           an answered statement has been replayed
---     WantsMemory      the only causes of want of memory
+--     WantsMemory      the only causes of NoMemory
 --     Tries            how often an attempt without an answer has tried to add
 --     LooksLast        no try to add has followed the last look
 use Rattle.std.specs.Prelude.{◌≡◌, ◌<◌, ◌≤◌, ◌+◌, ℕ, Bool, true, false, IsTrue, ◌⊎◌, List, [], ◌∷◌, ◌++◌, length, take, slice_get, Some, Result, Ok, Err}
@@ -91,7 +91,7 @@ IsFinal Full = Unit {0}
 IsFinal NoMemory = Unit {0}
 IsFinal Busy = ⊥
 
--- want of memory for the replica comes before every answer and before Full: the replica has replayed what these were found on
+-- NoMemory of the replica comes before every answer and before Full: the replica has replayed what these were found on
 abbrev pub RepliesAfter : Result Answer Fault → Replica → Known → Type 0
 RepliesAfter (Ok answer) replica known = answer.place ≤ replica.replayed
 RepliesAfter (Err (Overtaken front)) replica known = Unit {0}

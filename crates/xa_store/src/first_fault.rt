@@ -25,7 +25,7 @@ impl FirstFault {
         }
     }
 
-    /// Want of memory outside the runs.
+    /// NoMemory outside the runs.
     pub(crate) fn outside() -> FirstFault
         ensures { result.fault ≡ RaceFault.NoMemory }
     {

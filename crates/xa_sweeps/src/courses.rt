@@ -108,7 +108,7 @@ fn worked_in_both<S: Speak, R: Abort + Wait>(
     transaction
 }
 
-/// Whether a call left the transaction unfinished. It may only for want of memory in a store.
+/// Whether a call left the transaction unfinished. It may only where an allocation failed in a store.
 fn is_unfinished(rt: &impl Abort, ending: &Ending) -> bool {
     if let Ending::Unfinished { cause, .. } = ending {
         assert!(rt; *cause == Cause::Session(Fault::NoMemory));
@@ -131,7 +131,7 @@ fn is_rolled_back(rt: &impl Abort, ending: &Ending) {
     assert!(rt; is_unfinished(rt, ending) || matches!(ending, Ending::RolledBack));
 }
 
-/// Finishes a transaction that a store refused for want of memory: it is rolled back, or unfinished.
+/// Finishes a transaction that a store refused with NoMemory: it is rolled back, or unfinished.
 fn lost_the_vote<S: Speak, R: Abort + Wait>(
     rt: &R,
     coordinator: &mut Coordinator<S>,

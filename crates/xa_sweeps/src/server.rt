@@ -41,7 +41,7 @@ const LEFT: [(u64, &[u8], Wanted); 4] = [
     (4, b"XA START 'a'", Wanted::Done),
 ];
 
-/// Whether want of memory may keep a statement from being carried out: it takes a record, or a list.
+/// Whether a failed allocation may keep a statement from being carried out: it takes a record, or a list.
 fn may_want_memory(statement: &Statement) -> bool {
     matches!(
         statement,

@@ -94,7 +94,7 @@ script_fault_of (race.Full session line) = Full
 script_fault_of race.NoMemory = NoMemory
 script_fault_of race.ThreadRefused = ThreadRefused
 
--- a fault before anything is written; but for want of memory it comes only of a race
+-- a fault before anything is written; but for NoMemory it comes only of a race
 abbrev pub IsOfText : List ℕ → ScriptFault → Type 0
 IsOfText script Read = ⊥
 IsOfText script TooLong = ⊥

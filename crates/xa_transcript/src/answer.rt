@@ -88,7 +88,7 @@ fn answer_unread(mut answer: Vec<u8>, place: u64) -> Result<Vec<u8>, NoMemory>
 /// Gives the statement of the text to the server, and answers it.
 ///
 /// The text is a statement's, without its session. The answer is printed before the statement is carried out.
-/// Errors: `NoMemory` where a growth was refused; then the server is as before.
+/// Errors: `NoMemory` where an allocation failed; then the server is as before.
 /// Takes memory for the answer. Doesn't wait.
 /// Own rule: docs/BEHAVIOR.md, 'Scripts'.
 pub fn answer_statement(
@@ -113,7 +113,7 @@ pub fn answer_statement(
 /// Gives the line's statement to the server, where it has one, and answers the line.
 ///
 /// The line is one of a script, without its line feed. The answer ends in a line feed; it is empty for a line of blanks.
-/// Errors: `NoMemory` where a growth was refused; then the server is as before.
+/// Errors: `NoMemory` where an allocation failed; then the server is as before.
 /// Takes memory for the answer. Doesn't wait.
 /// Own rule: docs/BEHAVIOR.md, 'Scripts'.
 #[tactic(auto, unfolding(crate::specs::Transcript::answer_of, crate::specs::Transcript::state_after_line))]

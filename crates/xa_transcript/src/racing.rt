@@ -106,8 +106,8 @@ fn text_of_race<G: Gate + Sync, R: Threads + Wait + Sync>(
 /// which has room for `capacity` entries, in `[1, 1024]`, and as many sessions as the greatest number that a line names, at least
 /// one. Where a line is bad or its statement isn't read, no thread is started, and these lines are told alone. Each run asks the
 /// gate before each of its statements. Nothing is written before all runs have ended. What is written isn't flushed.
-/// Errors: `Read` where a read failed, or too many reads were needed; `TooLong` where the script is longer; `NoMemory` where a
-/// growth was refused; `Full`, `GateShut` and `ThreadRefused` as the race tells them; `Write` where a write failed or took nothing.
+/// Errors: `Read` where a read failed, or too many reads were needed; `TooLong` where the script is longer; `NoMemory` where an
+/// allocation failed; `Full`, `GateShut` and `ThreadRefused` as the race tells them; `Write` where a write failed or took nothing.
 /// After `Write` a prefix of the text was written, after any other nothing.
 /// May answer `NoMemory`. Waits for its threads.
 /// Own rule: docs/BEHAVIOR.md, 'A race of a script'.

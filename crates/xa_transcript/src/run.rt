@@ -37,7 +37,7 @@ fn run_lines<W: Write>(alloc: Global, script: &[u8], writer: &mut W) -> Result<(
 /// server, which holds nothing at first. Each answer is written as it is found. Any fault of a read or a write, whatever its
 /// kind, ends the run at once. What is written isn't flushed.
 /// Errors: `Read` where a read failed, or too many reads were needed; `TooLong` where the script is longer; `NoMemory`
-/// where a growth was refused; `Write` where a write failed or took nothing. After `Read` and `TooLong` nothing was
+/// where an allocation failed; `Write` where a write failed or took nothing. After `Read` and `TooLong` nothing was
 /// written, after `Write` and `NoMemory` a prefix of the transcript.
 /// May answer `NoMemory`. Doesn't wait, unless the reader or the writer does.
 /// Own rule: docs/BEHAVIOR.md, 'Scripts'.

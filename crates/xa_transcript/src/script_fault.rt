@@ -18,7 +18,7 @@ pub enum ScriptFault {
     /// 3: a write failed. A prefix of what was to be written was written.
     #[error("write fault")]
     Write,
-    /// 4: a growth was refused. A run wrote a prefix of the transcript, a race nothing.
+    /// 4: an allocation failed. A run wrote a prefix of the transcript, a race nothing.
     #[error("out of memory")]
     NoMemory,
     /// 5: a race's history has no more room. Nothing was written.

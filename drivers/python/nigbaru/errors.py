@@ -46,7 +46,7 @@ class NotSupportedError(DatabaseError):
     pass
 
 
-# number: class, XA code (docs/BEHAVIOR.md, 'Refusals')
+# number: class, XA code (docs/BEHAVIOR.md, 'Replies')
 KINDS = {
     1037: (OperationalError, None),
     1064: (ProgrammingError, None),

@@ -20,8 +20,9 @@ impl<R: LogWords> LogTable<R> {
         requires seat { KnowsOne self.now.inner.shared.table_id seat.old }
         ensures seat { KnowsOne self.now.inner.shared.table_id seat.new }
         ensures same { pass_view seat.new ≡ pass_view seat.old }
-        ensures split_empty { KnowsNone self.now.inner.shared.table_id result }
+        ensures empty { KnowsNone self.now.inner.shared.table_id result }
     {
+        // No word is touched: what the seat knows stays as good as it was.
         self.inner.shared.split_seat::<Seating>(seat)
     }
 
@@ -36,6 +37,7 @@ impl<R: LogWords> LogTable<R> {
         ensures first { pass_view seat.new ≡ pass_view seat.old }
         ensures second { second seat.new ≡ pass_view other }
     {
+        // No word is touched: each pass knows what it knew.
         self.inner.shared.join_seat::<Seating>(seat, other);
     }
 
@@ -64,6 +66,7 @@ impl<R: LogWords> LogTable<R> {
         ensures other { KnowsOne self.now.inner.shared.table_id result }
         ensures second { pass_view result ≡ second seat.old }
     {
+        // No word is touched: what the seat knows stays as good as it was.
         self.inner.shared.split_seat::<Seating>(seat)
     }
 
@@ -79,6 +82,7 @@ impl<R: LogWords> LogTable<R> {
         ensures pass { KnowsOne self.now.inner.shared.table_id result }
         ensures given { pass_view result ≡ pass_view seat.old }
     {
+        // No word is touched: what the seat knows stays as good as it was.
         self.inner.shared.split_seat::<Seating>(seat)
     }
 
@@ -94,8 +98,8 @@ impl<R: LogWords> LogTable<R> {
         ensures same { pass_view first.new ≡ pass_view first.old }
         ensures met { (seen : List Entry) × (pass_view second.new ≡ met (pass_view second.old) seen) × (length (pass_view second.old).known.seen < length (pass_view first.old).known.seen → result ≡ R.newest (met (pass_view second.old) seen)) × MetAt (pass_view first.old) (pass_view second.old) seen }
     {
-        let split_empty = self.split_empty(first);
-        let other = std::mem::replace(second, split_empty);
+        let empty = self.split_empty(first);
+        let other = std::mem::replace(second, empty);
         self.join(first, other);
         let found = self.load_for_pair(first);
         *second = self.split(first);

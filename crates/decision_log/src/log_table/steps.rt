@@ -26,6 +26,7 @@ impl<R: LogWords> LogTable<R> {
         ensures told { M.then (Load word) (pass_view seat.old) result (pass_view seat.new) }
         ensures counted { Counts R.newest R.tried (Load word) result (pass_view seat.old) (pass_view seat.new) }
     {
+        // Why what was loaded before is still good is said where the log takes this step.
         self.inner.shared.load::<Loaded<R, M>>(seat, word)
     }
 
@@ -42,6 +43,7 @@ impl<R: LogWords> LogTable<R> {
         ensures told { M.then (Store word new) (pass_view seat.old) new (pass_view seat.new) }
         ensures counted { Counts R.newest R.tried (Store word new) new (pass_view seat.old) (pass_view seat.new) }
     {
+        // Why what was loaded before is still good is said where the log takes this step.
         self.inner.shared.store::<Stored<R, M>>(seat, word, new)
     }
 
@@ -64,6 +66,7 @@ impl<R: LogWords> LogTable<R> {
         ensures told { M.then (Exchange word old new none) (pass_view seat.old) result (pass_view seat.new) }
         ensures counted { Counts R.newest R.tried (Exchange word old new none) result (pass_view seat.old) (pass_view seat.new) }
     {
+        // Why what was loaded before is still good is said where the log takes this step.
         self.inner
             .shared
             .compare_exchange::<Exchanged<R, M>>(seat, word, old, new)
@@ -89,6 +92,7 @@ impl<R: LogWords> LogTable<R> {
         ensures told { M.then (Exchange word old new (some said.now)) (pass_view seat.old) result (pass_view seat.new) }
         ensures counted { Counts R.newest R.tried (Exchange word old new (some said.now)) result (pass_view seat.old) (pass_view seat.new) }
     {
+        // Why what was loaded before is still good is said where the log takes this step.
         self.inner
             .shared
             .compare_exchange_with::<Exchanged<R, M>>(seat, word, old, new, said)
