@@ -4,7 +4,6 @@ ghost use Rattle.xa_coordinator.specs.declared.decisions.Standing.TheVariants.{U
 ghost use Rattle.xa_coordinator.specs.Limits.{most_numbers};
 ghost use Rattle.xa_coordinator.specs.Decisions.{standing_of, is_decided as is_decided_by, may_be_decided, with_decided, closed_of};
 
-use crate::Standing;
 use crate::fault::BeginFault;
 use crate::transaction::{Ballot, Prepared};
 use std::alloc::Global;

@@ -13,7 +13,7 @@ use crate::branches::OpenBranch;
 use crate::{Cause, Coordinator, Speak};
 use std::sync::Wait;
 use xa_server::{Reply, XaError};
-use xa_xid::{Statement, Statement, Xid};
+use xa_xid::{Statement, Xid};
 
 /// Why the statement was refused, where it was.
 pub(crate) fn refusal(reply: &Reply) -> Option<XaError>

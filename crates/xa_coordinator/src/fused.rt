@@ -3,7 +3,7 @@ ghost use Rattle.std.specs.Prelude.{◌≡◌, ◌+◌, true, false, ◌<◌, So
 ghost use Rattle.xa_coordinator.specs.Fusing.{AnswersAsWithin};
 ghost use Rattle.xa_coordinator.specs.Stores.{ChangesAt};
 
-use crate::{Coordinator, Fused, Speak, Speak};
+use crate::{Coordinator, Speak};
 use std::sync::Wait;
 use xa_session::{Answer, Fault};
 use xa_xid::Statement;
