@@ -4,12 +4,13 @@
 --     call_of          what a line tells
 --     IsWritten        a call that a line can tell
 use Rattle.std.specs.Prelude.{◌≡◌, ℕ, ◌==◌, Bool, true, false, bytes_eq, if◌then◌else◌, Option, Some, None, Result, Ok, Err, List, [], ◌∷◌, codes}
+use Rattle.xa_xid.specs.Bytes.{unblank}
 use Rattle.xa_xid.specs.Literal.{Reading}
 use Rattle.xa_xid.specs.Number.{number_ahead}
 use Rattle.xa_xid.specs.declared.statement.Statement.{Statement}
 use Rattle.xa_xid.specs.declared.statement.Statement.TheVariants.{Start, End, Prepare, Commit, Rollback, Recover, Unsupported, Get, Put, Del, Disconnect}
 use Rattle.xa_statement.specs.Reading.{read_of}
-use Rattle.xa_transcript.specs.Script.{is_empty_line, without_blanks, first_word, after_word}
+use Rattle.xa_transcript.specs.Script.{is_empty_line, first_word, behind_word}
 use Rattle.xa_manager.specs.declared.call.Call.{Call}
 use Rattle.xa_manager.specs.declared.call.Call.TheVariants.{Silent, Unread, Begin, Work, Prepare as PrepareCall, Decide, Finish, Abandon, Fail, Stop}
 use Rattle.xa_manager.specs.declared.call.Call.TheVariants.{Recover as RecoverCall, At, Show}
@@ -40,13 +41,9 @@ takes_rows (Put key value) = true
 takes_rows (Del key) = true
 takes_rows Disconnect = false
 
--- the text behind a word and the blanks after it
-abbrev pub behind : List ℕ → List ℕ
-behind text = without_blanks (after_word text)
-
 -- the number that is all of a text, but for blanks behind it
 unfoldable pub lone_number : List ℕ → Option ℕ
-lone_number text = if is_empty_line (behind text) then number_named (first_word text) else None
+lone_number text = if is_empty_line (behind_word text) then number_named (first_word text) else None
 
 -- a call that is all of its line
 abbrev pub alone : Call → List ℕ → Call
@@ -77,17 +74,17 @@ with_number (Some number) call = call number
 unfoldable pub work_of : List ℕ → Call
 work_of text =
     with_number (number_named (first_word text)) (λ number.
-    with_number (number_named (first_word (behind text))) (λ store. work_call number store (read_of (behind (behind text)))))
+    with_number (number_named (first_word (behind_word text))) (λ store. work_call number store (read_of (behind_word (behind_word text)))))
 
 -- k STATEMENT
 unfoldable pub at_of : List ℕ → Call
-at_of text = with_number (number_named (first_word text)) (λ store. at_call store (read_of (behind text)))
+at_of text = with_number (number_named (first_word text)) (λ store. at_call store (read_of (behind_word text)))
 
 -- k AFTER j
 unfoldable pub fail_of : List ℕ → Call
 fail_of text =
     with_number (number_named (first_word text)) (λ store.
-    if bytes_eq (first_word (behind text)) (codes "AFTER") then numbered (λ calls. Fail store calls) (lone_number (behind (behind text))) else Unread 0)
+    if bytes_eq (first_word (behind_word text)) (codes "AFTER") then numbered (λ calls. Fail store calls) (lone_number (behind_word (behind_word text))) else Unread 0)
 
 -- the calls that are about no transaction, by their first word and the text behind it
 unfoldable pub plain_call : List ℕ → List ℕ → Call
@@ -111,11 +108,11 @@ call_named word text =
 -- a line that isn't blank at its first byte; `#` begins a comment
 abbrev pub filled_call : List ℕ → Call
 filled_call [] = Silent
-filled_call (first ∷ rest) = if first == 35 then Silent else call_named (first_word (first ∷ rest)) (behind (first ∷ rest))
+filled_call (first ∷ rest) = if first == 35 then Silent else call_named (first_word (first ∷ rest)) (behind_word (first ∷ rest))
 
 -- what a line tells: its words are cut at blanks, and written as they stand here
 unfoldable pub call_of : List ℕ → Call
-call_of line = filled_call (without_blanks line)
+call_of line = filled_call (unblank line)
 
 -- work gives GET, PUT or DEL, as in each call that a line tells
 abbrev pub IsWritten : Call → Type 0

@@ -1,12 +1,12 @@
 //! Lines, read as calls.
 ghost use Rattle.std.specs.Prelude.{◌≡◌, Some, None, MatchOption};
-ghost use Rattle.xa_transcript.specs.Script.{first_word};
-ghost use Rattle.xa_manager.specs.Calls.{number_named, lone_number, takes_rows, behind, alone as alone_call, work_of, at_of, fail_of, plain_call, call_named, call_of, numbered, IsWritten};
+ghost use Rattle.xa_transcript.specs.Script.{first_word, behind_word};
+ghost use Rattle.xa_manager.specs.Calls.{number_named, lone_number, takes_rows, alone as alone_call, work_of, at_of, fail_of, plain_call, call_named, call_of, numbered, IsWritten};
 
 use crate::Call;
 use xa_statement::read_statement;
-use xa_transcript::{skip_blanks, split_word};
-use xa_xid::{Statement, number_of};
+use xa_transcript::split_word;
+use xa_xid::{Statement, number_of, skip_blanks};
 
 /// The number that the word names: decimal, below 2^64, without leading zeros.
 #[tactic(auto, unfolding(crate::specs::Calls::number_named))]
@@ -28,7 +28,7 @@ fn number_in(word: &[u8]) -> Option<u64>
 fn number_then(text: &[u8]) -> Option<(u64, &[u8])>
     ensures { MatchOption result
         (number_named (first_word text.now) ≡ None)
-        (λ found. (number_named (first_word text.now) ≡ Some found.0) × (found.1.now ≡ behind text.now)) }
+        (λ found. (number_named (first_word text.now) ≡ Some found.0) × (found.1.now ≡ behind_word text.now)) }
 {
     let (word, rest) = split_word(text);
     match number_in(word) {

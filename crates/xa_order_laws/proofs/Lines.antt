@@ -1,74 +1,70 @@
 -- The line of an effect, read back.
-use Rattle.std.proofs.Common.{◌≡◌, ◌≢◌, ℕ, zero, suc, ◌+◌, true, false, Result, Ok, Err, List, [], ◌∷◌, ◌++◌, codes, decimal, drop, refl, ap, sym, ◌∙◌, subst}
+use Rattle.std.proofs.Common.{◌≡◌, ◌≢◌, ℕ, zero, suc, ◌+◌, true, false, Result, Ok, Err, List, [], ◌∷◌, ◌++◌, codes, decimal, refl, ap, sym, ◌∙◌, subst}
 use Rattle.std.proofs.Common.{arith, lit<, lit≤}
-use Rattle.std.specs.List.{prefix_len}
 use Rattle.std.proofs.lemmas.Fmt.{decimal_digit, decimal_step}
+use Rattle.xa_xid.specs.Bytes.{belongs, behind, unblank}
 use Rattle.xa_xid.specs.declared.statement.Statement.{Statement}
 use Rattle.xa_xid.specs.declared.statement.Statement.TheVariants.{Start, End, Prepare, Commit, Rollback, Recover, Unsupported, Get, Put, Del, Disconnect}
 use Rattle.xa_statement.specs.Canonical.{statement_text}
 use Rattle.xa_statement.specs.Grammar.{Spells}
 use Rattle.xa_statement.specs.Reading.{read_of}
 use Rattle.xa_statement.proofs.Faults.{reads_spelled}
-use Rattle.xa_transcript.specs.Script.{Given, line_of, is_blank, without_blanks}
+use Rattle.xa_transcript.specs.Script.{Given, line_of}
 use Rattle.xa_judge.specs.Explained.{IsSession}
 use Rattle.xa_record.specs.Events.{request_read, request_called}
 use Rattle.xa_record.specs.VerdictText.{call_text, text_read, canonical_text}
 use Rattle.xa_order_laws.specs.Replaying.{IsWellCalled}
 
--- blanks are skipped one after another
-skipped : (text : List ℕ) → without_blanks text ≡ text → drop (1 + prefix_len is_blank text) (32 ∷ text) ≡ text
-skipped text bare = let one : 1 + prefix_len is_blank text ≡ suc (prefix_len is_blank text) = omega arith in rw one bare
-
 -- a session's number, a blank and a text that begins with none are a line of that session
-pub line_back : (session : ℕ) → IsSession session → (text : List ℕ) → without_blanks text ≡ text
+pub line_back : (session : ℕ) → IsSession session → (text : List ℕ) → unblank text ≡ text
     → line_of (decimal session ++ codes " " ++ text) ≡ Given session text
-unfolding line_of
+unfolding line_of behind belongs
 line_back zero is text bare = absurd (omega (arith, is.0))
 line_back (suc zero) is text bare =
-    subst (λ (d : List ℕ). line_of (d ++ codes " " ++ text) ≡ Given 1 text) (sym (decimal_digit 1 (lit< tt))) (ap (Given 1) (skipped text bare))
+    subst (λ (d : List ℕ). line_of (d ++ codes " " ++ text) ≡ Given 1 text) (sym (decimal_digit 1 (lit< tt))) (ap (Given 1) bare)
 line_back (suc (suc zero)) is text bare =
-    subst (λ (d : List ℕ). line_of (d ++ codes " " ++ text) ≡ Given 2 text) (sym (decimal_digit 2 (lit< tt))) (ap (Given 2) (skipped text bare))
+    subst (λ (d : List ℕ). line_of (d ++ codes " " ++ text) ≡ Given 2 text) (sym (decimal_digit 2 (lit< tt))) (ap (Given 2) bare)
 line_back (suc (suc (suc zero))) is text bare =
-    subst (λ (d : List ℕ). line_of (d ++ codes " " ++ text) ≡ Given 3 text) (sym (decimal_digit 3 (lit< tt))) (ap (Given 3) (skipped text bare))
+    subst (λ (d : List ℕ). line_of (d ++ codes " " ++ text) ≡ Given 3 text) (sym (decimal_digit 3 (lit< tt))) (ap (Given 3) bare)
 line_back (suc (suc (suc (suc zero)))) is text bare =
-    subst (λ (d : List ℕ). line_of (d ++ codes " " ++ text) ≡ Given 4 text) (sym (decimal_digit 4 (lit< tt))) (ap (Given 4) (skipped text bare))
+    subst (λ (d : List ℕ). line_of (d ++ codes " " ++ text) ≡ Given 4 text) (sym (decimal_digit 4 (lit< tt))) (ap (Given 4) bare)
 line_back (suc (suc (suc (suc (suc zero))))) is text bare =
-    subst (λ (d : List ℕ). line_of (d ++ codes " " ++ text) ≡ Given 5 text) (sym (decimal_digit 5 (lit< tt))) (ap (Given 5) (skipped text bare))
+    subst (λ (d : List ℕ). line_of (d ++ codes " " ++ text) ≡ Given 5 text) (sym (decimal_digit 5 (lit< tt))) (ap (Given 5) bare)
 line_back (suc (suc (suc (suc (suc (suc zero)))))) is text bare =
-    subst (λ (d : List ℕ). line_of (d ++ codes " " ++ text) ≡ Given 6 text) (sym (decimal_digit 6 (lit< tt))) (ap (Given 6) (skipped text bare))
+    subst (λ (d : List ℕ). line_of (d ++ codes " " ++ text) ≡ Given 6 text) (sym (decimal_digit 6 (lit< tt))) (ap (Given 6) bare)
 line_back (suc (suc (suc (suc (suc (suc (suc zero))))))) is text bare =
-    subst (λ (d : List ℕ). line_of (d ++ codes " " ++ text) ≡ Given 7 text) (sym (decimal_digit 7 (lit< tt))) (ap (Given 7) (skipped text bare))
+    subst (λ (d : List ℕ). line_of (d ++ codes " " ++ text) ≡ Given 7 text) (sym (decimal_digit 7 (lit< tt))) (ap (Given 7) bare)
 line_back (suc (suc (suc (suc (suc (suc (suc (suc zero)))))))) is text bare =
-    subst (λ (d : List ℕ). line_of (d ++ codes " " ++ text) ≡ Given 8 text) (sym (decimal_digit 8 (lit< tt))) (ap (Given 8) (skipped text bare))
+    subst (λ (d : List ℕ). line_of (d ++ codes " " ++ text) ≡ Given 8 text) (sym (decimal_digit 8 (lit< tt))) (ap (Given 8) bare)
 line_back (suc (suc (suc (suc (suc (suc (suc (suc (suc zero))))))))) is text bare =
-    subst (λ (d : List ℕ). line_of (d ++ codes " " ++ text) ≡ Given 9 text) (sym (decimal_digit 9 (lit< tt))) (ap (Given 9) (skipped text bare))
+    subst (λ (d : List ℕ). line_of (d ++ codes " " ++ text) ≡ Given 9 text) (sym (decimal_digit 9 (lit< tt))) (ap (Given 9) bare)
 line_back (suc (suc (suc (suc (suc (suc (suc (suc (suc (suc zero)))))))))) is text bare =
     subst (λ (d : List ℕ). line_of (d ++ codes " " ++ text) ≡ Given 10 text)
-    (sym (decimal_step 10 (lit≤ tt) (lit< tt) ∙ ap (λ (d : List ℕ). d ++ 48 ∷ []) (decimal_digit 1 (lit< tt)))) (ap (Given 10) (skipped text bare))
+    (sym (decimal_step 10 (lit≤ tt) (lit< tt) ∙ ap (λ (d : List ℕ). d ++ 48 ∷ []) (decimal_digit 1 (lit< tt)))) (ap (Given 10) bare)
 line_back (suc (suc (suc (suc (suc (suc (suc (suc (suc (suc (suc zero))))))))))) is text bare =
     subst (λ (d : List ℕ). line_of (d ++ codes " " ++ text) ≡ Given 11 text)
-    (sym (decimal_step 11 (lit≤ tt) (lit< tt) ∙ ap (λ (d : List ℕ). d ++ 49 ∷ []) (decimal_digit 1 (lit< tt)))) (ap (Given 11) (skipped text bare))
+    (sym (decimal_step 11 (lit≤ tt) (lit< tt) ∙ ap (λ (d : List ℕ). d ++ 49 ∷ []) (decimal_digit 1 (lit< tt)))) (ap (Given 11) bare)
 line_back (suc (suc (suc (suc (suc (suc (suc (suc (suc (suc (suc (suc zero)))))))))))) is text bare =
     subst (λ (d : List ℕ). line_of (d ++ codes " " ++ text) ≡ Given 12 text)
-    (sym (decimal_step 12 (lit≤ tt) (lit< tt) ∙ ap (λ (d : List ℕ). d ++ 50 ∷ []) (decimal_digit 1 (lit< tt)))) (ap (Given 12) (skipped text bare))
+    (sym (decimal_step 12 (lit≤ tt) (lit< tt) ∙ ap (λ (d : List ℕ). d ++ 50 ∷ []) (decimal_digit 1 (lit< tt)))) (ap (Given 12) bare)
 line_back (suc (suc (suc (suc (suc (suc (suc (suc (suc (suc (suc (suc (suc zero))))))))))))) is text bare =
     subst (λ (d : List ℕ). line_of (d ++ codes " " ++ text) ≡ Given 13 text)
-    (sym (decimal_step 13 (lit≤ tt) (lit< tt) ∙ ap (λ (d : List ℕ). d ++ 51 ∷ []) (decimal_digit 1 (lit< tt)))) (ap (Given 13) (skipped text bare))
+    (sym (decimal_step 13 (lit≤ tt) (lit< tt) ∙ ap (λ (d : List ℕ). d ++ 51 ∷ []) (decimal_digit 1 (lit< tt)))) (ap (Given 13) bare)
 line_back (suc (suc (suc (suc (suc (suc (suc (suc (suc (suc (suc (suc (suc (suc zero)))))))))))))) is text bare =
     subst (λ (d : List ℕ). line_of (d ++ codes " " ++ text) ≡ Given 14 text)
-    (sym (decimal_step 14 (lit≤ tt) (lit< tt) ∙ ap (λ (d : List ℕ). d ++ 52 ∷ []) (decimal_digit 1 (lit< tt)))) (ap (Given 14) (skipped text bare))
+    (sym (decimal_step 14 (lit≤ tt) (lit< tt) ∙ ap (λ (d : List ℕ). d ++ 52 ∷ []) (decimal_digit 1 (lit< tt)))) (ap (Given 14) bare)
 line_back (suc (suc (suc (suc (suc (suc (suc (suc (suc (suc (suc (suc (suc (suc (suc zero))))))))))))))) is text bare =
     subst (λ (d : List ℕ). line_of (d ++ codes " " ++ text) ≡ Given 15 text)
-    (sym (decimal_step 15 (lit≤ tt) (lit< tt) ∙ ap (λ (d : List ℕ). d ++ 53 ∷ []) (decimal_digit 1 (lit< tt)))) (ap (Given 15) (skipped text bare))
+    (sym (decimal_step 15 (lit≤ tt) (lit< tt) ∙ ap (λ (d : List ℕ). d ++ 53 ∷ []) (decimal_digit 1 (lit< tt)))) (ap (Given 15) bare)
 line_back (suc (suc (suc (suc (suc (suc (suc (suc (suc (suc (suc (suc (suc (suc (suc (suc zero)))))))))))))))) is text bare =
     subst (λ (d : List ℕ). line_of (d ++ codes " " ++ text) ≡ Given 16 text)
-    (sym (decimal_step 16 (lit≤ tt) (lit< tt) ∙ ap (λ (d : List ℕ). d ++ 54 ∷ []) (decimal_digit 1 (lit< tt)))) (ap (Given 16) (skipped text bare))
+    (sym (decimal_step 16 (lit≤ tt) (lit< tt) ∙ ap (λ (d : List ℕ). d ++ 54 ∷ []) (decimal_digit 1 (lit< tt)))) (ap (Given 16) bare)
 line_back (suc (suc (suc (suc (suc (suc (suc (suc (suc (suc (suc (suc (suc (suc (suc (suc (suc more))))))))))))))))) is text bare = absurd (omega (arith, is.1))
 
 -- the canonical form of a statement begins with no blank
-canonical_bare : (statement : Statement) (text : List ℕ) → without_blanks text ≡ text
-    → without_blanks (canonical_text statement text) ≡ canonical_text statement text
-unfolding statement_text
+canonical_bare : (statement : Statement) (text : List ℕ) → unblank text ≡ text
+    → unblank (canonical_text statement text) ≡ canonical_text statement text
+unfolding statement_text behind belongs
 canonical_bare (Start xid) text bare = refl
 canonical_bare (End xid) text bare = refl
 canonical_bare (Prepare xid) text bare = refl
@@ -83,11 +79,11 @@ canonical_bare (Put key value) text bare = refl
 canonical_bare (Del key) text bare = refl
 canonical_bare Disconnect text bare = refl
 
-text_bare : (read : Result Statement ℕ) (text : List ℕ) → without_blanks text ≡ text → without_blanks (text_read read text) ≡ text_read read text
+text_bare : (read : Result Statement ℕ) (text : List ℕ) → unblank text ≡ text → unblank (text_read read text) ≡ text_read read text
 text_bare (Ok statement) text bare = canonical_bare statement text bare
 text_bare (Err place) text bare = bare
 
-pub call_bare : (text : List ℕ) → without_blanks text ≡ text → without_blanks (call_text text) ≡ call_text text
+pub call_bare : (text : List ℕ) → unblank text ≡ text → unblank (call_text text) ≡ call_text text
 call_bare text bare = text_bare (read_of text) text bare
 
 spelled_back : (statement : Statement) → Spells (statement_text statement) statement → read_of (statement_text statement) ≡ Ok statement

@@ -7,6 +7,7 @@
 --     AreEffects                   the lines give what takes effect, in order, along moves that lead through the events
 --     AreWellCalled                what sessions call for begins with no blank, and is written so that it is read as the same
 use Rattle.std.specs.Prelude.{◌≡◌, ◌≢◌, ℕ, Option, Some, None, Ok, List, [], ◌∷◌, ◌++◌, codes, decimal, slice_get}
+use Rattle.xa_xid.specs.Bytes.{unblank}
 use Rattle.xa_xid.specs.declared.statement.Statement.{Statement}
 use Rattle.xa_xid.specs.declared.statement.Statement.TheVariants.{Unsupported, Disconnect}
 use Rattle.xa_statement.specs.Canonical.{statement_text}
@@ -14,7 +15,7 @@ use Rattle.xa_statement.specs.Grammar.{Spells}
 use Rattle.xa_statement.specs.Reading.{read_of}
 use Rattle.xa_server.specs.State.{State}
 use Rattle.xa_server.specs.Replies.{reply_to}
-use Rattle.xa_transcript.specs.Script.{Given, line_of, without_blanks}
+use Rattle.xa_transcript.specs.Script.{Given, line_of}
 use Rattle.xa_transcript.specs.Printed.{reply_text, syntax_text, converts, answer_text}
 use Rattle.xa_judge.specs.declared.request.Request.{Request}
 use Rattle.xa_judge.specs.declared.request.Request.TheVariants.{Statement as Asked, Unread}
@@ -92,7 +93,7 @@ AreEffects old (event ∷ events) [] lines = ⊥
 -- a text that a session calls for begins with no blank, and the canonical form of its statement is read as that statement, as `canonical_text_is_spelled` of
 -- `xa_statement` says of each
 pub record IsWellCalled (text : List ℕ) : Type 0 where
-  pub bare : without_blanks text ≡ text
+  pub bare : unblank text ≡ text
   pub canonical : (statement : Statement) → read_of text ≡ Ok statement → statement ≢ Unsupported → Spells (statement_text statement) statement
 
 abbrev pub IsWellTold : Told → Type 0

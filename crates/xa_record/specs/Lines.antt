@@ -10,8 +10,8 @@ use Rattle.xa_xid.specs.Bytes.{unblank}
 use Rattle.xa_xid.specs.Literal.{Reading, literal_ahead}
 use Rattle.xa_xid.specs.Xid.{Text}
 use Rattle.xa_xid.specs.declared.xid.Xid.{Xid}
-use Rattle.xa_transcript.specs.Script.{Line, Blank, Bad as BadLine, Given, line_of, without_blanks, first_word}
-use Rattle.xa_record.specs.Rows.{behind_word, leading_number, number_named}
+use Rattle.xa_transcript.specs.Script.{Line, Blank, Bad as BadLine, Given, line_of, first_word, behind_word}
+use Rattle.xa_record.specs.Rows.{leading_number, number_named}
 
 -- what a return shows
 pub data Shown : Type 0 where
@@ -50,7 +50,7 @@ begins_remark (byte ∷ bytes) = byte == 35
 
 -- it is blank, or its first byte that isn't is `#`
 abbrev pub is_remark : List ℕ → Bool
-is_remark line = begins_remark (without_blanks line)
+is_remark line = begins_remark (unblank line)
 
 -- a text without the blanks at its end
 unfoldable pub trimmed : List ℕ → List ℕ
@@ -63,7 +63,7 @@ alone said (byte ∷ rest) = Bad
 
 -- the value behind VALUE
 abbrev pub value_said : ℕ → Reading Text → LineSaid
-value_said session (Ok (value, rest)) = alone (Says (Returns session (ShowsValue (Some value)))) (without_blanks rest)
+value_said session (Ok (value, rest)) = alone (Says (Returns session (ShowsValue (Some value)))) (unblank rest)
 value_said session (Err fault) = Bad
 
 -- how many rows stand behind ROWS

@@ -10,8 +10,9 @@
 --     notes_of            the notes after these lines
 --     faults_in, told_in  what is written for the faulty lines of a record;  what happens in it, each with its line's number
 use Rattle.std.specs.Prelude.{ℕ, ◌+◌, ◌-◌, ◌==◌, if◌then◌else◌, Option, Some, None, List, [], ◌∷◌, ◌++◌, codes, decimal, slice_get, slice_set, replicate}
+use Rattle.xa_xid.specs.Bytes.{unblank}
 use Rattle.xa_xid.specs.declared.xid.Xid.{Xid}
-use Rattle.xa_transcript.specs.Script.{lines_of, without_blanks}
+use Rattle.xa_transcript.specs.Script.{lines_of}
 use Rattle.xa_record.specs.declared.line_fault.LineFault.{LineFault}
 use Rattle.xa_record.specs.declared.line_fault.LineFault.TheVariants.{NotALine, NotARow, RowsMissing, OpenCall, NoOpenCall, Lost as WasLost}
 use Rattle.xa_record.specs.declared.presence.Presence.{Presence}
@@ -116,7 +117,7 @@ with_row notes awaited number (Some xid) = awaiting notes (record awaited { miss
 -- a line where a row is to stand
 unfoldable pub noted_row : Notes → Awaited → ℕ → List ℕ → Notes
 noted_row notes awaited number line =
-    if is_remark line then notes else with_row (record notes { awaited = None }) awaited number (row_said (without_blanks line))
+    if is_remark line then notes else with_row (record notes { awaited = None }) awaited number (row_said (unblank line))
 
 -- a line where none is
 unfoldable pub noted_said : Notes → ℕ → LineSaid → Notes

@@ -11,11 +11,7 @@ use Rattle.xa_xid.specs.Literal.{Reading}
 use Rattle.xa_xid.specs.Number.{number_ahead}
 use Rattle.xa_xid.specs.declared.byte_class.ByteClass.TheVariants.{Decimal}
 use Rattle.xa_xid.specs.declared.xid.Xid.{Xid}
-use Rattle.xa_transcript.specs.Script.{is_empty_line, without_blanks, first_word, after_word}
-
--- the text behind a word and the blanks after it
-abbrev pub behind_word : List ℕ → List ℕ
-behind_word text = without_blanks (after_word text)
+use Rattle.xa_transcript.specs.Script.{is_empty_line, first_word, behind_word}
 
 abbrev pub number_read : Reading ℕ → Option ℕ
 number_read (Ok (number, rest)) = Some number

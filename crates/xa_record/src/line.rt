@@ -1,7 +1,7 @@
 //! What a line of a record says.
 ghost use Rattle.std.specs.Prelude.{◌≡◌};
-ghost use Rattle.xa_transcript.specs.Script.{first_word};
-ghost use Rattle.xa_record.specs.Rows.{behind_word as behind_word_of, leading_number as leading_number_of, number_named};
+ghost use Rattle.xa_transcript.specs.Script.{first_word, behind_word as behind_word_of};
+ghost use Rattle.xa_record.specs.Rows.{leading_number as leading_number_of, number_named};
 ghost use Rattle.xa_record.specs.Lines.{alone, begins_remark, is_remark as is_remark_line, trimmed as trimmed_text, value_said, rows_said, error_said, return_said, loss_said, session_said, reading_of_line, Says, Awaits, Calls, Returns, Leaves};
 ghost use Rattle.xa_record.specs.Kept.{shown_kept, line_kept};
 ghost use Rattle.xa_xid.specs.Literal.{literal_ahead};
@@ -9,8 +9,8 @@ ghost use Rattle.xa_xid.specs.Literal.{literal_ahead};
 use crate::happening::Happening;
 use crate::rows::{behind_word, leading_number, number_in};
 use xa_judge::Seen;
-use xa_transcript::{ScriptLine, read_line, skip_blanks, split_word};
-use xa_xid::{ByteClass, SessionNo, literal_of};
+use xa_transcript::{ScriptLine, read_line, split_word};
+use xa_xid::{ByteClass, SessionNo, literal_of, skip_blanks};
 
 /// What a line of a record says.
 #[derive(Drop)]

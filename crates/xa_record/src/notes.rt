@@ -12,8 +12,7 @@ use crate::presence::Presence;
 use crate::rows::read_row;
 use std::alloc::Global;
 use xa_judge::Seen;
-use xa_transcript::skip_blanks;
-use xa_xid::{NoMemory, SessionNo, Xid};
+use xa_xid::{NoMemory, SessionNo, Xid, skip_blanks};
 
 /// What was read of a record so far.
 #[derive(Drop)]

@@ -2,12 +2,12 @@
 ghost use Rattle.std.specs.Prelude.{◌≡◌, ◌≤◌, ◌+◌, length, take, drop, IfSome, option_copied, Some, Ok};
 ghost use Rattle.hex.specs.Hex.{decode_sized};
 ghost use Rattle.xa_xid.specs.Limits.{text_bytes};
-ghost use Rattle.xa_transcript.specs.Script.{first_word};
-ghost use Rattle.xa_record.specs.Rows.{behind_word as behind_word_of, leading_number as leading_number_of, number_named, digits_named, xid_of, xid_written, xid_with, row_of, row_said};
+ghost use Rattle.xa_transcript.specs.Script.{first_word, behind_word as behind_word_of};
+ghost use Rattle.xa_record.specs.Rows.{leading_number as leading_number_of, number_named, digits_named, xid_of, xid_written, xid_with, row_of, row_said};
 
 use arrayvec::ArrayVec;
-use xa_transcript::{skip_blanks, split_word};
-use xa_xid::{ByteClass, Bytes, Xid, number_of};
+use xa_transcript::split_word;
+use xa_xid::{ByteClass, Bytes, Xid, number_of, skip_blanks};
 
 /// The text behind a word and the blanks after it.
 pub fn behind_word(text: &[u8]) -> &[u8]

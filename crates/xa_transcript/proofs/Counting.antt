@@ -9,12 +9,3 @@ use Rattle.std.proofs.lemmas.List.Sums.{prefix_len-le-length}
 pub from_position : (test : ℕ → Bool) (xs : List ℕ) (r : Option ℕ) → r ≡ cond (ltb (position_or_len test xs) (length xs)) (Some (position_or_len test xs)) None
     → unwrap_or r (length xs) ≡ position_or_len test xs
 from_position test xs r e = let le : position_or_len test xs ≤ length xs = prefix_len-le-length (λ x. not (test x)) xs in grind (arith, common_steps)
-
-pub not-not : (b : Bool) → not (not b) ≡ b
-not-not true = refl
-not-not false = refl
-
--- a test that is turned round twice
-pub prefix_len-not_not : (p : ℕ → Bool) (xs : List ℕ) → prefix_len (λ x. not (not (p x))) xs ≡ prefix_len p xs
-prefix_len-not_not p [] = refl
-prefix_len-not_not p (x ∷ xs) = rw (not-not (p x), prefix_len-not_not p xs) refl

@@ -4,7 +4,8 @@ use Rattle.std.proofs.Common.{suc}
 use Rattle.std.specs.List.{prefix_len}
 use Rattle.std.proofs.lemmas.List.{drop-drop}
 use Rattle.std.proofs.lemmas.Grind.{common_steps}
-use Rattle.xa_transcript.specs.Script.{Blank, Bad, Given, lines_of, with_first, line_of, line_given, filled_line, without_blanks, first_word, after_word}
+use Rattle.xa_xid.specs.Bytes.{unblank}
+use Rattle.xa_transcript.specs.Script.{Blank, Bad, Given, lines_of, with_first, line_of, line_given, filled_line, first_word, after_word}
 use Rattle.xa_transcript.specs.Script.{session_named, is_empty_line}
 
 -- how many bytes stand before the first line feed
@@ -41,23 +42,23 @@ empty_is : (text : List ℕ) → (length text == 0) ≡ is_empty_line text
 empty_is [] = refl
 empty_is (x ∷ xs) = grind (arith, common_steps)
 
-pub line_of-blank : (line text : List ℕ) → text ≡ without_blanks line → (length text == 0) ≡ true → Blank ≡ line_of line
+pub line_of-blank : (line text : List ℕ) → text ≡ unblank line → (length text == 0) ≡ true → Blank ≡ line_of line
 unfolding line_of
-line_of-blank line text is empty = let e : is_empty_line (without_blanks line) ≡ true = ap is_empty_line (sym is) ∙ sym (empty_is text) ∙ empty in rw e refl
+line_of-blank line text is empty = let e : is_empty_line (unblank line) ≡ true = ap is_empty_line (sym is) ∙ sym (empty_is text) ∙ empty in rw e refl
 
-pub line_of-filled : (line text : List ℕ) → text ≡ without_blanks line → (length text == 0) ≡ false → line_of line ≡ filled_line text
+pub line_of-filled : (line text : List ℕ) → text ≡ unblank line → (length text == 0) ≡ false → line_of line ≡ filled_line text
 unfolding line_of
 line_of-filled line text is filled =
-    let e : is_empty_line (without_blanks line) ≡ false = ap is_empty_line (sym is) ∙ sym (empty_is text) ∙ filled in rw (e, is) refl
+    let e : is_empty_line (unblank line) ≡ false = ap is_empty_line (sym is) ∙ sym (empty_is text) ∙ filled in rw (e, is) refl
 
 pub filled-bad : (line text word : List ℕ) → line_of line ≡ filled_line text → word ≡ first_word text → session_named word ≡ None → Bad ≡ line_of line
-filled-bad line text word is at none = sym (is ∙ ap (λ s. line_given s (without_blanks (after_word text))) (ap session_named (sym at) ∙ none))
+filled-bad line text word is at none = sym (is ∙ ap (λ s. line_given s (unblank (after_word text))) (ap session_named (sym at) ∙ none))
 
 pub filled-given : (line text word rest : List ℕ) (session : ℕ) → line_of line ≡ filled_line text → word ≡ first_word text → rest ≡ after_word text
     → session_named word ≡ Some session
-    → Given session (without_blanks rest) ≡ line_of line
+    → Given session (unblank rest) ≡ line_of line
 filled-given line text word rest session is at after some =
-    rw after (sym (is ∙ ap (λ s. line_given s (without_blanks (after_word text))) (ap session_named (sym at) ∙ some)))
+    rw after (sym (is ∙ ap (λ s. line_given s (unblank (after_word text))) (ap session_named (sym at) ∙ some)))
 
 -- the first line of a text that is split after it
 pub lines_of-split : (text line rest lines : List ℕ) → 0 < length text → line ≡ take (first_length text) text → rest ≡ drop (first_length text) text

@@ -1,5 +1,4 @@
 -- How replies are printed.
---     part            the text of a key's or value's bytes
 --     row_text        the line of a recovered identifier
 --     error_text      the text of a refusal
 --     reply_text      the text of a reply
@@ -7,6 +6,7 @@
 --     answer_text     the line of an answer
 use Rattle.std.specs.Prelude.{ℕ, Bool, true, false, Some, None, List, [], ◌∷◌, ◌++◌, length, codes, decimal}
 use Rattle.hex.specs.Hex.{encode_lower}
+use Rattle.xa_xid.specs.XidText.{part_text}
 use Rattle.xa_xid.specs.declared.xid.Xid.{Xid}
 use Rattle.xa_xid.specs.declared.statement.Statement.{Statement}
 use Rattle.xa_xid.specs.declared.statement.Statement.TheVariants.{Start, End, Prepare, Commit, Rollback, Recover, Unsupported, Get, Put, Del, Disconnect}
@@ -16,11 +16,6 @@ use Rattle.xa_server.specs.declared.xa_error.XaError.{XaError}
 use Rattle.xa_server.specs.declared.xa_error.XaError.TheVariants.{Nota, Inval, Rmfail, Dupid, RowLocked}
 use Rattle.xa_server.specs.declared.xa_error.BranchState.{BranchState}
 use Rattle.xa_server.specs.declared.xa_error.BranchState.TheVariants.{NonExisting, Active, Idle, Prepared}
-
--- `0x` and two small digits for each byte, and `X''` where there is no byte
-abbrev pub part : List ℕ → List ℕ
-part [] = codes "X''"
-part (byte ∷ bytes) = codes "0x" ++ encode_lower (byte ∷ bytes)
 
 -- the bytes of a recovered identifier: as they are, or with CONVERT XID as `0x` and two small digits for each
 -- (manual, XA RECOVER; `0x` alone for no byte is our own)
@@ -57,7 +52,7 @@ error_text RowLocked = codes "ERROR 3572 (HY000): row locked by another branch"
 abbrev pub reply_text : Bool → Reply → List ℕ
 reply_text convert Accepted = codes "OK"
 reply_text convert (Value None) = codes "NONE"
-reply_text convert (Value (Some value)) = codes "VALUE " ++ part value.items
+reply_text convert (Value (Some value)) = codes "VALUE " ++ part_text value.items
 reply_text convert (Recovered xids) = codes "ROWS " ++ decimal (length xids) ++ rows_text convert xids
 reply_text convert (Refused error) = error_text error
 

@@ -1,12 +1,12 @@
 -- What a script is made of.
 --     lines_of        the lines of a script
 --     Line, line_of   what a line says;  what this line says
---     is_blank        the bytes that stand between words
---     without_blanks  a text without the blanks at its beginning
---     first_word, after_word     a text up to its first blank;  and from there on
+--     first_word, after_word, behind_word     a text up to its first blank;  from there on;  and from the first byte after that which isn't a blank
 --     session_named   the session that a word names
 use Rattle.std.specs.Prelude.{ℕ, ◌+◌, ◌-◌, nat_le, ◌==◌, Bool, true, false, not, ◌&&◌, ◌||◌, cond, Option, Some, None, List, [], ◌∷◌, take, drop}
 use Rattle.std.specs.List.{prefix_len}
+use Rattle.xa_xid.specs.Bytes.{belongs, unblank}
+use Rattle.xa_xid.specs.declared.byte_class.ByteClass.TheVariants.{Blank as BlankByte}
 use Rattle.xa_transcript.specs.declared.lines.ScriptLine.{ScriptLine}
 use Rattle.xa_transcript.specs.declared.lines.ScriptLine.TheVariants.{Blank as BlankLine, Bad as BadLine, Given as GivenLine}
 
@@ -24,21 +24,17 @@ unfoldable pub lines_of : List ℕ → List (List ℕ)
 lines_of [] = []
 lines_of (byte ∷ bytes) = cond (byte == 10) ([] ∷ lines_of bytes) (with_first byte (lines_of bytes))
 
--- space, tab, line feed and carriage return
-abbrev pub is_blank : ℕ → Bool
-is_blank byte = (byte == 32) || (byte == 9) || (byte == 10) || (byte == 13)
-
 abbrev pub is_no_blank : ℕ → Bool
-is_no_blank byte = not (is_blank byte)
-
-abbrev pub without_blanks : List ℕ → List ℕ
-without_blanks text = drop (prefix_len is_blank text) text
+is_no_blank byte = not (belongs BlankByte byte)
 
 abbrev pub first_word : List ℕ → List ℕ
 first_word text = take (prefix_len is_no_blank text) text
 
 abbrev pub after_word : List ℕ → List ℕ
 after_word text = drop (prefix_len is_no_blank text) text
+
+abbrev pub behind_word : List ℕ → List ℕ
+behind_word text = unblank (after_word text)
 
 -- a decimal number from 1 to 16 without leading zeros: a digit from 1 to 9, or a 1 and a digit from 0 to 6
 abbrev pub session_named : List ℕ → Option ℕ
@@ -63,11 +59,11 @@ line_given (Some session) statement = Given session statement
 
 -- a line that isn't blank
 abbrev pub filled_line : List ℕ → Line
-filled_line text = line_given (session_named (first_word text)) (without_blanks (after_word text))
+filled_line text = line_given (session_named (first_word text)) (behind_word text)
 
 -- a line is blank, or a session's number, and after blanks the text of its statement (own rule)
 unfoldable pub line_of : List ℕ → Line
-line_of line = cond (is_empty_line (without_blanks line)) Blank (filled_line (without_blanks line))
+line_of line = cond (is_empty_line (unblank line)) Blank (filled_line (unblank line))
 
 -- what a line that was read says
 abbrev pub line_seen : ScriptLine → Line

@@ -17,7 +17,7 @@ mod streams;
 pub use answer::{answer_line, answer_statement, converts};
 pub use cut_reader::CutReader;
 pub use cut_writer::CutWriter;
-pub use lines::{ScriptLine, read_line, skip_blanks, split_line, split_word};
+pub use lines::{ScriptLine, read_line, split_line, split_word};
 pub use long_race::race_script_in_rounds;
 pub use print::{push_number, push_reply, push_syntax_fault};
 pub use racing::race_script;

@@ -1,17 +1,9 @@
 //! The lines of a script, and what each says.
 ghost use Rattle.std.specs.Prelude.{◌≡◌, ◌≤◌, ◌<◌, ◌∷◌, ◌==◌, not, length, IsTrue, MatchOption, None, Some};
 ghost use Rattle.std.specs.List.{prefix_len};
-ghost use Rattle.xa_transcript.specs.Script.{is_blank, is_no_blank, first_word, after_word, without_blanks, session_named, line_of, lines_of};
-ghost use Rattle.xa_transcript.specs.Script.{line_seen};
+ghost use Rattle.xa_transcript.specs.Script.{is_no_blank, first_word, after_word, session_named, line_of, lines_of, line_seen};
 
-use xa_xid::SessionNo;
-
-/// Whether the byte stands between words: space, tab, line feed or carriage return.
-pub fn is_blank_byte(byte: u8) -> bool
-    ensures { result ≡ is_blank byte }
-{
-    byte == b' ' || byte == b'\t' || byte == b'\n' || byte == b'\r'
-}
+use xa_xid::{ByteClass, SessionNo, skip_blanks};
 
 /// How many bytes stand before the first line feed.
 pub fn line_length(text: &[u8]) -> usize
@@ -23,23 +15,13 @@ pub fn line_length(text: &[u8]) -> usize
         .unwrap_or(text.len())
 }
 
-/// How many blanks the text begins with.
-fn blanks_length(text: &[u8]) -> usize
-    ensures length { result ≡ prefix_len is_blank text.now }
-    ensures within { result ≤ length text.now }
-{
-    text.iter()
-        .position(|byte| !is_blank_byte(*byte))
-        .unwrap_or(text.len())
-}
-
 /// How many bytes stand before the first blank.
 fn word_length(text: &[u8]) -> usize
     ensures length { result ≡ prefix_len is_no_blank text.now }
     ensures within { result ≤ length text.now }
 {
     text.iter()
-        .position(|byte| is_blank_byte(*byte))
+        .position(|byte| ByteClass::Blank.has(*byte))
         .unwrap_or(text.len())
 }
 
@@ -64,17 +46,6 @@ pub enum ScriptLine<'a> {
     Bad,
     /// The session gives the statement of this text.
     Given(SessionNo, &'a [u8]),
-}
-
-/// The text without the blanks at its beginning.
-///
-/// Takes no memory. Doesn't wait.
-/// Own rule: docs/BEHAVIOR.md, 'Scripts'.
-pub fn skip_blanks(text: &[u8]) -> &[u8]
-    ensures value { result.now ≡ without_blanks text.now }
-    ensures within { length result.now ≤ length text.now }
-{
-    text.split_at(blanks_length(text)).1
 }
 
 /// The first line, without its line feed, and what stands after that.

@@ -1,12 +1,15 @@
 //! Prints replies.
-ghost use Rattle.std.specs.Prelude.{◌≡◌, ◌++◌, OnOk, IfOk, length, decimal, codes};
+ghost use Rattle.std.specs.Prelude.{◌≡◌, ◌≤◌, ◌++◌, OnOk, IfOk, length, decimal, codes};
 ghost use Rattle.hex.specs.Hex.{encode_lower};
-ghost use Rattle.xa_transcript.specs.Printed.{part, row_data, row_text, rows_text, error_text, reply_text, syntax_text};
+ghost use Rattle.xa_xid.specs.Limits.{text_bytes};
+ghost use Rattle.xa_xid.specs.XidText.{part_text};
+ghost use Rattle.xa_transcript.specs.Printed.{row_data, row_text, rows_text, error_text, reply_text, syntax_text};
 
 use std::alloc::{AllocError, Global};
 use std::io::Write;
+use std::mem;
 use xa_server::{BranchState, Reply, XaError};
-use xa_xid::{NoMemory, Xid};
+use xa_xid::{NoMemory, Xid, with_part};
 
 /// Appends the number in decimal.
 ///
@@ -27,15 +30,14 @@ fn push_digits(alloc: Global, text: &mut Vec<u8>, bytes: &[u8]) -> Result<(), No
     text.extend_from_slice(digits.as_bytes())
 }
 
-/// Appends the bytes of a key or a value.
+/// Appends the bytes of a key or a value. Without memory the text is lost.
 fn push_part(alloc: Global, text: &mut Vec<u8>, bytes: &[u8]) -> Result<(), NoMemory>
-    ensures { OnOk result (text.new.items ≡ text.old.items ++ part bytes.now) }
+    requires { length bytes.now ≤ text_bytes }
+    ensures { OnOk result (text.new.items ≡ text.old.items ++ part_text bytes.now) }
 {
-    if bytes.is_empty() {
-        text.extend_from_slice(b"X''")
-    } else {
-        push_digits(alloc, text, bytes)
-    }
+    let before = mem::replace(text, Vec::new(alloc));
+    *text = with_part(before, bytes)?;
+    Ok(())
 }
 
 /// Appends gtrid and bqual of an identifier, in digits where `convert`.
@@ -100,7 +102,7 @@ fn text_of(error: &XaError) -> &'static [u8]
 
 /// Appends the text of a reply, recovered identifiers in digits where `convert`. It doesn't end in a line feed.
 ///
-/// May answer `NoMemory`; then some of the text may be appended. Doesn't wait.
+/// May answer `NoMemory`; then some of the reply may be appended, or the whole text be lost. Doesn't wait.
 /// Own rule: docs/BEHAVIOR.md, 'Scripts'.
 pub fn push_reply(
     alloc: Global,

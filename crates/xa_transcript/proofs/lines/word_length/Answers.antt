@@ -2,11 +2,12 @@ use Rattle.std.proofs.Common.{rules, ◌∙◌}
 use borrow.Author.Tests.{tests}
 use Rattle.std.proofs.lemmas.Iterator.{YieldsList-from_slice}
 use Rattle.std.proofs.lemmas.Iterator.Search.{position_from_yields_List}
-use Rattle.xa_transcript.specs.Script.{is_blank}
+use Rattle.xa_xid.specs.Bytes.{belongs}
+use Rattle.xa_xid.specs.declared.byte_class.ByteClass.TheVariants.{Blank}
 use Rattle.xa_transcript.proofs.Counting.{from_position}
 use Rattle.xa_transcript.proofs.lines.word_length.Goals as goal
 
 pub returns-clause-length : goal.returns-clause-length
 returns-clause-length c =
-    let found = position_from_yields_List is_blank _ _ _ c.position.ensures.ran (YieldsList-from_slice c.args.text.now cc) (λ x b q k. search (rules, tests)) in
-    c.unwrap_or.ensures ∙ from_position is_blank c.args.text.now _ found
+    let found = position_from_yields_List (belongs Blank) _ _ _ c.position.ensures.ran (YieldsList-from_slice c.args.text.now cc) (λ x b q k. search (rules, tests)) in
+    c.unwrap_or.ensures ∙ from_position (belongs Blank) c.args.text.now _ found
