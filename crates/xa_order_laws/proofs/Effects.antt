@@ -6,6 +6,7 @@ use Rattle.std.proofs.lemmas.Option.{none-some, same_Some, slice_get_within, con
 use Rattle.xa_statement.specs.Canonical.{statement_text}
 use Rattle.xa_statement.proofs.Canon.{disconnect_spelled}
 use Rattle.xa_statement.proofs.Faults.{reads_spelled}
+use Rattle.xa_xid.specs.Bytes.{behind, belongs}
 use Rattle.xa_xid.specs.declared.statement.Statement.TheVariants.{Disconnect}
 use Rattle.xa_server.specs.State.{State}
 use Rattle.xa_transcript.specs.Script.{line_of}
@@ -124,7 +125,7 @@ statement_line calls config session request is kept opened =
 
 disconnect_line : (calls : List (List ℕ)) (config : Config) (session : ℕ) → IsSession session
     → IsEffectLine config session ItsDisconnect (effect_line calls session ItsDisconnect)
-unfolding statement_text
+unfolding statement_text behind belongs
 disconnect_line calls config session is = record {
   request = Asked Disconnect;
   is = refl;
