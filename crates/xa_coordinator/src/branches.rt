@@ -97,10 +97,8 @@ impl<S: Speak> Coordinator<S> {
         ensures marks { ChangesAt store self.old.branches self.new.branches }
         ensures prepares { AtStore S.view store (PreparesAs (branch_xid self.old.name.items number store) result) self.old.stores.items self.new.stores.items }
     {
-        match self.end_branch(rt, store, number) {
-            Ok(()) => self.prepare_ended(rt, store, number),
-            Err(cause) => Err(cause),
-        }
+        self.end_branch(rt, store, number)?;
+        self.prepare_ended(rt, store, number)
     }
 
     /// Gives the statement that finishes a branch.
@@ -130,10 +128,8 @@ impl<S: Speak> Coordinator<S> {
         ensures marks { ChangesAt store self.old.branches self.new.branches }
         ensures closes { AtStore S.view store (ClosesAs true (Rollback (branch_xid self.old.name.items number store)) (branch_xid self.old.name.items number store) result) self.old.stores.items self.new.stores.items }
     {
-        match self.end_branch(rt, store, number) {
-            Ok(()) => self.finish_branch(rt, store, number, Closing::RollBack),
-            Err(cause) => Err(cause),
-        }
+        self.end_branch(rt, store, number)?;
+        self.finish_branch(rt, store, number, Closing::RollBack)
     }
 
     /// Whether the coordinator has the transaction's branch open in a store.

@@ -57,15 +57,13 @@ impl<S: Speak> Coordinator<S> {
         ensures spent { result ≡ Err BeginFault.NumbersSpent → length decisions.old ≡ most_numbers }
         ensures full { length decisions.old ≡ most_numbers → result ≡ Err BeginFault.NumbersSpent }
     {
-        match decisions.give() {
-            Ok(number) => Ok(Transaction {
-                number,
-                name: copy_of(&self.name),
-                stores: self.stores.len() as u8,
-                participants: Participants::none(),
-            }),
-            Err(fault) => Err(fault),
-        }
+        let number = decisions.give()?;
+        Ok(Transaction {
+            number,
+            name: copy_of(&self.name),
+            stores: self.stores.len() as u8,
+            participants: Participants::none(),
+        })
     }
 
     /// The coordinator as another of the same name over the same sessions would be, which has nothing open in them. Nothing is said to the stores.

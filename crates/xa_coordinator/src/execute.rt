@@ -77,12 +77,8 @@ impl<S: Speak> Coordinator<S> {
         ensures unsaid { OnErr result (self.new.branches ≡ self.old.branches) }
         ensures says { AtStore S.view store (IsToldAs statement.now result) self.old.stores.items self.new.stores.items }
     {
-        match execute_on(rt, &mut self.stores[store as usize], statement) {
-            Ok(()) => {
-                self.branches[store as usize] = then;
-                Ok(())
-            }
-            Err(cause) => Err(cause),
-        }
+        execute_on(rt, &mut self.stores[store as usize], statement)?;
+        self.branches[store as usize] = then;
+        Ok(())
     }
 }

@@ -48,13 +48,12 @@ impl<S: Speak> Coordinator<S> {
         ensures closed { OnOk result (ClosesNext S.view (ends_first closing (has_working_branch self.old.branches store number)) (finish_statement closing (branch_xid self.old.name.items number store)) (branch_xid self.old.name.items number store) store missing.old.items missing.new.items self.old.stores.items self.new.stores.items) }
         ensures stopped { IfErr result (λ cause. AtStore S.view store (IsUnfinished (ends_first closing (has_working_branch self.old.branches store number)) (finish_statement closing (branch_xid self.old.name.items number store)) (branch_xid self.old.name.items number store) cause) self.old.stores.items self.new.stores.items) }
     {
-        match self.finish_open(rt, store, number, closing) {
-            Ok(Found::Closed) => Ok(()),
-            Ok(Found::Missing) => {
+        match self.finish_open(rt, store, number, closing)? {
+            Found::Closed => Ok(()),
+            Found::Missing => {
                 missing.push(store);
                 Ok(())
             }
-            Err(cause) => Err(cause),
         }
     }
 

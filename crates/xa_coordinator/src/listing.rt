@@ -17,10 +17,8 @@ fn let_go<S: Speak, R: Wait>(rt: &R, session: &mut S) -> Result<(), Fault>
     ensures done { OnOk result (IsDisconnected (S.view session.old) (S.view session.new)) }
     ensures undone { IfErr result (λ fault. IsUndone DisconnectStatement (Cause.Session fault) (S.view session.old) (S.view session.new)) }
 {
-    match session.execute(rt, &Statement::Disconnect) {
-        Ok(_answer) => Ok(()),
-        Err(fault) => Err(fault),
-    }
+    session.execute(rt, &Statement::Disconnect)?;
+    Ok(())
 }
 
 /// The prepared branches of a session's store, and the place at which they are.
@@ -29,12 +27,10 @@ fn list_prepared<S: Speak, R: Wait>(rt: &R, session: &mut S) -> Result<(XidList,
     ensures listed { IfOk result (λ found. ListsPrepared found.0 found.1 (S.view session.old) (S.view session.new)) }
     ensures undone { IfErr result (λ fault. IsUndone (RecoverStatement false) (Cause.Session fault) (S.view session.old) (S.view session.new)) }
 {
-    match session.execute(rt, &Statement::Recover { convert: false }) {
-        Ok(Answer { place, reply }) => match reply {
-            Reply::Recovered(xids) => Ok((xids, place)),
-            _ => unreachable!(),
-        },
-        Err(fault) => Err(fault),
+    let Answer { place, reply } = session.execute(rt, &Statement::Recover { convert: false })?;
+    match reply {
+        Reply::Recovered(xids) => Ok((xids, place)),
+        _ => unreachable!(),
     }
 }
 
@@ -49,13 +45,9 @@ impl<S: Speak> Coordinator<S> {
         ensures done { OnOk result (AtStore S.view store IsDisconnected self.old.stores.items self.new.stores.items) }
         ensures undone { IfErr result (λ fault. AtStore S.view store (IsUndone DisconnectStatement (Cause.Session fault)) self.old.stores.items self.new.stores.items) }
     {
-        match let_go(rt, &mut self.stores[store as usize]) {
-            Ok(()) => {
-                self.branches[store as usize] = None;
-                Ok(())
-            }
-            Err(fault) => Err(fault),
-        }
+        let_go(rt, &mut self.stores[store as usize])?;
+        self.branches[store as usize] = None;
+        Ok(())
     }
 
     /// The prepared branches of a store.
@@ -71,9 +63,6 @@ impl<S: Speak> Coordinator<S> {
         ensures listed { IfOk result (λ found. AtStore S.view store (ListsPrepared found.0 found.1) self.old.stores.items self.new.stores.items) }
         ensures undone { IfErr result (λ fault. AtStore S.view store (IsUndone (RecoverStatement false) (Cause.Session fault)) self.old.stores.items self.new.stores.items) }
     {
-        match list_prepared(rt, &mut self.stores[store as usize]) {
-            Ok(found) => Ok(found),
-            Err(fault) => Err(fault),
-        }
+        list_prepared(rt, &mut self.stores[store as usize])
     }
 }

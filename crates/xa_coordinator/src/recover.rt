@@ -99,10 +99,10 @@ impl<S: Speak> Coordinator<S> {
         ensures fails { IfErr result (λ fault. BreaksHere S.view decisions.now self.old.name.items store fault self.old.stores.items self.new.stores.items) }
     {
         match self.finish_prepared(rt, decisions, store) {
-            Ok(tally) => match self.look_again(rt, store) {
-                Ok(front) => Ok((tally, front)),
-                Err(fault) => Err(fault),
-            },
+            Ok(tally) => {
+                let front = self.look_again(rt, store)?;
+                Ok((tally, front))
+            }
             Err(cause) => Err(fault_of(store, cause)),
         }
     }

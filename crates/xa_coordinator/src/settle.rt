@@ -71,10 +71,8 @@ impl<S: Speak> Coordinator<S> {
             return Ok(tally);
         };
         let decided = decisions.is_decided(number);
-        match self.finish_branch(rt, store, number, finish_decided(decided)) {
-            Ok(found) => Ok(with_one(tally, decided, found)),
-            Err(cause) => Err(cause),
-        }
+        let found = self.finish_branch(rt, store, number, finish_decided(decided))?;
+        Ok(with_one(tally, decided, found))
     }
 
     /// Finishes each listed branch of this coordinator's naming, in order, up to the first that isn't finished.

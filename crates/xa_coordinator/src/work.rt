@@ -35,10 +35,8 @@ impl<S: Speak> Coordinator<S> {
         ensures replied { IfOk result (λ reply. AtStore S.view store (IsReplied statement.now reply (branch_xid self.old.name.items number store)) self.old.stores.items self.new.stores.items) }
         ensures undone { IfErr result (λ fault. AtStore S.view store (IsUndone statement.now (Cause.Session fault)) self.old.stores.items self.new.stores.items) }
     {
-        match self.stores[store as usize].execute(rt, statement) {
-            Ok(answer) => Ok(answer.reply),
-            Err(fault) => Err(fault),
-        }
+        let answer = self.stores[store as usize].execute(rt, statement)?;
+        Ok(answer.reply)
     }
 
     /// Work in a store in which the coordinator has the transaction's branch open and ACTIVE.

@@ -1,11 +1,15 @@
+use Rattle.std.proofs.lemmas.Result.{err_from_is_err_and}
 use Rattle.xa_xid.specs.declared.statement.Statement.TheVariants.{Disconnect}
 use Rattle.xa_coordinator.specs.declared.fault.Cause.TheVariants.{Session}
 use Rattle.xa_coordinator.proofs.LettingGo.{disconnected_as}
 use Rattle.xa_coordinator.proofs.Telling.{is_undone}
 use Rattle.xa_coordinator.proofs.listing.let_go.Goals as goal
 
-pub returns-in-Ok-clause-done : goal.returns-in-Ok-clause-done
-returns-in-Ok-clause-done g c = disconnected_as _ _ _ (g.met.S.Speak.lawful c.execute.new.self) c.in-Ok.ensures.stays c.in-Ok.ensures.answered
+pub returns-clause-done : goal.returns-clause-done
+returns-clause-done g c = disconnected_as _ _ _ (g.met.S.Speak.lawful c.execute.new.self) c.in_ok-execute.ensures.stays c.in_ok-execute.ensures.answered
 
-pub returns-in-Err-clause-undone : goal.returns-in-Err-clause-undone
-returns-in-Err-clause-undone g c = is_undone Disconnect (Session c.in-Err.fault) _ _ c.in-Err.ensures.stays (c.in-Err.ensures.fails, c.in-Err.ensures.lasts)
+pub returns-in_err-execute-clause-undone : goal.returns-in_err-execute-clause-undone
+returns-in_err-execute-clause-undone g c =
+    let p = err_from_is_err_and c.from_residual.result c.from_residual.ensures.1 in
+    rw (p.1, p.2)
+    (is_undone Disconnect (Session c.in_err-execute.field-0.0) _ _ c.in_err-execute.ensures.stays (c.in_err-execute.ensures.fails, c.in_err-execute.ensures.lasts))

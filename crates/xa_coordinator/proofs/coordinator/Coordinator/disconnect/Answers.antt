@@ -1,4 +1,5 @@
 use Rattle.std.proofs.Common.{None}
+use Rattle.std.proofs.lemmas.Result.{err_from_is_err_and}
 use Rattle.xa_xid.specs.declared.statement.Statement.TheVariants.{Disconnect}
 use Rattle.xa_coordinator.specs.Recovery.{IsDisconnected}
 use Rattle.xa_coordinator.specs.Told.{IsUndone}
@@ -10,16 +11,6 @@ use Rattle.xa_coordinator.proofs.coordinator.Coordinator.disconnect.Goals as goa
 pub invariant_of-self : goal.invariant_of-self
 invariant_of-self g c =
     let me = c.args.self.now in
-    record {
-      named = me.named;
-      sized = me.sized;
-      open_there =
-          marked g.S.Speak.view me.name.items me.stores.items me.branches c.args.store c.let_go.new.session None me.open_there (λ branch is. absurd (cc));
-    }
-
-pub invariant_of-self-in-Err-1 : goal.invariant_of-self-in-Err-1
-invariant_of-self-in-Err-1 g c =
-    let me = c.args.self.now in
     let view = g.S.Speak.view in
     let old = c.index_mut.result.now in
     let new = c.let_go.new.session in
@@ -27,27 +18,39 @@ invariant_of-self-in-Err-1 g c =
       named = me.named;
       sized = me.sized;
       open_there = unmarked view me.name.items me.stores.items me.branches c.args.store old new c.index_mut.ensures.value me.open_there
-          (association_refused Disconnect (Session c.in-Err.fault) (view old) (view new) (g.met.S.Speak.lawful new) (g.met.S.Speak.own_part old)
-          (g.met.S.Speak.own_part new) c.in-Err.ensures.undone);
+          (association_refused Disconnect (Session c.in_err-let_go.field-0.0) (view old) (view new) (g.met.S.Speak.lawful new) (g.met.S.Speak.own_part old)
+          (g.met.S.Speak.own_part new) c.in_err-let_go.ensures.undone);
     }
 
-pub returns-in-Ok-clause-frame : goal.returns-in-Ok-clause-frame
-returns-in-Ok-clause-frame g c = changes_at c.args.self.now.stores.items c.args.store c.let_go.new.session
+pub invariant_of-self-2 : goal.invariant_of-self-2
+invariant_of-self-2 g c =
+    let me = c.args.self.now in
+    record {
+      named = me.named;
+      sized = me.sized;
+      open_there =
+          marked g.S.Speak.view me.name.items me.stores.items me.branches c.args.store c.let_go.new.session None me.open_there (λ branch is. absurd (cc));
+    }
 
-pub returns-in-Ok-clause-marks : goal.returns-in-Ok-clause-marks
-returns-in-Ok-clause-marks g c = changes_at c.args.self.now.branches c.args.store None
+pub returns-clause-frame : goal.returns-clause-frame
+returns-clause-frame g c = changes_at c.args.self.now.stores.items c.args.store c.let_go.new.session
 
-pub returns-in-Ok-clause-done : goal.returns-in-Ok-clause-done
-returns-in-Ok-clause-done g c =
+pub returns-clause-marks : goal.returns-clause-marks
+returns-clause-marks g c = changes_at c.args.self.now.branches c.args.store None
+
+pub returns-clause-done : goal.returns-clause-done
+returns-clause-done g c =
     at_place g.S.Speak.view c.args.self.now.name.items IsDisconnected c.args.self.now.stores.items c.args.store c.index_mut.result.now c.let_go.new.session
-    c.index_mut.ensures.value c.in-Ok.ensures.done
+    c.index_mut.ensures.value c.in_ok-let_go.ensures.done
 
-pub returns-in-Err-clause-frame : goal.returns-in-Err-clause-frame
-returns-in-Err-clause-frame g c = changes_at c.args.self.now.stores.items c.args.store c.let_go.new.session
+pub returns-in_err-let_go-clause-frame : goal.returns-in_err-let_go-clause-frame
+returns-in_err-let_go-clause-frame g c = changes_at c.args.self.now.stores.items c.args.store c.let_go.new.session
 
-pub returns-in-Err-clause-undone : goal.returns-in-Err-clause-undone
-returns-in-Err-clause-undone g c =
-    at_place g.S.Speak.view c.args.self.now.name.items
-    (IsUndone Disconnect (Session c.in-Err.fault)) c.args.self.now.stores.items c.args.store c.index_mut.result.now c.let_go.new.session
+pub returns-in_err-let_go-clause-undone : goal.returns-in_err-let_go-clause-undone
+returns-in_err-let_go-clause-undone g c =
+    let p = err_from_is_err_and c.from_residual.result c.from_residual.ensures.1 in
+    rw (p.1, p.2)
+    (at_place g.S.Speak.view c.args.self.now.name.items
+    (IsUndone Disconnect (Session c.in_err-let_go.field-0.0)) c.args.self.now.stores.items c.args.store c.index_mut.result.now c.let_go.new.session
     c.index_mut.ensures.value
-    c.in-Err.ensures.undone
+    c.in_err-let_go.ensures.undone)

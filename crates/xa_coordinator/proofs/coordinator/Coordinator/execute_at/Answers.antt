@@ -1,3 +1,4 @@
+use Rattle.std.proofs.lemmas.Result.{err_from_is_err_and}
 use Rattle.xa_coordinator.specs.Told.{IsDone, IsUndone}
 use Rattle.xa_coordinator.proofs.Keeping.{marked, unmarked, at_place, changes_at, leaves_association}
 use Rattle.xa_coordinator.proofs.Telling.{association_refused}
@@ -12,13 +13,13 @@ invariant_of-self g c =
     record {
       named = me.named;
       sized = me.sized;
-      open_there = marked view me.name.items me.stores.items me.branches c.args.store new c.args.then me.open_there
-          (leaves_association me.name.items c.args.store c.args.statement.now c.args.then (view old) (view new) c.requires.leaves (g.met.S.Speak.lawful new)
-          (g.met.S.Speak.own_part old) (g.met.S.Speak.own_part new) c.in-Ok.ensures.says);
+      open_there = unmarked view me.name.items me.stores.items me.branches c.args.store old new c.index_mut.ensures.value me.open_there
+          (association_refused c.args.statement.now c.in_err-execute_on.field-0.0 (view old) (view new) (g.met.S.Speak.lawful new)
+          (g.met.S.Speak.own_part old) (g.met.S.Speak.own_part new) c.in_err-execute_on.ensures.says);
     }
 
-pub invariant_of-self-in-Err-1 : goal.invariant_of-self-in-Err-1
-invariant_of-self-in-Err-1 g c =
+pub invariant_of-self-2 : goal.invariant_of-self-2
+invariant_of-self-2 g c =
     let me = c.args.self.now in
     let view = g.S.Speak.view in
     let old = c.index_mut.result.now in
@@ -26,28 +27,30 @@ invariant_of-self-in-Err-1 g c =
     record {
       named = me.named;
       sized = me.sized;
-      open_there = unmarked view me.name.items me.stores.items me.branches c.args.store old new c.index_mut.ensures.value me.open_there
-          (association_refused c.args.statement.now c.in-Err.cause (view old) (view new) (g.met.S.Speak.lawful new)
-          (g.met.S.Speak.own_part old) (g.met.S.Speak.own_part new) c.in-Err.ensures.says);
+      open_there = marked view me.name.items me.stores.items me.branches c.args.store new c.args.then me.open_there
+          (leaves_association me.name.items c.args.store c.args.statement.now c.args.then (view old) (view new) c.requires.leaves (g.met.S.Speak.lawful new)
+          (g.met.S.Speak.own_part old) (g.met.S.Speak.own_part new) c.in_ok-execute_on.ensures.says);
     }
 
-pub returns-in-Ok-clause-frame : goal.returns-in-Ok-clause-frame
-returns-in-Ok-clause-frame g c = changes_at c.args.self.now.stores.items c.args.store c.execute_on.new.session
+pub returns-clause-frame : goal.returns-clause-frame
+returns-clause-frame g c = changes_at c.args.self.now.stores.items c.args.store c.execute_on.new.session
 
-pub returns-in-Ok-clause-marks : goal.returns-in-Ok-clause-marks
-returns-in-Ok-clause-marks g c = changes_at c.args.self.now.branches c.args.store c.args.then
+pub returns-clause-marks : goal.returns-clause-marks
+returns-clause-marks g c = changes_at c.args.self.now.branches c.args.store c.args.then
 
-pub returns-in-Ok-clause-says : goal.returns-in-Ok-clause-says
-returns-in-Ok-clause-says g c =
+pub returns-clause-says : goal.returns-clause-says
+returns-clause-says g c =
     at_place g.S.Speak.view c.args.self.now.name.items
     (IsDone c.args.statement.now) c.args.self.now.stores.items c.args.store c.index_mut.result.now c.execute_on.new.session c.index_mut.ensures.value
-    c.in-Ok.ensures.says
+    c.in_ok-execute_on.ensures.says
 
-pub returns-in-Err-clause-frame : goal.returns-in-Err-clause-frame
-returns-in-Err-clause-frame g c = changes_at c.args.self.now.stores.items c.args.store c.execute_on.new.session
+pub returns-in_err-execute_on-clause-frame : goal.returns-in_err-execute_on-clause-frame
+returns-in_err-execute_on-clause-frame g c = changes_at c.args.self.now.stores.items c.args.store c.execute_on.new.session
 
-pub returns-in-Err-clause-says : goal.returns-in-Err-clause-says
-returns-in-Err-clause-says g c =
-    at_place g.S.Speak.view c.args.self.now.name.items
-    (IsUndone c.args.statement.now c.in-Err.cause) c.args.self.now.stores.items c.args.store c.index_mut.result.now c.execute_on.new.session
-    c.index_mut.ensures.value c.in-Err.ensures.says
+pub returns-in_err-execute_on-clause-says : goal.returns-in_err-execute_on-clause-says
+returns-in_err-execute_on-clause-says g c =
+    let p = err_from_is_err_and c.from_residual.result c.from_residual.ensures.1 in
+    rw (p.1, p.2)
+    (at_place g.S.Speak.view c.args.self.now.name.items
+    (IsUndone c.args.statement.now c.in_err-execute_on.field-0.0) c.args.self.now.stores.items c.args.store c.index_mut.result.now c.execute_on.new.session
+    c.index_mut.ensures.value c.in_err-execute_on.ensures.says)

@@ -1,6 +1,7 @@
 use Rattle.std.proofs.Common.{◌≡◌, ap, sym, ◌∙◌, Some, arith}
 use Rattle.std.specs.Prelude.{slice_get}
 use Rattle.std.proofs.lemmas.Option.{slice_get-get_or}
+use Rattle.std.proofs.lemmas.Result.{err_from_is_err_and}
 use Rattle.xa_xid.specs.declared.xid.Xid.{Xid}
 use Rattle.xa_server.specs.declared.association.Association.TheVariants.{Active}
 use Rattle.xa_coordinator.specs.declared.fault.Cause.TheVariants.{Session}
@@ -34,11 +35,11 @@ invariant_of-self g c =
           c.execute.ensures.answered c.execute.ensures.fails c.execute.ensures.lasts);
     }
 
-pub returns-in-Ok-clause-frame : goal.returns-in-Ok-clause-frame
-returns-in-Ok-clause-frame g c = changes_at c.args.self.now.stores.items c.args.store c.execute.new.self
+pub returns-clause-frame : goal.returns-clause-frame
+returns-clause-frame g c = changes_at c.args.self.now.stores.items c.args.store c.execute.new.self
 
-pub returns-in-Ok-clause-replied : goal.returns-in-Ok-clause-replied
-returns-in-Ok-clause-replied g c =
+pub returns-clause-replied : goal.returns-clause-replied
+returns-clause-replied g c =
     let me = c.args.self.now in
     let view = g.S.Speak.view in
     let old = c.index_mut.result.now in
@@ -48,22 +49,24 @@ returns-in-Ok-clause-replied g c =
     slice_get-get_or me.stores.items c.args.store old (omega (arith, c.requires.store)) ∙ ap Some (sym c.index_mut.ensures.value) in
     let association : association_seen (view old) ≡ Active xid =
     me.open_there c.args.store old (record { number = c.args.number; phase = PhaseActive }) there c.requires.working in
-    at_place view me.name.items (IsReplied c.args.statement.now c.in-Ok.answer.reply xid) me.stores.items c.args.store old new c.index_mut.ensures.value
+    at_place view me.name.items (IsReplied c.args.statement.now c.in_ok-answer.answer.reply xid) me.stores.items c.args.store old new c.index_mut.ensures.value
     (record {
-      log = c.in-Ok.ensures.stays;
-      place = c.in-Ok.answer.place;
-      answered = c.in-Ok.ensures.answered;
+      log = c.in_ok-answer.ensures.stays;
+      place = c.in_ok-answer.answer.place;
+      answered = c.in_ok-answer.ensures.answered;
       active =
-          active_there c.args.statement.now c.in-Ok.answer xid (view old) (view new) (g.met.S.Speak.lawful new) c.in-Ok.ensures.stays
-          (g.met.S.Speak.own_part old) (g.met.S.Speak.own_part new) association c.in-Ok.ensures.answered;
+          active_there c.args.statement.now c.in_ok-answer.answer xid (view old) (view new) (g.met.S.Speak.lawful new) c.in_ok-answer.ensures.stays
+          (g.met.S.Speak.own_part old) (g.met.S.Speak.own_part new) association c.in_ok-answer.ensures.answered;
     })
 
-pub returns-in-Err-clause-frame : goal.returns-in-Err-clause-frame
-returns-in-Err-clause-frame g c = changes_at c.args.self.now.stores.items c.args.store c.execute.new.self
+pub returns-in_err-answer-clause-frame : goal.returns-in_err-answer-clause-frame
+returns-in_err-answer-clause-frame g c = changes_at c.args.self.now.stores.items c.args.store c.execute.new.self
 
-pub returns-in-Err-clause-undone : goal.returns-in-Err-clause-undone
-returns-in-Err-clause-undone g c =
-    at_place g.S.Speak.view c.args.self.now.name.items
-    (IsUndone c.args.statement.now (Session c.in-Err.fault)) c.args.self.now.stores.items c.args.store c.index_mut.result.now c.execute.new.self
+pub returns-in_err-answer-clause-undone : goal.returns-in_err-answer-clause-undone
+returns-in_err-answer-clause-undone g c =
+    let p = err_from_is_err_and c.from_residual.result c.from_residual.ensures.1 in
+    rw (p.1, p.2)
+    (at_place g.S.Speak.view c.args.self.now.name.items
+    (IsUndone c.args.statement.now (Session c.in_err-answer.field-0.0)) c.args.self.now.stores.items c.args.store c.index_mut.result.now c.execute.new.self
     c.index_mut.ensures.value
-    (is_undone c.args.statement.now (Session c.in-Err.fault) _ _ c.in-Err.ensures.stays (c.in-Err.ensures.fails, c.in-Err.ensures.lasts))
+    (is_undone c.args.statement.now (Session c.in_err-answer.field-0.0) _ _ c.in_err-answer.ensures.stays (c.in_err-answer.ensures.fails, c.in_err-answer.ensures.lasts)))

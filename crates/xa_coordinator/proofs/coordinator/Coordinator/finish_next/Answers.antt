@@ -5,24 +5,24 @@ use Rattle.xa_coordinator.specs.Outcomes.{finish_statement, ends_first, ClosesAs
 use Rattle.xa_coordinator.specs.Stores.{AtStore}
 use Rattle.xa_coordinator.proofs.coordinator.Coordinator.finish_next.Goals as goal
 
-pub returns-in-Ok-Closed-clause-closed : goal.returns-in-Ok-Closed-clause-closed
-returns-in-Ok-Closed-clause-closed g c =
+pub returns-in-Closed-clause-closed : goal.returns-in-Closed-clause-closed
+returns-in-Closed-clause-closed g c =
     inl (
       refl,
       subst (λ found. AtStore g.S.Speak.view c.args.store
           (ClosesAs (ends_first c.args.closing (has_working_branch c.args.self.now.branches c.args.store c.args.number))
           (finish_statement c.args.closing (branch_xid c.args.self.now.name.items c.args.number c.args.store))
           (branch_xid c.args.self.now.name.items c.args.number c.args.store) (Ok found)) c.args.self.now.stores.items c.finish_open.new.self.stores.items)
-          c.in-Ok-Closed.field-0-is c.in-Ok-Closed.ensures.closes,
+          c.in-Closed.is c.in_ok-finish_open.ensures.closes,
     )
 
-pub returns-in-Ok-Missing-clause-closed : goal.returns-in-Ok-Missing-clause-closed
-returns-in-Ok-Missing-clause-closed g c =
+pub returns-in-Missing-clause-closed : goal.returns-in-Missing-clause-closed
+returns-in-Missing-clause-closed g c =
     inr (
       c.push.ensures.items,
       subst (λ found. AtStore g.S.Speak.view c.args.store
           (ClosesAs (ends_first c.args.closing (has_working_branch c.args.self.now.branches c.args.store c.args.number))
           (finish_statement c.args.closing (branch_xid c.args.self.now.name.items c.args.number c.args.store))
           (branch_xid c.args.self.now.name.items c.args.number c.args.store) (Ok found)) c.args.self.now.stores.items c.finish_open.new.self.stores.items)
-          c.in-Ok-Missing.field-0-is c.in-Ok-Missing.ensures.closes,
+          c.in-Missing.is c.in_ok-finish_open.ensures.closes,
     )

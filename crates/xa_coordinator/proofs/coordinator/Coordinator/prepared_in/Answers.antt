@@ -1,6 +1,9 @@
 use Rattle.std.proofs.Common.{false}
+use Rattle.std.specs.Prelude.{slice_set}
+use Rattle.std.proofs.lemmas.Result.{IfOk-weaker, IfErr-weaker}
 use Rattle.xa_xid.specs.declared.statement.Statement.TheVariants.{Recover}
 use Rattle.xa_coordinator.specs.Recovery.{ListsPrepared}
+use Rattle.xa_coordinator.specs.Stores.{AtStore}
 use Rattle.xa_coordinator.specs.Told.{IsUndone}
 use Rattle.xa_coordinator.specs.declared.fault.Cause.TheVariants.{Session}
 use Rattle.xa_coordinator.proofs.Keeping.{unmarked, at_place, changes_at}
@@ -17,22 +20,27 @@ invariant_of-self g c =
           c.index_mut.ensures.value me.open_there c.list_prepared.ensures.association;
     }
 
-pub returns-in-Ok-clause-frame : goal.returns-in-Ok-clause-frame
-returns-in-Ok-clause-frame g c = changes_at c.args.self.now.stores.items c.args.store c.list_prepared.new.session
+pub returns-clause-frame : goal.returns-clause-frame
+returns-clause-frame g c = changes_at c.args.self.now.stores.items c.args.store c.list_prepared.new.session
 
-pub returns-in-Ok-clause-listed : goal.returns-in-Ok-clause-listed
-returns-in-Ok-clause-listed g c =
-    at_place g.S.Speak.view c.args.self.now.name.items
-    (ListsPrepared c.in-Ok.found.0 c.in-Ok.found.1) c.args.self.now.stores.items c.args.store c.index_mut.result.now c.list_prepared.new.session
-    c.index_mut.ensures.value
-    c.in-Ok.ensures.listed
+pub returns-clause-listed : goal.returns-clause-listed
+returns-clause-listed g c =
+    let me = c.args.self.now in
+    let view = g.S.Speak.view in
+    let old = c.index_mut.result.now in
+    let new = c.list_prepared.new.session in
+    IfOk-weaker c.list_prepared.result (λ found. ListsPrepared found.0 found.1 (view old) (view new))
+    (λ found. AtStore view c.args.store (ListsPrepared found.0 found.1) me.stores.items (slice_set me.stores.items c.args.store new))
+    (λ found is. at_place view me.name.items (ListsPrepared found.0 found.1) me.stores.items c.args.store old new c.index_mut.ensures.value is)
+    c.list_prepared.ensures.listed
 
-pub returns-in-Err-clause-frame : goal.returns-in-Err-clause-frame
-returns-in-Err-clause-frame g c = changes_at c.args.self.now.stores.items c.args.store c.list_prepared.new.session
-
-pub returns-in-Err-clause-undone : goal.returns-in-Err-clause-undone
-returns-in-Err-clause-undone g c =
-    at_place g.S.Speak.view c.args.self.now.name.items
-    (IsUndone (Recover false) (Session c.in-Err.fault)) c.args.self.now.stores.items c.args.store c.index_mut.result.now c.list_prepared.new.session
-    c.index_mut.ensures.value
-    c.in-Err.ensures.undone
+pub returns-clause-undone : goal.returns-clause-undone
+returns-clause-undone g c =
+    let me = c.args.self.now in
+    let view = g.S.Speak.view in
+    let old = c.index_mut.result.now in
+    let new = c.list_prepared.new.session in
+    IfErr-weaker c.list_prepared.result (λ fault. IsUndone (Recover false) (Session fault) (view old) (view new))
+    (λ fault. AtStore view c.args.store (IsUndone (Recover false) (Session fault)) me.stores.items (slice_set me.stores.items c.args.store new))
+    (λ fault is. at_place view me.name.items (IsUndone (Recover false) (Session fault)) me.stores.items c.args.store old new c.index_mut.ensures.value is)
+    c.list_prepared.ensures.undone
