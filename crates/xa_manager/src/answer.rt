@@ -18,10 +18,8 @@ use xa_xid::{NoMemory, Statement};
 fn reply_in(answered: Result<Answer, Fault>) -> Result<Reply, Fault>
     ensures { result ≡ reply_of answered }
 {
-    match answered {
-        Ok(Answer { reply, .. }) => Ok(reply),
-        Err(fault) => Err(fault),
-    }
+    let answer = answered?;
+    Ok(answer.reply)
 }
 
 /// What is told of a transaction that doesn't begin.

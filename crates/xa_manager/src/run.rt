@@ -233,8 +233,6 @@ pub fn coordinate<R: Wait, I: Read, W: Write>(
     ensures fault { IfErr result (λ fault. AfterCallsFault stores fault (I.remaining reader.old) (W.contents writer.old) (W.contents writer.new)) }
     ensures too_long { result ≡ Err ScriptFault.TooLong → ConsumesMoreThan script_bytes (I.remaining reader.old) (I.remaining reader.new) }
 {
-    match read_all(alloc, reader) {
-        Ok(script) => over_stores(rt, alloc, stores, capacity, script.as_slice(), writer),
-        Err(fault) => Err(fault),
-    }
+    let script = read_all(alloc, reader)?;
+    over_stores(rt, alloc, stores, capacity, script.as_slice(), writer)
 }
