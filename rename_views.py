@@ -8,6 +8,10 @@ W = re.compile(r"(?<![\w'\-])(" + "|".join(WORDS) + r")(?![\w'])(?!-)")
 NAMES = re.compile(r"\b(with_)?hand(_of|_at)?\b")
 def sh(*a): return subprocess.run(a, capture_output=True, text=True).stdout.split("\n")
 def code(s): return W.sub(lambda m: WORDS[m[1]], s)
+import os
+for a, b in (("load_both", "load_for_pair"), ("spare", "split_empty")):
+    p = "crates/decision_log/proofs/log_table/LogTable/"
+    if os.path.isdir(p + a): subprocess.run(["git", "mv", p + a, p + b], check=True)
 n = 0
 for f in sh("git", "ls-files", "crates/decision_log", "crates/chain_log", "crates/log_conformance", "crates/decision_log_tests", "docs/LOG.md", "docs/GLOSSARY.md", "docs/DECISIONS.md", "docs/ARCHITECTURE.md", "docs/CONTRIBUTING.md", "docs/GUARANTEES.md"):
     if not re.search(r"\.(rt|antt|edit|md)$", f): continue
