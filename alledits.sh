@@ -3,7 +3,7 @@
 clone=$1; shift
 mkdir -p /work/h/edits
 [ -d $clone ] || git clone -q /work/h/base $clone
-proved() { grep -q "^rt: $1 proved" /work/h/gateA.log; }
+proved() { grep -q " ok $1 " /work/h/s/state*; }
 for c in "$@"; do
   deps=$(sed 's/#.*//' $clone/crates.txt | awk -F: -v c=$c '{split($1,a," "); if(a[1]==c) print $2}')
   while :; do
@@ -12,7 +12,7 @@ for c in "$@"; do
     [ $ok = 1 ] && break
     sleep 15
   done
-  python3 /work/h/tools/takebase.py /work/h/gateA $clone > /work/h/edits/$c.base 2>&1
+  python3 /work/h/tools/takebase.py /work/h/base $clone > /work/h/edits/$c.base 2>&1
   cd $clone/crates/$c
   date > /work/h/edits/$c.txt
   rt check --jobs 1 2>&1 | tail -3 >> /work/h/edits/$c.txt
