@@ -17,10 +17,15 @@ impl ChainLog {
     fn read_cell(&self, seat: &mut Seat<Entry, SeatView>, name: u64) -> [u64; WORDS]
         requires seat { IsSeat self.now seat.old }
         requires ours { IsOurs self.now (pass_view seat.old) }
-        requires named { (row : ℕ) × (row < length (pass_view seat.old).known.seen) × (name ≡ name_before (pass_view seat.old).sessions (pass_view seat.old).known.seen (row + 1)) }
+        requires named { (row : ℕ)
+            × (row < length (pass_view seat.old).known.seen)
+            × (name ≡ name_before (pass_view seat.old).sessions (pass_view seat.old).known.seen (row + 1)) }
         ensures seat { IsSeat self.now seat.new }
         ensures same { pass_view seat.new ≡ pass_view seat.old }
-        ensures read { (row : ℕ) (entry : Entry) → name ≡ name_before (pass_view seat.old).sessions (pass_view seat.old).known.seen (row + 1) → slice_get (pass_view seat.old).known.seen row ≡ Some entry → IsEntry entry × (result ≡ words_of entry) }
+        ensures read { (row : ℕ) (entry : Entry)
+            → name ≡ name_before (pass_view seat.old).sessions (pass_view seat.old).known.seen (row + 1)
+            → slice_get (pass_view seat.old).known.seen row ≡ Some entry
+            → IsEntry entry × (result ≡ words_of entry) }
     {
         let mut words = [0; WORDS];
         for index in 0..WORDS {

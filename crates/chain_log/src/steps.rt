@@ -37,7 +37,10 @@ impl ChainLog {
     pub(crate) fn load_newest(&self, seat: &mut Seat<Entry, SeatView>) -> u64
         requires { IsSeat self.now seat.old }
         ensures seat { IsSeat self.now seat.new }
-        ensures seen { (seen : List Entry) × (pass_view seat.new ≡ with_look (pass_view seat.old) seen) × (result ≡ newest_of (pass_view seat.old).sessions seen) × HistoryIs (pass_view seat.old) seen }
+        ensures seen { (seen : List Entry)
+            × (pass_view seat.new ≡ with_look (pass_view seat.old) seen)
+            × (result ≡ newest_of (pass_view seat.old).sessions seen)
+            × HistoryIs (pass_view seat.old) seen }
     {
         // Nothing was loaded before that this load rests on.
         self.table.load::<SeeAll>(seat, NEWEST)
@@ -48,10 +51,15 @@ impl ChainLog {
         requires seat { IsSeat self.now seat.old }
         requires ours { IsOurs self.now (pass_view seat.old) }
         requires index { index < 22 }
-        requires named { (row : ℕ) × (row < length (pass_view seat.old).known.seen) × (name ≡ name_before (pass_view seat.old).sessions (pass_view seat.old).known.seen (row + 1)) }
+        requires named { (row : ℕ)
+            × (row < length (pass_view seat.old).known.seen)
+            × (name ≡ name_before (pass_view seat.old).sessions (pass_view seat.old).known.seen (row + 1)) }
         ensures seat { IsSeat self.now seat.new }
         ensures same { pass_view seat.new ≡ pass_view seat.old }
-        ensures read { (row : ℕ) (entry : Entry) → name ≡ name_before (pass_view seat.old).sessions (pass_view seat.old).known.seen (row + 1) → slice_get (pass_view seat.old).known.seen row ≡ Some entry → IsEntry entry × (result ≡ slice_index (name_before (pass_view seat.old).sessions (pass_view seat.old).known.seen row ∷ words_of entry) index) }
+        ensures read { (row : ℕ) (entry : Entry)
+            → name ≡ name_before (pass_view seat.old).sessions (pass_view seat.old).known.seen (row + 1)
+            → slice_get (pass_view seat.old).known.seen row ≡ Some entry
+            → IsEntry entry × (result ≡ slice_index (name_before (pass_view seat.old).sessions (pass_view seat.old).known.seen row ∷ words_of entry) index) }
     {
         let word = cell_start(name) + index;
         // The name still leads to that cell, with the same words: no cell of the history is written again.
@@ -135,7 +143,12 @@ impl ChainLog {
         ensures seat { IsSeat self.now seat.new }
         ensures won { result ≡ old → pass_view seat.new ≡ won (pass_view seat.old) entry.now }
         ensures named { result ≡ old → own ≡ newest_of (pass_view seat.new).sessions (pass_view seat.new).known.seen }
-        ensures lost { result ≢ old → (seen : List Entry) × (pass_view seat.new ≡ lost (pass_view seat.old) seen) × (result ≡ newest_of (pass_view seat.old).sessions seen) × HistoryIs (pass_view seat.old) seen × (length (pass_view seat.old).known.seen < length seen) }
+        ensures lost { result ≢ old
+            → (seen : List Entry)
+            × (pass_view seat.new ≡ lost (pass_view seat.old) seen)
+            × (result ≡ newest_of (pass_view seat.old).sessions seen)
+            × HistoryIs (pass_view seat.old) seen
+            × (length (pass_view seat.old).known.seen < length seen) }
     {
         let _session = entry.session();
         // The exchange itself tests whether `old` is still the newest, and with it whether all that was seen is the history.

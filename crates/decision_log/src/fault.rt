@@ -2,6 +2,7 @@
 ghost use Rattle.std.specs.Prelude.{◌≡◌};
 ghost use Rattle.decision_log.specs.Faults.{number_of_open_fault, number_of_add_fault};
 
+use std::alloc::AllocError;
 use thiserror::Error;
 
 /// Why a log wasn't opened.
@@ -64,5 +65,16 @@ impl AddFault {
             AddFault::Full => 2,
             AddFault::Busy => 3,
         }
+    }
+}
+
+impl From<AllocError> for OpenFault {
+    ghost use Rattle.std.specs.Prelude.{◌≡◌};
+    ghost use Rattle.decision_log.specs.declared.fault.OpenFault.TheVariants.{NoMemory};
+
+    ghost from_gives = { λ _ fault. fault ≡ NoMemory };
+
+    fn from(_refused: AllocError) -> OpenFault {
+        OpenFault::NoMemory
     }
 }

@@ -21,7 +21,10 @@ ghost use Rattle.decision_log.specs.TurnRule.{row_at, turn_word, count_for, Turn
 ///
 /// Takes no memory. Doesn't wait. Own rule: docs/LOG.md, 'What a log promises'.
 pub fn mine_is_the_own_part_of_seen()
-    ensures { (capacity : ℕ) (events : List Event) (machine : Machine) → Runs events (opening_machine capacity) machine → (session : ℕ) → entries_of session (machine.knows session).seen ≡ (machine.knows session).mine }
+    ensures { (capacity : ℕ) (events : List Event) (machine : Machine)
+        → Runs events (opening_machine capacity) machine
+        → (session : ℕ)
+        → entries_of session (machine.knows session).seen ≡ (machine.knows session).mine }
 {}
 
 /// Whatever happens, what each session knows fits the history.
@@ -43,28 +46,46 @@ pub fn states_are_reached()
 ///
 /// Takes no memory. Doesn't wait. Own rule: docs/LOG.md, 'A log with a turn'.
 pub fn passes_are_sessions_of_the_machine()
-    ensures { (sizes : Sizes) (words : List ℕ) (views : List SeatView) (rule : TurnRule sizes words views) → (machine : Machine) × HasPasses sizes.sessions sizes.capacity rule.log views machine }
+    ensures { (sizes : Sizes) (words : List ℕ) (views : List SeatView) (rule : TurnRule sizes words views)
+        → (machine : Machine) × HasPasses sizes.sessions sizes.capacity rule.log views machine }
 {}
 
 /// In a log with a turn, taking the turn and giving it back leave the history as it was.
 ///
 /// Takes no memory. Doesn't wait. Own rule: docs/LOG.md, 'A log with a turn'.
 pub fn turn_keeps_the_history()
-    ensures { (sizes : Sizes) (words : List ℕ) (views views' : List SeatView) (rule : TurnRule sizes words views) (turn : ℕ) (after : TurnRule sizes (set words 1 turn) views') → after.log ≡ rule.log }
+    ensures { (sizes : Sizes) (words : List ℕ) (views views' : List SeatView) (rule : TurnRule sizes words views) (turn : ℕ)
+        (after : TurnRule sizes (set words 1 turn) views')
+        → after.log ≡ rule.log }
 {}
 
 /// In a log with a turn, a word that the fresh pass stores into the row behind all that it has seen leaves the history as it was.
 ///
 /// Takes no memory. Doesn't wait. Own rule: docs/LOG.md, 'A log with a turn'.
 pub fn store_keeps_the_history()
-    ensures { (sizes : Sizes) (words : List ℕ) (views views' : List SeatView) (rule : TurnRule sizes words views) (id : ℕ) (pass : PassView) (index word : ℕ) → get_elem? views id ≡ some (Single pass) → pass.turn ≡ Fresh → index ≤ length pass.draft → index < 21 → length pass.known.seen < pass.capacity → (after : TurnRule sizes (set words (row_at (length pass.known.seen) + index) word) views') → after.log ≡ rule.log }
+    ensures { (sizes : Sizes) (words : List ℕ) (views views' : List SeatView) (rule : TurnRule sizes words views) (id : ℕ) (pass : PassView) (index word : ℕ)
+        → get_elem? views id ≡ some (Single pass)
+        → pass.turn ≡ Fresh
+        → index ≤ length pass.draft
+        → index < 21
+        → length pass.known.seen < pass.capacity
+        → (after : TurnRule sizes (set words (row_at (length pass.known.seen) + index) word) views')
+        → after.log ≡ rule.log }
 {}
 
 /// In a log with a turn, the count that the fresh pass stores, one higher, puts the entry of its draft at the end of the history.
 ///
 /// Takes no memory. Doesn't wait. Own rule: docs/LOG.md, 'A log with a turn'.
 pub fn stored_count_adds_its_entry()
-    ensures { (sizes : Sizes) (words : List ℕ) (views views' : List SeatView) (rule : TurnRule sizes words views) (id : ℕ) (pass : PassView) (entry : Entry) → get_elem? views id ≡ some (Single pass) → pass.turn ≡ Fresh → IsEntry entry → entry.session ≡ pass.known.number → pass.draft ≡ words_of entry → length pass.known.seen < pass.capacity → (after : TurnRule sizes (set words 0 (length pass.known.seen + 1)) views') → after.log ≡ rule.log ++ entry ∷ [] }
+    ensures { (sizes : Sizes) (words : List ℕ) (views views' : List SeatView) (rule : TurnRule sizes words views) (id : ℕ) (pass : PassView) (entry : Entry)
+        → get_elem? views id ≡ some (Single pass)
+        → pass.turn ≡ Fresh
+        → IsEntry entry
+        → entry.session ≡ pass.known.number
+        → pass.draft ≡ words_of entry
+        → length pass.known.seen < pass.capacity
+        → (after : TurnRule sizes (set words 0 (length pass.known.seen + 1)) views')
+        → after.log ≡ rule.log ++ entry ∷ [] }
 {}
 
 /// In a log with a turn, a step by which a pass's `looks` rise loads the count and leaves the history as it was, and all of that is
@@ -72,12 +93,21 @@ pub fn stored_count_adds_its_entry()
 ///
 /// Takes no memory. Doesn't wait. Own rule: docs/LOG.md, 'A log with a turn'.
 pub fn each_look_sees_the_history()
-    ensures { (sizes : Sizes) (words words' : List ℕ) (views views' : List SeatView) (before : TurnRule sizes words views) (after : TurnRule sizes words' views') (step : Atomic) (found id : ℕ) (old new : PassView) → Does step words found words' → Counts count_for turn_word step found old new → new.known.looks ≢ old.known.looks → get_elem? views' id ≡ some (Single new) → (new.known.seen ≡ after.log) × (after.log ≡ before.log) }
+    ensures { (sizes : Sizes) (words words' : List ℕ) (views views' : List SeatView) (before : TurnRule sizes words views)
+        (after : TurnRule sizes words' views') (step : Atomic) (found id : ℕ) (old new : PassView)
+        → Does step words found words'
+        → Counts count_for turn_word step found old new
+        → new.known.looks ≢ old.known.looks
+        → get_elem? views' id ≡ some (Single new)
+        → (new.known.seen ≡ after.log) × (after.log ≡ before.log) }
 {}
 
 /// In a log with a turn, a step by which a pass's `tries` rise exchanges the turn's word.
 ///
 /// Takes no memory. Doesn't wait. Own rule: docs/LOG.md, 'A log with a turn'.
 pub fn each_try_exchanges_the_turn()
-    ensures { (step : Atomic) (found : ℕ) (old new : PassView) → Counts count_for turn_word step found old new → new.known.tries ≢ old.known.tries → (from to : ℕ) × (said : Option Entry) × (step ≡ Exchange turn_word from to said) }
+    ensures { (step : Atomic) (found : ℕ) (old new : PassView)
+        → Counts count_for turn_word step found old new
+        → new.known.tries ≢ old.known.tries
+        → (from to : ℕ) × (said : Option Entry) × (step ≡ Exchange turn_word from to said) }
 {}

@@ -31,7 +31,11 @@ impl<R: LogWords> LogTable<R> {
     ) -> Result<(LogTable<R>, Seat<Entry, SeatView>), AllocError>
         requires some { 0 < length words.now }
         requires rule { R.holds sizes.now (opening words.now [] (R.first sizes.now)) }
-        ensures { IfOk result (λ made. (made.0.inner.shared.table_id.words ≡ length words.now) × (made.0.inner.shared.key ≡ sizes.now) × (made.1.table_id ≡ made.0.inner.shared.table_id) × (made.1.me ≡ (R.first sizes.now, []))) }
+        ensures { IfOk result
+            (λ made. (made.0.inner.shared.table_id.words ≡ length words.now)
+            × (made.0.inner.shared.key ≡ sizes.now)
+            × (made.1.table_id ≡ made.0.inner.shared.table_id)
+            × (made.1.me ≡ (R.first sizes.now, []))) }
     {
         let (inner, seat) = Table::of_words(alloc, words, sizes)?;
         Ok((LogTable { inner }, seat))

@@ -52,15 +52,12 @@ pub fn open_seats<R: LogWords, P: SeatedPass + Drop>(
     requires sizes { AreSizes sizes.now }
     ensures wide { IfOk result (λ opened. opened.0.inner.shared.table_id.words ≡ word_count) }
     ensures sized { IfOk result (λ opened. opened.0.inner.shared.key ≡ sizes.now) }
-    ensures passes { IfOk result (λ opened. Opens P.belongs_to P.known sizes.now.capacity sizes.now.sessions (identity_at opened.0.inner.shared.table_id sizes.now) opened.1.items) }
+    ensures passes { IfOk result
+        (λ opened. Opens P.belongs_to P.known sizes.now.capacity sizes.now.sessions (identity_at opened.0.inner.shared.table_id sizes.now) opened.1.items) }
     ensures err { IfErr result (λ fault. Refuses sizes.now.capacity sizes.now.sessions fault) }
 {
-    let Ok((table, rest)) = lay_out(alloc, sizes, word_count) else {
-        return Err(OpenFault::NoMemory);
-    };
-    let Ok(passes) = deal_all(alloc, &table, rest, sizes) else {
-        return Err(OpenFault::NoMemory);
-    };
+    let (table, rest) = lay_out(alloc, sizes, word_count)?;
+    let passes = deal_all(alloc, &table, rest, sizes)?;
     Ok((table, passes))
 }
 
@@ -91,7 +88,8 @@ fn deal_all<R: LogWords, P: SeatedPass + Drop>(
     requires sizes { AreSizes sizes.now }
     requires rest { KnowsRest table.now.inner.shared.table_id rest }
     requires all { pass_view rest ≡ newcomer_view sizes.now.sessions sizes.now.capacity 1 }
-    ensures { IfOk result (λ passes. Opens P.belongs_to P.known sizes.now.capacity sizes.now.sessions (identity_at table.now.inner.shared.table_id sizes.now) passes.items) }
+    ensures { IfOk result
+        (λ passes. Opens P.belongs_to P.known sizes.now.capacity sizes.now.sessions (identity_at table.now.inner.shared.table_id sizes.now) passes.items) }
 {
     let mut passes = Vec::with_capacity(alloc, sizes.sessions as usize)?;
     for index in 0..sizes.sessions {

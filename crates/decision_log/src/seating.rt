@@ -5,7 +5,8 @@ ghost use Rattle.decision_log.specs.declared.view.SeatView.TheVariants.{Empty};
 use crate::SeatView;
 use atomic_table::{Join, Split};
 
-/// How seats are split and joined: two passes into one and one, one pass into it and nothing, the rest into the next pass and those after it; and one and one into two.
+/// How seats are split and joined: two passes into one and one, one pass into it and nothing, the rest into the next pass and
+/// those after it; and one and one into two.
 pub struct Seating;
 
 impl Split<SeatView> for Seating {

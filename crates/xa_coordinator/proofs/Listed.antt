@@ -1,10 +1,10 @@
 -- Which branches of a list are of a coordinator's naming.
-use Rattle.std.proofs.Common.{◌≡◌, ◌≢◌, ◌<◌, ◌≤◌, ◌+◌, ◌^◌, ℕ, Bool, true, false, List, [], ◌∷◌, ◌++◌, length, take, drop, get_or, zero, suc, refl, ap, sym}
-use Rattle.std.proofs.Common.{◌∙◌, subst, inl, inr, Some, arith, add-one, length-append}
+use Rattle.std.proofs.Common.{◌≡◌, ◌<◌, ◌+◌, ◌^◌, ℕ, Bool, true, false, List, [], ◌∷◌, ◌++◌, length, take, drop, get_or, zero, suc, refl, ap, sym}
+use Rattle.std.proofs.Common.{◌∙◌, subst, inl, inr, Some, add-one, length-append}
 use Rattle.std.specs.Prelude.{All, slice_get, ◌||◌, ◌&&◌, ◌⊎◌}
 use Rattle.std.specs.List.{list_any}
 use Rattle.std.specs.Int.{w64, to_be_bytes, from_be_bytes}
-use Rattle.std.proofs.lemmas.List.Elements.{All-nil, All-push, All-weaker}
+use Rattle.std.proofs.lemmas.List.Elements.{All-push, All-weaker}
 use Rattle.std.proofs.lemmas.List.Folds.{list_any_none}
 use Rattle.std.proofs.lemmas.Nat.{from_be_bytes-to_be_bytes_8}
 use Rattle.std.proofs.lemmas.Option.{slice_get-get_or}
@@ -14,7 +14,7 @@ use Rattle.xa_xid.specs.Xid.{same_xid}
 use Rattle.xa_xid.proofs.Orders.{xids_total, exact_xids}
 use Rattle.xa_server.proofs.Maps.{same_or_apart, same_itself}
 use Rattle.xa_server.proofs.Listing.{prepared_exactly}
-use Rattle.xa_server.specs.State.{State, is_prepared, prepared_xids}
+use Rattle.xa_server.specs.State.{is_prepared}
 use Rattle.xa_session.specs.Replay.{state_after}
 use Rattle.xa_session.specs.View.{SessionView}
 use Rattle.xa_coordinator.specs.Branch.{branch_xid, IsBranchOf}

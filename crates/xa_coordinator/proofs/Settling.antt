@@ -1,8 +1,8 @@
 -- What a recovery does with the prepared branches of a store, and what it counts.
-use Rattle.std.proofs.Common.{◌≡◌, ◌≤◌, ◌<◌, ◌+◌, ℕ, Bool, true, false, List, [], ◌∷◌, ◌++◌, length, refl, ap, sym, ◌∙◌, subst, cond, inl, inr, arith}
+use Rattle.std.proofs.Common.{◌≡◌, ◌+◌, ℕ, Bool, true, false, List, [], ◌∷◌, ◌++◌, length, refl, ap, sym, ◌∙◌, subst, inl, inr, arith}
 use Rattle.std.proofs.Common.{append-nil, length-append, Result, Ok, Err}
 use Rattle.std.specs.Prelude.{All, filter, IfOk, IfErr}
-use Rattle.xa_session.specs.View.{SessionView, StaysOfLog}
+use Rattle.xa_session.specs.View.{SessionView}
 use Rattle.xa_coordinator.specs.Stores.{AtStore}
 use Rattle.xa_coordinator.proofs.Walk.{at_then}
 use Rattle.std.proofs.lemmas.List.Elements.{All-nil, All-cons, All-append, filter-append}
@@ -10,8 +10,8 @@ use Rattle.xa_xid.specs.declared.xid.Xid.{Xid}
 use Rattle.xa_xid.specs.declared.statement.Statement.{Statement}
 use Rattle.xa_xid.specs.declared.statement.Statement.TheVariants.{Commit, Rollback, Disconnect}
 use Rattle.xa_server.specs.declared.xa_error.XaError.TheVariants.{Nota}
-use Rattle.xa_server.specs.State.{is_prepared, prepared_xids}
-use Rattle.xa_session.specs.Replay.{state_after, state_at}
+use Rattle.xa_server.specs.State.{prepared_xids}
+use Rattle.xa_session.specs.Replay.{state_at}
 use Rattle.xa_session.proofs.Replaying.{state_at-begins, state_at-whole}
 use Rattle.decision_log.proofs.Histories.{length_begins}
 use Rattle.xa_coordinator.specs.declared.fault.Cause.{Cause}
@@ -30,7 +30,7 @@ use Rattle.xa_coordinator.specs.Work.{MayBe}
 use Rattle.xa_coordinator.specs.Recovery.{IsDisconnected, ListsPrepared, IsNamed, NamedIn, none_named, one_named, one_foreign, finish_decided, SettlesOne}
 use Rattle.xa_coordinator.specs.Recovery.{foreign}
 use Rattle.xa_coordinator.specs.Recovery.{committed, rolled_back, missing, total, counted, Settled, nothing, one_more, IsFinished, IsSettled, IsClear}
-use Rattle.xa_coordinator.specs.Recovery.{is_commit, is_rollback, IsCounted, NoneLeft, IsRecovered, IsBroken, IsStillPrepared}
+use Rattle.xa_coordinator.specs.Recovery.{is_commit, is_rollback, IsCounted, IsRecovered, IsBroken, IsStillPrepared}
 use Rattle.xa_coordinator.proofs.Agreeing.{nothing_agrees, undone_agrees, closing_agrees}
 use Rattle.xa_coordinator.proofs.Telling.{adds_then, adds_nothing}
 

@@ -41,7 +41,8 @@ impl<S: Speak> Coordinator<S> {
         ensures marks { ChangesAt store self.old.branches self.new.branches }
         ensures mark { OnOk result (slice_get self.new.branches store ≡ Some (Some (record { number = number; phase = Phase.Active }))) }
         ensures unsaid { OnErr result (self.new.branches ≡ self.old.branches) }
-        ensures says { AtStore S.view store (IsToldAs (Start (branch_xid self.old.name.items number store)) result) self.old.stores.items self.new.stores.items }
+        ensures says { AtStore S.view store (IsToldAs (Start (branch_xid self.old.name.items number store)) result) self.old.stores.items
+            self.new.stores.items }
     {
         let statement = Statement::Start(self.branch(number, store));
         let then = OpenBranch {
@@ -78,7 +79,8 @@ impl<S: Speak> Coordinator<S> {
         ensures name { self.new.name ≡ self.old.name }
         ensures frame { ChangesAt store self.old.stores.items self.new.stores.items }
         ensures marks { ChangesAt store self.old.branches self.new.branches }
-        ensures says { AtStore S.view store (IsToldAs (Prepare (branch_xid self.old.name.items number store)) result) self.old.stores.items self.new.stores.items }
+        ensures says { AtStore S.view store (IsToldAs (Prepare (branch_xid self.old.name.items number store)) result) self.old.stores.items
+            self.new.stores.items }
     {
         let statement = Statement::Prepare(self.branch(number, store));
         self.execute_at(rt, store, &statement, None)
@@ -114,7 +116,8 @@ impl<S: Speak> Coordinator<S> {
         ensures frame { ChangesAt store self.old.stores.items self.new.stores.items }
         ensures marks { ChangesAt store self.old.branches self.new.branches }
         ensures free { slice_get self.old.branches store ≡ Some None → slice_get self.new.branches store ≡ Some None }
-        ensures finishes { AtStore S.view store (SaysAs (finish_statement closing (branch_xid self.old.name.items number store)) result) self.old.stores.items self.new.stores.items }
+        ensures finishes { AtStore S.view store (SaysAs (finish_statement closing (branch_xid self.old.name.items number store)) result) self.old.stores.items
+            self.new.stores.items }
     {
         let statement = closing.statement(self.branch(number, store));
         found(self.execute_at(rt, store, &statement, None))
@@ -126,7 +129,9 @@ impl<S: Speak> Coordinator<S> {
         ensures name { self.new.name ≡ self.old.name }
         ensures frame { ChangesAt store self.old.stores.items self.new.stores.items }
         ensures marks { ChangesAt store self.old.branches self.new.branches }
-        ensures closes { AtStore S.view store (ClosesAs true (Rollback (branch_xid self.old.name.items number store)) (branch_xid self.old.name.items number store) result) self.old.stores.items self.new.stores.items }
+        ensures closes { AtStore S.view store
+            (ClosesAs true (Rollback (branch_xid self.old.name.items number store)) (branch_xid self.old.name.items number store) result) self.old.stores.items
+            self.new.stores.items }
     {
         self.end_branch(rt, store, number)?;
         self.finish_branch(rt, store, number, Closing::RollBack)
@@ -167,7 +172,10 @@ impl<S: Speak> Coordinator<S> {
         ensures name { self.new.name ≡ self.old.name }
         ensures frame { ChangesAt store self.old.stores.items self.new.stores.items }
         ensures marks { ChangesAt store self.old.branches self.new.branches }
-        ensures closes { AtStore S.view store (ClosesAs (ends_first closing (is_working_in self.old.branches store number)) (finish_statement closing (branch_xid self.old.name.items number store)) (branch_xid self.old.name.items number store) result) self.old.stores.items self.new.stores.items }
+        ensures closes { AtStore S.view store
+            (ClosesAs (ends_first closing (is_working_in self.old.branches store number))
+            (finish_statement closing (branch_xid self.old.name.items number store)) (branch_xid self.old.name.items number store) result)
+            self.old.stores.items self.new.stores.items }
     {
         let ends = closing.ends_first(self.is_working(store, number));
         if ends {

@@ -128,9 +128,7 @@ impl Decisions {
         if self.standings.len() >= Self::MOST {
             return Err(BeginFault::NumbersSpent);
         }
-        let Ok(()) = self.standings.push(Standing::Undecided) else {
-            return Err(BeginFault::NoMemory);
-        };
+        self.standings.push(Standing::Undecided)?;
         Ok(self.standings.len() as u64)
     }
 

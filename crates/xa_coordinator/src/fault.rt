@@ -2,6 +2,7 @@
 ghost use Rattle.std.specs.Prelude.{◌≡◌};
 ghost use Rattle.xa_coordinator.specs.Faults.{number_of_work_fault, number_of_begin_fault, number_of_recover_fault};
 
+use std::alloc::{AllocError, AllocFailed};
 use thiserror::Error;
 use xa_server::XaError;
 use xa_session::Fault;
@@ -118,4 +119,26 @@ pub enum Cause {
     /// The statement was refused.
     #[error("{0}")]
     Refused(XaError),
+}
+
+impl<T: Drop> From<AllocFailed<T>> for BeginFault {
+    ghost use Rattle.std.specs.Prelude.{◌≡◌};
+    ghost use Rattle.xa_coordinator.specs.declared.fault.BeginFault.TheVariants.{NoMemory};
+
+    ghost from_gives = { λ _ fault. fault ≡ NoMemory };
+
+    fn from(_refused: AllocFailed<T>) -> BeginFault {
+        BeginFault::NoMemory
+    }
+}
+
+impl From<AllocError> for RecoverFault {
+    ghost use Rattle.std.specs.Prelude.{◌≡◌};
+    ghost use Rattle.xa_coordinator.specs.declared.fault.RecoverFault.TheVariants.{NoMemory};
+
+    ghost from_gives = { λ _ fault. fault ≡ NoMemory };
+
+    fn from(_refused: AllocError) -> RecoverFault {
+        RecoverFault::NoMemory
+    }
 }

@@ -45,8 +45,15 @@ impl<S: Speak> Coordinator<S> {
         ensures name { self.new.name ≡ self.old.name }
         ensures frame { ChangesAt store self.old.stores.items self.new.stores.items }
         ensures marks { ChangesAt store self.old.branches self.new.branches }
-        ensures closed { OnOk result (ClosesNext S.view (ends_first closing (has_working_branch self.old.branches store number)) (finish_statement closing (branch_xid self.old.name.items number store)) (branch_xid self.old.name.items number store) store missing.old.items missing.new.items self.old.stores.items self.new.stores.items) }
-        ensures stopped { IfErr result (λ cause. AtStore S.view store (IsUnfinished (ends_first closing (has_working_branch self.old.branches store number)) (finish_statement closing (branch_xid self.old.name.items number store)) (branch_xid self.old.name.items number store) cause) self.old.stores.items self.new.stores.items) }
+        ensures closed { OnOk result
+            (ClosesNext S.view (ends_first closing (has_working_branch self.old.branches store number))
+            (finish_statement closing (branch_xid self.old.name.items number store)) (branch_xid self.old.name.items number store) store missing.old.items
+            missing.new.items self.old.stores.items self.new.stores.items) }
+        ensures stopped { IfErr result
+            (λ cause. AtStore S.view store
+            (IsUnfinished (ends_first closing (has_working_branch self.old.branches store number))
+            (finish_statement closing (branch_xid self.old.name.items number store)) (branch_xid self.old.name.items number store) cause)
+            self.old.stores.items self.new.stores.items) }
     {
         match self.finish_open(rt, store, number, closing)? {
             Found::Closed => Ok(()),
@@ -106,7 +113,8 @@ impl<S: Speak> Coordinator<S> {
         ensures name { self.new.name ≡ self.old.name }
         ensures count { vec_len self.new.stores ≡ vec_len self.old.stores }
         ensures elsewhere { KeepsOpen prepared.transaction.participants (asked_by_ending result) self.old.branches self.new.branches }
-        ensures ends { EndsAs S.view self.old.branches prepared.transaction (finish_of_vote (is_decided decisions.now prepared.transaction.number) prepared.ballot) result self.old.stores.items self.new.stores.items }
+        ensures ends { EndsAs S.view self.old.branches prepared.transaction
+            (finish_of_vote (is_decided decisions.now prepared.transaction.number) prepared.ballot) result self.old.stores.items self.new.stores.items }
         ensures agrees { EachStore S.view (Agrees decisions.now self.old.name.items) self.old.stores.items self.new.stores.items }
     {
         let Prepared {
@@ -133,7 +141,9 @@ impl<S: Speak> Coordinator<S> {
         ensures count { vec_len self.new.stores ≡ vec_len self.old.stores }
         ensures elsewhere { KeepsOpen transaction.participants (asked_by_ending result) self.old.branches self.new.branches }
         ensures ends { EndsAs S.view self.old.branches transaction Closing.RollBack result self.old.stores.items self.new.stores.items }
-        ensures agrees { (decisions : List Standing) → is_decided decisions transaction.number ≡ false → EachStore S.view (Agrees decisions self.old.name.items) self.old.stores.items self.new.stores.items }
+        ensures agrees { (decisions : List Standing)
+            → is_decided decisions transaction.number ≡ false
+            → EachStore S.view (Agrees decisions self.old.name.items) self.old.stores.items self.new.stores.items }
     {
         self.finish_each(rt, &transaction, Closing::RollBack)
     }

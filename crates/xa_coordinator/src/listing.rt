@@ -43,7 +43,8 @@ impl<S: Speak> Coordinator<S> {
         ensures marks { ChangesAt store self.old.branches self.new.branches }
         ensures mark { OnOk result (slice_get self.new.branches store ≡ Some None) }
         ensures done { OnOk result (AtStore S.view store IsDisconnected self.old.stores.items self.new.stores.items) }
-        ensures undone { IfErr result (λ fault. AtStore S.view store (IsUndone DisconnectStatement (Cause.Session fault)) self.old.stores.items self.new.stores.items) }
+        ensures undone { IfErr result
+            (λ fault. AtStore S.view store (IsUndone DisconnectStatement (Cause.Session fault)) self.old.stores.items self.new.stores.items) }
     {
         let_go(rt, &mut self.stores[store as usize])?;
         self.branches[store as usize] = None;
@@ -61,7 +62,8 @@ impl<S: Speak> Coordinator<S> {
         ensures frame { ChangesAt store self.old.stores.items self.new.stores.items }
         ensures marks { self.new.branches ≡ self.old.branches }
         ensures listed { IfOk result (λ found. AtStore S.view store (ListsPrepared found.0 found.1) self.old.stores.items self.new.stores.items) }
-        ensures undone { IfErr result (λ fault. AtStore S.view store (IsUndone (RecoverStatement false) (Cause.Session fault)) self.old.stores.items self.new.stores.items) }
+        ensures undone { IfErr result
+            (λ fault. AtStore S.view store (IsUndone (RecoverStatement false) (Cause.Session fault)) self.old.stores.items self.new.stores.items) }
     {
         list_prepared(rt, &mut self.stores[store as usize])
     }

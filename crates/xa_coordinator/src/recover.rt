@@ -2,7 +2,8 @@
 ghost use Rattle.std.specs.Prelude.{◌≡◌, ◌≢◌, ◌<◌, ◌≤◌, ℕ, List, [], Some, None, IfOk, IfErr, OnOk, slice_get, map, vec_len, vec_capacity};
 ghost use Rattle.xa_coordinator.specs.Agreement.{Agrees};
 ghost use Rattle.xa_coordinator.specs.Decisions.{closed_of, is_decided, standing_of};
-ghost use Rattle.xa_coordinator.specs.Recovery.{IsFinished, IsSettled, IsClear, IsRecovered, IsBroken, BreaksHere, Recovers, BreaksOff, asked_by_fault, fault_by};
+ghost use Rattle.xa_coordinator.specs.Recovery.{IsFinished, IsSettled, IsClear, IsRecovered, IsBroken, BreaksHere, Recovers, BreaksOff, asked_by_fault};
+ghost use Rattle.xa_coordinator.specs.Recovery.{fault_by};
 ghost use Rattle.xa_coordinator.specs.Stores.{AtStore, EachStore, ChangesAt};
 ghost use Rattle.xa_coordinator.specs.declared.decisions.Standing.{Standing};
 
@@ -35,8 +36,10 @@ impl<S: Speak> Coordinator<S> {
         ensures frame { ChangesAt store self.old.stores.items self.new.stores.items }
         ensures marks { ChangesAt store self.old.branches self.new.branches }
         ensures free { slice_get self.new.branches store ≡ Some None }
-        ensures finished { IfOk result (λ tally. AtStore S.view store (IsFinished decisions.now self.old.name.items store tally) self.old.stores.items self.new.stores.items) }
-        ensures broken { IfErr result (λ cause. AtStore S.view store (IsBroken decisions.now self.old.name.items store cause) self.old.stores.items self.new.stores.items) }
+        ensures finished { IfOk result
+            (λ tally. AtStore S.view store (IsFinished decisions.now self.old.name.items store tally) self.old.stores.items self.new.stores.items) }
+        ensures broken { IfErr result
+            (λ cause. AtStore S.view store (IsBroken decisions.now self.old.name.items store cause) self.old.stores.items self.new.stores.items) }
     {
         match self.prepared_in(rt, store) {
             Ok(found) => self.settle_each(rt, decisions, store, found.0.as_slice()),
@@ -56,8 +59,10 @@ impl<S: Speak> Coordinator<S> {
         ensures frame { ChangesAt store self.old.stores.items self.new.stores.items }
         ensures marks { ChangesAt store self.old.branches self.new.branches }
         ensures free { OnOk result (slice_get self.new.branches store ≡ Some None) }
-        ensures settled { IfOk result (λ tally. AtStore S.view store (IsSettled decisions.now self.old.name.items store tally) self.old.stores.items self.new.stores.items) }
-        ensures broken { IfErr result (λ cause. AtStore S.view store (IsBroken decisions.now self.old.name.items store cause) self.old.stores.items self.new.stores.items) }
+        ensures settled { IfOk result
+            (λ tally. AtStore S.view store (IsSettled decisions.now self.old.name.items store tally) self.old.stores.items self.new.stores.items) }
+        ensures broken { IfErr result
+            (λ cause. AtStore S.view store (IsBroken decisions.now self.old.name.items store cause) self.old.stores.items self.new.stores.items) }
     {
         match self.disconnect(rt, store) {
             Ok(()) => self.list_and_finish(rt, decisions, store),
@@ -72,7 +77,8 @@ impl<S: Speak> Coordinator<S> {
         ensures frame { ChangesAt store self.old.stores.items self.new.stores.items }
         ensures marks { self.new.branches ≡ self.old.branches }
         ensures clear { IfOk result (λ front. AtStore S.view store (IsClear self.old.name.items store front) self.old.stores.items self.new.stores.items) }
-        ensures fails { IfErr result (λ fault. (decisions : List Standing) → BreaksHere S.view decisions self.old.name.items store fault self.old.stores.items self.new.stores.items) }
+        ensures fails { IfErr result
+            (λ fault. (decisions : List Standing) → BreaksHere S.view decisions self.old.name.items store fault self.old.stores.items self.new.stores.items) }
     {
         match self.prepared_in(rt, store) {
             Ok(found) => match self.own_number(store, found.0.as_slice()) {
@@ -95,7 +101,8 @@ impl<S: Speak> Coordinator<S> {
         ensures frame { ChangesAt store self.old.stores.items self.new.stores.items }
         ensures marks { ChangesAt store self.old.branches self.new.branches }
         ensures free { OnOk result (slice_get self.new.branches store ≡ Some None) }
-        ensures recovered { IfOk result (λ one. AtStore S.view store (IsRecovered decisions.now self.old.name.items store one.0 one.1) self.old.stores.items self.new.stores.items) }
+        ensures recovered { IfOk result
+            (λ one. AtStore S.view store (IsRecovered decisions.now self.old.name.items store one.0 one.1) self.old.stores.items self.new.stores.items) }
         ensures fails { IfErr result (λ fault. BreaksHere S.view decisions.now self.old.name.items store fault self.old.stores.items self.new.stores.items) }
     {
         match self.finish_prepared(rt, decisions, store) {
@@ -120,7 +127,8 @@ impl<S: Speak> Coordinator<S> {
         ensures name { self.new.name ≡ self.old.name }
         ensures count { vec_len self.new.stores ≡ vec_len self.old.stores }
         ensures free { OnOk result ((store : ℕ) → store < vec_len self.new.stores → slice_get self.new.branches store ≡ Some None) }
-        ensures marks { IfErr result (λ fault. (store : ℕ) → asked_by_fault fault ≤ store → slice_get self.new.branches store ≡ slice_get self.old.branches store) }
+        ensures marks { IfErr result
+            (λ fault. (store : ℕ) → asked_by_fault fault ≤ store → slice_get self.new.branches store ≡ slice_get self.old.branches store) }
         ensures recovers { IfOk result (λ report. Recovers S.view decisions.now self.old.name.items report self.old.stores.items self.new.stores.items) }
         ensures breaks { IfErr result (λ fault. BreaksOff S.view decisions.now self.old.name.items fault self.old.stores.items self.new.stores.items) }
     {
@@ -132,10 +140,8 @@ impl<S: Speak> Coordinator<S> {
         };
         let count = self.stores.len() as u8;
         for store in 0..count {
-            match self.recover_store(rt, decisions, store) {
-                Ok((tally, front)) => report.add(tally, front),
-                Err(fault) => return Err(fault),
-            }
+            let (tally, front) = self.recover_store(rt, decisions, store)?;
+            report.add(tally, front);
         }
         Ok(report)
     }
@@ -163,15 +169,14 @@ impl<S: Speak> Coordinator<S> {
         ensures none_undecided { (number : ℕ) → standing_of decisions.new number ≢ Some Standing.Undecided }
         ensures kept { (number : ℕ) → is_decided decisions.new number ≡ is_decided decisions.old number }
         ensures free { OnOk result ((store : ℕ) → store < vec_len self.new.stores → slice_get self.new.branches store ≡ Some None) }
-        ensures marks { IfErr result (λ fault. (store : ℕ) → asked_by_fault fault ≤ store → slice_get self.new.branches store ≡ slice_get self.old.branches store) }
+        ensures marks { IfErr result
+            (λ fault. (store : ℕ) → asked_by_fault fault ≤ store → slice_get self.new.branches store ≡ slice_get self.old.branches store) }
         ensures recovers { IfOk result (λ report. Recovers S.view decisions.new self.old.name.items report self.old.stores.items self.new.stores.items) }
         ensures breaks { IfErr result (λ fault. BreaksOff S.view decisions.new self.old.name.items fault self.old.stores.items self.new.stores.items) }
         ensures agrees { EachStore S.view (Agrees decisions.new self.old.name.items) self.old.stores.items self.new.stores.items }
     {
         decisions.close_all();
-        let Ok(fronts) = Vec::with_capacity(alloc, self.stores.len()) else {
-            return Err(RecoverFault::NoMemory);
-        };
+        let fronts = Vec::with_capacity(alloc, self.stores.len())?;
         self.recover_each(rt, decisions, fronts)
     }
 }

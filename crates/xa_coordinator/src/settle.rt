@@ -64,8 +64,11 @@ impl<S: Speak> Coordinator<S> {
         ensures marks { ChangesAt store self.old.branches self.new.branches }
         ensures free { slice_get self.new.branches store ≡ Some None }
         ensures more { IfOk result (λ after. total after ≤ total tally + 1) }
-        ensures settled { IfOk result (λ after. AtStore S.view store (λ old new. SettlesOne decisions.now self.old.name.items store xid.now tally old after new) self.old.stores.items self.new.stores.items) }
-        ensures broken { IfErr result (λ cause. AtStore S.view store (IsBroken decisions.now self.old.name.items store cause) self.old.stores.items self.new.stores.items) }
+        ensures settled { IfOk result
+            (λ after. AtStore S.view store (λ old new. SettlesOne decisions.now self.old.name.items store xid.now tally old after new) self.old.stores.items
+            self.new.stores.items) }
+        ensures broken { IfErr result
+            (λ cause. AtStore S.view store (IsBroken decisions.now self.old.name.items store cause) self.old.stores.items self.new.stores.items) }
     {
         let Some(number) = number_of_branch(&self.name, store, xid) else {
             return Ok(tally);
@@ -89,8 +92,11 @@ impl<S: Speak> Coordinator<S> {
         ensures frame { ChangesAt store self.old.stores.items self.new.stores.items }
         ensures marks { ChangesAt store self.old.branches self.new.branches }
         ensures free { slice_get self.new.branches store ≡ Some None }
-        ensures settled { IfOk result (λ tally. AtStore S.view store (λ old new. Settled decisions.now self.old.name.items store old xids.now tally new) self.old.stores.items self.new.stores.items) }
-        ensures broken { IfErr result (λ cause. AtStore S.view store (IsBroken decisions.now self.old.name.items store cause) self.old.stores.items self.new.stores.items) }
+        ensures settled { IfOk result
+            (λ tally. AtStore S.view store (λ old new. Settled decisions.now self.old.name.items store old xids.now tally new) self.old.stores.items
+            self.new.stores.items) }
+        ensures broken { IfErr result
+            (λ cause. AtStore S.view store (IsBroken decisions.now self.old.name.items store cause) self.old.stores.items self.new.stores.items) }
     {
         let mut tally = Tally {
             committed: 0,
@@ -98,10 +104,7 @@ impl<S: Speak> Coordinator<S> {
             missing: 0,
         };
         for xid in xids {
-            match self.settle(rt, decisions, store, xid, tally) {
-                Ok(after) => tally = after,
-                Err(cause) => return Err(cause),
-            }
+            tally = self.settle(rt, decisions, store, xid, tally)?;
         }
         Ok(tally)
     }

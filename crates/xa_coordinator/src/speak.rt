@@ -27,7 +27,9 @@ pub trait Speak {
     fn attempt(&mut self, statement: &Statement) -> Result<Answer, Fault>
         ensures stays { StaysOfLog (view self.old) (view self.new) }
         ensures answered { IfOk result (λ answer. IsAnswered (view self.old).base statement.now answer (view self.old).known (view self.new).known) }
-        ensures fails { IfErr result (λ fault. Fails (view self.old).turns (view self.old).identity.capacity (view self.old).base statement.now fault (view self.old).known (view self.new).known) }
+        ensures fails { IfErr result
+            (λ fault. Fails (view self.old).turns (view self.old).identity.capacity (view self.old).base statement.now fault (view self.old).known
+            (view self.new).known) }
         ensures tries { (view self.new).known.tries ≤ (view self.old).known.tries + 1 }
         ensures gives { attempts self.old statement.now result self.new };
 
@@ -35,7 +37,9 @@ pub trait Speak {
     fn execute<R: Wait>(&mut self, rt: &R, statement: &Statement) -> Result<Answer, Fault>
         ensures stays { StaysOfLog (view self.old) (view self.new) }
         ensures answered { IfOk result (λ answer. IsAnswered (view self.old).base statement.now answer (view self.old).known (view self.new).known) }
-        ensures fails { IfErr result (λ fault. Fails (view self.old).turns (view self.old).identity.capacity (view self.old).base statement.now fault (view self.old).known (view self.new).known) }
+        ensures fails { IfErr result
+            (λ fault. Fails (view self.old).turns (view self.old).identity.capacity (view self.old).base statement.now fault (view self.old).known
+            (view self.new).known) }
         ensures lasts { IfErr result IsFinal }
         ensures gives { executes self.old statement.now result self.new };
 
@@ -50,7 +54,8 @@ impl<'a, L: DecisionLog> Speak for Session<'a, L> {
     ghost view = { λ session. record { identity = L.belongs_to session.pass; turns = L.TURNS; base = session.base.now; known = L.known session.pass } };
 
     // a session looks at each attempt, and there is no memory only for a list, or for a replica that hasn't replayed all that is seen
-    ghost attempts = { λ old statement result new. ((L.known old.pass).looks < (L.known new.pass).looks) × IfErr result (λ fault. WantsMemory statement fault new.replica (L.known new.pass)) };
+    ghost attempts = { λ old statement result new. ((L.known old.pass).looks < (L.known new.pass).looks)
+        × IfErr result (λ fault. WantsMemory statement fault new.replica (L.known new.pass)) };
 
     ghost executes = { λ old statement result new. IfErr result (λ fault. WantsMemory statement fault new.replica (L.known new.pass)) };
 

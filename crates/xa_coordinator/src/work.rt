@@ -32,8 +32,11 @@ impl<S: Speak> Coordinator<S> {
         ensures name { self.new.name ≡ self.old.name }
         ensures frame { ChangesAt store self.old.stores.items self.new.stores.items }
         ensures marks { self.new.branches ≡ self.old.branches }
-        ensures replied { IfOk result (λ reply. AtStore S.view store (IsReplied statement.now reply (branch_xid self.old.name.items number store)) self.old.stores.items self.new.stores.items) }
-        ensures undone { IfErr result (λ fault. AtStore S.view store (IsUndone statement.now (Cause.Session fault)) self.old.stores.items self.new.stores.items) }
+        ensures replied { IfOk result
+            (λ reply. AtStore S.view store (IsReplied statement.now reply (branch_xid self.old.name.items number store)) self.old.stores.items
+            self.new.stores.items) }
+        ensures undone { IfErr result
+            (λ fault. AtStore S.view store (IsUndone statement.now (Cause.Session fault)) self.old.stores.items self.new.stores.items) }
     {
         let answer = self.stores[store as usize].execute(rt, statement)?;
         Ok(answer.reply)
@@ -83,7 +86,8 @@ impl<S: Speak> Coordinator<S> {
         ensures frame { ChangesAt store self.old.stores.items self.new.stores.items }
         ensures marks { ChangesAt store self.old.branches self.new.branches }
         ensures keeps { KeepsOthers store transaction.old transaction.new }
-        ensures works { WorksAs S.view self.old.branches self.new.branches transaction.old transaction.new store statement.now result self.old.stores.items self.new.stores.items }
+        ensures works { WorksAs S.view self.old.branches self.new.branches transaction.old transaction.new store statement.now result self.old.stores.items
+            self.new.stores.items }
     {
         match self.start_branch(rt, store, transaction.number) {
             Ok(()) => self.work_within(rt, transaction, store, statement),
@@ -108,7 +112,8 @@ impl<S: Speak> Coordinator<S> {
         ensures frame { ChangesAt store self.old.stores.items self.new.stores.items }
         ensures marks { ChangesAt store self.old.branches self.new.branches }
         ensures keeps { KeepsOthers store transaction.old transaction.new }
-        ensures works { WorksAs S.view self.old.branches self.new.branches transaction.old transaction.new store statement.now result self.old.stores.items self.new.stores.items }
+        ensures works { WorksAs S.view self.old.branches self.new.branches transaction.old transaction.new store statement.now result self.old.stores.items
+            self.new.stores.items }
     {
         if self.is_working(store, transaction.number) {
             return self.work_within(rt, transaction, store, statement);
@@ -144,7 +149,8 @@ impl<S: Speak> Coordinator<S> {
         ensures frame { ChangesAt store self.old.stores.items self.new.stores.items }
         ensures marks { ChangesAt store self.old.branches self.new.branches }
         ensures keeps { KeepsOthers store transaction.old transaction.new }
-        ensures works { WorksAs S.view self.old.branches self.new.branches transaction.old transaction.new store statement.now result self.old.stores.items self.new.stores.items }
+        ensures works { WorksAs S.view self.old.branches self.new.branches transaction.old transaction.new store statement.now result self.old.stores.items
+            self.new.stores.items }
         ensures adds { AtStore S.view store (AddsWork (branch_of transaction.old store) statement.now) self.old.stores.items self.new.stores.items }
         ensures agrees { (decisions : List Standing) → EachStore S.view (Agrees decisions self.old.name.items) self.old.stores.items self.new.stores.items }
     {

@@ -1,5 +1,6 @@
 -- The configurations that a judge keeps.
 --     config_of        a configuration as the definitions see it
+--     moved_to         the configuration of this state, and of these standings but for one session's
 --     called_for       what a session has called for, where that has taken no effect yet
 --     after_settling   the configuration once that has taken effect
 --     call_is_answered  the session's call was answered
@@ -26,6 +27,10 @@ use Rattle.xa_judge.specs.Explained.{Config, opening_config, effect_of, observed
 -- a configuration as the definitions see it
 abbrev pub config_of : Configuration → Config
 config_of one = record { state = one.server; standings = one.standings.items }
+
+-- the configuration of this state, and of these standings but for one session's
+abbrev pub moved_to : State → List Standing → ℕ → Standing → Config
+moved_to state standings session standing = record { state = state; standings = slice_set standings session standing }
 
 abbrev pub configs : List Configuration → List Config
 configs list = map config_of list

@@ -1,11 +1,11 @@
 //! How things can stand after some events.
-ghost use Rattle.std.specs.Prelude.{◌≡◌, ◌<◌, ◌∷◌, ◌++◌, [], true, cond, Some, None, slice_get, slice_set, vec_len, length, IfOk, IfSome};
+ghost use Rattle.std.specs.Prelude.{◌≡◌, ◌<◌, ◌∷◌, ◌++◌, [], true, cond, Some, None, slice_get, vec_len, length, IfOk, IfSome};
 ghost use Rattle.std.specs.Option.{option_copied, option_map};
 ghost use Rattle.std.specs.Prelude.{replicate};
 ghost use Rattle.xa_xid.specs.declared.statement.Statement.TheVariants.{Disconnect};
 ghost use Rattle.xa_server.specs.Step.{after};
 ghost use Rattle.xa_judge.specs.Explained.{opening_config, answer_to, next_state, effect_of, IsSession};
-ghost use Rattle.xa_judge.specs.Found.{config_of, called_for, call_is_answered, after_settling, IsSettledFrom};
+ghost use Rattle.xa_judge.specs.Found.{config_of, moved_to, called_for, call_is_answered, after_settling, IsSettledFrom};
 
 use crate::moves::{Act, Move};
 use crate::request::Request;
@@ -126,7 +126,7 @@ impl Configuration {
         by: Move,
     ) -> Result<Configuration, NoMemory>
         requires { session < vec_len self.standings }
-        ensures config { IfOk result (λ new. config_of new ≡ record { state = self.server; standings = slice_set self.standings.items session standing }) }
+        ensures config { IfOk result (λ new. config_of new ≡ moved_to self.server self.standings.items session standing) }
         ensures path { IfOk result (λ new. new.path.items ≡ self.path.items ++ by ∷ []) }
     {
         self.standings[session.get() as usize] = standing;
@@ -137,7 +137,9 @@ impl Configuration {
     /// What the session has called for takes effect, and it is answered.
     fn answered(mut self, session: SessionNo, request: &Request) -> Result<Configuration, NoMemory>
         requires { session < vec_len self.standings }
-        ensures config { IfOk result (λ new. config_of new ≡ record { state = next_state self.server session request.now; standings = slice_set self.standings.items session (Standing.Answered (answer_to self.server session request.now)) }) }
+        ensures config { IfOk result
+            (λ new. config_of new ≡ moved_to (next_state self.server session request.now) self.standings.items session
+            (Standing.Answered (answer_to self.server session request.now))) }
         ensures path { IfOk result (λ new. new.path.items ≡ self.path.items ++ Move.Effect session Act.Statement ∷ []) }
     {
         let answer = request.carry_out(&mut self.server, session)?;
@@ -151,7 +153,8 @@ impl Configuration {
     /// What the session had called for takes effect, and nobody hears the answer.
     fn unheard(mut self, session: SessionNo, request: &Request) -> Result<Configuration, NoMemory>
         requires { session < vec_len self.standings }
-        ensures config { IfOk result (λ new. config_of new ≡ record { state = next_state self.server session request.now; standings = slice_set self.standings.items session (Standing.Gone None) }) }
+        ensures config { IfOk result
+            (λ new. config_of new ≡ moved_to (next_state self.server session request.now) self.standings.items session (Standing.Gone None)) }
         ensures path { IfOk result (λ new. new.path.items ≡ self.path.items ++ Move.Effect session Act.Statement ∷ []) }
     {
         let _answer = request.carry_out(&mut self.server, session)?;
@@ -165,7 +168,7 @@ impl Configuration {
     /// The session's DISCONNECT takes effect.
     fn left(mut self, session: SessionNo) -> Result<Configuration, NoMemory>
         requires { session < vec_len self.standings }
-        ensures config { IfOk result (λ new. config_of new ≡ record { state = after self.server session Disconnect; standings = slice_set self.standings.items session Standing.Left }) }
+        ensures config { IfOk result (λ new. config_of new ≡ moved_to (after self.server session Disconnect) self.standings.items session Standing.Left) }
         ensures path { IfOk result (λ new. new.path.items ≡ self.path.items ++ Move.Effect session Act.Disconnect ∷ []) }
     {
         let _reply = self.server.apply(session, &Statement::Disconnect)?;

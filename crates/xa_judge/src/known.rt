@@ -97,7 +97,11 @@ fn add_effect(
 ) -> Result<(), NoMemory>
     requires { place < vec_len known.old }
     ensures grows { OnOk result (Grows known.old.items known.new.items) }
-    ensures has { OnOk result ((one : Found) (new : Config) → slice_get known.old.items place ≡ Some one → effect_of (config_of one) session act ≡ Some new → Has known.new.items new) }
+    ensures has { OnOk result
+        ((one : Found) (new : Config)
+        → slice_get known.old.items place ≡ Some one
+        → effect_of (config_of one) session act ≡ Some new
+        → Has known.new.items new) }
 {
     match known[place].effected(session, act)? {
         None => Ok(()),
@@ -117,7 +121,11 @@ fn add_effects(
 ) -> Result<(), NoMemory>
     requires { place < vec_len known.old }
     ensures grows { OnOk result (Grows known.old.items known.new.items) }
-    ensures has { OnOk result ((one : Found) (act : _) (new : Config) → slice_get known.old.items place ≡ Some one → effect_of (config_of one) session act ≡ Some new → Has known.new.items new) }
+    ensures has { OnOk result
+        ((one : Found) (act : _) (new : Config)
+        → slice_get known.old.items place ≡ Some one
+        → effect_of (config_of one) session act ≡ Some new
+        → Has known.new.items new) }
 {
     add_effect(known, index, place, session, Act::Statement)?;
     add_effect(known, index, place, session, Act::Disconnect)?;
@@ -134,7 +142,13 @@ fn add_others(
 ) -> Result<(), NoMemory>
     requires { place < vec_len known.old }
     ensures grows { OnOk result (Grows known.old.items known.new.items) }
-    ensures has { OnOk result ((one : Found) (act : _) (new : Config) → slice_get known.old.items place ≡ Some one → IsSession number → number ≢ returning → effect_of (config_of one) number act ≡ Some new → Has known.new.items new) }
+    ensures has { OnOk result
+        ((one : Found) (act : _) (new : Config)
+        → slice_get known.old.items place ≡ Some one
+        → IsSession number
+        → number ≢ returning
+        → effect_of (config_of one) number act ≡ Some new
+        → Has known.new.items new) }
 {
     if number == returning.get() {
         return Ok(());

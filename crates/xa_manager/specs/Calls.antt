@@ -84,7 +84,8 @@ at_of text = with_number (number_named (first_word text)) (λ store. at_call sto
 unfoldable pub fail_of : List ℕ → Call
 fail_of text =
     with_number (number_named (first_word text)) (λ store.
-    if bytes_eq (first_word (behind_word text)) (codes "AFTER") then numbered (λ calls. Fail store calls) (lone_number (behind_word (behind_word text))) else Unread 0)
+    if bytes_eq (first_word (behind_word text)) (codes "AFTER") then numbered (λ calls. Fail store calls) (lone_number (behind_word (behind_word text)))
+    else Unread 0)
 
 -- the calls that are about no transaction, by their first word and the text behind it
 unfoldable pub plain_call : List ℕ → List ℕ → Call

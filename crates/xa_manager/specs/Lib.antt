@@ -4,5 +4,6 @@ pub mod Ledger
 pub mod Answers
 pub mod Written
 pub mod Said
+pub mod Managed
 pub mod Served
 pub mod Limits

@@ -1,6 +1,5 @@
 -- What was said to the sessions of a transaction manager, by what a call was answered.
 --     Floor            the sessions of a transaction manager, as contracts see them, beside its desk
---     floor_of         the same, of its parts
 --     IsQuiet          nothing was said to these sessions
 --     SaysWork         the coordinator worked in a store, and this is what the work came to
 --     SaysVote         the coordinator had the stores vote, and this is the vote
@@ -49,10 +48,6 @@ pub record Floor (C T : Type 0) : Type 0 where
   pub branches : List (Option OpenBranch)
   pub sessions : List C
   pub strangers : List T
-
--- the same, of its parts
-abbrev pub floor_of : {C T : Type 0} → Desk → List (Option OpenBranch) → List C → List T → Floor C T
-floor_of desk branches sessions strangers = record { desk = desk; branches = branches; sessions = sessions; strangers = strangers }
 
 -- nothing was said to these sessions
 abbrev pub IsQuiet : {S : Type 0} → (S → SessionView) → List S → List S → Type 0

@@ -6,13 +6,12 @@
 --     has_few_words   a response whose words take no memory
 --     IsRefusedCall   memory was refused for a call or for its answer
 --     IsCallAnswer    how a line may be answered
-use Rattle.std.specs.Prelude.{◌≡◌, ◌⊎◌, ℕ, Bool, true, false, Option, Some, None, Result, Ok, Err, List, [], codes, vec_len}
+use Rattle.std.specs.Prelude.{◌≡◌, ◌⊎◌, ℕ, Bool, true, false, Some, None, Result, Ok, Err, List, [], codes}
 use Rattle.xa_server.specs.declared.reply.Reply.{Reply}
 use Rattle.xa_server.specs.declared.reply.Reply.TheVariants.{Ok as Done, Value, Recovered as Listed, Refused}
 use Rattle.xa_session.specs.declared.fault.Fault.{Fault}
 use Rattle.xa_coordinator.specs.declared.ending.Ending.{Ending}
 use Rattle.xa_coordinator.specs.declared.ending.Ending.TheVariants.{Committed, RolledBack, Hazard, Unfinished}
-use Rattle.xa_coordinator.specs.declared.decisions.Standing.{Standing}
 use Rattle.xa_coordinator.specs.declared.fault.WorkFault.{WorkFault}
 use Rattle.xa_coordinator.specs.declared.fault.WorkFault.TheVariants.{Session as WorkSession, Refused as WorkRefused, Lost}
 use Rattle.xa_serve.specs.Heard.{Heard, Whole, TooLong}

@@ -3,7 +3,8 @@ ghost use Rattle.std.specs.Prelude.{◌≡◌, ◌≤◌, ◌<◌, ◌-◌, ◌^
 ghost use Rattle.xa_manager.specs.Answers.{Answers, poll_of, stage_after as stage_with};
 ghost use Rattle.xa_manager.specs.Calls.{takes_rows, IsWritten};
 ghost use Rattle.xa_manager.specs.Limits.{Passes, StartsAnew};
-ghost use Rattle.xa_manager.specs.Said.{SaidFor, floor_of, reply_of};
+ghost use Rattle.xa_manager.specs.Managed.{desk_of, floor_of};
+ghost use Rattle.xa_manager.specs.Said.{SaidFor, reply_of};
 
 use crate::{Call, Listing, Manager, Poll, Response, Stage};
 use std::alloc::{AllocError, Global};
@@ -88,13 +89,12 @@ impl<C: Speak, T: Speak> Manager<C, T> {
 
     /// Begins a transaction.
     fn begin(&mut self) -> Result<Response, NoMemory>
-        ensures answers { IfOk result (λ response. Answers (record { stores = vec_len self.old.coordinator.stores; decisions = self.old.decisions; stages = self.old.ledger })
-            (Call.Begin) response
-            (record { stores = vec_len self.new.coordinator.stores; decisions = self.new.decisions; stages = self.new.ledger })) }
-        ensures says { IfOk result (λ response. SaidFor C.view T.view (Call.Begin) response
-            (floor_of (record { stores = vec_len self.old.coordinator.stores; decisions = self.old.decisions; stages = self.old.ledger }) self.old.coordinator.branches self.old.coordinator.stores.items self.old.strangers.items)
-            (floor_of (record { stores = vec_len self.new.coordinator.stores; decisions = self.new.decisions; stages = self.new.ledger }) self.new.coordinator.branches self.new.coordinator.stores.items self.new.strangers.items)) }
-        ensures kept { OnErr result ((vec_len self.new.coordinator.stores ≡ vec_len self.old.coordinator.stores) × (self.new.decisions ≡ self.old.decisions) × (self.new.ledger ≡ self.old.ledger)) }
+        ensures answers { IfOk result (λ response. Answers (desk_of self.old) (Call.Begin) response (desk_of self.new)) }
+        ensures says { IfOk result (λ response. SaidFor C.view T.view (Call.Begin) response (floor_of self.old) (floor_of self.new)) }
+        ensures kept { OnErr result
+            ((vec_len self.new.coordinator.stores ≡ vec_len self.old.coordinator.stores)
+            × (self.new.decisions ≡ self.old.decisions)
+            × (self.new.ledger ≡ self.old.ledger)) }
     {
         self.ledger.add(Stage::Over)?;
         match self.coordinator.begin(&mut self.decisions) {
@@ -113,12 +113,8 @@ impl<C: Speak, T: Speak> Manager<C, T> {
     /// Gives a row statement of a transaction to a store.
     fn work<R: Wait>(&mut self, rt: &R, number: u64, store: u64, statement: &Statement) -> Response
         requires { takes_rows statement.now ≡ true }
-        ensures answers { Answers (record { stores = vec_len self.old.coordinator.stores; decisions = self.old.decisions; stages = self.old.ledger })
-            (Call.Work number store statement.now) result
-            (record { stores = vec_len self.new.coordinator.stores; decisions = self.new.decisions; stages = self.new.ledger }) }
-        ensures says { SaidFor C.view T.view (Call.Work number store statement.now) result
-            (floor_of (record { stores = vec_len self.old.coordinator.stores; decisions = self.old.decisions; stages = self.old.ledger }) self.old.coordinator.branches self.old.coordinator.stores.items self.old.strangers.items)
-            (floor_of (record { stores = vec_len self.new.coordinator.stores; decisions = self.new.decisions; stages = self.new.ledger }) self.new.coordinator.branches self.new.coordinator.stores.items self.new.strangers.items) }
+        ensures answers { Answers (desk_of self.old) (Call.Work number store statement.now) result (desk_of self.new) }
+        ensures says { SaidFor C.view T.view (Call.Work number store statement.now) result (floor_of self.old) (floor_of self.new) }
     {
         if !self.has_store(store) {
             return Response::UnknownStore(store);
@@ -137,12 +133,8 @@ impl<C: Speak, T: Speak> Manager<C, T> {
 
     /// Has the stores of a transaction vote.
     fn prepare<R: Wait>(&mut self, rt: &R, number: u64) -> Response
-        ensures answers { Answers (record { stores = vec_len self.old.coordinator.stores; decisions = self.old.decisions; stages = self.old.ledger })
-            (Call.Prepare number) result
-            (record { stores = vec_len self.new.coordinator.stores; decisions = self.new.decisions; stages = self.new.ledger }) }
-        ensures says { SaidFor C.view T.view (Call.Prepare number) result
-            (floor_of (record { stores = vec_len self.old.coordinator.stores; decisions = self.old.decisions; stages = self.old.ledger }) self.old.coordinator.branches self.old.coordinator.stores.items self.old.strangers.items)
-            (floor_of (record { stores = vec_len self.new.coordinator.stores; decisions = self.new.decisions; stages = self.new.ledger }) self.new.coordinator.branches self.new.coordinator.stores.items self.new.strangers.items) }
+        ensures answers { Answers (desk_of self.old) (Call.Prepare number) result (desk_of self.new) }
+        ensures says { SaidFor C.view T.view (Call.Prepare number) result (floor_of self.old) (floor_of self.new) }
     {
         match self.ledger.take_working(number) {
             Ok(transaction) => {
@@ -157,12 +149,8 @@ impl<C: Speak, T: Speak> Manager<C, T> {
 
     /// Decides a transaction.
     fn decide(&mut self, number: u64) -> Response
-        ensures answers { Answers (record { stores = vec_len self.old.coordinator.stores; decisions = self.old.decisions; stages = self.old.ledger })
-            (Call.Decide number) result
-            (record { stores = vec_len self.new.coordinator.stores; decisions = self.new.decisions; stages = self.new.ledger }) }
-        ensures says { SaidFor C.view T.view (Call.Decide number) result
-            (floor_of (record { stores = vec_len self.old.coordinator.stores; decisions = self.old.decisions; stages = self.old.ledger }) self.old.coordinator.branches self.old.coordinator.stores.items self.old.strangers.items)
-            (floor_of (record { stores = vec_len self.new.coordinator.stores; decisions = self.new.decisions; stages = self.new.ledger }) self.new.coordinator.branches self.new.coordinator.stores.items self.new.strangers.items) }
+        ensures answers { Answers (desk_of self.old) (Call.Decide number) result (desk_of self.new) }
+        ensures says { SaidFor C.view T.view (Call.Decide number) result (floor_of self.old) (floor_of self.new) }
     {
         match self.ledger.take_ready(number) {
             Ok(prepared) => {
@@ -179,12 +167,8 @@ impl<C: Speak, T: Speak> Manager<C, T> {
 
     /// Finishes a transaction that was voted on.
     fn finish<R: Wait>(&mut self, rt: &R, number: u64) -> Response
-        ensures answers { Answers (record { stores = vec_len self.old.coordinator.stores; decisions = self.old.decisions; stages = self.old.ledger })
-            (Call.Finish number) result
-            (record { stores = vec_len self.new.coordinator.stores; decisions = self.new.decisions; stages = self.new.ledger }) }
-        ensures says { SaidFor C.view T.view (Call.Finish number) result
-            (floor_of (record { stores = vec_len self.old.coordinator.stores; decisions = self.old.decisions; stages = self.old.ledger }) self.old.coordinator.branches self.old.coordinator.stores.items self.old.strangers.items)
-            (floor_of (record { stores = vec_len self.new.coordinator.stores; decisions = self.new.decisions; stages = self.new.ledger }) self.new.coordinator.branches self.new.coordinator.stores.items self.new.strangers.items) }
+        ensures answers { Answers (desk_of self.old) (Call.Finish number) result (desk_of self.new) }
+        ensures says { SaidFor C.view T.view (Call.Finish number) result (floor_of self.old) (floor_of self.new) }
     {
         match self.ledger.take_voted(number) {
             Ok(prepared) => {
@@ -196,12 +180,8 @@ impl<C: Speak, T: Speak> Manager<C, T> {
 
     /// Rolls a transaction back that wasn't voted on.
     fn abandon<R: Wait>(&mut self, rt: &R, number: u64) -> Response
-        ensures answers { Answers (record { stores = vec_len self.old.coordinator.stores; decisions = self.old.decisions; stages = self.old.ledger })
-            (Call.Abandon number) result
-            (record { stores = vec_len self.new.coordinator.stores; decisions = self.new.decisions; stages = self.new.ledger }) }
-        ensures says { SaidFor C.view T.view (Call.Abandon number) result
-            (floor_of (record { stores = vec_len self.old.coordinator.stores; decisions = self.old.decisions; stages = self.old.ledger }) self.old.coordinator.branches self.old.coordinator.stores.items self.old.strangers.items)
-            (floor_of (record { stores = vec_len self.new.coordinator.stores; decisions = self.new.decisions; stages = self.new.ledger }) self.new.coordinator.branches self.new.coordinator.stores.items self.new.strangers.items) }
+        ensures answers { Answers (desk_of self.old) (Call.Abandon number) result (desk_of self.new) }
+        ensures says { SaidFor C.view T.view (Call.Abandon number) result (floor_of self.old) (floor_of self.new) }
     {
         match self.ledger.take_working(number) {
             Ok(transaction) => Response::Ended(self.coordinator.abandon(rt, transaction)),
@@ -211,24 +191,16 @@ impl<C: Speak, T: Speak> Manager<C, T> {
 
     /// Has the coordinator recover.
     fn recover<R: Wait>(&mut self, rt: &R, alloc: Global) -> Response
-        ensures answers { Answers (record { stores = vec_len self.old.coordinator.stores; decisions = self.old.decisions; stages = self.old.ledger })
-            (Call.Recover) result
-            (record { stores = vec_len self.new.coordinator.stores; decisions = self.new.decisions; stages = self.new.ledger }) }
-        ensures says { SaidFor C.view T.view (Call.Recover) result
-            (floor_of (record { stores = vec_len self.old.coordinator.stores; decisions = self.old.decisions; stages = self.old.ledger }) self.old.coordinator.branches self.old.coordinator.stores.items self.old.strangers.items)
-            (floor_of (record { stores = vec_len self.new.coordinator.stores; decisions = self.new.decisions; stages = self.new.ledger }) self.new.coordinator.branches self.new.coordinator.stores.items self.new.strangers.items) }
+        ensures answers { Answers (desk_of self.old) (Call.Recover) result (desk_of self.new) }
+        ensures says { SaidFor C.view T.view (Call.Recover) result (floor_of self.old) (floor_of self.new) }
     {
         Response::Recovered(self.coordinator.recover(rt, alloc, &mut self.decisions))
     }
 
     /// Gives a statement of the stranger to a store.
     fn at<R: Wait>(&mut self, rt: &R, store: u64, statement: &Statement) -> Response
-        ensures answers { Answers (record { stores = vec_len self.old.coordinator.stores; decisions = self.old.decisions; stages = self.old.ledger })
-            (Call.At store statement.now) result
-            (record { stores = vec_len self.new.coordinator.stores; decisions = self.new.decisions; stages = self.new.ledger }) }
-        ensures says { SaidFor C.view T.view (Call.At store statement.now) result
-            (floor_of (record { stores = vec_len self.old.coordinator.stores; decisions = self.old.decisions; stages = self.old.ledger }) self.old.coordinator.branches self.old.coordinator.stores.items self.old.strangers.items)
-            (floor_of (record { stores = vec_len self.new.coordinator.stores; decisions = self.new.decisions; stages = self.new.ledger }) self.new.coordinator.branches self.new.coordinator.stores.items self.new.strangers.items) }
+        ensures answers { Answers (desk_of self.old) (Call.At store statement.now) result (desk_of self.new) }
+        ensures says { SaidFor C.view T.view (Call.At store statement.now) result (floor_of self.old) (floor_of self.new) }
     {
         if !self.has_store(store) {
             return Response::UnknownStore(store);
@@ -241,13 +213,12 @@ impl<C: Speak, T: Speak> Manager<C, T> {
 
     /// Has each store's stranger list what is prepared there.
     fn show<R: Wait>(&mut self, rt: &R, alloc: Global) -> Result<Response, NoMemory>
-        ensures answers { IfOk result (λ response. Answers (record { stores = vec_len self.old.coordinator.stores; decisions = self.old.decisions; stages = self.old.ledger })
-            (Call.Show) response
-            (record { stores = vec_len self.new.coordinator.stores; decisions = self.new.decisions; stages = self.new.ledger })) }
-        ensures says { IfOk result (λ response. SaidFor C.view T.view (Call.Show) response
-            (floor_of (record { stores = vec_len self.old.coordinator.stores; decisions = self.old.decisions; stages = self.old.ledger }) self.old.coordinator.branches self.old.coordinator.stores.items self.old.strangers.items)
-            (floor_of (record { stores = vec_len self.new.coordinator.stores; decisions = self.new.decisions; stages = self.new.ledger }) self.new.coordinator.branches self.new.coordinator.stores.items self.new.strangers.items)) }
-        ensures kept { OnErr result ((vec_len self.new.coordinator.stores ≡ vec_len self.old.coordinator.stores) × (self.new.decisions ≡ self.old.decisions) × (self.new.ledger ≡ self.old.ledger)) }
+        ensures answers { IfOk result (λ response. Answers (desk_of self.old) (Call.Show) response (desk_of self.new)) }
+        ensures says { IfOk result (λ response. SaidFor C.view T.view (Call.Show) response (floor_of self.old) (floor_of self.new)) }
+        ensures kept { OnErr result
+            ((vec_len self.new.coordinator.stores ≡ vec_len self.old.coordinator.stores)
+            × (self.new.decisions ≡ self.old.decisions)
+            × (self.new.ledger ≡ self.old.ledger)) }
     {
         let answers = listed_by_each(rt, alloc, self.strangers.as_mut_slice())?;
         Ok(Response::Shown(Listing { answers }))
@@ -257,12 +228,8 @@ impl<C: Speak, T: Speak> Manager<C, T> {
 impl<S: Speak, T: Speak> Manager<Fused<S>, T> {
     /// Limits the calls that the coordinator's session in a store answers.
     fn fail(&mut self, store: u64, calls: u64) -> Response
-        ensures answers { Answers (record { stores = vec_len self.old.coordinator.stores; decisions = self.old.decisions; stages = self.old.ledger })
-            (Call.Fail store calls) result
-            (record { stores = vec_len self.new.coordinator.stores; decisions = self.new.decisions; stages = self.new.ledger }) }
-        ensures says { SaidFor (λ session. S.view session.inner) T.view (Call.Fail store calls) result
-            (floor_of (record { stores = vec_len self.old.coordinator.stores; decisions = self.old.decisions; stages = self.old.ledger }) self.old.coordinator.branches self.old.coordinator.stores.items self.old.strangers.items)
-            (floor_of (record { stores = vec_len self.new.coordinator.stores; decisions = self.new.decisions; stages = self.new.ledger }) self.new.coordinator.branches self.new.coordinator.stores.items self.new.strangers.items) }
+        ensures answers { Answers (desk_of self.old) (Call.Fail store calls) result (desk_of self.new) }
+        ensures says { SaidFor (λ session. S.view session.inner) T.view (Call.Fail store calls) result (floor_of self.old) (floor_of self.new) }
         ensures limited { result ≡ Response.Limited → Passes store calls self.new.coordinator.stores.items }
     {
         if !self.has_store(store) {
@@ -274,12 +241,8 @@ impl<S: Speak, T: Speak> Manager<Fused<S>, T> {
 
     /// A new coordinator of the name takes the place of the old one, over the same sessions, which no longer fail.
     fn stop(&mut self) -> Response
-        ensures answers { Answers (record { stores = vec_len self.old.coordinator.stores; decisions = self.old.decisions; stages = self.old.ledger })
-            (Call.Stop) result
-            (record { stores = vec_len self.new.coordinator.stores; decisions = self.new.decisions; stages = self.new.ledger }) }
-        ensures says { SaidFor (λ session. S.view session.inner) T.view (Call.Stop) result
-            (floor_of (record { stores = vec_len self.old.coordinator.stores; decisions = self.old.decisions; stages = self.old.ledger }) self.old.coordinator.branches self.old.coordinator.stores.items self.old.strangers.items)
-            (floor_of (record { stores = vec_len self.new.coordinator.stores; decisions = self.new.decisions; stages = self.new.ledger }) self.new.coordinator.branches self.new.coordinator.stores.items self.new.strangers.items) }
+        ensures answers { Answers (desk_of self.old) (Call.Stop) result (desk_of self.new) }
+        ensures says { SaidFor (λ session. S.view session.inner) T.view (Call.Stop) result (floor_of self.old) (floor_of self.new) }
         ensures anew { StartsAnew self.new.coordinator.branches self.new.coordinator.stores.items }
     {
         allow_all(&mut self.coordinator, self.strangers.len() as u8);
@@ -300,15 +263,17 @@ impl<S: Speak, T: Speak> Manager<Fused<S>, T> {
         call: &Call,
     ) -> Result<Response, NoMemory>
         requires { IsWritten call.now }
-        ensures answers { IfOk result (λ response. Answers (record { stores = vec_len self.old.coordinator.stores; decisions = self.old.decisions; stages = self.old.ledger })
-            (call.now) response
-            (record { stores = vec_len self.new.coordinator.stores; decisions = self.new.decisions; stages = self.new.ledger })) }
-        ensures says { IfOk result (λ response. SaidFor (λ session. S.view session.inner) T.view (call.now) response
-            (floor_of (record { stores = vec_len self.old.coordinator.stores; decisions = self.old.decisions; stages = self.old.ledger }) self.old.coordinator.branches self.old.coordinator.stores.items self.old.strangers.items)
-            (floor_of (record { stores = vec_len self.new.coordinator.stores; decisions = self.new.decisions; stages = self.new.ledger }) self.new.coordinator.branches self.new.coordinator.stores.items self.new.strangers.items)) }
-        ensures limited { (store calls : ℕ) → call.now ≡ Call.Fail store calls → result ≡ Ok Response.Limited → Passes store calls self.new.coordinator.stores.items }
+        ensures answers { IfOk result (λ response. Answers (desk_of self.old) (call.now) response (desk_of self.new)) }
+        ensures says { IfOk result (λ response. SaidFor (λ session. S.view session.inner) T.view (call.now) response (floor_of self.old) (floor_of self.new)) }
+        ensures limited { (store calls : ℕ)
+            → call.now ≡ Call.Fail store calls
+            → result ≡ Ok Response.Limited
+            → Passes store calls self.new.coordinator.stores.items }
         ensures anew { call.now ≡ Call.Stop → StartsAnew self.new.coordinator.branches self.new.coordinator.stores.items }
-        ensures kept { OnErr result ((vec_len self.new.coordinator.stores ≡ vec_len self.old.coordinator.stores) × (self.new.decisions ≡ self.old.decisions) × (self.new.ledger ≡ self.old.ledger)) }
+        ensures kept { OnErr result
+            ((vec_len self.new.coordinator.stores ≡ vec_len self.old.coordinator.stores)
+            × (self.new.decisions ≡ self.old.decisions)
+            × (self.new.ledger ≡ self.old.ledger)) }
     {
         match call {
             Call::Silent => Ok(Response::Silent),

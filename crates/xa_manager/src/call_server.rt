@@ -49,15 +49,12 @@ impl<'r, C: Speak, T: Speak, R: Wait> CallServer<'r, C, T, R> {
 }
 
 impl<'r, S: Speak, T: Speak, R: Wait> LineServer for CallServer<'r, Fused<S>, T, R> {
-    ghost use Rattle.std.specs.Prelude.{vec_len};
+    ghost use Rattle.xa_manager.specs.Managed.{desk_of};
     ghost use Rattle.xa_manager.specs.Served.{DeskBegins, IsCallAnswer};
 
-    ghost begins = { λ server. DeskBegins (record { stores = vec_len server.manager.coordinator.stores; decisions = server.manager.decisions; stages = server.manager.ledger }) };
+    ghost begins = { λ server. DeskBegins (desk_of server.manager) };
 
-    ghost answers = { λ old line text new. IsCallAnswer
-        (record { stores = vec_len old.manager.coordinator.stores; decisions = old.manager.decisions; stages = old.manager.ledger })
-        line text
-        (record { stores = vec_len new.manager.coordinator.stores; decisions = new.manager.decisions; stages = new.manager.ledger }) };
+    ghost answers = { λ old line text new. IsCallAnswer (desk_of old.manager) line text (desk_of new.manager) };
 
     fn answer(&mut self, alloc: Global, line: &[u8]) -> Answer {
         let call = read_call(line);

@@ -4,7 +4,7 @@ ghost use Rattle.xa_manager.specs.Ledger.{stage_of, with_stage};
 ghost use Rattle.xa_manager.specs.Answers.{refusal_of_work, refusal_of_decision, refusal_of_finish};
 
 use crate::{Response, Stage};
-use std::alloc::{AllocError, Global};
+use std::alloc::Global;
 use std::marker::Model;
 use std::mem;
 use xa_coordinator::{Prepared, Transaction};
@@ -46,10 +46,8 @@ impl Ledger {
         ensures ok { OnOk result (self.new ≡ self.old ++ stage ∷ []) }
         ensures err { OnErr result (self.new ≡ self.old) }
     {
-        match self.stages.push(stage) {
-            Ok(()) => Ok(()),
-            Err(_) => Err(AllocError),
-        }
+        self.stages.push(stage)?;
+        Ok(())
     }
 
     /// Takes the last transaction away.
@@ -149,7 +147,8 @@ impl Ledger {
     /// Takes no memory. Doesn't wait.
     /// Own rule: docs/COORDINATOR.md, 'At the command line'.
     pub fn take_voted(&mut self, number: u64) -> Result<Prepared, Response>
-        ensures taken { IfOk result (λ prepared. (stage_of self.old number ≡ Some (Stage.Ready prepared)) ⊎ (stage_of self.old number ≡ Some (Stage.Voted prepared))) }
+        ensures taken { IfOk result
+            (λ prepared. (stage_of self.old number ≡ Some (Stage.Ready prepared)) ⊎ (stage_of self.old number ≡ Some (Stage.Voted prepared))) }
         ensures over { OnOk result (self.new ≡ with_stage self.old number Stage.Over) }
         ensures refused { IfErr result (λ refusal. refusal_of_finish number (stage_of self.old number) ≡ Some refusal) }
         ensures kept { OnErr result (self.new ≡ self.old) }

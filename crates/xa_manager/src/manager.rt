@@ -32,7 +32,10 @@ pub struct Manager<C: Speak, T: Speak> {
     ghost named: { coordinator.name.items ≡ codes "c" },
     ghost pairs: { vec_len strangers ≡ vec_len coordinator.stores },
     ghost counted: { length ledger ≡ length decisions },
-    ghost kept: { (number : ℕ) (stage : Stage) (transaction : Transaction) → stage_of ledger number ≡ Some stage → transaction_in stage ≡ Some transaction → IsTransactionOf (vec_len coordinator.stores) number transaction },
+    ghost kept: { (number : ℕ) (stage : Stage) (transaction : Transaction)
+        → stage_of ledger number ≡ Some stage
+        → transaction_in stage ≡ Some transaction
+        → IsTransactionOf (vec_len coordinator.stores) number transaction },
     ghost ready: { (number : ℕ) (prepared : Prepared) → stage_of ledger number ≡ Some (StageReady prepared) → prepared.ballot ≡ BallotReady },
 }
 

@@ -1,7 +1,8 @@
 //! Prints responses.
 ghost use Rattle.std.specs.Prelude.{◌≡◌, [], ◌++◌, OnOk, IfOk, codes, decimal};
 ghost use Rattle.xa_transcript.specs.Printed.{error_text};
-ghost use Rattle.xa_manager.specs.Texts.{fault_text, cause_text, stores_text, worked_text, poll_text, ending_text, recover_fault_text, report_text, replied_text, store_text, stores_shown_text, stands_as, numbers_text, standings_text, response_text, answer_text};
+ghost use Rattle.xa_manager.specs.Texts.{fault_text, cause_text, stores_text, worked_text, poll_text, ending_text, recover_fault_text, report_text};
+ghost use Rattle.xa_manager.specs.Texts.{replied_text, store_text, stores_shown_text, stands_as, numbers_text, standings_text, response_text, answer_text};
 
 use crate::{Poll, Response};
 use std::alloc::{AllocError, Global};

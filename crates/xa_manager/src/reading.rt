@@ -1,7 +1,8 @@
 //! Lines, read as calls.
 ghost use Rattle.std.specs.Prelude.{◌≡◌, Some, None, MatchOption};
 ghost use Rattle.xa_transcript.specs.Script.{first_word, behind_word};
-ghost use Rattle.xa_manager.specs.Calls.{number_named, lone_number, takes_rows, alone as alone_call, work_of, at_of, fail_of, plain_call, call_named, call_of, numbered, IsWritten};
+ghost use Rattle.xa_manager.specs.Calls.{number_named, lone_number, takes_rows, alone as alone_call, work_of, at_of, fail_of, plain_call, call_named, call_of};
+ghost use Rattle.xa_manager.specs.Calls.{numbered, IsWritten};
 
 use crate::Call;
 use xa_statement::read_statement;

@@ -6,6 +6,7 @@ ghost use Rattle.xa_store.specs.Passes.{log_of, identity_of};
 ghost use Rattle.xa_transcript.specs.Limits.{script_bytes};
 ghost use Rattle.xa_transcript.specs.Transcript.{ConsumesMoreThan, IsOfRun};
 ghost use Rattle.xa_manager.specs.Answers.{new_desk};
+ghost use Rattle.xa_manager.specs.Managed.{desk_of};
 ghost use Rattle.xa_manager.specs.Texts.{answer_text};
 ghost use Rattle.xa_manager.specs.Written.{AreOf, IsAllWritten, IsCutOff, AfterCallsFault};
 
@@ -36,25 +37,17 @@ fn answer_lines<S: Speak + Drop, T: Speak + Drop, W: Write, R: Wait>(
     script: &[u8],
     writer: &mut W,
 ) -> Result<(), ScriptFault>
-    ensures all { OnOk result (IsAllWritten
-        (record { stores = vec_len manager.coordinator.stores; decisions = manager.decisions; stages = manager.ledger })
-        script.now (W.contents writer.old) (W.contents writer.new)) }
+    ensures all { OnOk result (IsAllWritten (desk_of manager) script.now (W.contents writer.old) (W.contents writer.new)) }
     ensures fault { IfErr result IsOfRun }
-    ensures cut { OnErr result (IsCutOff
-        (record { stores = vec_len manager.coordinator.stores; decisions = manager.decisions; stages = manager.ledger })
-        script.now (W.contents writer.old) (W.contents writer.new)) }
+    ensures cut { OnErr result (IsCutOff (desk_of manager) script.now (W.contents writer.old) (W.contents writer.new)) }
 {
     let mut manager = manager;
     let mut rest = script;
     while !rest.is_empty() {
         let (line, lines) = split_line(rest);
         let call = read_call(line);
-        let Ok(response) = manager.answer(rt, alloc, &call) else {
-            return Err(ScriptFault::NoMemory);
-        };
-        let Ok(text) = text_of(alloc, manager.decisions(), response) else {
-            return Err(ScriptFault::NoMemory);
-        };
+        let response = manager.answer(rt, alloc, &call)?;
+        let text = text_of(alloc, manager.decisions(), response)?;
         write_whole(writer, text.as_slice())?;
         rest = lines;
     }
@@ -172,12 +165,8 @@ fn over_stores<W: Write, R: Wait>(
     ensures fault { IfErr result IsOfRun }
     ensures cut { OnErr result (IsCutOff (new_desk count) script.now (W.contents writer.old) (W.contents writer.new)) }
 {
-    let Ok((stores, firsts, seconds)) = open_stores(alloc, count, capacity) else {
-        return Err(ScriptFault::NoMemory);
-    };
-    let Ok(manager) = manager_over(alloc, stores.as_slice(), firsts, seconds) else {
-        return Err(ScriptFault::NoMemory);
-    };
+    let (stores, firsts, seconds) = open_stores(alloc, count, capacity)?;
+    let manager = manager_over(alloc, stores.as_slice(), firsts, seconds)?;
     answer_lines(rt, alloc, manager, script, writer)
 }
 
@@ -200,12 +189,8 @@ pub fn converse<R: Wait, I: Read + Drop, W: Write + Drop>(
     requires stores { (1 ≤ stores) × (stores ≤ 16) }
     requires capacity { IsCapacity capacity }
 {
-    let Ok((stores, firsts, seconds)) = open_stores(alloc, stores, capacity) else {
-        return Err(ScriptFault::NoMemory);
-    };
-    let Ok(manager) = manager_over(alloc, stores.as_slice(), firsts, seconds) else {
-        return Err(ScriptFault::NoMemory);
-    };
+    let (stores, firsts, seconds) = open_stores(alloc, stores, capacity)?;
+    let manager = manager_over(alloc, stores.as_slice(), firsts, seconds)?;
     serve(alloc, &mut CallServer::new(rt, manager), wire)
 }
 
@@ -228,7 +213,8 @@ pub fn coordinate<R: Wait, I: Read, W: Write>(
     requires stores { (1 ≤ stores) × (stores ≤ 16) }
     requires capacity { IsCapacity capacity }
     ensures read { OnOk result (IsAtEnd (I.remaining reader.new)) }
-    ensures written { OnOk result (IfSome (I.remaining reader.old) (λ script. IsAllWritten (new_desk stores) script (W.contents writer.old) (W.contents writer.new))) }
+    ensures written { OnOk result
+        (IfSome (I.remaining reader.old) (λ script. IsAllWritten (new_desk stores) script (W.contents writer.old) (W.contents writer.new))) }
     ensures short { OnOk result (IfSome (I.remaining reader.old) (λ script. length script ≤ script_bytes)) }
     ensures fault { IfErr result (λ fault. AfterCallsFault stores fault (I.remaining reader.old) (W.contents writer.old) (W.contents writer.new)) }
     ensures too_long { result ≡ Err ScriptFault.TooLong → ConsumesMoreThan script_bytes (I.remaining reader.old) (I.remaining reader.new) }

@@ -12,13 +12,21 @@ ghost use Rattle.xa_record.specs.Events.{AreEvents};
 ghost use Rattle.xa_record.specs.VerdictText.{order_text, no_calls};
 ghost use Rattle.xa_order_laws.specs.Replaying.{order_lines, joined, GivesRequest, AnswersSo, AreEffects, AreWellCalled};
 
-/// The order that is written for a legal record is a script: each of its lines gives, to the session, the request that takes effect there, so that `run` answers each as the effect was answered, and goes through the same states.
+/// The order that is written for a legal record is a script: each of its lines gives, to the session, the request that takes
+/// effect there, so that `run` answers each as the effect was answered, and goes through the same states.
 ///
 /// Takes no memory. Doesn't wait. Own rule: docs/JUDGE.md, 'The verdict'.
 pub fn order_is_replayed()
     ensures written { (calls : List (List ℕ)) (noted : List Noted) (moves : List Move) → order_text calls noted moves ≡ joined (order_lines calls noted moves) }
-    ensures effects { (base : State) (noted : List Noted) (events : List Event) (moves : List Move) (new : Config) →
-        AreWellCalled noted → AreEvents noted events → LeadsThrough (opening_config base) events moves new → AreEffects (opening_config base) events moves (order_lines no_calls noted moves) }
-    ensures answers { (state : State) (line : List ℕ) (session : ℕ) (request : Request) → GivesRequest line session request → AnswersSo state session request (answer_of state (line_of line)) }
-    ensures states { (state : State) (line : List ℕ) (session : ℕ) (request : Request) → GivesRequest line session request → state_after_line state (line_of line) ≡ next_state state session request }
+    ensures effects { (base : State) (noted : List Noted) (events : List Event) (moves : List Move) (new : Config)
+        → AreWellCalled noted
+        → AreEvents noted events
+        → LeadsThrough (opening_config base) events moves new
+        → AreEffects (opening_config base) events moves (order_lines no_calls noted moves) }
+    ensures answers { (state : State) (line : List ℕ) (session : ℕ) (request : Request)
+        → GivesRequest line session request
+        → AnswersSo state session request (answer_of state (line_of line)) }
+    ensures states { (state : State) (line : List ℕ) (session : ℕ) (request : Request)
+        → GivesRequest line session request
+        → state_after_line state (line_of line) ≡ next_state state session request }
 {}

@@ -2,7 +2,8 @@
 ghost use Rattle.std.specs.Prelude.{◌≡◌};
 ghost use Rattle.xa_transcript.specs.Script.{first_word, behind_word as behind_word_of};
 ghost use Rattle.xa_record.specs.Rows.{leading_number as leading_number_of, number_named};
-ghost use Rattle.xa_record.specs.Lines.{alone, begins_remark, is_remark as is_remark_line, trimmed as trimmed_text, value_said, rows_said, error_said, return_said, loss_said, session_said, reading_of_line, Says, Awaits, Calls, Returns, Leaves};
+ghost use Rattle.xa_record.specs.Lines.{alone, begins_remark, is_remark as is_remark_line, trimmed as trimmed_text, value_said, rows_said, error_said};
+ghost use Rattle.xa_record.specs.Lines.{return_said, loss_said, session_said, reading_of_line, Says, Awaits, Calls, Returns, Leaves};
 ghost use Rattle.xa_record.specs.Kept.{shown_kept, line_kept};
 ghost use Rattle.xa_xid.specs.Literal.{literal_ahead};
 

@@ -36,9 +36,7 @@ fn read_record<R: Read>(alloc: Global, reader: &mut R) -> Result<Vec<u8>, Script
         if count > RECORD_BYTES - text.len() {
             return Err(ScriptFault::TooLong);
         }
-        if text.extend_from_slice(&piece[..count]).is_err() {
-            return Err(ScriptFault::NoMemory);
-        }
+        text.extend_from_slice(&piece[..count])?;
     }
     Err(ScriptFault::Read)
 }
@@ -70,15 +68,14 @@ pub fn judge_record<R: Read, W: Write>(
 ) -> Result<Outcome, ScriptFault>
     // All was read, and what was written is a right verdict on it, or its faulty lines.
     ensures read { OnOk result (IsAtEnd (R.remaining reader.new)) }
-    ensures written { IfOk result (λ outcome. IfSome (R.remaining reader.old) (λ text. AppendsJudged limit outcome text (W.contents writer.old) (W.contents writer.new))) }
+    ensures written { IfOk result
+        (λ outcome. IfSome (R.remaining reader.old) (λ text. AppendsJudged limit outcome text (W.contents writer.old) (W.contents writer.new))) }
     ensures short { OnOk result (IfSome (R.remaining reader.old) (λ text. length text ≤ record_bytes)) }
 
     ensures fault { IfErr result (λ fault. AfterJudgeFault limit fault (R.remaining reader.old) (W.contents writer.old) (W.contents writer.new)) }
     ensures too_long { result ≡ Err ScriptFault.TooLong → ConsumesMoreThan record_bytes (R.remaining reader.old) (R.remaining reader.new) }
 {
     let text = read_record(alloc, reader)?;
-    let Ok(judged) = judge_text(alloc, text.as_slice(), limit) else {
-        return Err(ScriptFault::NoMemory);
-    };
+    let judged = judge_text(alloc, text.as_slice(), limit)?;
     write_judged(writer, &judged)
 }

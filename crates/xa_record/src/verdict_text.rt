@@ -1,7 +1,8 @@
 //! Writes verdicts.
 ghost use Rattle.std.specs.Prelude.{◌≡◌, ◌++◌, [], OnOk, IfOk, map};
 ghost use Rattle.xa_record.specs.Kept.{noted_kept};
-ghost use Rattle.xa_record.specs.VerdictText.{answer_text as text_of_answer, texts_of, answers_text, line_text, line_number_at, verdict_text as text_of_verdict};
+ghost use Rattle.xa_record.specs.VerdictText.{answer_text as text_of_answer, texts_of, answers_text, line_text, line_number_at};
+ghost use Rattle.xa_record.specs.VerdictText.{verdict_text as text_of_verdict};
 
 use crate::happening::Noted;
 use crate::order::push_order;

@@ -2,7 +2,8 @@
 ghost use Rattle.std.specs.Prelude.{◌≡◌, ◌≢◌, ℕ, Some, None, IfOk, IfSome, true, false, map, codes};
 ghost use Rattle.std.specs.Option.{IsSomeAnd};
 ghost use Rattle.clap.specs.Words.{found_of, one_text, subcommand_rows_of};
-ghost use Rattle.xa_script.specs.CommandLine.{IsCapacityText, IsSeedText, IsStoresText, IsLimitText, HasNoSeed, IsMannerOf, IsRenewalOf, IsRaceOf, IsCoordinateOf, IsJudgeOf, IsJob, Names, CanBeDone, ReadsCommand};
+ghost use Rattle.xa_script.specs.CommandLine.{IsCapacityText, IsSeedText, IsStoresText, IsLimitText, HasNoSeed, IsMannerOf, IsRenewalOf, IsRaceOf};
+ghost use Rattle.xa_script.specs.CommandLine.{IsCoordinateOf, IsJudgeOf, IsJob, Names, CanBeDone, ReadsCommand};
 
 use crate::Manner;
 use crate::subcommands::script_command;
@@ -95,7 +96,9 @@ fn renews_in(found: &ArgMatches<'_>) -> bool
 
 /// The race that was found.
 fn race_in(found: &ArgMatches<'_>) -> Option<Job>
-    ensures some { IfSome result (IsRaceOf (one_text (found_of found.now) (codes "capacity")) (one_text (found_of found.now) (codes "together")) (one_text (found_of found.now) (codes "shuffle")) (one_text (found_of found.now) (codes "renew"))) }
+    ensures some { IfSome result
+        (IsRaceOf (one_text (found_of found.now) (codes "capacity")) (one_text (found_of found.now) (codes "together"))
+        (one_text (found_of found.now) (codes "shuffle")) (one_text (found_of found.now) (codes "renew"))) }
     ensures none { result ≡ None → (capacity : ℕ) → IsSomeAnd (one_text (found_of found.now) (codes "capacity")) (IsCapacityText capacity) → ⊥ }
 {
     match capacity_in(found) {
@@ -121,8 +124,12 @@ fn stores_in(found: &ArgMatches<'_>) -> Option<u64>
 
 /// The calls over so many stores that were found.
 fn coordinate_in(found: &ArgMatches<'_>) -> Option<Job>
-    ensures some { IfSome result (λ job. IsCoordinateOf (one_text (found_of found.now) (codes "stores")) (one_text (found_of found.now) (codes "capacity")) job) }
-    ensures none { result ≡ None → (job : Job) → IsCoordinateOf (one_text (found_of found.now) (codes "stores")) (one_text (found_of found.now) (codes "capacity")) job → ⊥ }
+    ensures some { IfSome result
+        (λ job. IsCoordinateOf (one_text (found_of found.now) (codes "stores")) (one_text (found_of found.now) (codes "capacity")) job) }
+    ensures none { result ≡ None
+        → (job : Job)
+        → IsCoordinateOf (one_text (found_of found.now) (codes "stores")) (one_text (found_of found.now) (codes "capacity")) job
+        → ⊥ }
 {
     match (stores_in(found), capacity_in(found)) {
         (Some(stores), Some(capacity)) => Some(Job::Coordinate { stores, capacity }),

@@ -1,7 +1,8 @@
 //! The command and its subcommands, as `clap` sees them.
 ghost use Rattle.std.specs.Prelude.{◌≡◌, false, IfOk};
 ghost use Rattle.clap.specs.Words.{app_of, new_app, rule_of};
-ghost use Rattle.xa_script.specs.CommandLine.{bare_app, race_app, coordinate_app, judge_app, IsLocal, capacity_rule, together_rule, shuffle_rule, renew_rule, stores_rule, limit_rule, script_app};
+ghost use Rattle.xa_script.specs.CommandLine.{bare_app, race_app, coordinate_app, judge_app, IsLocal, capacity_rule, together_rule, shuffle_rule, renew_rule};
+ghost use Rattle.xa_script.specs.CommandLine.{stores_rule, limit_rule, script_app};
 
 use crate::help::{CALLS, LINES, RECORDS, SHOWN, VERSION};
 use clap::{Arg, ArgAction, Command, value_parser};

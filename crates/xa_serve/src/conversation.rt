@@ -30,7 +30,9 @@ fn answer_begun<S: LineServer, P: Peer<S>>(
     peer: &mut P,
     line: &mut BegunLine,
 ) -> Result<(), ScriptFault>
-    ensures answer { (answer : List ℕ) × S.answers server.old (held_by line.old) answer server.new × WritesText (P.exchange peer.old) (P.exchange peer.new) result answer }
+    ensures answer { (answer : List ℕ)
+        × S.answers server.old (held_by line.old) answer server.new
+        × WritesText (P.exchange peer.old) (P.exchange peer.new) result answer }
     ensures next { held_by line.new ≡ Whole [] }
     ensures fault { IfErr result (λ fault. fault ≡ ScriptFault.Write) }
 {
@@ -50,8 +52,14 @@ fn take_byte<S: LineServer, P: Peer<S>>(
     line: &mut BegunLine,
     byte: u8,
 ) -> Result<(), ScriptFault>
-    ensures ok { OnOk result ((reads : ℕ) (waiting : List ℕ) → UnderWay S.begins S.answers Stage.Open reads (P.exchange peer.old) (byte ∷ waiting) (held_by line.old) server.old → UnderWay S.begins S.answers Stage.Open reads (P.exchange peer.new) waiting (held_by line.new) server.new) }
-    ensures err { OnErr result ((reads : ℕ) (waiting : List ℕ) → UnderWay S.begins S.answers Stage.Open reads (P.exchange peer.old) (byte ∷ waiting) (held_by line.old) server.old → IfSome (P.exchange peer.new) (λ exchange. IsBegunAnswer S.begins S.answers exchange.heard exchange.given)) }
+    ensures ok { OnOk result
+        ((reads : ℕ) (waiting : List ℕ)
+        → UnderWay S.begins S.answers Stage.Open reads (P.exchange peer.old) (byte ∷ waiting) (held_by line.old) server.old
+        → UnderWay S.begins S.answers Stage.Open reads (P.exchange peer.new) waiting (held_by line.new) server.new) }
+    ensures err { OnErr result
+        ((reads : ℕ) (waiting : List ℕ)
+        → UnderWay S.begins S.answers Stage.Open reads (P.exchange peer.old) (byte ∷ waiting) (held_by line.old) server.old
+        → IfSome (P.exchange peer.new) (λ exchange. IsBegunAnswer S.begins S.answers exchange.heard exchange.given)) }
     ensures fault { IfErr result (λ fault. fault ≡ ScriptFault.Write) }
 {
     if byte == b'\n' {
@@ -70,8 +78,14 @@ fn take_piece<S: LineServer, P: Peer<S>>(
     line: &mut BegunLine,
     piece: &[u8],
 ) -> Result<(), ScriptFault>
-    ensures ok { OnOk result ((reads : ℕ) → UnderWay S.begins S.answers Stage.Open reads (P.exchange peer.old) piece.now (held_by line.old) server.old → UnderWay S.begins S.answers Stage.Open reads (P.exchange peer.new) [] (held_by line.new) server.new) }
-    ensures err { OnErr result ((reads : ℕ) → UnderWay S.begins S.answers Stage.Open reads (P.exchange peer.old) piece.now (held_by line.old) server.old → IfSome (P.exchange peer.new) (λ exchange. IsBegunAnswer S.begins S.answers exchange.heard exchange.given)) }
+    ensures ok { OnOk result
+        ((reads : ℕ)
+        → UnderWay S.begins S.answers Stage.Open reads (P.exchange peer.old) piece.now (held_by line.old) server.old
+        → UnderWay S.begins S.answers Stage.Open reads (P.exchange peer.new) [] (held_by line.new) server.new) }
+    ensures err { OnErr result
+        ((reads : ℕ)
+        → UnderWay S.begins S.answers Stage.Open reads (P.exchange peer.old) piece.now (held_by line.old) server.old
+        → IfSome (P.exchange peer.new) (λ exchange. IsBegunAnswer S.begins S.answers exchange.heard exchange.given)) }
     ensures fault { IfErr result (λ fault. fault ≡ ScriptFault.Write) }
 {
     for byte in piece {
@@ -87,8 +101,14 @@ fn answer_last<S: LineServer, P: Peer<S>>(
     peer: &mut P,
     line: &mut BegunLine,
 ) -> Result<(), ScriptFault>
-    ensures ok { OnOk result ((reads : ℕ) → UnderWay S.begins S.answers Stage.Ended reads (P.exchange peer.old) [] (held_by line.old) server.old → IfSome (P.exchange peer.new) (IsAllAnswered S.begins S.answers)) }
-    ensures err { OnErr result ((reads : ℕ) → UnderWay S.begins S.answers Stage.Ended reads (P.exchange peer.old) [] (held_by line.old) server.old → IfSome (P.exchange peer.new) (λ exchange. IsBegunAnswer S.begins S.answers exchange.heard exchange.given)) }
+    ensures ok { OnOk result
+        ((reads : ℕ)
+        → UnderWay S.begins S.answers Stage.Ended reads (P.exchange peer.old) [] (held_by line.old) server.old
+        → IfSome (P.exchange peer.new) (IsAllAnswered S.begins S.answers)) }
+    ensures err { OnErr result
+        ((reads : ℕ)
+        → UnderWay S.begins S.answers Stage.Ended reads (P.exchange peer.old) [] (held_by line.old) server.old
+        → IfSome (P.exchange peer.new) (λ exchange. IsBegunAnswer S.begins S.answers exchange.heard exchange.given)) }
     ensures fault { IfErr result (λ fault. fault ≡ ScriptFault.Write) }
 {
     if line.is_empty() {
@@ -116,9 +136,7 @@ pub fn serve<S: LineServer, P: Peer<S>>(
     ensures ok { OnOk result (IfSome (P.exchange peer.new) (IsServed S.begins S.answers)) }
     ensures fault { IfErr result (λ fault. IfSome (P.exchange peer.new) (AfterServing S.begins S.answers fault)) }
 {
-    let Ok(mut line) = BegunLine::new(alloc) else {
-        return Err(ScriptFault::NoMemory);
-    };
+    let mut line = BegunLine::new(alloc)?;
     let mut piece = [0u8; 4096];
     for _read in 0..u64::MAX {
         let count = match peer.hear(&mut piece) {

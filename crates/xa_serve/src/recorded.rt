@@ -130,7 +130,10 @@ impl<'a, S: LineServer> Peer<S> for Recorded<'a> {
 
     fn flush(&mut self) -> io::Result<()>
         ensures flushed { Flushes (Some (exchange_of self.old)) (Some (exchange_of self.new)) result }
-        ensures kept { (rest_of self.new ≡ rest_of self.old) × (piece_of self.new ≡ piece_of self.old) × (reads_left_in self.new ≡ reads_left_in self.old) × (room_in self.new ≡ room_in self.old) }
+        ensures kept { (rest_of self.new ≡ rest_of self.old)
+            × (piece_of self.new ≡ piece_of self.old)
+            × (reads_left_in self.new ≡ reads_left_in self.old)
+            × (room_in self.new ≡ room_in self.old) }
     {
         self.told.clear();
         self.told.extend_from_slice(self.given.as_slice())?;

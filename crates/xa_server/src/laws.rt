@@ -16,7 +16,9 @@ ghost use Rattle.xa_server.specs.Laws.{IsPreparedBetween, LeavesSession};
 ///
 /// Takes no memory. Doesn't wait. Own rule: docs/BEHAVIOR.md, 'Replies'.
 pub fn refused_statement_changes_nothing()
-    ensures { (state : State) (session : ℕ) (statement : Statement) → is_refused (reply_to state session statement) ≡ true → after state session statement ≡ state }
+    ensures { (state : State) (session : ℕ) (statement : Statement)
+        → is_refused (reply_to state session statement) ≡ true
+        → after state session statement ≡ state }
 {}
 
 /// A statement that doesn't enter the history changes nothing, in any state.
@@ -31,7 +33,11 @@ pub fn statement_outside_history_changes_nothing()
 ///
 /// Takes no memory. Doesn't wait. Source: MySQL 8.0 Reference Manual, 'XA Transaction States'.
 pub fn prepared_branch_finishes_once()
-    ensures { (base : State) (history : List (ℕ × Statement)) (first second : ℕ) (xid : Xid) → first < second → FinishesAt base history first xid → FinishesAt base history second xid → IsPreparedBetween base history first second xid }
+    ensures { (base : State) (history : List (ℕ × Statement)) (first second : ℕ) (xid : Xid)
+        → first < second
+        → FinishesAt base history first xid
+        → FinishesAt base history second xid
+        → IsPreparedBetween base history first second xid }
 {}
 
 /// In each state that keeps the lock law, a statement of one session leaves what another session has open: which branch it
@@ -39,7 +45,11 @@ pub fn prepared_branch_finishes_once()
 ///
 /// Takes no memory. Doesn't wait. Own rule: docs/BEHAVIOR.md, 'Branches'.
 pub fn statement_leaves_other_sessions()
-    ensures { (state : State) → LockLaw state → (session other : ℕ) (statement : Statement) → session ≢ other → LeavesSession state (after state session statement) other }
+    ensures { (state : State)
+        → LockLaw state
+        → (session other : ℕ) (statement : Statement)
+        → session ≢ other
+        → LeavesSession state (after state session statement) other }
 {}
 
 /// The list of `XA RECOVER` ascends strictly, so it names no branch twice, and has exactly the PREPARED branches.

@@ -64,7 +64,8 @@ fn unlist_refused(branches: &mut BranchTable, own: &Xid, held: &Result<(), NoMem
 }
 
 impl Server {
-    ghost use Rattle.xa_server.specs.State.{no_state, is_known, is_prepared, association_of, prepared_xids as prepared_xids_of, committed_value as committed_value_of, value_within as value_within_of};
+    ghost use Rattle.xa_server.specs.State.{no_state, is_known, is_prepared, association_of, prepared_xids as prepared_xids_of};
+    ghost use Rattle.xa_server.specs.State.{committed_value as committed_value_of, value_within as value_within_of};
     ghost use Rattle.xa_server.specs.Locks.{LockLaw, holds as holds_of, is_held_against as is_held_against_of, is_locked_against as is_locked_against_of};
     ghost use Rattle.xa_server.specs.Step.{started_by, with_branch, with_changed, with_lock, with_write, without_branch, committed};
     ghost use Rattle.xa_server.specs.Overview.{branches_of, rows_of};

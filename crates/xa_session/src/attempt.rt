@@ -78,9 +78,11 @@ impl<'a, L: DecisionLog> Session<'a, L> {
         requires enters { enters self.old.replica.server session statement.now ≡ true }
         ensures belongs { L.belongs_to self.new.pass ≡ L.belongs_to self.old.pass }
         ensures base { self.new.base.now ≡ self.old.base.now }
-        ensures added { Adds L.TURNS (L.belongs_to self.old.pass).capacity (entry_of session statement.now) result (L.known self.old.pass) (L.known self.new.pass) }
+        ensures added { Adds L.TURNS (L.belongs_to self.old.pass).capacity (entry_of session statement.now) result (L.known self.old.pass)
+            (L.known self.new.pass) }
         ensures folds { self.old.replica.replayed ≤ self.new.replica.replayed }
-        ensures kept { OnOk result ((self.new.replica.replayed ≡ length (L.known self.new.pass).seen) ⊎ (may_take_memory self.old.replica.server session statement.now ≡ true)) }
+        ensures kept { OnOk result
+            ((self.new.replica.replayed ≡ length (L.known self.new.pass).seen) ⊎ (may_take_memory self.old.replica.server session statement.now ≡ true)) }
         ensures err { OnErr result (self.new.replica ≡ self.old.replica) }
     {
         let entry = Entry::entering(session, statement.copy());
@@ -102,7 +104,9 @@ impl<'a, L: DecisionLog> Session<'a, L> {
         ensures belongs { L.belongs_to self.new.pass ≡ L.belongs_to self.old.pass }
         ensures base { self.new.base.now ≡ self.old.base.now }
         ensures answered { IfOk result (λ answer. IsAnswered self.old.base.now statement.now answer (L.known self.old.pass) (L.known self.new.pass)) }
-        ensures fails { IfErr result (λ fault. Fails L.TURNS (L.belongs_to self.old.pass).capacity self.old.base.now statement.now fault (L.known self.old.pass) (L.known self.new.pass)) }
+        ensures fails { IfErr result
+            (λ fault. Fails L.TURNS (L.belongs_to self.old.pass).capacity self.old.base.now statement.now fault (L.known self.old.pass)
+            (L.known self.new.pass)) }
         ensures looked { (L.known self.old.pass).looks < (L.known self.new.pass).looks }
         ensures tries { (L.known self.new.pass).tries ≤ (L.known self.old.pass).tries + 1 }
         ensures tried { IfErr result (λ fault. Tries fault (L.known self.old.pass) (L.known self.new.pass)) }
@@ -111,13 +115,9 @@ impl<'a, L: DecisionLog> Session<'a, L> {
         ensures memory { IfErr result (λ fault. WantsMemory statement.now fault self.new.replica (L.known self.new.pass)) }
         ensures kept { IfOk result (λ answer. IsKept self.old.base.now statement.now answer self.new.replica (L.known self.new.pass)) }
     {
-        let Ok(place) = self.observe() else {
-            return Err(Fault::NoMemory);
-        };
+        let place = self.observe()?;
         let session = self.number();
-        let Ok((reply, enters)) = self.replica.server.reply(session, statement) else {
-            return Err(Fault::NoMemory);
-        };
+        let (reply, enters) = self.replica.server.reply(session, statement)?;
         let answer = Answer { place, reply };
         if !enters {
             return Ok(answer);

@@ -21,7 +21,9 @@ impl<'a, L: DecisionLog> Session<'a, L> {
         ensures belongs { L.belongs_to self.new.pass ≡ L.belongs_to self.old.pass }
         ensures base { self.new.base.now ≡ self.old.base.now }
         ensures answered { IfOk result (λ answer. IsAnswered self.old.base.now statement.now answer (L.known self.old.pass) (L.known self.new.pass)) }
-        ensures fails { IfErr result (λ fault. Fails L.TURNS (L.belongs_to self.old.pass).capacity self.old.base.now statement.now fault (L.known self.old.pass) (L.known self.new.pass)) }
+        ensures fails { IfErr result
+            (λ fault. Fails L.TURNS (L.belongs_to self.old.pass).capacity self.old.base.now statement.now fault (L.known self.old.pass)
+            (L.known self.new.pass)) }
         ensures lasts { IfErr result IsFinal }
         ensures replayed { RepliesAfter result self.new.replica (L.known self.new.pass) }
         ensures folds { self.old.replica.replayed ≤ self.new.replica.replayed }
@@ -31,10 +33,8 @@ impl<'a, L: DecisionLog> Session<'a, L> {
     {
         for _ in rt.forever() {
             match self.attempt(statement) {
-                Ok(answer) => return Ok(answer),
-                Err(Fault::Full) => return Err(Fault::Full),
-                Err(Fault::NoMemory) => return Err(Fault::NoMemory),
                 Err(Fault::Overtaken { .. }) | Err(Fault::Busy) => thread::yield_now(),
+                answered => return answered,
             }
         }
         unreachable!()
@@ -48,9 +48,13 @@ impl<'a, L: DecisionLog> Session<'a, L> {
     /// Own rule: docs/BEHAVIOR.md, 'Sessions'.
     pub fn disconnect<R: Wait>(mut self, rt: &R) -> Result<L::Pass, (Session<'a, L>, Fault)>
         ensures belongs { IfOk result (λ pass. L.belongs_to pass ≡ L.belongs_to self.entry.pass) }
-        ensures answered { IfOk result (λ pass. (place : ℕ) × IsAnswered self.entry.base.now Disconnect (record { place = place; reply = Accepted }) (L.known self.entry.pass) (L.known pass)) }
+        ensures answered { IfOk result
+            (λ pass. (place : ℕ)
+            × IsAnswered self.entry.base.now Disconnect (record { place = place; reply = Accepted }) (L.known self.entry.pass) (L.known pass)) }
         ensures stays { IfErr result (λ refused. (L.belongs_to refused.0.pass ≡ L.belongs_to self.entry.pass) × (refused.0.base.now ≡ self.entry.base.now)) }
-        ensures fails { IfErr result (λ refused. Fails L.TURNS (L.belongs_to self.entry.pass).capacity self.entry.base.now Disconnect refused.1 (L.known self.entry.pass) (L.known refused.0.pass)) }
+        ensures fails { IfErr result
+            (λ refused. Fails L.TURNS (L.belongs_to self.entry.pass).capacity self.entry.base.now Disconnect refused.1 (L.known self.entry.pass)
+            (L.known refused.0.pass)) }
         ensures lasts { IfErr result (λ refused. IsFinal refused.1) }
         ensures replayed { IfErr result (λ refused. RepliesAfter (Err refused.1) refused.0.replica (L.known refused.0.pass)) }
         ensures folds { IfErr result (λ refused. self.entry.replica.replayed ≤ refused.0.replica.replayed) }

@@ -2,6 +2,7 @@
 ghost use Rattle.std.specs.Prelude.{◌≡◌};
 ghost use Rattle.xa_session.specs.Faults.{number_of_fault};
 
+use std::alloc::AllocError;
 use thiserror::Error;
 
 /// Why a statement wasn't answered. Nothing of it stands in the history.
@@ -38,5 +39,16 @@ impl Fault {
             Fault::NoMemory => 3,
             Fault::Busy => 4,
         }
+    }
+}
+
+impl From<AllocError> for Fault {
+    ghost use Rattle.std.specs.Prelude.{◌≡◌};
+    ghost use Rattle.xa_session.specs.declared.fault.Fault.TheVariants.{NoMemory};
+
+    ghost from_gives = { λ _ fault. fault ≡ NoMemory };
+
+    fn from(_refused: AllocError) -> Fault {
+        Fault::NoMemory
     }
 }

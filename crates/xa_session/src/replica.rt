@@ -37,7 +37,11 @@ impl Replica {
     /// May answer `NoMemory`, after which the replica is as before.
     pub(crate) fn replay(&mut self, entry: &Entry) -> Result<(), NoMemory>
         requires { self.old.replayed + 1 < 2 ^ 64 }
-        ensures ok { OnOk result ((base : State) (seen : List EntryValue) → Stands base seen self.old → slice_get seen self.old.replayed ≡ Some entry.now → Stands base seen self.new) }
+        ensures ok { OnOk result
+            ((base : State) (seen : List EntryValue)
+            → Stands base seen self.old
+            → slice_get seen self.old.replayed ≡ Some entry.now
+            → Stands base seen self.new) }
         ensures next { OnOk result (self.new.replayed ≡ self.old.replayed + 1) }
         ensures err { OnErr result (self.new ≡ self.old) }
     {
@@ -56,7 +60,11 @@ impl Replica {
     ) -> Result<(), NoMemory>
         requires accepted { is_refused (reply_to self.old.server session statement.now) ≡ false }
         requires fits { self.old.replayed + 1 < 2 ^ 64 }
-        ensures ok { OnOk result ((base : State) (seen : List EntryValue) → Stands base seen self.old → slice_get seen self.old.replayed ≡ Some (entry_of session statement.now) → Stands base seen self.new) }
+        ensures ok { OnOk result
+            ((base : State) (seen : List EntryValue)
+            → Stands base seen self.old
+            → slice_get seen self.old.replayed ≡ Some (entry_of session statement.now)
+            → Stands base seen self.new) }
         ensures next { OnOk result (self.new.replayed ≡ self.old.replayed + 1) }
         ensures err { OnErr result (self.new ≡ self.old) }
         ensures memory { OnErr result (may_take_memory self.old.server session statement.now ≡ true) }

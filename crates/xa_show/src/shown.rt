@@ -7,7 +7,8 @@ ghost use Rattle.xa_serve.specs.Heard.{Whole, TooLong};
 ghost use Rattle.xa_serve.specs.Served.{IsServed, AfterServing};
 ghost use Rattle.xa_serve.specs.Statements.{said};
 ghost use Rattle.xa_show.specs.Listing.{listing};
-ghost use Rattle.xa_show.specs.Shown.{is_remark as is_remark_line, remark_text, is_blank as is_blank_line, keys_asked as keys_asked_at, IsAnswerShown, BeginsEmpty, Shows};
+ghost use Rattle.xa_show.specs.Shown.{is_remark as is_remark_line, remark_text, is_blank as is_blank_line, keys_asked as keys_asked_at, IsAnswerShown};
+ghost use Rattle.xa_show.specs.Shown.{BeginsEmpty, Shows};
 
 use crate::with_listing;
 use arrayvec::ArrayVec;

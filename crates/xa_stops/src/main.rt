@@ -1,4 +1,5 @@
-//! Stops a coordinator after each of its calls: carries out the calls of each file that the command line names, over three stores, and prints what answers them.
+//! Stops a coordinator after each of its calls: carries out the calls of each file that the command line names, over three stores,
+//! and prints what answers them.
 #![tactic(auto)]
 
 use anyhow::Result;

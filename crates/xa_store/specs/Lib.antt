@@ -5,3 +5,4 @@ pub mod Renewal
 pub mod Faults
 pub mod Spread
 pub mod Rounds
+pub mod Runs

@@ -23,7 +23,9 @@ pub(crate) fn answer_one<L: DecisionLog, G: Gate, R: Wait>(
     ensures belongs { L.belongs_to session.new.pass ≡ L.belongs_to session.old.pass }
     ensures answered { IfOk result (λ answer. IsAnswered session.old.base.now statement.now answer (L.known session.old.pass) (L.known session.new.pass)) }
     ensures opened { OnOk result (G.may_answer gate.now (L.known session.old.pass).number line true) }
-    ensures fault { IfErr result (λ fault. Halts (G.may_answer gate.now) session.old.base.now (L.belongs_to session.old.pass).capacity statement.now line fault (L.known session.old.pass) (L.known session.new.pass)) }
+    ensures fault { IfErr result
+        (λ fault. Halts (G.may_answer gate.now) session.old.base.now (L.belongs_to session.old.pass).capacity statement.now line fault
+        (L.known session.old.pass) (L.known session.new.pass)) }
 {
     let number = session.number();
     if !gate.enter(number, line) {
@@ -55,12 +57,14 @@ pub(crate) fn answer_all<'a, L: DecisionLog, G: Gate, R: Wait>(
 ) -> Result<(Session<'a, L>, Vec<Answer>), RaceFault>
 where
     L::Pass: Drop,
-    ensures ok { IfOk result (λ done. HasRun L.belongs_to L.known (G.may_answer gate.now) session.entry.base.now session.entry.pass lines.now done.0.base.now done.0.pass done.1.items) }
-    ensures fault { IfErr result (λ fault. Stops (G.may_answer gate.now) session.entry.base.now (L.belongs_to session.entry.pass).capacity (L.known session.entry.pass) lines.now fault) }
+    ensures ok { IfOk result
+        (λ done. HasRun L.belongs_to L.known (G.may_answer gate.now) session.entry.base.now session.entry.pass lines.now done.0.base.now done.0.pass
+        done.1.items) }
+    ensures fault { IfErr result
+        (λ fault. Stops (G.may_answer gate.now) session.entry.base.now (L.belongs_to session.entry.pass).capacity (L.known session.entry.pass) lines.now
+        fault) }
 {
-    let Ok(mut answers) = Vec::with_capacity(alloc, lines.len()) else {
-        return Err(RaceFault::NoMemory);
-    };
+    let mut answers = Vec::with_capacity(alloc, lines.len())?;
     for index in 0..lines.len() {
         let answer = answer_one(rt, &mut session, index as u64, &lines[index], gate)?;
         answers.push_reserved(answer);

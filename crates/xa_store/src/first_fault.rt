@@ -47,3 +47,13 @@ impl FirstFault {
         }
     }
 }
+
+impl From<FirstFault> for RaceFault {
+    ghost use Rattle.std.specs.Prelude.{◌≡◌};
+
+    ghost from_gives = { λ first_fault fault. fault ≡ first_fault.fault };
+
+    fn from(first_fault: FirstFault) -> RaceFault {
+        first_fault.fault
+    }
+}

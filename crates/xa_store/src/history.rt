@@ -25,9 +25,13 @@ impl Store {
         sessions: &mut Vec<Session<'_, Log>>,
     ) -> Result<Vec<Entry>, NoMemory>
         requires { All (λ session. log_of session.pass ≡ identity_of self.now.log) sessions.old.items }
-        ensures keeps { AllZip (λ old new. (new.base.now ≡ old.base.now) × (log_of new.pass ≡ log_of old.pass) × AddsNothing (known_of old.pass) (known_of new.pass)) sessions.old.items sessions.new.items }
+        ensures keeps { AllZip
+            (λ old new. (new.base.now ≡ old.base.now) × (log_of new.pass ≡ log_of old.pass) × AddsNothing (known_of old.pass) (known_of new.pass))
+            sessions.old.items sessions.new.items }
         ensures last { IfOk result (λ list. list.items ≡ (last_known (map (λ session. known_of session.pass) sessions.new.items)).seen) }
-        ensures looked { 0 < length sessions.old.items → (last_known (map (λ session. known_of session.pass) sessions.old.items)).looks < (last_known (map (λ session. known_of session.pass) sessions.new.items)).looks }
+        ensures looked { 0 < length sessions.old.items
+            → (last_known (map (λ session. known_of session.pass) sessions.old.items)).looks
+            < (last_known (map (λ session. known_of session.pass) sessions.new.items)).looks }
         ensures whole { IfOk result (λ list. All (λ session. IsTakenIn list.items (known_of session.pass)) sessions.new.items) }
     {
         let Some(mut last) = sessions.pop() else {

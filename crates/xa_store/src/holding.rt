@@ -28,7 +28,12 @@ fn connect_all<'a>(
 ) -> Result<Vec<Resumed<'a, Log>>, NoMemory>
     requires count { vec_len passes ≡ vec_len progress }
     requires belongs { All (λ pass. log_of pass ≡ identity_of store.now.log) passes.items }
-    ensures { IfOk result (λ all. AllThree (λ pass one resumed. (resumed.session.pass ≡ pass) × (resumed.session.base.now ≡ store.entry.now.base) × (resumed.progress ≡ one) × (resumed.before ≡ before)) passes.items progress.items all.items) }
+    ensures { IfOk result
+        (λ all. AllThree (λ pass one resumed. (resumed.session.pass ≡ pass)
+        × (resumed.session.base.now ≡ store.entry.now.base)
+        × (resumed.progress ≡ one)
+        × (resumed.before ≡ before))
+        passes.items progress.items all.items) }
 {
     if passes.is_empty() {
         return Ok(Vec::new(alloc));
@@ -54,7 +59,9 @@ fn wind_up_round(
     returned: Returned<'_, Log>,
 ) -> Result<Ended, NoMemory>
     requires { All (λ session. log_of session.pass ≡ identity_of store.now.log) returned.sessions.items }
-    ensures passes { IfOk result (λ ended. AllZip (λ session pass. (log_of pass ≡ log_of session.pass) × AddsNothing (known_of session.pass) (known_of pass)) returned.entry.sessions.items ended.passes.items) }
+    ensures passes { IfOk result
+        (λ ended. AllZip (λ session pass. (log_of pass ≡ log_of session.pass) × AddsNothing (known_of session.pass) (known_of pass))
+        returned.entry.sessions.items ended.passes.items) }
     ensures progress { IfOk result (λ ended. ended.progress ≡ returned.entry.progress) }
     ensures last { IfOk result (λ ended. ended.history.items ≡ (last_known (map known_of ended.passes.items)).seen) }
     ensures whole { IfOk result (λ ended. All (λ pass. IsTakenIn ended.history.items (known_of pass)) ended.passes.items) }
@@ -94,15 +101,8 @@ pub(crate) fn hold_round<G: Gate + Sync, R: Threads + Wait + Sync>(
     ensures passes { IfOk result (λ ended. vec_len ended.passes ≡ vec_len progress) }
     ensures fault { IfErr result (BlamesRounds (G.may_answer gate.now) (map (λ one. one.lines.items) progress.items)) }
 {
-    let Ok(resumed) = connect_all(alloc, store, passes, progress, before) else {
-        return Err(RaceFault::NoMemory);
-    };
-    let returned = match run_round(rt, alloc, resumed, gate) {
-        Ok(returned) => returned,
-        Err(first_fault) => return Err(first_fault.fault),
-    };
-    let Ok(ended) = wind_up_round(alloc, store, returned) else {
-        return Err(RaceFault::NoMemory);
-    };
+    let resumed = connect_all(alloc, store, passes, progress, before)?;
+    let returned = run_round(rt, alloc, resumed, gate)?;
+    let ended = wind_up_round(alloc, store, returned)?;
     Ok(ended)
 }

@@ -42,18 +42,23 @@ impl Store {
         mut sessions: Vec<Session<'s, Log>>,
     ) -> Result<(Vec<Entry>, Vec<Pass>), (Vec<Session<'s, Log>>, NoMemory)>
         requires { All (λ session. log_of session.pass ≡ identity_of self.now.log) sessions.items }
-        ensures passes { IfOk result (λ ended. AllZip (λ session pass. (log_of pass ≡ log_of session.pass) × AddsNothing (known_of session.pass) (known_of pass)) sessions.entry.items ended.1.items) }
+        ensures passes { IfOk result
+            (λ ended. AllZip (λ session pass. (log_of pass ≡ log_of session.pass) × AddsNothing (known_of session.pass) (known_of pass)) sessions.entry.items
+            ended.1.items) }
         ensures last { IfOk result (λ ended. ended.0.items ≡ (last_known (map known_of ended.1.items)).seen) }
         ensures whole { IfOk result (λ ended. All (λ pass. IsTakenIn ended.0.items (known_of pass)) ended.1.items) }
         ensures gathered { IfOk result (λ ended. 0 < length sessions.entry.items → AreGathered (identity_of self.now.log) ended.1.items) }
-        ensures err { IfErr result (λ refused. AllZip (λ old new. (new.base.now ≡ old.base.now) × (log_of new.pass ≡ log_of old.pass) × AddsNothing (known_of old.pass) (known_of new.pass)) sessions.entry.items refused.0.items) }
+        ensures err { IfErr result
+            (λ refused. AllZip
+            (λ old new. (new.base.now ≡ old.base.now) × (log_of new.pass ≡ log_of old.pass) × AddsNothing (known_of old.pass) (known_of new.pass))
+            sessions.entry.items refused.0.items) }
     {
         match self.history(alloc, &mut sessions) {
             Err(error) => Err((sessions, error)),
-            Ok(history) => match leave_all(alloc, sessions) {
-                Err(refused) => Err(refused),
-                Ok(passes) => Ok((history, passes)),
-            },
+            Ok(history) => {
+                let passes = leave_all(alloc, sessions)?;
+                Ok((history, passes))
+            }
         }
     }
 }

@@ -15,13 +15,17 @@ use xa_xid::NoMemory;
 /// no more, and has just the entries of each one's number that this one knows as its own.
 pub(crate) fn meet_each<L: DecisionLog>(others: &mut Vec<Session<'_, L>>, last: &mut Session<'_, L>)
     requires { All (λ session. L.belongs_to session.pass ≡ L.belongs_to last.old.pass) others.old.items }
-    ensures others { AllZip (λ old new. (new.base.now ≡ old.base.now) × (L.belongs_to new.pass ≡ L.belongs_to old.pass) × MeetsFirst (L.known old.pass) (L.known new.pass)) others.old.items others.new.items }
+    ensures others { AllZip
+        (λ old new. (new.base.now ≡ old.base.now) × (L.belongs_to new.pass ≡ L.belongs_to old.pass) × MeetsFirst (L.known old.pass) (L.known new.pass))
+        others.old.items others.new.items }
     ensures room { vec_capacity others.new ≡ vec_capacity others.old }
     ensures base { last.new.base.now ≡ last.old.base.now }
     ensures belongs { L.belongs_to last.new.pass ≡ L.belongs_to last.old.pass }
     ensures last { AddsNothing (L.known last.old.pass) (L.known last.new.pass) }
     ensures seen { All (λ session. Begins (L.known session.pass).seen (L.known last.new.pass).seen) others.new.items }
-    ensures whole { All (λ session. Begins (L.known session.pass).seen (L.known last.old.pass).seen) others.old.items → ((L.known last.new.pass).seen ≡ (L.known last.old.pass).seen) × All (λ session. entries_of (L.known session.pass).number (L.known last.new.pass).seen ≡ (L.known session.pass).mine) others.new.items }
+    ensures whole { All (λ session. Begins (L.known session.pass).seen (L.known last.old.pass).seen) others.old.items
+        → ((L.known last.new.pass).seen ≡ (L.known last.old.pass).seen)
+        × All (λ session. entries_of (L.known session.pass).number (L.known last.new.pass).seen ≡ (L.known session.pass).mine) others.new.items }
 {
     for index in 0..others.len() {
         others[index].meet(last);
@@ -35,7 +39,9 @@ pub(crate) fn meet_each<L: DecisionLog>(others: &mut Vec<Session<'_, L>>, last: 
 /// the others' entries is told of one history.
 pub(crate) fn meet_all<L: DecisionLog>(others: &mut Vec<Session<'_, L>>, last: &mut Session<'_, L>)
     requires { All (λ session. L.belongs_to session.pass ≡ L.belongs_to last.old.pass) others.old.items }
-    ensures others { AllZip (λ old new. (new.base.now ≡ old.base.now) × (L.belongs_to new.pass ≡ L.belongs_to old.pass) × MeetsFirst (L.known old.pass) (L.known new.pass)) others.old.items others.new.items }
+    ensures others { AllZip
+        (λ old new. (new.base.now ≡ old.base.now) × (L.belongs_to new.pass ≡ L.belongs_to old.pass) × MeetsFirst (L.known old.pass) (L.known new.pass))
+        others.old.items others.new.items }
     ensures room { vec_capacity others.new ≡ vec_capacity others.old }
     ensures base { last.new.base.now ≡ last.old.base.now }
     ensures belongs { L.belongs_to last.new.pass ≡ L.belongs_to last.old.pass }

@@ -2,6 +2,7 @@
 ghost use Rattle.std.specs.Prelude.{◌≡◌};
 ghost use Rattle.xa_store.specs.Faults.{number_of_race_fault};
 
+use std::alloc::{AllocError, AllocFailed};
 use thiserror::Error;
 use xa_xid::SessionNo;
 
@@ -45,5 +46,27 @@ impl RaceFault {
             RaceFault::NoMemory => 3,
             RaceFault::ThreadRefused => 4,
         }
+    }
+}
+
+impl From<AllocError> for RaceFault {
+    ghost use Rattle.std.specs.Prelude.{◌≡◌};
+    ghost use Rattle.xa_store.specs.declared.race_fault.RaceFault.TheVariants.{NoMemory};
+
+    ghost from_gives = { λ _ fault. fault ≡ NoMemory };
+
+    fn from(_refused: AllocError) -> RaceFault {
+        RaceFault::NoMemory
+    }
+}
+
+impl<T: Drop> From<AllocFailed<T>> for RaceFault {
+    ghost use Rattle.std.specs.Prelude.{◌≡◌};
+    ghost use Rattle.xa_store.specs.declared.race_fault.RaceFault.TheVariants.{NoMemory};
+
+    ghost from_gives = { λ _ fault. fault ≡ NoMemory };
+
+    fn from(_refused: AllocFailed<T>) -> RaceFault {
+        RaceFault::NoMemory
     }
 }

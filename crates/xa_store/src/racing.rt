@@ -20,7 +20,10 @@ fn start_all<'a>(
     runs: Vec<Run>,
 ) -> Result<Vec<Started<'a, Log>>, NoMemory>
     requires { All (λ run. log_of run.pass ≡ identity_of store.now.log) runs.items }
-    ensures { IfOk result (λ all. AllZip (λ run started. (started.session.base.now ≡ store.entry.now.base) × (started.session.pass ≡ run.pass) × (started.lines.items ≡ run.lines.items)) runs.items all.items) }
+    ensures { IfOk result
+        (λ all. AllZip
+        (λ run started. (started.session.base.now ≡ store.entry.now.base) × (started.session.pass ≡ run.pass) × (started.lines.items ≡ run.lines.items))
+        runs.items all.items) }
 {
     let mut all = Vec::with_capacity(alloc, runs.len())?;
     for run in runs {
@@ -48,7 +51,9 @@ pub(crate) fn count_speakers(runs: &[Run]) -> u64 {
 fn outcome_of(alloc: Global, store: &Store, ended: AllEnded<'_, Log>) -> Result<Outcome, NoMemory>
     requires { All (λ session. log_of session.pass ≡ identity_of store.now.log) ended.sessions.items }
     ensures answers { IfOk result (λ outcome. outcome.answers ≡ ended.entry.answers) }
-    ensures passes { IfOk result (λ outcome. AllZip (λ session pass. (log_of pass ≡ log_of session.pass) × AddsNothing (known_of session.pass) (known_of pass)) ended.entry.sessions.items outcome.passes.items) }
+    ensures passes { IfOk result
+        (λ outcome. AllZip (λ session pass. (log_of pass ≡ log_of session.pass) × AddsNothing (known_of session.pass) (known_of pass))
+        ended.entry.sessions.items outcome.passes.items) }
     ensures last { IfOk result (λ outcome. outcome.history.items ≡ (last_known (map known_of outcome.passes.items)).seen) }
     ensures whole { IfOk result (λ outcome. All (λ pass. IsTakenIn outcome.history.items (known_of pass)) outcome.passes.items) }
 {
@@ -87,15 +92,8 @@ pub fn race<G: Gate + Sync, R: Threads + Wait + Sync>(
     ensures fault { IfErr result (λ fault. Blames (G.may_answer gate.now) store.now.base runs.items fault) }
 {
     gate.announce(count_speakers(runs.as_slice()));
-    let Ok(started) = start_all(alloc, store, runs) else {
-        return Err(RaceFault::NoMemory);
-    };
-    let ended = match run_all(rt, alloc, started, gate) {
-        Ok(ended) => ended,
-        Err(first_fault) => return Err(first_fault.fault),
-    };
-    let Ok(outcome) = outcome_of(alloc, store, ended) else {
-        return Err(RaceFault::NoMemory);
-    };
+    let started = start_all(alloc, store, runs)?;
+    let ended = run_all(rt, alloc, started, gate)?;
+    let outcome = outcome_of(alloc, store, ended)?;
     Ok(outcome)
 }

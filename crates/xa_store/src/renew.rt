@@ -33,7 +33,9 @@ impl Store {
         base: Server,
     ) -> Result<(Store, Vec<Pass>), NoMemory>
         ensures base { IfOk result (λ opened. opened.0.base ≡ base) }
-        ensures ok { IfOk result (λ opened. Opens log_of known_of (identity_of self.now.log).capacity (identity_of self.now.log).sessions (identity_of opened.0.log) opened.1.items) }
+        ensures ok { IfOk result
+            (λ opened. Opens log_of known_of (identity_of self.now.log).capacity (identity_of self.now.log).sessions (identity_of opened.0.log)
+            opened.1.items) }
     {
         let Ok((log, passes)) = Log::open(alloc, self.log.capacity(), self.log.sessions()) else {
             return Err(AllocError);
@@ -47,7 +49,9 @@ impl Store {
         ensures belongs { log_of last.new ≡ log_of last.old }
         ensures same { known_of last.new ≡ known_of last.old }
         ensures base { IfOk result (λ opened. opened.0.base ≡ renewed self.now.base (known_of last.old).seen (identity_of self.now.log).sessions) }
-        ensures ok { IfOk result (λ opened. Opens log_of known_of (identity_of self.now.log).capacity (identity_of self.now.log).sessions (identity_of opened.0.log) opened.1.items) }
+        ensures ok { IfOk result
+            (λ opened. Opens log_of known_of (identity_of self.now.log).capacity (identity_of self.now.log).sessions (identity_of opened.0.log)
+            opened.1.items) }
     {
         let server = replayed(&self.log, &self.base, last)?;
         let base = disconnect_all(server, self.log.sessions());
@@ -69,7 +73,8 @@ impl Store {
     ) -> Result<(Store, Vec<Pass>), (Store, Vec<Pass>, NoMemory)>
         requires { AreGathered (identity_of self.log) passes.items }
         ensures base { IfOk result (λ opened. opened.0.base ≡ renewed self.base (last_known (map known_of passes.items)).seen (identity_of self.log).sessions) }
-        ensures ok { IfOk result (λ opened. Opens log_of known_of (identity_of self.log).capacity (identity_of self.log).sessions (identity_of opened.0.log) opened.1.items) }
+        ensures ok { IfOk result
+            (λ opened. Opens log_of known_of (identity_of self.log).capacity (identity_of self.log).sessions (identity_of opened.0.log) opened.1.items) }
         ensures store { IfErr result (λ kept. (kept.0.base ≡ self.base) × (identity_of kept.0.log ≡ identity_of self.log)) }
         ensures passes { IfErr result (λ kept. AllZip (λ old new. (log_of new ≡ log_of old) × (known_of new ≡ known_of old)) passes.items kept.1.items) }
     {

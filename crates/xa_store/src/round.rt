@@ -1,6 +1,7 @@
 //! A session goes on with its statements, as long as the history has room.
-ghost use Rattle.std.specs.Prelude.{◌≡◌, ◌∷◌, [], ◌++◌, length, IfOk, IfErr, OnOk};
-ghost use Rattle.xa_store.specs.Rounds.{HasGoneOn, StopsInRound, later};
+ghost use Rattle.std.specs.Prelude.{◌≡◌, ◌∷◌, [], ◌++◌, IfOk, IfErr, OnOk};
+ghost use Rattle.xa_store.specs.Rounds.{later};
+ghost use Rattle.xa_store.specs.Runs.{RunHasGoneOn, RunStopsInRound};
 
 use crate::answering::answer_one;
 use crate::progress::Progress;
@@ -28,10 +29,8 @@ fn push_later(answers: &mut Vec<Answer>, answer: Answer, before: u64) -> Result<
     let Some(place) = place.checked_add(before) else {
         return Err(RaceFault::NoMemory);
     };
-    match answers.push(Answer { place, reply }) {
-        Ok(()) => Ok(()),
-        Err(_) => Err(RaceFault::NoMemory),
-    }
+    answers.push(Answer { place, reply })?;
+    Ok(())
 }
 
 /// Answers a session's next statements, in order, up to the last or to one that the history has no room for. The session comes
@@ -45,8 +44,8 @@ pub(crate) fn answer_while_room<'a, L: DecisionLog, G: Gate, R: Wait>(
 ) -> Result<(Session<'a, L>, Progress), RaceFault>
 where
     L::Pass: Drop,
-    ensures ok { IfOk result (λ gone. HasGoneOn L.belongs_to L.known resumed.entry.session.base.now resumed.entry.session.pass resumed.entry.before resumed.entry.progress gone.0.base.now gone.0.pass gone.1) }
-    ensures fault { IfErr result (λ fault. StopsInRound (G.may_answer gate.now) (L.known resumed.entry.session.pass).number (length resumed.entry.progress.lines.items) fault) }
+    ensures ok { IfOk result (λ gone. RunHasGoneOn resumed.entry gone.0 gone.1) }
+    ensures fault { IfErr result (RunStopsInRound (G.may_answer gate.now) resumed.entry) }
 {
     let Resumed {
         mut session,

@@ -1,6 +1,6 @@
 //! The runs of one round, on threads of their own.
-ghost use Rattle.std.specs.Prelude.{◌≡◌, ◌⊎◌, ◌++◌, [], ◌∷◌, length, Ok, Err, IfOk, IfErr, OnOk};
-ghost use Rattle.xa_store.specs.Rounds.{HasGoneOn, StopsInRound};
+ghost use Rattle.std.specs.Prelude.{◌≡◌, ◌⊎◌, ◌++◌, [], ◌∷◌, Ok, Err, IfOk, IfErr, OnOk};
+ghost use Rattle.xa_store.specs.Runs.{RunHasGoneOn, RunStopsInRound};
 ghost use Rattle.xa_store.specs.Spread.{StopsSome, AllThree};
 
 use crate::first_fault::FirstFault;
@@ -45,7 +45,8 @@ type RunReturned<'a, L> = Result<(Session<'a, L>, Progress), RaceFault>;
 struct GoesOnFor<'a, L: DecisionLog, G: Gate>(Snapshot<Resumed<'a, L>>, Snapshot<G>);
 
 impl<'a, L: DecisionLog, G: Gate> Promise<RunReturned<'a, L>> for GoesOnFor<'a, L, G> {
-    ghost kept_by = { λ promise ended. let run = promise.0.value in IfOk ended (λ gone. HasGoneOn L.belongs_to L.known run.session.base.now run.session.pass run.before run.progress gone.0.base.now gone.0.pass gone.1) × IfErr ended (λ fault. StopsInRound (G.may_answer promise.1.value) (L.known run.session.pass).number (length run.progress.lines.items) fault) };
+    ghost kept_by = { λ promise ended. IfOk ended (λ gone. RunHasGoneOn promise.0.value gone.0 gone.1)
+        × IfErr ended (RunStopsInRound (G.may_answer promise.1.value) promise.0.value) };
 }
 
 /// Puts one more run behind all others.
@@ -56,8 +57,15 @@ fn take_back<'a, L: DecisionLog>(
 ) -> Result<Returned<'a, L>, FirstFault>
 where
     L::Pass: Drop,
-    ensures ok { IfOk result (λ all. (before : _) × (gone : _) × (others.entry ≡ Ok before) × (ended.entry ≡ Ok gone) × (all.sessions.items ≡ before.sessions.items ++ gone.0 ∷ []) × (all.progress.items ≡ before.progress.items ++ gone.1 ∷ [])) }
-    ensures err { IfErr result (λ first_fault. (others.entry ≡ Err first_fault) ⊎ (ended.entry ≡ Err first_fault.fault) ⊎ (first_fault.fault ≡ RaceFault.NoMemory)) }
+    ensures ok { IfOk result
+        (λ all. (before : _)
+        × (gone : _)
+        × (others.entry ≡ Ok before)
+        × (ended.entry ≡ Ok gone)
+        × (all.sessions.items ≡ before.sessions.items ++ gone.0 ∷ [])
+        × (all.progress.items ≡ before.progress.items ++ gone.1 ∷ [])) }
+    ensures err { IfErr result
+        (λ first_fault. (others.entry ≡ Err first_fault) ⊎ (ended.entry ≡ Err first_fault.fault) ⊎ (first_fault.fault ≡ RaceFault.NoMemory)) }
 {
     match (others, ended) {
         (Ok(mut all), Ok((session, progress))) => match all.push(session, progress) {
@@ -82,8 +90,8 @@ fn spread_round<'s, 'a: 's, E, L: DecisionLog + Sync, G: Gate + Sync, R: Threads
 ) -> Result<Returned<'a, L>, FirstFault>
 where
     L::Pass: Send + Drop,
-    ensures ok { IfOk result (λ all. AllThree (λ run session progress. HasGoneOn L.belongs_to L.known run.session.base.now run.session.pass run.before run.progress session.base.now session.pass progress) runs.entry.items all.sessions.items all.progress.items) }
-    ensures err { IfErr result (λ first_fault. StopsSome (λ run. StopsInRound (G.may_answer gate.now) (L.known run.session.pass).number (length run.progress.lines.items)) runs.entry.items first_fault.fault) }
+    ensures ok { IfOk result (λ all. AllThree RunHasGoneOn runs.entry.items all.sessions.items all.progress.items) }
+    ensures err { IfErr result (λ first_fault. StopsSome (RunStopsInRound (G.may_answer gate.now)) runs.entry.items first_fault.fault) }
 {
     let Some(resumed) = runs.pop() else {
         return Ok(Returned {
@@ -95,8 +103,8 @@ where
     let thread = scope.spawn_with(
         GoesOnFor(Snapshot::of(&resumed), Snapshot::of(gate)),
         move || -> RunReturned<'_, L>
-            ensures ok { IfOk result (λ gone. HasGoneOn L.belongs_to L.known resumed.entry.session.base.now resumed.entry.session.pass resumed.entry.before resumed.entry.progress gone.0.base.now gone.0.pass gone.1) }
-            ensures fault { IfErr result (λ fault. StopsInRound (G.may_answer gate.entry.now) (L.known resumed.entry.session.pass).number (length resumed.entry.progress.lines.items) fault) }
+            ensures ok { IfOk result (λ gone. RunHasGoneOn resumed.entry gone.0 gone.1) }
+            ensures fault { IfErr result (RunStopsInRound (G.may_answer gate.entry.now) resumed.entry) }
         { answer_while_room(rt, resumed, gate) },
     );
     let others = spread_round(scope, rt, alloc, runs, gate);
@@ -117,15 +125,15 @@ pub(crate) fn run_round<'a, L: DecisionLog + Sync, G: Gate + Sync, R: Threads + 
 ) -> Result<Returned<'a, L>, FirstFault>
 where
     L::Pass: Send + Drop,
-    ensures ok { IfOk result (λ all. AllThree (λ run session progress. HasGoneOn L.belongs_to L.known run.session.base.now run.session.pass run.before run.progress session.base.now session.pass progress) runs.entry.items all.sessions.items all.progress.items) }
-    ensures err { IfErr result (λ first_fault. StopsSome (λ run. StopsInRound (G.may_answer gate.now) (L.known run.session.pass).number (length run.progress.lines.items)) runs.entry.items first_fault.fault) }
+    ensures ok { IfOk result (λ all. AllThree RunHasGoneOn runs.entry.items all.sessions.items all.progress.items) }
+    ensures err { IfErr result (λ first_fault. StopsSome (RunStopsInRound (G.may_answer gate.now)) runs.entry.items first_fault.fault) }
 {
     thread::scope(
         thread::scope_env(),
         rt,
         |scope| -> Result<Returned<'_, L>, FirstFault>
-            ensures ok { IfOk result (λ all. AllThree (λ run session progress. HasGoneOn L.belongs_to L.known run.session.base.now run.session.pass run.before run.progress session.base.now session.pass progress) runs.entry.items all.sessions.items all.progress.items) }
-            ensures err { IfErr result (λ first_fault. StopsSome (λ run. StopsInRound (G.may_answer gate.entry.now) (L.known run.session.pass).number (length run.progress.lines.items)) runs.entry.items first_fault.fault) }
+            ensures ok { IfOk result (λ all. AllThree RunHasGoneOn runs.entry.items all.sessions.items all.progress.items) }
+            ensures err { IfErr result (λ first_fault. StopsSome (RunStopsInRound (G.may_answer gate.entry.now)) runs.entry.items first_fault.fault) }
         { spread_round(scope, rt, alloc, runs, gate) },
     )
 }

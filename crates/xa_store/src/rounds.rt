@@ -37,7 +37,8 @@ fn hold_rounds<G: Gate + Sync, R: Threads + Wait + Sync>(
     ensures own { IfOk result (λ held. AllOf (identity_of store.log).sessions held.1.history.items) }
     ensures none { vec_len progress ≡ 0 → IfOk result (λ held. held.1.history.items ≡ []) }
     ensures gathered { IfOk result (λ held. 0 < vec_len progress → AreGathered (identity_of held.0.log) held.1.passes.items) }
-    ensures state { IfOk result (λ held. state_after held.0.base (last_known (map known_of held.1.passes.items)).seen ≡ state_after store.base held.1.history.items) }
+    ensures state { IfOk result
+        (λ held. state_after held.0.base (last_known (map known_of held.1.passes.items)).seen ≡ state_after store.base held.1.history.items) }
     ensures fault { IfErr result (BlamesRounds (G.may_answer gate.now) (map (λ one. one.lines.items) progress.items)) }
 {
     let mut history = Vec::new(alloc);
@@ -49,9 +50,7 @@ fn hold_rounds<G: Gate + Sync, R: Threads + Wait + Sync>(
             passes: left,
             progress: answered,
         } = ended;
-        let Ok(()) = extend(&mut history, round) else {
-            return Err(RaceFault::NoMemory);
-        };
+        extend(&mut history, round)?;
         if are_done(answered.as_slice()) {
             let whole = Ended {
                 history,
@@ -91,22 +90,19 @@ pub fn race_in_rounds<G: Gate + Sync, R: Threads + Wait + Sync>(
     ensures own { IfOk result (λ ended. AllOf (identity_of store.log).sessions ended.1.history.items) }
     ensures none { length runs.items ≡ 0 → IfOk result (λ ended. ended.1.history.items ≡ []) }
     ensures gathered { IfOk result (λ ended. 0 < length runs.items → AreGathered (identity_of ended.0.log) ended.1.passes.items) }
-    ensures state { IfOk result (λ ended. state_after ended.0.base (last_known (map known_of ended.1.passes.items)).seen ≡ state_after store.base ended.1.history.items) }
+    ensures state { IfOk result
+        (λ ended. state_after ended.0.base (last_known (map known_of ended.1.passes.items)).seen ≡ state_after store.base ended.1.history.items) }
     ensures fault { IfErr result (BlamesRounds (G.may_answer gate.now) (map (λ run. run.lines.items) runs.items)) }
 {
     gate.announce(count_speakers(runs.as_slice()));
-    let Ok((passes, progress)) = split(alloc, runs) else {
-        return Err(RaceFault::NoMemory);
-    };
+    let (passes, progress) = split(alloc, runs)?;
     let (store, ended) = hold_rounds(rt, alloc, store, passes, progress, gate)?;
     let Ended {
         history,
         passes,
         progress,
     } = ended;
-    let Ok(answers) = answers_of(alloc, progress) else {
-        return Err(RaceFault::NoMemory);
-    };
+    let answers = answers_of(alloc, progress)?;
     let outcome = Outcome {
         history,
         answers,

@@ -1,7 +1,7 @@
 //! Runs on threads of their own.
 ghost use Rattle.std.specs.Prelude.{◌≡◌, ◌⊎◌, ◌++◌, [], ◌∷◌, map, Ok, Err, IfOk, IfErr, OnOk};
-ghost use Rattle.xa_store.specs.Legal.{Stops};
-ghost use Rattle.xa_store.specs.Spread.{HasRun, StopsSome, AllThree};
+ghost use Rattle.xa_store.specs.Runs.{RunHasAnswered, RunStops};
+ghost use Rattle.xa_store.specs.Spread.{StopsSome, AllThree};
 
 use crate::answering::answer_all;
 use crate::first_fault::FirstFault;
@@ -38,7 +38,8 @@ impl<'a, L: DecisionLog> AllEnded<'a, L> {
     where
         L::Pass: Drop,
         ensures sessions { OnOk result (self.new.sessions.items ≡ self.old.sessions.items ++ session.entry ∷ []) }
-        ensures answers { OnOk result (map (λ answered. answered.items) self.new.answers.items ≡ map (λ answered. answered.items) self.old.answers.items ++ answers.items ∷ []) }
+        ensures answers { OnOk result
+            (map (λ answered. answered.items) self.new.answers.items ≡ map (λ answered. answered.items) self.old.answers.items ++ answers.items ∷ []) }
     {
         self.sessions.push(session)?;
         self.answers.push(answers)?;
@@ -51,7 +52,8 @@ impl<'a, L: DecisionLog> AllEnded<'a, L> {
 struct AnswersAll<'a, L: DecisionLog, G: Gate>(Snapshot<Started<'a, L>>, Snapshot<G>);
 
 impl<'a, L: DecisionLog, G: Gate> Promise<RunEnded<'a, L>> for AnswersAll<'a, L, G> {
-    ghost kept_by = { λ promise ended. let run = promise.0.value in IfOk ended (λ done. HasRun L.belongs_to L.known (G.may_answer promise.1.value) run.session.base.now run.session.pass run.lines.items done.0.base.now done.0.pass done.1.items) × IfErr ended (λ fault. Stops (G.may_answer promise.1.value) run.session.base.now (L.belongs_to run.session.pass).capacity (L.known run.session.pass) run.lines.items fault) };
+    ghost kept_by = { λ promise ended. IfOk ended (λ done. RunHasAnswered (G.may_answer promise.1.value) promise.0.value done.0 done.1.items)
+        × IfErr ended (RunStops (G.may_answer promise.1.value) promise.0.value) };
 }
 
 /// Answers all statements of a run.
@@ -63,8 +65,8 @@ fn answer_run<'a, L: DecisionLog, G: Gate, R: Wait>(
 ) -> RunEnded<'a, L>
 where
     L::Pass: Drop,
-    ensures ok { IfOk result (λ done. HasRun L.belongs_to L.known (G.may_answer gate.now) run.entry.session.base.now run.entry.session.pass run.entry.lines.items done.0.base.now done.0.pass done.1.items) }
-    ensures fault { IfErr result (λ fault. Stops (G.may_answer gate.now) run.entry.session.base.now (L.belongs_to run.entry.session.pass).capacity (L.known run.entry.session.pass) run.entry.lines.items fault) }
+    ensures ok { IfOk result (λ done. RunHasAnswered (G.may_answer gate.now) run.entry done.0 done.1.items) }
+    ensures fault { IfErr result (RunStops (G.may_answer gate.now) run.entry) }
 {
     let Started { session, lines } = run;
     answer_all(rt, alloc, session, lines.as_slice(), gate)
@@ -78,8 +80,15 @@ fn join_run<'a, L: DecisionLog>(
 ) -> Result<AllEnded<'a, L>, FirstFault>
 where
     L::Pass: Drop,
-    ensures ok { IfOk result (λ all. (before : _) × (done : _) × (others.entry ≡ Ok before) × (ended.entry ≡ Ok done) × (all.sessions.items ≡ before.sessions.items ++ done.0 ∷ []) × (map (λ answers. answers.items) all.answers.items ≡ map (λ answers. answers.items) before.answers.items ++ done.1.items ∷ [])) }
-    ensures err { IfErr result (λ first_fault. (others.entry ≡ Err first_fault) ⊎ (ended.entry ≡ Err first_fault.fault) ⊎ (first_fault.fault ≡ RaceFault.NoMemory)) }
+    ensures ok { IfOk result
+        (λ all. (before : _)
+        × (done : _)
+        × (others.entry ≡ Ok before)
+        × (ended.entry ≡ Ok done)
+        × (all.sessions.items ≡ before.sessions.items ++ done.0 ∷ [])
+        × (map (λ answers. answers.items) all.answers.items ≡ map (λ answers. answers.items) before.answers.items ++ done.1.items ∷ [])) }
+    ensures err { IfErr result
+        (λ first_fault. (others.entry ≡ Err first_fault) ⊎ (ended.entry ≡ Err first_fault.fault) ⊎ (first_fault.fault ≡ RaceFault.NoMemory)) }
 {
     match (others, ended) {
         (Ok(mut all), Ok((session, answers))) => match all.push(session, answers) {
@@ -104,8 +113,9 @@ fn spread<'s, 'a: 's, E, L: DecisionLog + Sync, G: Gate + Sync, R: Threads + Wai
 ) -> Result<AllEnded<'a, L>, FirstFault>
 where
     L::Pass: Send + Drop,
-    ensures ok { IfOk result (λ all. AllThree (λ run session answers. HasRun L.belongs_to L.known (G.may_answer gate.now) run.session.base.now run.session.pass run.lines.items session.base.now session.pass answers) runs.entry.items all.sessions.items (map (λ answers. answers.items) all.answers.items)) }
-    ensures err { IfErr result (λ first_fault. StopsSome (λ run. Stops (G.may_answer gate.now) run.session.base.now (L.belongs_to run.session.pass).capacity (L.known run.session.pass) run.lines.items) runs.entry.items first_fault.fault) }
+    ensures ok { IfOk result
+        (λ all. AllThree (RunHasAnswered (G.may_answer gate.now)) runs.entry.items all.sessions.items (map (λ answers. answers.items) all.answers.items)) }
+    ensures err { IfErr result (λ first_fault. StopsSome (RunStops (G.may_answer gate.now)) runs.entry.items first_fault.fault) }
 {
     let Some(run) = runs.pop() else {
         return Ok(AllEnded {
@@ -136,15 +146,18 @@ pub(crate) fn run_all<'a, L: DecisionLog + Sync, G: Gate + Sync, R: Threads + Wa
 ) -> Result<AllEnded<'a, L>, FirstFault>
 where
     L::Pass: Send + Drop,
-    ensures ok { IfOk result (λ all. AllThree (λ run session answers. HasRun L.belongs_to L.known (G.may_answer gate.now) run.session.base.now run.session.pass run.lines.items session.base.now session.pass answers) runs.entry.items all.sessions.items (map (λ answers. answers.items) all.answers.items)) }
-    ensures err { IfErr result (λ first_fault. StopsSome (λ run. Stops (G.may_answer gate.now) run.session.base.now (L.belongs_to run.session.pass).capacity (L.known run.session.pass) run.lines.items) runs.entry.items first_fault.fault) }
+    ensures ok { IfOk result
+        (λ all. AllThree (RunHasAnswered (G.may_answer gate.now)) runs.entry.items all.sessions.items (map (λ answers. answers.items) all.answers.items)) }
+    ensures err { IfErr result (λ first_fault. StopsSome (RunStops (G.may_answer gate.now)) runs.entry.items first_fault.fault) }
 {
     thread::scope(
         thread::scope_env(),
         rt,
         |scope| -> Result<AllEnded<'_, L>, FirstFault>
-            ensures ok { IfOk result (λ all. AllThree (λ run session answers. HasRun L.belongs_to L.known (G.may_answer gate.entry.now) run.session.base.now run.session.pass run.lines.items session.base.now session.pass answers) runs.entry.items all.sessions.items (map (λ answers. answers.items) all.answers.items)) }
-            ensures err { IfErr result (λ first_fault. StopsSome (λ run. Stops (G.may_answer gate.entry.now) run.session.base.now (L.belongs_to run.session.pass).capacity (L.known run.session.pass) run.lines.items) runs.entry.items first_fault.fault) }
+            ensures ok { IfOk result
+                (λ all. AllThree (RunHasAnswered (G.may_answer gate.entry.now)) runs.entry.items all.sessions.items
+                (map (λ answers. answers.items) all.answers.items)) }
+            ensures err { IfErr result (λ first_fault. StopsSome (RunStops (G.may_answer gate.entry.now)) runs.entry.items first_fault.fault) }
         { spread(scope, rt, alloc, runs, gate) },
     )
 }

@@ -37,7 +37,9 @@ impl Store {
         sessions: u64,
     ) -> Result<(Store, Vec<Pass>), OpenFault>
         ensures base { IfOk result (λ opened. opened.0.base ≡ no_state) }
-        ensures ok { IfOk result (λ opened. Opens ⟦<Log as DecisionLog>⟧.belongs_to ⟦<Log as DecisionLog>⟧.known capacity sessions (⟦<Log as DecisionLog>⟧.identity opened.0.log) opened.1.items) }
+        ensures ok { IfOk result
+            (λ opened. Opens ⟦<Log as DecisionLog>⟧.belongs_to ⟦<Log as DecisionLog>⟧.known capacity sessions (⟦<Log as DecisionLog>⟧.identity opened.0.log)
+            opened.1.items) }
         ensures err { IfErr result (λ fault. Refuses capacity sessions fault) }
     {
         let (log, passes) = Log::open(alloc, capacity, sessions)?;

@@ -16,7 +16,8 @@ use xa_xid::NoMemory;
 /// Takes memory for the text. Doesn't wait.
 /// Own rule: docs/BEHAVIOR.md, 'Stories'.
 pub fn tell_line(alloc: Global, server: &mut Shown, line: &[u8]) -> Result<Vec<u8>, NoMemory>
-    ensures { IfOk result (λ told. (text : List ℕ) × Shows server.old (Whole line.now) text server.new × (told.items ≡ codes "> " ++ (line.now ++ (codes "\n" ++ text)))) }
+    ensures { IfOk result
+        (λ told. (text : List ℕ) × Shows server.old (Whole line.now) text server.new × (told.items ≡ codes "> " ++ (line.now ++ (codes "\n" ++ text)))) }
 {
     let answer = server.answer(alloc, line);
     let mut told = Vec::from_slice(alloc, b"> ")?;

@@ -1,6 +1,6 @@
 -- How many elements pass a test from the front on, as `position` finds it.
-use Rattle.std.proofs.Common.{◌≡◌, ℕ, ◌≤◌, ltb, Bool, true, false, not, cond, Option, Some, None, List, [], ◌∷◌, length, refl, arith}
-use Rattle.std.specs.List.{prefix_len, position_or_len}
+use Rattle.std.proofs.Common.{◌≡◌, ℕ, ◌≤◌, ltb, Bool, not, cond, Option, Some, None, List, length, arith}
+use Rattle.std.specs.List.{position_or_len}
 use Rattle.std.specs.Option.{unwrap_or}
 use Rattle.std.proofs.lemmas.Grind.{common_steps}
 use Rattle.std.proofs.lemmas.List.Sums.{prefix_len-le-length}

@@ -3,7 +3,7 @@
 --     Line, line_of   what a line says;  what this line says
 --     first_word, after_word, behind_word     a text up to its first blank;  from there on;  and from the first byte after that which isn't a blank
 --     session_named   the session that a word names
-use Rattle.std.specs.Prelude.{ℕ, ◌+◌, ◌-◌, nat_le, ◌==◌, Bool, true, false, not, ◌&&◌, ◌||◌, cond, Option, Some, None, List, [], ◌∷◌, take, drop}
+use Rattle.std.specs.Prelude.{ℕ, ◌+◌, ◌-◌, nat_le, ◌==◌, Bool, true, false, not, ◌&&◌, cond, Option, Some, None, List, [], ◌∷◌, take, drop}
 use Rattle.std.specs.List.{prefix_len}
 use Rattle.xa_xid.specs.Bytes.{belongs, unblank}
 use Rattle.xa_xid.specs.declared.byte_class.ByteClass.TheVariants.{Blank as BlankByte}

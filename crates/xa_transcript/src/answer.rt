@@ -65,7 +65,8 @@ fn answer_read(
     statement: &Statement,
     mut answer: Vec<u8>,
 ) -> Result<Vec<u8>, NoMemory>
-    ensures answer { IfOk result (λ text. text.items ≡ answer.items ++ reply_text (converts_of statement.now) (reply_to server.old session statement.now) ++ codes "\n") }
+    ensures answer { IfOk result
+        (λ text. text.items ≡ answer.items ++ reply_text (converts_of statement.now) (reply_to server.old session statement.now) ++ codes "\n") }
     ensures after { OnOk result (server.new ≡ after server.old session statement.now) }
     ensures unchanged { OnErr result (server.new ≡ server.old) }
 {

@@ -10,7 +10,7 @@ ghost use Rattle.xa_transcript.specs.LongRace.{IsRacedInRounds, IsLongText, Appe
 use crate::ScriptFault;
 use crate::race_lines::{greatest_session, tell_faults};
 use crate::race_text::print_outcome;
-use crate::racing::{runs_of, told_as};
+use crate::racing::runs_of;
 use crate::streams::{read_all, write_whole};
 use std::alloc::Global;
 use std::io::{Read, Write};
@@ -35,16 +35,10 @@ fn hold_long_race<G: Gate + Sync, R: Threads + Wait + Sync>(
         return Err(ScriptFault::NoMemory);
     };
     passes.truncate(greatest as usize);
-    let Ok(runs) = runs_of(alloc, script, passes) else {
-        return Err(ScriptFault::NoMemory);
-    };
-    match race_in_rounds(rt, alloc, store, runs, gate) {
-        Ok((_, outcome)) => match print_outcome(alloc, script, &outcome) {
-            Ok(text) => Ok(text),
-            Err(_) => Err(ScriptFault::NoMemory),
-        },
-        Err(fault) => Err(told_as(fault)),
-    }
+    let runs = runs_of(alloc, script, passes)?;
+    let (_, outcome) = race_in_rounds(rt, alloc, store, runs, gate)?;
+    let text = print_outcome(alloc, script, &outcome)?;
+    Ok(text)
 }
 
 /// What is written for the script: the list of its faulty lines, or the text of a race's outcome.
@@ -60,9 +54,7 @@ fn text_of_long_race<G: Gate + Sync, R: Threads + Wait + Sync>(
     ensures text { IfOk result (λ text. IsLongText script.now text.items) }
     ensures fault { IfErr result (IsOfLongText script.now) }
 {
-    let Ok(faults) = tell_faults(alloc, script) else {
-        return Err(ScriptFault::NoMemory);
-    };
+    let faults = tell_faults(alloc, script)?;
     if faults.is_empty() {
         hold_long_race(rt, alloc, script, capacity, gate)
     } else {

@@ -8,7 +8,7 @@ ghost use Rattle.xa_transcript.specs.Script.{lines_of};
 ghost use Rattle.xa_transcript.specs.Limits.{script_bytes};
 ghost use Rattle.xa_transcript.specs.Transcript.{ConsumesMoreThan};
 ghost use Rattle.xa_transcript.specs.Race.{AreRunsFrom};
-ghost use Rattle.xa_transcript.specs.Outcome.{IsRaced, IsRaceText, AppendsRace, AfterRaceFault, IsOfRace, IsOfText, script_fault_of};
+ghost use Rattle.xa_transcript.specs.Outcome.{IsRaced, IsRaceText, AppendsRace, AfterRaceFault, IsOfRace, IsOfText};
 
 use crate::ScriptFault;
 use crate::race_lines::{greatest_session, statements_given, tell_faults};
@@ -18,7 +18,7 @@ use std::alloc::Global;
 use std::io::{Read, Write};
 use std::sync::Wait;
 use std::thread::Threads;
-use xa_store::{Gate, Pass, RaceFault, Run, Store, race};
+use xa_store::{Gate, Pass, Run, Store, race};
 use xa_xid::NoMemory;
 
 /// The runs of the sessions that have these passes, session 1 first.
@@ -33,18 +33,6 @@ pub(crate) fn runs_of(alloc: Global, script: &[u8], passes: Vec<Pass>) -> Result
         runs.push(Run { pass, lines })?;
     }
     Ok(runs)
-}
-
-/// How a race's fault is told.
-pub(crate) fn told_as(fault: RaceFault) -> ScriptFault
-    ensures { result ≡ script_fault_of fault }
-{
-    match fault {
-        RaceFault::GateShut { .. } => ScriptFault::GateShut,
-        RaceFault::Full { .. } => ScriptFault::Full,
-        RaceFault::NoMemory => ScriptFault::NoMemory,
-        RaceFault::ThreadRefused => ScriptFault::ThreadRefused,
-    }
 }
 
 /// Holds a race of the script's runs in a store of their own, and gives the text of its outcome.
@@ -64,16 +52,10 @@ fn hold_race<G: Gate + Sync, R: Threads + Wait + Sync>(
         return Err(ScriptFault::NoMemory);
     };
     passes.truncate(greatest as usize);
-    let Ok(runs) = runs_of(alloc, script, passes) else {
-        return Err(ScriptFault::NoMemory);
-    };
-    match race(rt, alloc, &store, runs, gate) {
-        Ok(outcome) => match print_outcome(alloc, script, &outcome) {
-            Ok(text) => Ok(text),
-            Err(_) => Err(ScriptFault::NoMemory),
-        },
-        Err(fault) => Err(told_as(fault)),
-    }
+    let runs = runs_of(alloc, script, passes)?;
+    let outcome = race(rt, alloc, &store, runs, gate)?;
+    let text = print_outcome(alloc, script, &outcome)?;
+    Ok(text)
 }
 
 /// What is written for the script: what is told of its faulty lines, or the text of a race's outcome.
@@ -89,9 +71,7 @@ fn text_of_race<G: Gate + Sync, R: Threads + Wait + Sync>(
     ensures text { IfOk result (λ text. IsRaceText capacity script.now text.items) }
     ensures fault { IfErr result (IsOfText script.now) }
 {
-    let Ok(faults) = tell_faults(alloc, script) else {
-        return Err(ScriptFault::NoMemory);
-    };
+    let faults = tell_faults(alloc, script)?;
     if faults.is_empty() {
         hold_race(rt, alloc, script, capacity, gate)
     } else {

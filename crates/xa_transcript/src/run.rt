@@ -22,9 +22,7 @@ fn run_lines<W: Write>(alloc: Global, script: &[u8], writer: &mut W) -> Result<(
     let mut rest = script;
     while !rest.is_empty() {
         let (line, lines) = split_line(rest);
-        let Ok(answer) = answer_line(alloc, &mut server, line) else {
-            return Err(ScriptFault::NoMemory);
-        };
+        let answer = answer_line(alloc, &mut server, line)?;
         write_whole(writer, answer.as_slice())?;
         rest = lines;
     }

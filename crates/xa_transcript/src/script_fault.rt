@@ -2,7 +2,9 @@
 ghost use Rattle.std.specs.Prelude.{◌≡◌};
 ghost use Rattle.xa_transcript.specs.Faults.{number_of_script_fault};
 
+use std::alloc::{AllocError, AllocFailed};
 use thiserror::Error;
+use xa_store::RaceFault;
 
 /// Why a script's run ends early.
 ///
@@ -48,6 +50,44 @@ impl ScriptFault {
             ScriptFault::Full => 5,
             ScriptFault::GateShut => 6,
             ScriptFault::ThreadRefused => 7,
+        }
+    }
+}
+
+impl From<AllocError> for ScriptFault {
+    ghost use Rattle.std.specs.Prelude.{◌≡◌};
+    ghost use Rattle.xa_transcript.specs.declared.script_fault.ScriptFault.TheVariants.{NoMemory};
+
+    ghost from_gives = { λ _ fault. fault ≡ NoMemory };
+
+    fn from(_refused: AllocError) -> ScriptFault {
+        ScriptFault::NoMemory
+    }
+}
+
+impl<T: Drop> From<AllocFailed<T>> for ScriptFault {
+    ghost use Rattle.std.specs.Prelude.{◌≡◌};
+    ghost use Rattle.xa_transcript.specs.declared.script_fault.ScriptFault.TheVariants.{NoMemory};
+
+    ghost from_gives = { λ _ fault. fault ≡ NoMemory };
+
+    fn from(_refused: AllocFailed<T>) -> ScriptFault {
+        ScriptFault::NoMemory
+    }
+}
+
+impl From<RaceFault> for ScriptFault {
+    ghost use Rattle.std.specs.Prelude.{◌≡◌};
+    ghost use Rattle.xa_transcript.specs.Outcome.{script_fault_of};
+
+    ghost from_gives = { λ raced fault. fault ≡ script_fault_of raced };
+
+    fn from(raced: RaceFault) -> ScriptFault {
+        match raced {
+            RaceFault::GateShut { .. } => ScriptFault::GateShut,
+            RaceFault::Full { .. } => ScriptFault::Full,
+            RaceFault::NoMemory => ScriptFault::NoMemory,
+            RaceFault::ThreadRefused => ScriptFault::ThreadRefused,
         }
     }
 }

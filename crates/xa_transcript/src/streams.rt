@@ -49,9 +49,7 @@ pub fn read_all<R: Read>(alloc: Global, reader: &mut R) -> Result<Vec<u8>, Scrip
         if count > SCRIPT_BYTES - script.len() {
             return Err(ScriptFault::TooLong);
         }
-        if script.extend_from_slice(&piece[..count]).is_err() {
-            return Err(ScriptFault::NoMemory);
-        }
+        script.extend_from_slice(&piece[..count])?;
     }
     Err(ScriptFault::Read)
 }

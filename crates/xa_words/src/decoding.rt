@@ -100,8 +100,15 @@ fn with_texts(kind: u64, first: Bytes, second: Bytes) -> Option<Statement>
 
 /// The statement of these parts, or `None` where there is none.
 fn statement_of(kind: u64, format_id: u64, first: Bytes, second: Bytes) -> Option<Statement>
-    ensures some { IfSome result (λ statement. IsTrue (may_be_entry statement) × (parts_of statement ≡ record { kind = kind; format_id = format_id; first = first.items; second = second.items })) }
-    ensures none { IfNone result ((statement : Statement) → IsTrue (may_be_entry statement) → KeepsLimits statement → parts_of statement ≡ record { kind = kind; format_id = format_id; first = first.items; second = second.items } → ⊥) }
+    ensures some { IfSome result
+        (λ statement. IsTrue (may_be_entry statement)
+        × (parts_of statement ≡ record { kind = kind; format_id = format_id; first = first.items; second = second.items })) }
+    ensures none { IfNone result
+        ((statement : Statement)
+        → IsTrue (may_be_entry statement)
+        → KeepsLimits statement
+        → parts_of statement ≡ record { kind = kind; format_id = format_id; first = first.items; second = second.items }
+        → ⊥) }
 {
     if kind <= 6 {
         let xid = Xid {

@@ -20,7 +20,10 @@ pub(crate) struct Parts<'a> {
 
 impl<'a> Parts<'a> {
     fn of_xid(kind: u64, xid: &'a Xid) -> Parts<'a>
-        ensures { (result.kind ≡ kind) × (result.format_id ≡ xid.now.format_id) × (result.first.now ≡ xid.now.gtrid.items) × (result.second.now ≡ xid.now.bqual.items) }
+        ensures { (result.kind ≡ kind)
+            × (result.format_id ≡ xid.now.format_id)
+            × (result.first.now ≡ xid.now.gtrid.items)
+            × (result.second.now ≡ xid.now.bqual.items) }
     {
         Parts {
             kind,

@@ -38,10 +38,8 @@ pub fn number_of(text: &[u8]) -> Result<(u64, &[u8]), LiteralFault>
     ensures within { IfOk result (λ found. length found.1.now ≤ length text.now) }
 {
     let (run, rest) = ByteClass::Word.split(text);
-    match value_of_run(run) {
-        Ok(number) => Ok((number, rest)),
-        Err(fault) => Err(fault),
-    }
+    let number = value_of_run(run)?;
+    Ok((number, rest))
 }
 
 /// The value of a run.

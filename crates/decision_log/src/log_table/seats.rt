@@ -49,7 +49,10 @@ impl<R: LogWords> LogTable<R> {
         requires seat { KnowsTwo self.now.inner.shared.table_id seat.old }
         ensures seat { KnowsTwo self.now.inner.shared.table_id seat.new }
         ensures first { pass_view seat.new ≡ pass_view seat.old }
-        ensures met { (seen : List Entry) × (second seat.new ≡ met (second seat.old) seen) × (length (second seat.old).known.seen < length (pass_view seat.old).known.seen → result ≡ R.newest (met (second seat.old) seen)) × MetAt (pass_view seat.old) (second seat.old) seen }
+        ensures met { (seen : List Entry)
+            × (second seat.new ≡ met (second seat.old) seen)
+            × (length (second seat.old).known.seen < length (pass_view seat.old).known.seen → result ≡ R.newest (met (second seat.old) seen))
+            × MetAt (pass_view seat.old) (second seat.old) seen }
     {
         // Both passes have seen prefixes of one history, which only grew since.
         self.inner.shared.load::<Met<R>>(seat, 0)
@@ -96,7 +99,10 @@ impl<R: LogWords> LogTable<R> {
         ensures first { KnowsOne self.now.inner.shared.table_id first.new }
         ensures second { KnowsOne self.now.inner.shared.table_id second.new }
         ensures same { pass_view first.new ≡ pass_view first.old }
-        ensures met { (seen : List Entry) × (pass_view second.new ≡ met (pass_view second.old) seen) × (length (pass_view second.old).known.seen < length (pass_view first.old).known.seen → result ≡ R.newest (met (pass_view second.old) seen)) × MetAt (pass_view first.old) (pass_view second.old) seen }
+        ensures met { (seen : List Entry)
+            × (pass_view second.new ≡ met (pass_view second.old) seen)
+            × (length (pass_view second.old).known.seen < length (pass_view first.old).known.seen → result ≡ R.newest (met (pass_view second.old) seen))
+            × MetAt (pass_view first.old) (pass_view second.old) seen }
     {
         let empty = self.split_empty(first);
         let other = std::mem::replace(second, empty);

@@ -20,7 +20,8 @@ impl<R: LogWords> LogTable<R> {
         requires table { seat.old.table_id ≡ self.now.inner.shared.table_id }
         requires held { seat.old.me ≡ seated (pass_view seat.old) }
         requires word { word < self.now.inner.shared.table_id.words }
-        requires allowed { Allows (R.holds self.now.inner.shared.key) self.now.inner.shared.table_id.slots seat.old.id (seated (pass_view seat.old)) word (λ n. n) (Tells (M.then (Load word) (pass_view seat.old))) }
+        requires allowed { Allows (R.holds self.now.inner.shared.key) self.now.inner.shared.table_id.slots seat.old.id (seated (pass_view seat.old)) word
+            (λ n. n) (Tells (M.then (Load word) (pass_view seat.old))) }
         ensures table { seat.new.table_id ≡ seat.old.table_id }
         ensures held { seat.new.me ≡ seated (pass_view seat.new) }
         ensures told { M.then (Load word) (pass_view seat.old) result (pass_view seat.new) }
@@ -37,7 +38,8 @@ impl<R: LogWords> LogTable<R> {
         requires table { seat.old.table_id ≡ self.now.inner.shared.table_id }
         requires held { seat.old.me ≡ seated (pass_view seat.old) }
         requires word { word < self.now.inner.shared.table_id.words }
-        requires allowed { Allows (R.holds self.now.inner.shared.key) self.now.inner.shared.table_id.slots seat.old.id (seated (pass_view seat.old)) word (λ n. new) (λ n. Tells (M.then (Store word new) (pass_view seat.old)) new) }
+        requires allowed { Allows (R.holds self.now.inner.shared.key) self.now.inner.shared.table_id.slots seat.old.id (seated (pass_view seat.old)) word
+            (λ n. new) (λ n. Tells (M.then (Store word new) (pass_view seat.old)) new) }
         ensures table { seat.new.table_id ≡ seat.old.table_id }
         ensures held { seat.new.me ≡ seated (pass_view seat.new) }
         ensures told { M.then (Store word new) (pass_view seat.old) new (pass_view seat.new) }
@@ -60,7 +62,8 @@ impl<R: LogWords> LogTable<R> {
         requires table { seat.old.table_id ≡ self.now.inner.shared.table_id }
         requires held { seat.old.me ≡ seated (pass_view seat.old) }
         requires word { word < self.now.inner.shared.table_id.words }
-        requires allowed { Allows (R.holds self.now.inner.shared.key) self.now.inner.shared.table_id.slots seat.old.id (seated (pass_view seat.old)) word (λ n. either (n == old) new n) (Tells (M.then (Exchange word old new none) (pass_view seat.old))) }
+        requires allowed { Allows (R.holds self.now.inner.shared.key) self.now.inner.shared.table_id.slots seat.old.id (seated (pass_view seat.old)) word
+            (λ n. either (n == old) new n) (Tells (M.then (Exchange word old new none) (pass_view seat.old))) }
         ensures table { seat.new.table_id ≡ seat.old.table_id }
         ensures held { seat.new.me ≡ seated (pass_view seat.new) }
         ensures told { M.then (Exchange word old new none) (pass_view seat.old) result (pass_view seat.new) }
@@ -86,7 +89,8 @@ impl<R: LogWords> LogTable<R> {
         requires table { seat.old.table_id ≡ self.now.inner.shared.table_id }
         requires held { seat.old.me ≡ seated (pass_view seat.old) }
         requires word { word < self.now.inner.shared.table_id.words }
-        requires allowed { Allows (R.holds self.now.inner.shared.key) self.now.inner.shared.table_id.slots seat.old.id (seated (pass_view seat.old)) word (λ n. either (n == old) new n) (Tells (M.then (Exchange word old new (some said.now)) (pass_view seat.old))) }
+        requires allowed { Allows (R.holds self.now.inner.shared.key) self.now.inner.shared.table_id.slots seat.old.id (seated (pass_view seat.old)) word
+            (λ n. either (n == old) new n) (Tells (M.then (Exchange word old new (some said.now)) (pass_view seat.old))) }
         ensures table { seat.new.table_id ≡ seat.old.table_id }
         ensures held { seat.new.me ≡ seated (pass_view seat.new) }
         ensures told { M.then (Exchange word old new (some said.now)) (pass_view seat.old) result (pass_view seat.new) }

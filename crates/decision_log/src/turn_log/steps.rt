@@ -33,7 +33,10 @@ impl TurnLog {
     pub(super) fn load_count(&self, seat: &mut Seat<Entry, SeatView>) -> u64
         requires { IsSeat self.now seat.old }
         ensures seat { IsSeat self.now seat.new }
-        ensures seen { (seen : List Entry) × (pass_view seat.new ≡ with_look (pass_view seat.old) seen) × (result ≡ length seen) × HistoryIs (pass_view seat.old) seen }
+        ensures seen { (seen : List Entry)
+            × (pass_view seat.new ≡ with_look (pass_view seat.old) seen)
+            × (result ≡ length seen)
+            × HistoryIs (pass_view seat.old) seen }
     {
         // Nothing was loaded before that this load rests on.
         self.table.load::<SeeAll>(seat, COUNT)
@@ -45,7 +48,11 @@ impl TurnLog {
         requires word { (0 < word) × (word < row_at self.now.capacity) }
         ensures seat { IsSeat self.now seat.new }
         ensures same { pass_view seat.new ≡ pass_view seat.old }
-        ensures read { (place index : ℕ) (entry : Entry) → word ≡ row_at place + index → index < 21 → slice_get (pass_view seat.old).known.seen place ≡ Some entry → IsEntry entry × (result ≡ slice_index (words_of entry) index) }
+        ensures read { (place index : ℕ) (entry : Entry)
+            → word ≡ row_at place + index
+            → index < 21
+            → slice_get (pass_view seat.old).known.seen place ≡ Some entry
+            → IsEntry entry × (result ≡ slice_index (words_of entry) index) }
     {
         // The row was below the count when the count was loaded, and is so still: it has the same words.
         self.table.load::<ReadWord>(seat, word)
@@ -70,9 +77,14 @@ impl TurnLog {
         requires fresh { (pass_view seat.old).turn ≡ Fresh }
         requires room { length (pass_view seat.old).known.seen < (pass_view seat.old).capacity }
         requires sized { (pass_view seat.old).capacity ≡ self.now.capacity }
-        requires place { (index : ℕ) × (word ≡ row_at (length (pass_view seat.old).known.seen) + index) × (index ≤ length (pass_view seat.old).draft) × (index < 21) }
+        requires place { (index : ℕ)
+            × (word ≡ row_at (length (pass_view seat.old).known.seen) + index)
+            × (index ≤ length (pass_view seat.old).draft)
+            × (index < 21) }
         ensures seat { IsSeat self.now seat.new }
-        ensures stored { (index : ℕ) → word ≡ row_at (length (pass_view seat.old).known.seen) + index → pass_view seat.new ≡ drafted (pass_view seat.old) index new }
+        ensures stored { (index : ℕ)
+            → word ≡ row_at (length (pass_view seat.old).known.seen) + index
+            → pass_view seat.new ≡ drafted (pass_view seat.old) index new }
     {
         // The count was loaded with the turn, so it is still the same, and no other pass stores in its row.
         self.table.store::<DraftWord>(seat, word, new)

@@ -12,4 +12,5 @@ pub returns-in_err-execute-clause-undone : goal.returns-in_err-execute-clause-un
 returns-in_err-execute-clause-undone g c =
     let p = err_from_is_err_and c.from_residual.result c.from_residual.ensures.1 in
     rw (p.1, p.2)
-    (is_undone Disconnect (Session c.in_err-execute.field-0.0) _ _ c.in_err-execute.ensures.stays (c.in_err-execute.ensures.fails, c.in_err-execute.ensures.lasts))
+    (is_undone Disconnect (Session c.in_err-execute.field-0.0) _ _ c.in_err-execute.ensures.stays
+    (c.in_err-execute.ensures.fails, c.in_err-execute.ensures.lasts))

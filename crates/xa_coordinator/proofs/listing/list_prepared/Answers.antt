@@ -1,4 +1,4 @@
-use Rattle.std.proofs.Common.{false, sym, ◌∙◌}
+use Rattle.std.proofs.Common.{false, ◌∙◌}
 use Rattle.std.proofs.lemmas.Result.{err_from_is_err_and}
 use Rattle.xa_xid.specs.declared.statement.Statement.TheVariants.{Recover}
 use Rattle.xa_session.proofs.Entering.{recover_reply}

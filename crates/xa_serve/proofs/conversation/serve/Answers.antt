@@ -8,7 +8,7 @@ use Rattle.xa_serve.proofs.conversation.serve.Goals as goal
 pub loop-read-init : goal.loop-read-init
 loop-read-init g c =
     ready_fresh g.S.LineServer.begins g.S.LineServer.answers (g.P.Peer.exchange c.args.peer.now)
-    (held_by c.in-Ok.line) c.args.server.now c.requires.fresh c.in-Ok.ensures c.requires.begins
+    (held_by c.in_ok-line.line) c.args.server.now c.requires.fresh c.in_ok-line.ensures c.requires.begins
 
 pub hear-requires-clause-answered : goal.hear-requires-clause-answered
 hear-requires-clause-answered g c =
@@ -23,44 +23,44 @@ returns-in-Err-clause-fault g c =
 
 pub returns-in_err-answer_last-clause-fault : goal.returns-in_err-answer_last-clause-fault
 returns-in_err-answer_last-clause-fault g c =
-    let none : (c.in-Ok-hear.count == 0) ≡ true = grind (arith, nat_tests) in
+    let none : (c.in-Ok.count == 0) ≡ true = grind (arith, nat_tests) in
     let under =
     hear_end g.S.LineServer.begins g.S.LineServer.answers _ c.loop-read._read (g.P.Peer.exchange c.loop-read.peer)
-    (g.P.Peer.exchange c.hear.new.self) c.in-Ok-hear.count c.hear.new.piece
-    (held_by c.loop-read.line) c.loop-read.server none c.in-Ok-hear.ensures.heard c.loop-read.invariant in
-    let p = err_from_is_err_and c.from_residual.result c.from_residual.ensures.1 in
+    (g.P.Peer.exchange c.hear.new.self) c.in-Ok.count c.hear.new.piece
+    (held_by c.loop-read.line) c.loop-read.server none c.in-Ok.ensures.heard c.loop-read.invariant in
+    let p = err_from_is_err_and c.from_residual-in_err-answer_last.result c.from_residual-in_err-answer_last.ensures.1 in
     passed_on g.S.LineServer.begins g.S.LineServer.answers
-    (g.P.Peer.exchange c.answer_last.new.peer) c.from_residual.result p.0 _ p.1 p.2 c.in_err-answer_last.ensures.fault
+    (g.P.Peer.exchange c.answer_last.new.peer) c.from_residual-in_err-answer_last.result p.0 _ p.1 p.2 c.in_err-answer_last.ensures.fault
     (c.in_err-answer_last.ensures.err c.loop-read._read under)
 
 pub returns-then-count-eq0-clause-ok : goal.returns-then-count-eq0-clause-ok
 returns-then-count-eq0-clause-ok g c =
-    let none : (c.in-Ok-hear.count == 0) ≡ true = grind (arith, nat_tests) in
+    let none : (c.in-Ok.count == 0) ≡ true = grind (arith, nat_tests) in
     let under =
     hear_end g.S.LineServer.begins g.S.LineServer.answers _ c.loop-read._read (g.P.Peer.exchange c.loop-read.peer)
-    (g.P.Peer.exchange c.hear.new.self) c.in-Ok-hear.count c.hear.new.piece
-    (held_by c.loop-read.line) c.loop-read.server none c.in-Ok-hear.ensures.heard c.loop-read.invariant in
+    (g.P.Peer.exchange c.hear.new.self) c.in-Ok.count c.hear.new.piece
+    (held_by c.loop-read.line) c.loop-read.server none c.in-Ok.ensures.heard c.loop-read.invariant in
     served_ok g.S.LineServer.begins g.S.LineServer.answers (g.P.Peer.exchange c.answer_last.new.peer)
     (g.P.Peer.exchange c.flush.new.peer) c.flush.result c.flush.ensures.flushed (c.in_ok-answer_last.ensures.ok c.loop-read._read under)
 
 pub returns-then-count-eq0-clause-fault : goal.returns-then-count-eq0-clause-fault
 returns-then-count-eq0-clause-fault g c =
-    let none : (c.in-Ok-hear.count == 0) ≡ true = grind (arith, nat_tests) in
+    let none : (c.in-Ok.count == 0) ≡ true = grind (arith, nat_tests) in
     let under =
     hear_end g.S.LineServer.begins g.S.LineServer.answers _ c.loop-read._read (g.P.Peer.exchange c.loop-read.peer)
-    (g.P.Peer.exchange c.hear.new.self) c.in-Ok-hear.count c.hear.new.piece
-    (held_by c.loop-read.line) c.loop-read.server none c.in-Ok-hear.ensures.heard c.loop-read.invariant in
+    (g.P.Peer.exchange c.hear.new.self) c.in-Ok.count c.hear.new.piece
+    (held_by c.loop-read.line) c.loop-read.server none c.in-Ok.ensures.heard c.loop-read.invariant in
     served_err g.S.LineServer.begins g.S.LineServer.answers (g.P.Peer.exchange c.answer_last.new.peer)
     (g.P.Peer.exchange c.flush.new.peer) c.flush.result c.flush.ensures.fault c.flush.ensures.flushed
     (c.in_ok-answer_last.ensures.ok c.loop-read._read under)
 
 pub returns-in_err-take_piece-clause-fault : goal.returns-in_err-take_piece-clause-fault
 returns-in_err-take_piece-clause-fault g c =
-    let some : (c.in-Ok-hear.count == 0) ≡ false = grind (arith, nat_tests) in
+    let some : (c.in-Ok.count == 0) ≡ false = grind (arith, nat_tests) in
     let under =
     hear_some g.S.LineServer.begins g.S.LineServer.answers _ c.loop-read._read (g.P.Peer.exchange c.loop-read.peer)
-    (g.P.Peer.exchange c.hear.new.self) c.in-Ok-hear.count c.hear.new.piece
-    (held_by c.loop-read.line) c.loop-read.server some c.in-Ok-hear.ensures.bound.0 c.in-Ok-hear.ensures.heard c.loop-read.invariant in
+    (g.P.Peer.exchange c.hear.new.self) c.in-Ok.count c.hear.new.piece
+    (held_by c.loop-read.line) c.loop-read.server some c.in-Ok.ensures.bound.0 c.in-Ok.ensures.heard c.loop-read.invariant in
     let p = err_from_is_err_and c.from_residual-in_err-take_piece.result c.from_residual-in_err-take_piece.ensures.1 in
     passed_on g.S.LineServer.begins g.S.LineServer.answers
     (g.P.Peer.exchange c.take_piece.new.peer) c.from_residual-in_err-take_piece.result p.0 _ p.1 p.2 c.in_err-take_piece.ensures.fault
@@ -68,11 +68,11 @@ returns-in_err-take_piece-clause-fault g c =
 
 pub returns-in_err-flush-clause-fault : goal.returns-in_err-flush-clause-fault
 returns-in_err-flush-clause-fault g c =
-    let some : (c.in-Ok-hear.count == 0) ≡ false = grind (arith, nat_tests) in
+    let some : (c.in-Ok.count == 0) ≡ false = grind (arith, nat_tests) in
     let under =
     hear_some g.S.LineServer.begins g.S.LineServer.answers _ c.loop-read._read (g.P.Peer.exchange c.loop-read.peer)
-    (g.P.Peer.exchange c.hear.new.self) c.in-Ok-hear.count c.hear.new.piece
-    (held_by c.loop-read.line) c.loop-read.server some c.in-Ok-hear.ensures.bound.0 c.in-Ok-hear.ensures.heard c.loop-read.invariant in
+    (g.P.Peer.exchange c.hear.new.self) c.in-Ok.count c.hear.new.piece
+    (held_by c.loop-read.line) c.loop-read.server some c.in-Ok.ensures.bound.0 c.in-Ok.ensures.heard c.loop-read.invariant in
     let p = err_from_is_err_and c.from_residual-in_err-flush.result c.from_residual-in_err-flush.ensures.1 in
     let begun =
     flush_err g.S.LineServer.begins g.S.LineServer.answers _ (c.loop-read._read + 1) (g.P.Peer.exchange c.take_piece.new.peer)
@@ -83,11 +83,11 @@ returns-in_err-flush-clause-fault g c =
 
 pub loop-read-preserved : goal.loop-read-preserved
 loop-read-preserved g c =
-    let some : (c.in-Ok-hear.count == 0) ≡ false = grind (arith, nat_tests) in
+    let some : (c.in-Ok.count == 0) ≡ false = grind (arith, nat_tests) in
     let under =
     hear_some g.S.LineServer.begins g.S.LineServer.answers _ c.loop-read._read (g.P.Peer.exchange c.loop-read.peer)
-    (g.P.Peer.exchange c.hear.new.self) c.in-Ok-hear.count c.hear.new.piece
-    (held_by c.loop-read.line) c.loop-read.server some c.in-Ok-hear.ensures.bound.0 c.in-Ok-hear.ensures.heard c.loop-read.invariant in
+    (g.P.Peer.exchange c.hear.new.self) c.in-Ok.count c.hear.new.piece
+    (held_by c.loop-read.line) c.loop-read.server some c.in-Ok.ensures.bound.0 c.in-Ok.ensures.heard c.loop-read.invariant in
     flush_ok g.S.LineServer.begins g.S.LineServer.answers _ (c.loop-read._read + 1) (g.P.Peer.exchange c.take_piece.new.peer)
     (g.P.Peer.exchange c.flush-in-loop-read.new.peer) c.in_ok-flush.field-0
     (held_by c.take_piece.new.line) c.take_piece.new.server c.in_ok-flush.ensures.flushed (c.in_ok-take_piece.ensures.ok (c.loop-read._read + 1) under)

@@ -11,7 +11,7 @@ loop-index-init g c =
     let known = g.L.DecisionLog.known c.args.session.pass in (
       refl,
       refl,
-      subst (λ items. IsOnTheWay c.args.session.base.now known known [] items) (sym c.in-Ok.ensures.items)
+      subst (λ items. IsOnTheWay c.args.session.base.now known known [] items) (sym c.in_ok-answers.ensures.items)
           (sets_out c.args.session.base.now known (g.met.L.DecisionLog.own_part c.args.session.pass)),
       search rules,
       search rules,

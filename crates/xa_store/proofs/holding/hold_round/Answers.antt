@@ -1,4 +1,4 @@
-use Rattle.std.proofs.Common.{◌≡◌, ◌+◌, length, map, ap, sym, subst, ◌∙◌, ⊎_elim, arith}
+use Rattle.std.proofs.Common.{◌≡◌, ◌+◌, length, map, ap, sym, subst, ◌∙◌, ⊎_elim, rules, arith}
 use Rattle.std.specs.List.{AllZip}
 use Rattle.std.proofs.lemmas.List.Elements.{All-from_recursion, recursion_from_All}
 use Rattle.xa_store.specs.Passes.{identity_of, log_of, known_of}
@@ -14,31 +14,33 @@ use Rattle.xa_store.proofs.holding.hold_round.Goals as goal
 pub wind_up_round-requires : goal.wind_up_round-requires
 wind_up_round-requires g c =
     let identity = identity_of c.args.store.now.log in
-    let sessions = c.in-Ok-run_round.returned.sessions.items in
+    let sessions = c.in_ok-returned.returned.sessions.items in
     All-from_recursion (λ session. log_of session.pass ≡ identity) sessions
     (three_become _ _ (λ pass. log_of pass ≡ identity) (λ resumed. log_of resumed.session.pass ≡ identity) (λ session. log_of session.pass ≡ identity)
     (λ pass one resumed is belongs. ap log_of is.0 ∙ belongs) (λ resumed session progress is belongs. is.same_log ∙ belongs)
-    c.args.passes.items c.args.progress.items c.in-Ok.resumed.items sessions c.in-Ok-run_round.returned.progress.items c.in-Ok.ensures
-    c.in-Ok-run_round.ensures.ok
+    c.args.passes.items c.args.progress.items c.in_ok-resumed.resumed.items sessions c.in_ok-returned.returned.progress.items c.in_ok-resumed.ensures
+    c.in_ok-returned.ensures.ok
     (recursion_from_All (λ pass. log_of pass ≡ identity) c.args.passes.items c.requires.belongs))
 
-pub returns-in-Err-clause-fault : goal.returns-in-Err-clause-fault
-returns-in-Err-clause-fault g c =
+pub returns-in_err-returned-clause-fault : goal.returns-in_err-returned-clause-fault
+returns-in_err-returned-clause-fault g c =
     let may = g.G.Gate.may_answer c.args.gate.now in
     let lines = map (λ one. one.lines.items) c.args.progress.items in
-    let fault = c.in-Err.first_fault.fault in
+    let fault = c.in_err-returned.field-0.0.fault in
+    let told : BlamesRounds may lines fault =
     ⊎_elim
     (λ memory. subst (λ one. BlamesRounds may lines one) (sym memory) tt)
     (λ rest. ⊎_elim (λ refused. subst (λ one. BlamesRounds may lines one) (sym refused) tt)
     (λ at.
-    let there = three_get _ c.args.passes.items c.args.progress.items c.in-Ok.resumed.items at.index at.run c.in-Ok.ensures at.found in
+    let there = three_get _ c.args.passes.items c.args.progress.items c.in_ok-resumed.resumed.items at.index at.run c.in_ok-resumed.ensures at.found in
     let number : (known_of at.run.session.pass).number ≡ at.index + 1 =
     ap (λ pass. (known_of pass).number) there.beside.0 ∙ ap (λ known. known.number) (c.requires.fresh at.index there.first there.at_first) in
     blamed may lines at.index there.second.lines.items (known_of at.run.session.pass).number fault
     (get_mapped (λ one. one.lines.items) c.args.progress.items at.index there.second there.at_second) number
     (subst (λ one. StopsInRound may (known_of at.run.session.pass).number (length one.lines.items) fault) there.beside.2 at.cause))
     rest)
-    c.in-Err.ensures.err
+    c.in_err-returned.ensures.err in
+    search rules
 
 pub returns-clause-gains : goal.returns-clause-gains
 returns-clause-gains g c =
@@ -46,10 +48,10 @@ returns-clause-gains g c =
     let before = c.args.before in
     let passes = c.args.passes.items in
     let progress = c.args.progress.items in
-    let returned = c.in-Ok-run_round.returned in
-    let ended = c.in-Ok-wind_up_round.ended in
+    let returned = c.in_ok-returned.returned in
+    let ended = c.in_ok-ended.ended in
     let history = ended.history.items in
-    let wound = c.in-Ok-wind_up_round.ensures in
+    let wound = c.in_ok-ended.ensures in
     let met : AllZip (λ session pass. ((log_of pass ≡ log_of session.pass) × AddsNothing (known_of session.pass) (known_of pass))
     × IsTakenIn history (known_of pass)) returned.sessions.items ended.passes.items =
     zip_and_all _ (λ pass. IsTakenIn history (known_of pass)) returned.sessions.items ended.passes.items wound.passes
@@ -63,21 +65,22 @@ returns-clause-gains g c =
     (subst (λ n. AreLegalAtLast base n (known_of resumed.session.pass) (known_of session.pass) resumed.progress new) is.3
     (subst (λ b. AreLegalAtLast b resumed.before (known_of resumed.session.pass) (known_of session.pass) resumed.progress new) is.1 went.goes_on))))
     wound.0.1 wound.1)
-    passes progress c.in-Ok.resumed.items returned.sessions.items ended.passes.items returned.progress.items c.in-Ok.ensures c.in-Ok-run_round.ensures.ok met in
+    passes progress c.in_ok-resumed.resumed.items returned.sessions.items ended.passes.items returned.progress.items c.in_ok-resumed.ensures
+    c.in_ok-returned.ensures.ok met in
     subst (λ all. AllGain base before history 1 progress all.items) (sym wound.progress)
     (all_gain base before history 1 passes progress returned.progress.items c.requires.fresh three)
 
 pub returns-clause-own : goal.returns-clause-own
 returns-clause-own g c =
     let identity = identity_of c.args.store.now.log in
-    let sessions = c.in-Ok-run_round.returned.sessions.items in
-    let ended = c.in-Ok-wind_up_round.ended in
-    let wound = c.in-Ok-wind_up_round.ensures in
+    let sessions = c.in_ok-returned.returned.sessions.items in
+    let ended = c.in_ok-ended.ended in
+    let wound = c.in_ok-ended.ensures in
     let before =
     three_become _ _ (λ pass. log_of pass ≡ identity) (λ resumed. log_of resumed.session.pass ≡ identity) (λ session. log_of session.pass ≡ identity)
     (λ pass one resumed is belongs. ap log_of is.0 ∙ belongs) (λ resumed session progress is belongs. is.same_log ∙ belongs)
-    c.args.passes.items c.args.progress.items c.in-Ok.resumed.items sessions c.in-Ok-run_round.returned.progress.items c.in-Ok.ensures
-    c.in-Ok-run_round.ensures.ok
+    c.args.passes.items c.args.progress.items c.in_ok-resumed.resumed.items sessions c.in_ok-returned.returned.progress.items c.in_ok-resumed.ensures
+    c.in_ok-returned.ensures.ok
     (recursion_from_All (λ pass. log_of pass ≡ identity) c.args.passes.items c.requires.belongs) in
     let belong =
     zip_all _ (λ session. log_of session.pass ≡ identity) (λ pass. log_of pass ≡ identity)
@@ -86,16 +89,16 @@ returns-clause-own g c =
 
 pub returns-clause-passes : goal.returns-clause-passes
 returns-clause-passes g c =
-    let sessions = c.in-Ok-run_round.returned.sessions.items in
-    let ended = c.in-Ok-wind_up_round.ended in
-    let met = zip_lengths _ sessions ended.passes.items c.in-Ok-wind_up_round.ensures.passes in
-    let went = three_firsts _ c.in-Ok.resumed.items sessions c.in-Ok-run_round.returned.progress.items c.in-Ok-run_round.ensures.ok in
-    let begun = three_lengths _ c.args.passes.items c.args.progress.items c.in-Ok.resumed.items c.in-Ok.ensures in
+    let sessions = c.in_ok-returned.returned.sessions.items in
+    let ended = c.in_ok-ended.ended in
+    let met = zip_lengths _ sessions ended.passes.items c.in_ok-ended.ensures.passes in
+    let went = three_firsts _ c.in_ok-resumed.resumed.items sessions c.in_ok-returned.returned.progress.items c.in_ok-returned.ensures.ok in
+    let begun = three_lengths _ c.args.passes.items c.args.progress.items c.in_ok-resumed.resumed.items c.in_ok-resumed.ensures in
     omega (arith, met, went, begun, ended.passes.ok.0, c.args.progress.ok.0)
 
 pub returns-clause-gathered : goal.returns-clause-gathered
 returns-clause-gathered g c some =
-    let sessions = c.in-Ok-run_round.returned.sessions.items in
-    let went = three_firsts _ c.in-Ok.resumed.items sessions c.in-Ok-run_round.returned.progress.items c.in-Ok-run_round.ensures.ok in
-    let begun = three_lengths _ c.args.passes.items c.args.progress.items c.in-Ok.resumed.items c.in-Ok.ensures in
-    c.in-Ok-wind_up_round.ensures.gathered (omega (arith, some, went, begun, c.args.progress.ok.0))
+    let sessions = c.in_ok-returned.returned.sessions.items in
+    let went = three_firsts _ c.in_ok-resumed.resumed.items sessions c.in_ok-returned.returned.progress.items c.in_ok-returned.ensures.ok in
+    let begun = three_lengths _ c.args.passes.items c.args.progress.items c.in_ok-resumed.resumed.items c.in_ok-resumed.ensures in
+    c.in_ok-ended.ensures.gathered (omega (arith, some, went, begun, c.args.progress.ok.0))

@@ -1,22 +1,17 @@
-use Rattle.std.proofs.Common.{◌≡◌, length, ap, sym, ◌∙◌, subst, inl, inr, ⊎_elim}
+use Rattle.std.proofs.Common.{◌≡◌, ap, sym, ◌∙◌, subst, inl, inr, ⊎_elim}
 use Rattle.std.specs.Result.{IfOk, IfErr}
 use Rattle.std.proofs.lemmas.Result.{IfOk-weaker, IfErr-weaker}
-use Rattle.xa_store.specs.Rounds.{HasGoneOn, StopsInRound}
+use Rattle.xa_store.specs.Runs.{RunHasGoneOn, RunStopsInRound}
 use Rattle.xa_store.proofs.Spreading.{when_ok, when_err, three_more, stopped_before, stopped_last}
 use Rattle.xa_store.proofs.rounding.+spread_round.Goals as goal
 
 pub returns-in-Ok-clause-ok : goal.returns-in-Ok-clause-ok
 returns-in-Ok-clause-ok g t c =
-    let known = g.L.DecisionLog.known in
-    let belongs_to = g.L.DecisionLog.belongs_to in
     let run = c.in-Some.resumed in
     let promise = c.in-Ok.thread.promise in
     let same : promise.0.value ≡ run = ap (λ p. p.0.value) c.in-Ok.ensures.ok ∙ c.of.ensures in
-    let kept : IfOk c.join.result
-    (λ done. HasGoneOn belongs_to known run.session.base.now run.session.pass run.before run.progress done.0.base.now done.0.pass done.1) =
-    subst (λ one. IfOk c.join.result
-    (λ done. HasGoneOn belongs_to known one.session.base.now one.session.pass one.before one.progress done.0.base.now done.0.pass done.1)) same
-    c.join.ensures.0 in
+    let kept : IfOk c.join.result (λ done. RunHasGoneOn run done.0 done.1) =
+    subst (λ one. IfOk c.join.result (λ done. RunHasGoneOn one done.0 done.1)) same c.join.ensures.0 in
     IfOk-weaker c.take_back.result _ _
     (λ all is.
     let rest = when_ok c.spread_round-others.result _ is.0 c.spread_round-others.ensures.ok is.2 in
@@ -26,17 +21,14 @@ returns-in-Ok-clause-ok g t c =
 
 pub returns-in-Ok-clause-err : goal.returns-in-Ok-clause-err
 returns-in-Ok-clause-err g t c =
-    let known = g.L.DecisionLog.known in
     let may = g.G.Gate.may_answer in
     let run = c.in-Some.resumed in
     let promise = c.in-Ok.thread.promise in
     let same : promise.0.value ≡ run = ap (λ p. p.0.value) c.in-Ok.ensures.ok ∙ c.of.ensures in
     let asked : promise.1.value ≡ c.args.gate.now = ap (λ p. p.1.value) c.in-Ok.ensures.ok ∙ c.of-2.ensures in
-    let kept : IfErr c.join.result (λ fault. StopsInRound (may c.args.gate.now) (known run.session.pass).number (length run.progress.lines.items) fault) =
-    subst (λ gate. IfErr c.join.result (λ fault. StopsInRound (may gate) (known run.session.pass).number (length run.progress.lines.items) fault)) asked
-    (subst (λ one. IfErr c.join.result (λ fault. StopsInRound (may promise.1.value) (known one.session.pass).number (length one.progress.lines.items) fault))
-    same
-    c.join.ensures.1) in
+    let kept : IfErr c.join.result (RunStopsInRound (may c.args.gate.now) run) =
+    subst (λ gate. IfErr c.join.result (RunStopsInRound (may gate) run)) asked
+    (subst (λ one. IfErr c.join.result (RunStopsInRound (may promise.1.value) one)) same c.join.ensures.1) in
     IfErr-weaker c.take_back.result _ _
     (λ first_fault is.
     ⊎_elim
@@ -71,15 +63,9 @@ returns-clause-err g t c =
 
 pub spawn_with-thread-requires-clause-keeps : goal.spawn_with-thread-requires-clause-keeps
 spawn_with-thread-requires-clause-keeps g t c κs within r ens =
-    let known = g.L.DecisionLog.known in
-    let belongs_to = g.L.DecisionLog.belongs_to in
     let may = g.G.Gate.may_answer in
     let one = c.of.result.value in (
-      subst (λ resumed. IfOk r
-          (λ gone. HasGoneOn belongs_to known resumed.session.base.now resumed.session.pass resumed.before resumed.progress gone.0.base.now gone.0.pass gone.1))
-          (sym c.of.ensures) ens.0,
-      subst (λ gate. IfErr r (λ fault. StopsInRound (may gate) (known one.session.pass).number (length one.progress.lines.items) fault)) (sym c.of-2.ensures)
-          (subst (λ resumed. IfErr r
-          (λ fault. StopsInRound (may c.args.gate.now) (known resumed.session.pass).number (length resumed.progress.lines.items) fault))
-          (sym c.of.ensures) ens.1),
+      subst (λ resumed. IfOk r (λ gone. RunHasGoneOn resumed gone.0 gone.1)) (sym c.of.ensures) ens.0,
+      subst (λ gate. IfErr r (RunStopsInRound (may gate) one)) (sym c.of-2.ensures)
+          (subst (λ resumed. IfErr r (RunStopsInRound (may c.args.gate.now) resumed)) (sym c.of.ensures) ens.1),
     )

@@ -52,7 +52,7 @@ returns-then-are_done-clause-legal g c =
     let count : c.len-before.result ≡ length c.loop.history.items = c.len-before.ensures ∙ c.loop.history.ok.0 in
     let gains : AllGain c.loop.store.base (length c.loop.history.items) ended.history.items 1 c.loop.progress.items ended.progress.items =
     subst (λ n. AllGain c.loop.store.base n ended.history.items 1 c.loop.progress.items ended.progress.items) count c.in_ok-ended.ensures.gains in
-    subst (λ history. AllLegalSoFar c.args.store.base history 1 lines ended.progress.items) (sym c.in-Ok.ensures)
+    subst (λ history. AllLegalSoFar c.args.store.base history 1 lines ended.progress.items) (sym c.in_ok-extend.ensures)
     (round_legal c.args.store.base (identity_of c.args.store.log).sessions lines c.loop.history.items c.loop.store.base
     (identity_of c.loop.store.log) c.loop.passes.items c.loop.progress.items c.loop.invariant.held ended.history.items ended.progress.items gains)
 
@@ -60,7 +60,7 @@ pub returns-then-are_done-clause-own : goal.returns-then-are_done-clause-own
 returns-then-are_done-clause-own g c =
     let lines = map (λ one. one.lines.items) c.args.progress.items in
     let ended = c.in_ok-ended.ended in
-    subst (λ history. AllOf (identity_of c.args.store.log).sessions history) (sym c.in-Ok.ensures)
+    subst (λ history. AllOf (identity_of c.args.store.log).sessions history) (sym c.in_ok-extend.ensures)
     (round_own c.args.store.base (identity_of c.args.store.log).sessions lines c.loop.history.items c.loop.store.base
     (identity_of c.loop.store.log) c.loop.passes.items c.loop.progress.items c.loop.invariant.held ended.history.items c.in_ok-ended.ensures.own)
 
@@ -78,7 +78,7 @@ returns-then-are_done-clause-state g c =
     round_state c.args.store.base (identity_of c.args.store.log).sessions lines c.loop.history.items c.loop.store.base
     (identity_of c.loop.store.log) c.loop.passes.items c.loop.progress.items c.loop.invariant.held ended.history.items ended.passes.items
     c.in_ok-ended.ensures.last
-    ∙ ap (state_after c.args.store.base) (sym c.in-Ok.ensures)
+    ∙ ap (state_after c.args.store.base) (sym c.in_ok-extend.ensures)
 
 pub carried-requires-clause-gathered : goal.carried-requires-clause-gathered
 carried-requires-clause-gathered g c =
@@ -117,7 +117,7 @@ loop-preserved g c =
       count = omega (arith, as_many, next.ensures.count, c.in_ok-ended.ensures.passes, c.loop.progress.ok.0, ended.progress.ok.0);
       held =
           subst (λ history. IsHeld c.args.store.base (identity_of c.args.store.log).sessions lines history next.field-0-0.base
-          (identity_of next.field-0-0.log) next.field-0-1.items ended.progress.items) (sym c.in-Ok.ensures)
+          (identity_of next.field-0-0.log) next.field-0-1.items ended.progress.items) (sym c.in_ok-extend.ensures)
           (round_held c.args.store.base (identity_of c.args.store.log).sessions lines c.loop.history.items c.loop.store.base
           (identity_of c.loop.store.log) c.loop.passes.items c.loop.progress.items c.loop.invariant.held ended.history.items ended.passes.items
           ended.progress.items next.field-0-0.base (identity_of next.field-0-0.log) next.field-0-1.items

@@ -10,7 +10,7 @@ use Rattle.xa_store.proofs.rounds.race_in_rounds.Goals as goal
 
 pub hold_rounds-requires-clause-belongs : goal.hold_rounds-requires-clause-belongs
 hold_rounds-requires-clause-belongs g c κs within =
-    subst (λ passes. All (λ pass. log_of pass ≡ identity_of c.args.store.log) passes) (sym c.in-Ok.ensures.passes)
+    subst (λ passes. All (λ pass. log_of pass ≡ identity_of c.args.store.log) passes) (sym c.in_ok-passes.ensures.passes)
     (All-map (λ pass. log_of pass ≡ identity_of c.args.store.log) (λ run. run.pass) c.args.runs.items c.requires.belongs)
 
 pub returns-clause-legal : goal.returns-clause-legal
@@ -20,21 +20,21 @@ returns-clause-legal g c =
     let held = c.in_ok-store.ensures in
     let history = ended.history.items in
     let answers = map (λ one. one.answers.items) ended.progress.items in
-    let all : AllAnswered base history 1 (map (λ one. one.lines.items) c.in-Ok.progress.items) answers =
-    legal_all base history 1 (map (λ one. one.lines.items) c.in-Ok.progress.items) ended.progress.items held.legal
+    let all : AllAnswered base history 1 (map (λ one. one.lines.items) c.in_ok-passes.progress.items) answers =
+    legal_all base history 1 (map (λ one. one.lines.items) c.in_ok-passes.progress.items) ended.progress.items held.legal
     (recursion_from_All (λ one. length one.lines.items ≤ length one.answers.items) ended.progress.items held.done) in
-    subst (λ list. Legal base history c.args.runs.items list) (sym c.in-Ok-answers_of.ensures)
+    subst (λ list. Legal base history c.args.runs.items list) (sym c.in_ok-answers.ensures)
     (legal_runs base history 1 c.args.runs.items answers c.requires.fresh
-    (subst (λ lines. AllAnswered base history 1 lines answers) c.in-Ok.ensures.lines all))
+    (subst (λ lines. AllAnswered base history 1 lines answers) c.in_ok-passes.ensures.lines all))
 
 pub returns-clause-gathered : goal.returns-clause-gathered
 returns-clause-gathered g c some =
-    let progress = c.in-Ok.progress in
+    let progress = c.in_ok-passes.progress in
     c.in_ok-store.ensures.gathered
     (omega (
       arith,
       some,
-      ap length c.in-Ok.ensures.lines,
+      ap length c.in_ok-passes.ensures.lines,
       length-map progress.items (λ one. one.lines.items),
       length-map c.args.runs.items (λ run. run.lines.items),
       progress.ok.0,

@@ -1,27 +1,20 @@
 use Rattle.std.proofs.Common.{◌≡◌, map, ap, sym, ◌∙◌, subst, inl, inr, ⊎_elim}
 use Rattle.std.specs.Result.{IfOk, IfErr}
 use Rattle.std.proofs.lemmas.Result.{IfOk-weaker, IfErr-weaker}
-use Rattle.xa_store.specs.Legal.{Stops}
-use Rattle.xa_store.specs.Spread.{HasRun}
+use Rattle.xa_store.specs.Runs.{RunHasAnswered, RunStops}
 use Rattle.xa_store.proofs.Spreading.{when_ok, when_err, three_more, stopped_before, stopped_last}
 use Rattle.xa_store.proofs.spread.+spread.Goals as goal
 
 pub returns-in-Ok-clause-ok : goal.returns-in-Ok-clause-ok
 returns-in-Ok-clause-ok g t c =
-    let known = g.L.DecisionLog.known in
-    let belongs_to = g.L.DecisionLog.belongs_to in
     let may = g.G.Gate.may_answer in
     let run = c.in-Some.run' in
     let promise = c.in-Ok.thread.promise in
     let same : promise.0.value ≡ run = ap (λ p. p.0.value) c.in-Ok.ensures.ok ∙ c.of.ensures in
     let asked : promise.1.value ≡ c.args.gate.now = ap (λ p. p.1.value) c.in-Ok.ensures.ok ∙ c.of-2.ensures in
-    let kept : IfOk c.join.result
-    (λ done. HasRun belongs_to known (may c.args.gate.now) run.session.base.now run.session.pass run.lines.items done.0.base.now done.0.pass done.1.items) =
-    subst (λ gate. IfOk c.join.result
-    (λ done. HasRun belongs_to known (may gate) run.session.base.now run.session.pass run.lines.items done.0.base.now done.0.pass done.1.items)) asked
-    (subst (λ one. IfOk c.join.result
-    (λ done. HasRun belongs_to known (may promise.1.value) one.session.base.now one.session.pass one.lines.items done.0.base.now done.0.pass done.1.items)) same
-    c.join.ensures.0) in
+    let kept : IfOk c.join.result (λ done. RunHasAnswered (may c.args.gate.now) run done.0 done.1.items) =
+    subst (λ gate. IfOk c.join.result (λ done. RunHasAnswered (may gate) run done.0 done.1.items)) asked
+    (subst (λ one. IfOk c.join.result (λ done. RunHasAnswered (may promise.1.value) one done.0 done.1.items)) same c.join.ensures.0) in
     IfOk-weaker c.join_run.result _ _
     (λ all is.
     let rest = when_ok c.spread-others.result _ is.0 c.spread-others.ensures.ok is.2 in
@@ -32,20 +25,14 @@ returns-in-Ok-clause-ok g t c =
 
 pub returns-in-Ok-clause-err : goal.returns-in-Ok-clause-err
 returns-in-Ok-clause-err g t c =
-    let known = g.L.DecisionLog.known in
-    let belongs_to = g.L.DecisionLog.belongs_to in
     let may = g.G.Gate.may_answer in
     let run = c.in-Some.run' in
     let promise = c.in-Ok.thread.promise in
     let same : promise.0.value ≡ run = ap (λ p. p.0.value) c.in-Ok.ensures.ok ∙ c.of.ensures in
     let asked : promise.1.value ≡ c.args.gate.now = ap (λ p. p.1.value) c.in-Ok.ensures.ok ∙ c.of-2.ensures in
-    let kept : IfErr c.join.result
-    (λ fault. Stops (may c.args.gate.now) run.session.base.now (belongs_to run.session.pass).capacity (known run.session.pass) run.lines.items fault) =
-    subst (λ gate. IfErr c.join.result
-    (λ fault. Stops (may gate) run.session.base.now (belongs_to run.session.pass).capacity (known run.session.pass) run.lines.items fault)) asked
-    (subst (λ one. IfErr c.join.result
-    (λ fault. Stops (may promise.1.value) one.session.base.now (belongs_to one.session.pass).capacity (known one.session.pass) one.lines.items fault)) same
-    c.join.ensures.1) in
+    let kept : IfErr c.join.result (RunStops (may c.args.gate.now) run) =
+    subst (λ gate. IfErr c.join.result (RunStops (may gate) run)) asked
+    (subst (λ one. IfErr c.join.result (RunStops (may promise.1.value) one)) same c.join.ensures.1) in
     IfErr-weaker c.join_run.result _ _
     (λ first_fault is.
     ⊎_elim

@@ -69,4 +69,5 @@ returns-in_err-answer-clause-undone g c =
     (at_place g.S.Speak.view c.args.self.now.name.items
     (IsUndone c.args.statement.now (Session c.in_err-answer.field-0.0)) c.args.self.now.stores.items c.args.store c.index_mut.result.now c.execute.new.self
     c.index_mut.ensures.value
-    (is_undone c.args.statement.now (Session c.in_err-answer.field-0.0) _ _ c.in_err-answer.ensures.stays (c.in_err-answer.ensures.fails, c.in_err-answer.ensures.lasts)))
+    (is_undone c.args.statement.now (Session c.in_err-answer.field-0.0) _ _ c.in_err-answer.ensures.stays
+    (c.in_err-answer.ensures.fails, c.in_err-answer.ensures.lasts)))

@@ -1,13 +1,12 @@
-use Rattle.std.proofs.Common.{◌≡◌, ℕ, List, Option, Some, None, false, ap, sym, ◌∙◌, subst, refl, arith}
+use Rattle.std.proofs.Common.{List, Option, false, ap, ◌∙◌, subst, arith}
 use Rattle.std.specs.Prelude.{slice_get, IfOk, IfErr}
 use Rattle.xa_xid.specs.declared.xid.Xid.{Xid}
-use Rattle.xa_session.specs.View.{SessionView}
 use Rattle.xa_coordinator.specs.Agreement.{Agrees}
 use Rattle.xa_xid.specs.Xid.{Text}
-use Rattle.xa_xid.specs.declared.statement.Statement.TheVariants.{Recover, Disconnect}
+use Rattle.xa_xid.specs.declared.statement.Statement.TheVariants.{Recover}
 use Rattle.xa_coordinator.specs.declared.fault.Cause.TheVariants.{Session}
 use Rattle.xa_coordinator.specs.declared.branches.OpenBranch.{OpenBranch}
-use Rattle.xa_coordinator.specs.Recovery.{ListsPrepared, IsFinished, IsBroken, Settled}
+use Rattle.xa_coordinator.specs.Recovery.{ListsPrepared, IsBroken, Settled}
 use Rattle.xa_coordinator.specs.Stores.{AtStore, ChangesAt}
 use Rattle.xa_coordinator.specs.Told.{IsUndone}
 use Rattle.xa_coordinator.proofs.Walk.{at_weaker, changes_then}

@@ -1,17 +1,12 @@
-use Rattle.std.proofs.Common.{◌≡◌, ℕ, List, Option, Some, None, false, ap, sym, ◌∙◌, subst, refl, arith}
-use Rattle.std.specs.Prelude.{slice_get}
+use Rattle.std.proofs.Common.{◌≡◌, ℕ, List, false, ◌∙◌, subst, refl}
 use Rattle.std.proofs.Common.{◌<◌, ◌^◌, true}
 use Rattle.std.specs.List.{list_any}
 use Rattle.xa_xid.specs.declared.xid.Xid.{Xid}
 use Rattle.xa_xid.specs.Xid.{Text, same_xid}
-use Rattle.xa_xid.specs.declared.statement.Statement.TheVariants.{Recover, Disconnect}
-use Rattle.xa_session.specs.View.{SessionView}
+use Rattle.xa_xid.specs.declared.statement.Statement.TheVariants.{Recover}
 use Rattle.xa_coordinator.specs.declared.fault.Cause.TheVariants.{Session}
-use Rattle.xa_coordinator.specs.declared.branches.OpenBranch.{OpenBranch}
-use Rattle.xa_coordinator.specs.Agreement.{Agrees}
 use Rattle.xa_coordinator.specs.Branch.{branch_xid}
-use Rattle.xa_coordinator.specs.Recovery.{ListsPrepared, IsClear, IsBroken, IsStillPrepared, BreaksHere}
-use Rattle.xa_coordinator.specs.Stores.{AtStore, ChangesAt}
+use Rattle.xa_coordinator.specs.Recovery.{ListsPrepared, IsClear, IsBroken, IsStillPrepared}
 use Rattle.xa_coordinator.specs.Told.{IsUndone}
 use Rattle.xa_coordinator.proofs.Walk.{at_weaker}
 use Rattle.xa_coordinator.proofs.Listed.{listed_prepared, none_left_there}

@@ -1,10 +1,9 @@
-use Rattle.std.proofs.Common.{◌≡◌, ◌<◌, ◌≤◌, ◌+◌, ℕ, refl, ap, ◌∙◌, subst, arith}
+use Rattle.std.proofs.Common.{◌+◌, ℕ, refl, ap, ◌∙◌, subst, arith}
 use Rattle.xa_xid.specs.Xid.{Text}
-use Rattle.xa_session.specs.View.{SessionView}
-use Rattle.xa_coordinator.specs.declared.report.Tally.{Tally}
+use Rattle.std.proofs.lemmas.Result.{err_from_is_err_and}
 use Rattle.xa_coordinator.specs.Recovery.{IsRecovered, BreaksHere}
 use Rattle.xa_coordinator.specs.Stores.{AtStore}
-use Rattle.xa_coordinator.proofs.Recovering.{frees_none, frees_next, recovers_none, recovers_next, recovers_all, breaks_at}
+use Rattle.xa_coordinator.proofs.Recovering.{frees_none, frees_next, frees_behind, asked_at, recovers_none, recovers_next, recovers_all, breaks_at}
 use Rattle.xa_coordinator.proofs.coordinator.Coordinator.recover_each.Goals as goal
 
 pub loop-store-init : goal.loop-store-init
@@ -29,15 +28,17 @@ loop-store-preserved g c =
     let store : ℕ = c.loop-store.store in
     let so_far = c.loop-store.invariant in
     record {
-      name = c.in-Ok.ensures.name ∙ so_far.name;
-      frees = frees_next store me.branches c.loop-store.self.branches c.recover_store.new.self.branches so_far.frees c.in-Ok.ensures.marks c.in-Ok.ensures.free;
+      name = c.in_ok-tally.ensures.name ∙ so_far.name;
+      frees = frees_next store me.branches c.loop-store.self.branches c.recover_store.new.self.branches so_far.frees c.in_ok-tally.ensures.marks
+          c.in_ok-tally.ensures.free;
       recovers =
           recovers_next view d me.name.items store c.loop-store.report c.add.new.self
-          (c.in-Ok.tally, c.in-Ok.front) me.stores.items c.loop-store.self.stores.items c.recover_store.new.self.stores.items so_far.recovers
-          c.in-Ok.ensures.frame
+          (c.in_ok-tally.tally, c.in_ok-tally.front) me.stores.items c.loop-store.self.stores.items c.recover_store.new.self.stores.items so_far.recovers
+          c.in_ok-tally.ensures.frame
           (subst (λ (name : Text). AtStore view store
-          (IsRecovered d name.items store c.in-Ok.tally c.in-Ok.front) c.loop-store.self.stores.items c.recover_store.new.self.stores.items) so_far.name
-          c.in-Ok.ensures.recovered)
+          (IsRecovered d name.items store c.in_ok-tally.tally c.in_ok-tally.front) c.loop-store.self.stores.items c.recover_store.new.self.stores.items)
+          so_far.name
+          c.in_ok-tally.ensures.recovered)
           c.add.ensures.fronts c.add.ensures.committed c.add.ensures.rolled_back c.add.ensures.missing;
       length = c.add.ensures.length ∙ ap (λ n. n + 1) so_far.length;
       room = omega (arith, so_far.room, c.add.ensures.capacity);
@@ -46,17 +47,30 @@ loop-store-preserved g c =
       missing = omega (arith, so_far.missing, c.add.ensures.missing_within);
     }
 
-pub returns-in-Err-clause-breaks : goal.returns-in-Err-clause-breaks
-returns-in-Err-clause-breaks g c =
+pub returns-in_err-tally-clause-breaks : goal.returns-in_err-tally-clause-breaks
+returns-in_err-tally-clause-breaks g c =
     let me = c.args.self.now in
     let view = g.S.Speak.view in
     let d = c.args.decisions.now in
     let store : ℕ = c.loop-store.store in
-    breaks_at view d me.name.items store c.loop-store.report c.in-Err.fault me.stores.items c.loop-store.self.stores.items c.recover_store.new.self.stores.items
+    let p = err_from_is_err_and c.from_residual.result c.from_residual.ensures.1 in
+    rw (p.1, p.2)
+    (breaks_at view d me.name.items store c.loop-store.report c.in_err-tally.field-0.0 me.stores.items c.loop-store.self.stores.items
+    c.recover_store.new.self.stores.items
     (omega (arith, c.loop-store-test.true, me.sized))
-    c.loop-store.invariant.recovers c.in-Err.ensures.frame
-    (subst (λ (name : Text). BreaksHere view d name.items store c.in-Err.fault c.loop-store.self.stores.items c.recover_store.new.self.stores.items)
-    c.loop-store.invariant.name c.in-Err.ensures.fails)
+    c.loop-store.invariant.recovers c.in_err-tally.ensures.frame
+    (subst (λ (name : Text). BreaksHere view d name.items store c.in_err-tally.field-0.0 c.loop-store.self.stores.items c.recover_store.new.self.stores.items)
+    c.loop-store.invariant.name c.in_err-tally.ensures.fails))
+
+pub returns-in_err-tally-clause-marks : goal.returns-in_err-tally-clause-marks
+returns-in_err-tally-clause-marks g c =
+    let asked = asked_at g.S.Speak.view c.args.decisions.now c.loop-store.self.name.items c.loop-store.store c.in_err-tally.field-0.0
+    c.loop-store.self.stores.items c.recover_store.new.self.stores.items c.in_err-tally.ensures.fails in
+    let p = err_from_is_err_and c.from_residual.result c.from_residual.ensures.1 in
+    rw (p.1, p.2)
+    (λ store from.
+    frees_behind c.loop-store.store c.args.self.now.branches c.loop-store.self.branches c.recover_store.new.self.branches c.loop-store.invariant.frees
+    c.in_err-tally.ensures.marks store (omega (arith, asked, from)))
 
 pub returns-clause-recovers : goal.returns-clause-recovers
 returns-clause-recovers g c =

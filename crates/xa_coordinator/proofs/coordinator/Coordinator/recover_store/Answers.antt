@@ -1,18 +1,12 @@
-use Rattle.std.proofs.Common.{◌≡◌, ℕ, List, Option, Some, None, false, ap, sym, ◌∙◌, subst, refl, arith}
-use Rattle.std.specs.Prelude.{slice_get}
+use Rattle.std.proofs.Common.{ℕ, List, subst, arith}
 use Rattle.std.proofs.lemmas.Result.{err_from_is_err_and}
 use Rattle.xa_xid.specs.Xid.{Text}
-use Rattle.xa_xid.specs.declared.statement.Statement.TheVariants.{Recover, Disconnect}
-use Rattle.xa_session.specs.View.{SessionView}
-use Rattle.xa_coordinator.specs.declared.fault.Cause.TheVariants.{Session}
-use Rattle.xa_coordinator.specs.declared.branches.OpenBranch.{OpenBranch}
 use Rattle.xa_coordinator.specs.Agreement.{Agrees}
 use Rattle.xa_coordinator.specs.Recovery.{IsSettled, IsClear, IsRecovered, BreaksHere}
-use Rattle.xa_coordinator.specs.declared.fault.RecoverFault.{RecoverFault}
-use Rattle.xa_coordinator.specs.Stores.{AtStore, ChangesAt}
+use Rattle.xa_coordinator.specs.Stores.{AtStore}
 use Rattle.xa_coordinator.proofs.Walk.{at_then, at_weaker, changes_then}
 use Rattle.xa_coordinator.proofs.Settling.{settled_store_agrees, recovered_store}
-use Rattle.xa_coordinator.proofs.Recovering.{breaks_later, breaks_by}
+use Rattle.xa_coordinator.proofs.Recovering.{breaks_later}
 use Rattle.xa_coordinator.proofs.coordinator.Coordinator.recover_store.Goals as goal
 
 pub look_again-requires : goal.look_again-requires
@@ -50,7 +44,8 @@ returns-in_err-front-in-Ok-clause-fails g c =
     let n : List ℕ = me.name.items in
     let p = err_from_is_err_and c.from_residual.result c.from_residual.ensures.1 in
     rw (p.1, p.2)
-    (breaks_later view d n c.args.store c.in_err-front-in-Ok.field-0.0 me.stores.items c.finish_prepared.new.self.stores.items c.look_again.new.self.stores.items
+    (breaks_later view d n c.args.store c.in_err-front-in-Ok.field-0.0 me.stores.items c.finish_prepared.new.self.stores.items
+    c.look_again.new.self.stores.items
     c.in-Ok.ensures.frame.count
     (at_weaker view c.args.store (IsSettled d n c.args.store c.in-Ok.tally) (Agrees d n c.args.store)
     (settled_store_agrees d n c.args.store c.in-Ok.tally) me.stores.items c.finish_prepared.new.self.stores.items c.in-Ok.ensures.settled)

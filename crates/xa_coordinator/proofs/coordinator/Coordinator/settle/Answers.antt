@@ -1,6 +1,5 @@
-use Rattle.std.proofs.Common.{◌≡◌, Bool, Ok, Err, ap, sym, ◌∙◌, subst, refl}
+use Rattle.std.proofs.Common.{◌≡◌, Bool, Ok, Err, sym, subst, refl}
 use Rattle.std.proofs.lemmas.Result.{err_from_is_err_and}
-use Rattle.xa_session.specs.View.{SessionView}
 use Rattle.xa_coordinator.specs.declared.closing.Closing.{Closing}
 use Rattle.xa_coordinator.specs.declared.report.Tally.{Tally}
 use Rattle.xa_coordinator.specs.Branch.{branch_xid}
@@ -35,7 +34,8 @@ returns-clause-settled g c =
     (settles decisions me.name.items c.args.store number c.args.xid.now c.in-Some.ensures.some c.args.tally decided is c.in_ok-found.found)
     me.stores.items c.finish_branch.new.self.stores.items
     (subst (λ (closing : Closing). AtStore g.S.Speak.view c.args.store
-    (SaysAs (finish_statement closing (branch_xid me.name.items number c.args.store)) (Ok c.in_ok-found.found)) me.stores.items c.finish_branch.new.self.stores.items)
+    (SaysAs (finish_statement closing (branch_xid me.name.items number c.args.store)) (Ok c.in_ok-found.found)) me.stores.items
+    c.finish_branch.new.self.stores.items)
     c.finish_decided.ensures c.in_ok-found.ensures.finishes))
 
 pub returns-in_err-found-clause-broken : goal.returns-in_err-found-clause-broken

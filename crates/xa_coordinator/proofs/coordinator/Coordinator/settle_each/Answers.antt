@@ -1,11 +1,11 @@
-use Rattle.std.proofs.Common.{◌≡◌, ◌≤◌, ◌++◌, ◌∷◌, [], ℕ, List, take, length, refl, ap, sym, ◌∙◌, subst, arith}
+use Rattle.std.proofs.Common.{◌++◌, ◌∷◌, [], ℕ, List, take, refl, sym, ◌∙◌, subst, arith}
 use Rattle.std.proofs.lemmas.List.{take_all}
+use Rattle.std.proofs.lemmas.Result.{err_from_is_err_and}
 use Rattle.xa_xid.specs.Xid.{Text}
 use Rattle.xa_xid.specs.declared.xid.Xid.{Xid}
-use Rattle.xa_session.specs.View.{SessionView}
 use Rattle.xa_coordinator.specs.declared.report.Tally.{Tally}
 use Rattle.xa_coordinator.specs.Recovery.{Settled, nothing, one_more, SettlesOne, IsBroken}
-use Rattle.xa_coordinator.specs.Stores.{AtStore, ChangesAt}
+use Rattle.xa_coordinator.specs.Stores.{AtStore}
 use Rattle.xa_coordinator.proofs.Listed.{take_next, at_index}
 use Rattle.xa_coordinator.proofs.Walk.{at_then, at_same, changes_then, unchanged}
 use Rattle.xa_coordinator.proofs.Settling.{broken_later, settled_agrees_so_far}
@@ -43,14 +43,14 @@ loop-xid-preserved g c =
     let i : ℕ = c.loop-xid.xid-index in
     let x : Xid = c.xid-item.result in
     let before : Tally = c.loop-xid.tally in
-    let after : Tally = c.in-Ok.after in
+    let after : Tally = c.in_ok-tally.tally in
     let so_far = c.loop-xid.invariant in
     record {
-      name = c.in-Ok.ensures.name ∙ so_far.name;
-      frame = changes_then store me.stores.items c.loop-xid.self.stores.items c.settle.new.self.stores.items so_far.frame c.in-Ok.ensures.frame;
-      marks = changes_then store me.branches c.loop-xid.self.branches c.settle.new.self.branches so_far.marks c.in-Ok.ensures.marks;
-      free = c.in-Ok.ensures.free;
-      few = omega (arith, so_far.few, c.in-Ok.ensures.more);
+      name = c.in_ok-tally.ensures.name ∙ so_far.name;
+      frame = changes_then store me.stores.items c.loop-xid.self.stores.items c.settle.new.self.stores.items so_far.frame c.in_ok-tally.ensures.frame;
+      marks = changes_then store me.branches c.loop-xid.self.branches c.settle.new.self.branches so_far.marks c.in_ok-tally.ensures.marks;
+      free = c.in_ok-tally.ensures.free;
+      few = omega (arith, so_far.few, c.in_ok-tally.ensures.more);
       settled = subst (λ (list : List Xid). AtStore view store (λ old new. Settled d n store old list after new) me.stores.items c.settle.new.self.stores.items)
           (sym (take_next xids i x (at_index xids i x c.xid-item.is c.loop-xid-test.true)))
           (at_then view store (λ a b. Settled d n store a (take i xids) before b) (λ a b. SettlesOne d n store x before a after b)
@@ -59,24 +59,28 @@ loop-xid-preserved g c =
           me.stores.items c.loop-xid.self.stores.items c.settle.new.self.stores.items so_far.frame.count so_far.settled
           (subst (λ (name : Text). AtStore view store
           (λ a b. SettlesOne d name.items store x before a after b) c.loop-xid.self.stores.items c.settle.new.self.stores.items) so_far.name
-          c.in-Ok.ensures.settled));
+          c.in_ok-tally.ensures.settled));
     }
 
-pub returns-in-Err-clause-broken : goal.returns-in-Err-clause-broken
-returns-in-Err-clause-broken g c =
+pub returns-in_err-tally-clause-broken : goal.returns-in_err-tally-clause-broken
+returns-in_err-tally-clause-broken g c =
     let me = c.args.self.now in
     let view = g.S.Speak.view in
     let d = c.args.decisions.now in
     let n : List ℕ = me.name.items in
     let store : ℕ = c.args.store in
     let so_far = c.loop-xid.invariant in
-    at_then view store (λ a b. Settled d n store a (take c.loop-xid.xid-index c.args.xids.now) c.loop-xid.tally b) (IsBroken d n store c.in-Err.cause)
-    (IsBroken d n store c.in-Err.cause)
-    (λ a m b settled broken. broken_later d n store c.in-Err.cause a m b
+    let p = err_from_is_err_and c.from_residual.result c.from_residual.ensures.1 in
+    rw (p.1, p.2)
+    (at_then view store (λ a b. Settled d n store a (take c.loop-xid.xid-index c.args.xids.now) c.loop-xid.tally b)
+    (IsBroken d n store c.in_err-tally.field-0.0)
+    (IsBroken d n store c.in_err-tally.field-0.0)
+    (λ a m b settled broken. broken_later d n store c.in_err-tally.field-0.0 a m b
     (settled_agrees_so_far d n store (take c.loop-xid.xid-index c.args.xids.now) c.loop-xid.tally a m settled) broken)
     me.stores.items c.loop-xid.self.stores.items c.settle.new.self.stores.items so_far.frame.count so_far.settled
-    (subst (λ (name : Text). AtStore view store (IsBroken d name.items store c.in-Err.cause) c.loop-xid.self.stores.items c.settle.new.self.stores.items)
-    so_far.name c.in-Err.ensures.broken)
+    (subst (λ (name : Text). AtStore view store (IsBroken d name.items store c.in_err-tally.field-0.0) c.loop-xid.self.stores.items
+    c.settle.new.self.stores.items)
+    so_far.name c.in_err-tally.ensures.broken))
 
 pub returns-clause-settled : goal.returns-clause-settled
 returns-clause-settled g c =

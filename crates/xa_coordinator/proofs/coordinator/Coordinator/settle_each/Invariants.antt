@@ -1,6 +1,5 @@
 use Rattle.std.proofs.Common.{◌≡◌, ◌≤◌, Some, None, take}
 use Rattle.std.specs.Prelude.{slice_get}
-use Rattle.xa_session.specs.View.{SessionView}
 use Rattle.xa_coordinator.specs.Stores.{AtStore, ChangesAt}
 use Rattle.xa_coordinator.specs.Recovery.{Settled, total}
 use Rattle.xa_coordinator.proofs.coordinator.Coordinator.settle_each.Given as goal

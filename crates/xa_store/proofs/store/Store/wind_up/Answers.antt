@@ -8,31 +8,31 @@ use Rattle.xa_store.proofs.Spreading.{zip_mapped, map_twice}
 use Rattle.xa_store.proofs.Gathering.{all_kept}
 use Rattle.xa_store.proofs.store.Store.wind_up.Goals as goal
 
-pub returns-in-Ok-leave_all-clause-passes : goal.returns-in-Ok-leave_all-clause-passes
-returns-in-Ok-leave_all-clause-passes c =
+pub returns-in_ok-passes-in-Ok-clause-passes : goal.returns-in_ok-passes-in-Ok-clause-passes
+returns-in_ok-passes-in-Ok-clause-passes c =
     subst (λ passes. AllZip (λ session pass. (log_of pass ≡ log_of session.pass) × AddsNothing (known_of session.pass) (known_of pass)) c.args.sessions.items
-    passes) (sym c.in-Ok-leave_all.ensures.ok)
+    passes) (sym c.in_ok-passes-in-Ok.ensures.ok)
     (zip_mapped _ (λ session pass. (log_of pass ≡ log_of session.pass) × AddsNothing (known_of session.pass) (known_of pass)) (λ session. session.pass)
     (λ old new is. (is.1, is.2)) c.args.sessions.items c.history.new.sessions.items c.in-Ok.ensures.keeps)
 
-pub returns-in-Ok-leave_all-clause-last : goal.returns-in-Ok-leave_all-clause-last
-returns-in-Ok-leave_all-clause-last c =
+pub returns-in_ok-passes-in-Ok-clause-last : goal.returns-in_ok-passes-in-Ok-clause-last
+returns-in_ok-passes-in-Ok-clause-last c =
     c.in-Ok.ensures.last ∙ ap (λ list. (last_known list).seen) (sym (map_twice (λ session. session.pass) known_of c.history.new.sessions.items))
-    ∙ ap (λ passes. (last_known (map known_of passes)).seen) (sym c.in-Ok-leave_all.ensures.ok)
+    ∙ ap (λ passes. (last_known (map known_of passes)).seen) (sym c.in_ok-passes-in-Ok.ensures.ok)
 
-pub returns-in-Ok-leave_all-clause-whole : goal.returns-in-Ok-leave_all-clause-whole
-returns-in-Ok-leave_all-clause-whole c =
-    subst (λ passes. All (λ pass. IsTakenIn c.in-Ok.history.items (known_of pass)) passes) (sym c.in-Ok-leave_all.ensures.ok)
+pub returns-in_ok-passes-in-Ok-clause-whole : goal.returns-in_ok-passes-in-Ok-clause-whole
+returns-in_ok-passes-in-Ok-clause-whole c =
+    subst (λ passes. All (λ pass. IsTakenIn c.in-Ok.history.items (known_of pass)) passes) (sym c.in_ok-passes-in-Ok.ensures.ok)
     (All-map (λ pass. IsTakenIn c.in-Ok.history.items (known_of pass)) (λ session. session.pass) c.history.new.sessions.items c.in-Ok.ensures.whole)
 
-pub returns-in-Ok-leave_all-clause-gathered : goal.returns-in-Ok-leave_all-clause-gathered
-returns-in-Ok-leave_all-clause-gathered c some =
+pub returns-in_ok-passes-in-Ok-clause-gathered : goal.returns-in_ok-passes-in-Ok-clause-gathered
+returns-in_ok-passes-in-Ok-clause-gathered c some =
     let kept = c.in-Ok.ensures.keeps in
     let before = c.args.sessions.items in
     let now = c.history.new.sessions.items in
     let identity = identity_of c.args.self.now.log in
     let long = length_all_zip _ before now kept in
-    rw c.in-Ok-leave_all.ensures.ok
+    rw c.in_ok-passes-in-Ok.ensures.ok
     (record {
       some = omega (arith, some, long, length-map now (λ session. session.pass));
       belongs =
