@@ -98,7 +98,9 @@ fn carry_out<R: Input + Print + Alloc<A = Global> + Threads + Wait + Sync>(
     requires { CanBeDone job }
 {
     let mut input = rt.reader();
-    let mut output = BufWriter::new(rt.alloc(), io::writer(rt))?;
+    let Ok(mut output) = BufWriter::new(rt.alloc(), io::writer(rt)) else {
+        return Err(ScriptFault::NoMemory);
+    };
     let result = match job {
         Job::Run => run_script(rt.alloc(), &mut input, &mut output).and(Ok(DONE)),
         Job::Race {
