@@ -1,4 +1,4 @@
--- The loads of a chain keep the rule, and tell what their plays say.
+-- The loads of a chain keep the rule, and tell what their transitions say.
 use Rattle.std.proofs.Common.{◌≡◌, ◌≢◌, ℕ, ◌+◌, ◌<◌, List, [], ◌∷◌, length, set, get_or, refl, ap, sym, ◌∙◌, subst, Some, arith}
 use Rattle.std.specs.Prelude.{slice_get}
 use mathlib.Core.Option.{some}
@@ -20,7 +20,7 @@ use Rattle.decision_log.proofs.Drafts.{holds_nothing}
 use Rattle.decision_log.proofs.LogRules.{known, history, stepped, unmoved, load_step}
 use Rattle.chain_log.specs.Cells.{name_at, cell_at, name_before, newest_of}
 use Rattle.chain_log.specs.ChainRule.{own_cell, HasDraft, Knows, ChainRule}
-use Rattle.chain_log.specs.ChainPlays.{with_look, Sees, Reads}
+use Rattle.chain_log.specs.ChainTransitions.{with_look, Sees, Reads}
 use Rattle.chain_log.proofs.Names.{name_begins}
 
 abbrev pub Rules : Sizes → State Entry SeatView → Type 0

@@ -26,7 +26,7 @@ use Rattle.decision_log.proofs.LogRules.{RuleOf, known, ranged, history, stepped
 use Rattle.chain_log.specs.Cells.{name_at, cell_at, name_before, newest_of}
 use Rattle.chain_log.specs.ChainRule.{own_cell, try_word, newest_for, HasCells, HasDraft, Knows, ChainRule}
 use Rattle.decision_log.specs.Atomic.{Atomic, Tells, Does, Counts}
-use Rattle.chain_log.specs.ChainPlays.{won, lost, Finds, Drafts, Exchanges}
+use Rattle.chain_log.specs.ChainTransitions.{won, lost, Finds, Drafts, Exchanges}
 use Rattle.chain_log.proofs.Chains.{chain_of, one_chain}
 use Rattle.chain_log.proofs.ChainSteps.{Rules, blank, newest_by, seen_keeps}
 use Rattle.chain_log.proofs.Names.{name_begins, name_low, newest_added, one_cell, one_length, within_words, words_apart}

@@ -12,7 +12,7 @@ use Rattle.chain_log.specs.declared.pass.ChainPass.{ChainPass}
 use Rattle.chain_log.specs.Cells.{newest_of}
 use Rattle.chain_log.specs.Columns.{HasColumns}
 use Rattle.chain_log.specs.ChainPass.{identity_of, log_of}
-use Rattle.chain_log.specs.ChainPlays.{won}
+use Rattle.chain_log.specs.ChainTransitions.{won}
 use Rattle.chain_log.proofs.KeptColumns.{columns_longer, columns_more}
 
 -- a count is what a name says of how many entries there are

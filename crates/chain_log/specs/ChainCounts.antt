@@ -1,5 +1,5 @@
 -- Each step of a chain raises the counts of its pass as it should.
---     see_counts, read_counts, find_counts, draft_counts, exchange_counts     the laws of the plays
+--     see_counts, read_counts, find_counts, draft_counts, exchange_counts     the laws of the transitions
 use Rattle.std.specs.Prelude.{◌≡◌, ℕ}
 use Rattle.std.proofs.Common.{ap, ◌∙◌, sym, inl, inr}
 use mathlib.Core.Option.{Option, none, some}
@@ -10,7 +10,7 @@ use Rattle.decision_log.specs.declared.view.PassView.{PassView}
 use Rattle.decision_log.specs.Atomic.{Load, Exchange, AtLoad, AtStore, AtExchange, Counts}
 use Rattle.decision_log.specs.Counted.{IsCounted, leaves_counts, counts_at_load, counts_at_store, counts_at_exchange}
 use Rattle.chain_log.specs.ChainRule.{try_word, newest_for}
-use Rattle.chain_log.specs.ChainPlays.{Sees, Reads, Finds, Drafts, Exchanges}
+use Rattle.chain_log.specs.ChainTransitions.{Sees, Reads, Finds, Drafts, Exchanges}
 
 pub see_counts : IsCounted newest_for try_word (AtLoad Sees)
 see_counts =

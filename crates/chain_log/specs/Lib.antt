@@ -2,7 +2,7 @@ pub mod Cells
 pub mod Chain
 pub mod Columns
 pub mod ChainRule
-pub mod ChainPlays
+pub mod ChainTransitions
 pub mod ChainCounts
 pub mod ChainSeat
 pub mod ChainPass

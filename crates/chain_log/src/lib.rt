@@ -9,11 +9,11 @@ pub mod laws;
 mod layout;
 mod open;
 mod pass;
-mod plays;
 mod rule;
 mod steps;
 #[cfg(test)]
 mod tests;
+mod transitions;
 
 pub use chain::ChainLog;
 pub use pass::ChainPass;

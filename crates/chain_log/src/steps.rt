@@ -22,12 +22,12 @@ ghost use Rattle.decision_log.specs.Draft.{drafted};
 ghost use Rattle.decision_log.specs.Observed.{HistoryIs};
 ghost use Rattle.decision_log.specs.Seats.{pass_view};
 ghost use Rattle.chain_log.specs.Cells.{name_at, name_before, newest_of};
-ghost use Rattle.chain_log.specs.ChainPlays.{with_look, won, lost};
+ghost use Rattle.chain_log.specs.ChainTransitions.{with_look, won, lost};
 ghost use Rattle.chain_log.specs.ChainSeat.{IsSeat, IsOurs};
 
 use crate::ChainLog;
 use crate::layout::{NEWEST, cell_start};
-use crate::plays::{DraftWord, FindBlank, Publish, ReadWord, SeeAll};
+use crate::transitions::{DraftWord, FindBlank, Publish, ReadWord, SeeAll};
 use atomic_table::Seat;
 use decision_log::SeatView;
 use xa_words::Entry;

@@ -13,7 +13,7 @@ use Rattle.decision_log.specs.declared.view.SeatView.TheVariants.{Single}
 use Rattle.decision_log.specs.declared.view.Turn.TheVariants.{Fresh}
 use Rattle.decision_log.specs.declared.sizes.Sizes.{Sizes}
 use Rattle.decision_log.specs.Draft.{HasWordsAt, drafted}
-use Rattle.decision_log.specs.TurnPlays.{published}
+use Rattle.decision_log.specs.TurnTransitions.{published}
 use Rattle.decision_log.specs.Atomic.{Atomic, Does, Counts}
 use Rattle.decision_log.specs.TurnRule.{row_at, turn_word, count_for, Knows, TurnRule}
 use Rattle.decision_log.proofs.Histories.{begins_same}

@@ -1,4 +1,4 @@
--- The loads of a log with a turn keep the rule, and tell what their plays say.
+-- The loads of a log with a turn keep the rule, and tell what their transitions say.
 use Rattle.std.proofs.Common.{◌≢◌, ℕ, List, get_or, refl, ap, ◌∙◌, arith}
 use Rattle.atomic_table.specs.Table.{State, Allows}
 use Rattle.xa_words.specs.Entry.{Entry}
@@ -11,7 +11,7 @@ use Rattle.decision_log.specs.declared.sizes.Sizes.{Sizes}
 use Rattle.decision_log.specs.Seats.{seated}
 use Rattle.decision_log.specs.TurnRule.{HasTurn, TurnRule}
 use Rattle.decision_log.specs.Atomic.{Tells}
-use Rattle.decision_log.specs.TurnPlays.{looked_turn, with_look, Sees, Reads}
+use Rattle.decision_log.specs.TurnTransitions.{looked_turn, with_look, Sees, Reads}
 use Rattle.decision_log.proofs.Histories.{begins_itself, get_begins}
 use Rattle.decision_log.proofs.LogRules.{known, history, stepped, unmoved, load_step}
 

@@ -24,7 +24,7 @@ use Rattle.decision_log.specs.Seats.{seated}
 use Rattle.decision_log.specs.Draft.{HasWordsAt, drafted}
 use Rattle.decision_log.specs.TurnRule.{row_at, HasRows, HasTurn, HasDraft, TurnRule}
 use Rattle.decision_log.specs.Atomic.{Tells}
-use Rattle.decision_log.specs.TurnPlays.{tried, published, released, Takes, Drafts, Publishes, Releases}
+use Rattle.decision_log.specs.TurnTransitions.{tried, published, released, Takes, Drafts, Publishes, Releases}
 use Rattle.decision_log.proofs.Histories.{get_last}
 use Rattle.decision_log.proofs.Drafts.{holds_nothing, holds_beside, holds_one_more}
 use Rattle.decision_log.proofs.LogRules.{RuleOf, known, stepped, appended, loaded, store_step}

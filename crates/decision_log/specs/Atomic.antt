@@ -1,11 +1,11 @@
 -- One atomic step of a pass on the words of a log, and how the counts of the pass rise by it.
 --     Atomic          a load of a word, a store into it, or an exchange of it
---     AtLoad, AtStore, AtExchange      what a play tells that has steps of one kind alone
+--     AtLoad, AtStore, AtExchange      what a transition tells that has steps of one kind alone
 --     Does            what the step finds, and the words after it
 --     IsLoad          the step loads this word
 --     IsTry           the step exchanges this word
 --     Counts          `looks` rises by the load of word 0 that sees the history, `tries` by each exchange of one word, and neither by anything else
---     Tells           what a play says of a seat that knows one pass
+--     Tells           what a transition says of a seat that knows one pass
 --     Meets           what the load of word 0 says at a seat that knows two
 use Rattle.std.specs.Prelude.{◌≡◌, ◌≢◌, ◌⊎◌, ◌<◌, ◌+◌, ℕ, List, length, set, slice_index}
 use mathlib.Core.Option.{Option}
@@ -22,19 +22,19 @@ pub data Atomic : Type 0 where
   Store : ℕ → ℕ → Atomic
   Exchange : ℕ → ℕ → ℕ → Option Entry → Atomic
 
--- a play of loads
+-- a transition of loads
 abbrev pub AtLoad : (ℕ → PassView → ℕ → PassView → Type 0) → Atomic → PassView → ℕ → PassView → Type 0
 AtLoad tells (Load word) old found new = tells word old found new
 AtLoad tells (Store word value) old found new = ⊥
 AtLoad tells (Exchange word from to said) old found new = ⊥
 
--- a play of stores
+-- a transition of stores
 abbrev pub AtStore : (ℕ → ℕ → PassView → ℕ → PassView → Type 0) → Atomic → PassView → ℕ → PassView → Type 0
 AtStore tells (Load word) old found new = ⊥
 AtStore tells (Store word value) old found new = tells word value old found new
 AtStore tells (Exchange word from to said) old found new = ⊥
 
--- a play of exchanges
+-- a transition of exchanges
 abbrev pub AtExchange : (ℕ → ℕ → ℕ → Option Entry → PassView → ℕ → PassView → Type 0) → Atomic → PassView → ℕ → PassView → Type 0
 AtExchange tells (Load word) old found new = ⊥
 AtExchange tells (Store word value) old found new = ⊥
@@ -64,7 +64,7 @@ pub record Counts (newest : PassView → ℕ) (tried : ℕ) (step : Atomic) (fou
   pub looks : ((new.known.looks ≡ old.known.looks + 1) × IsLoad 0 step × (found ≡ newest new)) ⊎ ((new.known.looks ≡ old.known.looks) × (IsLoad 0 step → ⊥))
   pub tries : ((new.known.tries ≡ old.known.tries + 1) × IsTry tried step) ⊎ ((new.known.tries ≡ old.known.tries) × (IsTry tried step → ⊥))
 
--- the seat knows one pass after the step too, and of that the play holds
+-- the seat knows one pass after the step too, and of that the transition holds
 abbrev pub Tells : (ℕ → PassView → Type 0) → ℕ → Me Entry SeatView → Type 0
 Tells then found me = (pass_view : PassView) × (me ≡ seated pass_view) × then found pass_view
 

@@ -1,7 +1,7 @@
--- How the counts of a pass rise by a play that has steps of one kind alone: what the laws of plays are made of.
---     IsCounted       each step of a play raises the counts as it should
+-- How the counts of a pass rise by a transition that has steps of one kind alone: what the laws of transitions are made of.
+--     IsCounted       each step of a transition raises the counts as it should
 --     leaves_counts   a step that neither looks nor tries
---     counts_at_load, counts_at_store, counts_at_exchange      a play of loads, of stores, of exchanges
+--     counts_at_load, counts_at_store, counts_at_exchange      a transition of loads, of stores, of exchanges
 use Rattle.std.specs.Prelude.{◌≡◌, ℕ}
 use Rattle.std.proofs.Common.{inr}
 use mathlib.Core.Option.{Option}
@@ -9,7 +9,7 @@ use Rattle.xa_words.specs.Entry.{Entry}
 use Rattle.decision_log.specs.declared.view.PassView.{PassView}
 use Rattle.decision_log.specs.Atomic.{Atomic, Load, Store, Exchange, AtLoad, AtStore, AtExchange, IsLoad, IsTry, Counts}
 
--- each step of the play raises the counts as it should
+-- each step of the transition raises the counts as it should
 abbrev pub IsCounted : (PassView → ℕ) → ℕ → (Atomic → PassView → ℕ → PassView → Type 0) → Type 0
 IsCounted newest tried then = (step : Atomic) (old : PassView) (found : ℕ) (new : PassView) → then step old found new → Counts newest tried step found old new
 

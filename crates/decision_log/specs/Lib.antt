@@ -13,7 +13,7 @@ pub mod Counted
 pub mod AtTable
 pub mod LogRule
 pub mod TurnRule
-pub mod TurnPlays
+pub mod TurnTransitions
 pub mod TurnCounts
 pub mod TurnSeat
 pub mod TurnPass

@@ -1,12 +1,12 @@
 -- Each step of a log with a turn raises the counts of its pass as it should.
---     see_counts, read_counts, take_counts, draft_counts, publish_counts, release_counts     the laws of the plays
+--     see_counts, read_counts, take_counts, draft_counts, publish_counts, release_counts     the laws of the transitions
 use Rattle.std.proofs.Common.{ap, ◌∙◌, sym, inl, inr}
 use mathlib.Core.Logic.{dite}
 use native.Mathlib.Decide.{ℕ_discrete}
 use Rattle.decision_log.specs.Atomic.{Load, AtLoad, AtStore, AtExchange}
 use Rattle.decision_log.specs.Counted.{IsCounted, leaves_counts, counts_at_load, counts_at_store, counts_at_exchange}
 use Rattle.decision_log.specs.TurnRule.{turn_word, count_for}
-use Rattle.decision_log.specs.TurnPlays.{Sees, Reads, Takes, Drafts, Publishes, Releases}
+use Rattle.decision_log.specs.TurnTransitions.{Sees, Reads, Takes, Drafts, Publishes, Releases}
 
 pub see_counts : IsCounted count_for turn_word (AtLoad Sees)
 see_counts =

@@ -17,7 +17,7 @@ pub use fault::{AddFault, OpenFault};
 pub use known::Known;
 pub use log::DecisionLog;
 pub use log_table::LogTable;
-pub use log_words::{LogPlay, LogWords};
+pub use log_words::{LogTransition, LogWords};
 pub use opening::{SeatedPass, open_seats};
 pub use seating::Seating;
 pub use sizes::{MOST_ENTRIES, Sizes};

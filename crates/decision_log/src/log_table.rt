@@ -4,9 +4,9 @@
 ghost use Rattle.std.specs.Prelude.{◌≡◌, ◌<◌, [], length, IfOk};
 ghost use Rattle.atomic_table.specs.Table.{opening};
 
-mod plays;
 mod seats;
 mod steps;
+mod transitions;
 
 use crate::{LogWords, SeatView, Sizes};
 use atomic_table::{Seat, Table};

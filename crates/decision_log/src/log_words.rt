@@ -19,7 +19,7 @@ pub trait LogWords: TableRule<Entry, SeatView, Sizes> {
 }
 
 /// What one kind of step tells of the pass that takes it. It has no value at run time.
-pub trait LogPlay<R: LogWords> {
+pub trait LogTransition<R: LogWords> {
     // of the step, the pass before, the number found (at a store, the number stored) and the pass after
     ghost then: { Atomic → PassView → ℕ → PassView → Type 0 };
 

@@ -6,10 +6,10 @@ mod calls;
 mod layout;
 mod open;
 mod pass;
-mod plays;
 mod rows;
 mod rule;
 mod steps;
+mod transitions;
 
 use crate::LogTable;
 pub use pass::TurnPass;

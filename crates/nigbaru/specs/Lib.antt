@@ -6,6 +6,5 @@ pub use Rattle.decision_log.specs as log
 pub use Rattle.xa_session.specs as session
 pub use Rattle.xa_store.specs as store
 pub use Rattle.xa_coordinator.specs as coordinator
-pub use Rattle.xa_transcript.specs as transcript
-pub use Rattle.xa_serve.specs as serve
-pub use Rattle.xa_show.specs as show
+pub use Rattle.xa_lines.specs as lines
+pub use Rattle.xa_races.specs as races

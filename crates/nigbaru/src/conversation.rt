@@ -1,6 +1,6 @@
 //! Conversations: each line is answered before more is read.
 
-pub use xa_serve::{
-    Answer, LINE_BYTES, LineServer, Peer, Recorded, Stage, Wire, serve, serve_statements,
+pub use xa_lines::{
+    Answer, Client, LINE_BYTES, LineServer, Recorded, Shown, Stage, Transport, serve,
+    serve_statements, show_statements,
 };
-pub use xa_show::{Shown, show_statements};

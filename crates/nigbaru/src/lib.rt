@@ -9,8 +9,8 @@ pub mod history;
 pub mod script;
 
 pub use xa_coordinator::{
-    Ballot, BeginFault, Cause, Closed, Closing, Coordinator, Decisions, Ending, FORMAT_ID, Fused,
-    Prepared, RecoverFault, Report, Speak, Standing, Transaction, Vote, WorkFault, xid_of_branch,
+    BeginFault, Cause, Closed, Closing, Coordinator, Decision, Decisions, Ending, FORMAT_ID, Fused,
+    Prepared, RecoverFault, Report, Speak, Transaction, Vote, VoteKind, WorkFault, xid_of_branch,
 };
 pub use xa_server::{
     BranchEntry, BranchState, HeldRow, Hold, Phase, Reply, Server, XaError, XidList,

@@ -1,6 +1,6 @@
 //! Scripts, and what a run or a race of one writes.
 
-pub use xa_transcript::{
-    CutReader, CutWriter, ScriptFault, answer_line, answer_statement, race_script, run_script,
-    script_limits,
+pub use xa_lines::{
+    CutReader, CutWriter, ScriptFault, answer_line, answer_statement, run_script, script_limits,
 };
+pub use xa_races::race_script;

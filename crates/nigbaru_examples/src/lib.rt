@@ -6,6 +6,8 @@ mod meeting;
 mod passes;
 mod speech;
 mod statement;
+#[cfg(test)]
+mod tests;
 mod threads;
 
 pub use agreement::{finish, in_both, over_both, work};

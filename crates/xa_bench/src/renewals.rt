@@ -92,8 +92,8 @@ fn executed<R: Wait + Alloc<A = Global>>(
         }
     }
     let sessions = vec![in rt.alloc(); session]?;
-    let Ok((_, passes)) = store.wind_up(rt.alloc(), sessions) else {
-        bail!("not wound up");
+    let Ok((_, passes)) = store.close(rt.alloc(), sessions) else {
+        bail!("not closed");
     };
     Ok(passes)
 }

@@ -2,7 +2,7 @@
 use anyhow::Result;
 use std::alloc::Global;
 use std::time::{Clock, Instant};
-use xa_transcript::run_script;
+use xa_lines::run_script;
 
 /// The statements that the script repeats, a line each.
 const PIECE: &[u8] =

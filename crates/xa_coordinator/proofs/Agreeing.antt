@@ -8,7 +8,7 @@ use Rattle.xa_xid.specs.declared.xid.Xid.{Xid}
 use Rattle.xa_xid.specs.declared.statement.Statement.{Statement}
 use Rattle.xa_xid.specs.declared.statement.Statement.TheVariants.{End, Prepare}
 use Rattle.xa_coordinator.specs.declared.fault.Cause.{Cause}
-use Rattle.xa_coordinator.specs.declared.decisions.Standing.{Standing}
+use Rattle.xa_coordinator.specs.declared.decisions.Decision.{Decision}
 use Rattle.xa_coordinator.specs.declared.transaction.Transaction.{Transaction}
 use Rattle.xa_coordinator.specs.declared.closing.Closing.{Closing}
 use Rattle.xa_coordinator.specs.declared.closing.Closing.TheVariants.{InTwoPhases, InOnePhase, RollBack}
@@ -25,12 +25,12 @@ use Rattle.xa_coordinator.specs.Outcomes.{branch_of, finish_statement, ends_in, 
 use Rattle.xa_coordinator.specs.Outcomes.{finish_for}
 use Rattle.xa_coordinator.specs.Outcomes.{lists_store}
 use Rattle.xa_coordinator.specs.Decisions.{is_decided}
-use Rattle.xa_coordinator.specs.declared.transaction.Ballot.{Ballot}
-use Rattle.xa_coordinator.specs.declared.transaction.Ballot.TheVariants.{Ready as BallotReady, OnePhase as BallotOnePhase, No as BallotNo}
+use Rattle.xa_coordinator.specs.declared.transaction.VoteKind.{VoteKind}
+use Rattle.xa_coordinator.specs.declared.transaction.VoteKind.TheVariants.{Ready as VoteKindReady, OnePhase as VoteKindOnePhase, No as VoteKindNo}
 use Rattle.xa_coordinator.proofs.Telling.{adds_then, adds_nothing}
 use Rattle.xa_coordinator.proofs.Walk.{at_weaker, from_ends, same_one}
 
-module _ (decisions : List Standing) (name : List ℕ) (store : ℕ) where
+module _ (decisions : List Decision) (name : List ℕ) (store : ℕ) where
   pub nothing_agrees : (session : SessionView) → Agrees decisions name store session session
   nothing_agrees session = record { statements = []; adds = adds_nothing session; each = All-nil (AgreesWith decisions name store) }
 
@@ -111,7 +111,7 @@ module _ (decisions : List Standing) (name : List ℕ) (store : ℕ) where
   settled_agrees ends statement xid agrees true false old new is = closed_agrees ends statement xid agrees old new is
   settled_agrees ends statement xid agrees true true old new is = missing_agrees ends statement xid old new is
 
-module _ {S : Type 0} (view : S → SessionView) (decisions : List Standing) (transaction : Transaction) where
+module _ {S : Type 0} (view : S → SessionView) (decisions : List Decision) (transaction : Transaction) where
   -- a store's part of finishing
   part_agrees : (branches : List (Option OpenBranch)) (closing : Closing) → Allows decisions transaction.number closing
       → (store : ℕ) (listed : Bool) (a b : SessionView) → SettlesIn branches transaction closing store listed a b →
@@ -165,11 +165,11 @@ module _ {S : Type 0} (view : S → SessionView) (decisions : List Standing) (tr
       (nothing_agrees decisions transaction.name.items store (view before))
 
 -- a transaction that was voted on is finished as the decisions allow
-pub allows_for : (decisions : List Standing) (number : ℕ) (ballot : Ballot) → Allows decisions number (finish_for (is_decided decisions number) ballot)
-allows_for decisions number ballot = by (is_decided decisions number) ballot refl
+pub allows_for : (decisions : List Decision) (number : ℕ) (vote_kind : VoteKind) → Allows decisions number (finish_for (is_decided decisions number) vote_kind)
+allows_for decisions number vote_kind = by (is_decided decisions number) vote_kind refl
   where
-    by : (b : Bool) (ballot : Ballot) → is_decided decisions number ≡ b → Allows decisions number (finish_for b ballot)
-    by true ballot is = is
-    by false BallotReady is = is
-    by false BallotOnePhase is = tt
-    by false BallotNo is = is
+    by : (b : Bool) (vote_kind : VoteKind) → is_decided decisions number ≡ b → Allows decisions number (finish_for b vote_kind)
+    by true vote_kind is = is
+    by false VoteKindReady is = is
+    by false VoteKindOnePhase is = tt
+    by false VoteKindNo is = is

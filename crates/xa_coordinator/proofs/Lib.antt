@@ -1,6 +1,6 @@
 pub mod Places
 pub mod Limited
-pub mod Standings
+pub mod DecisionsOf
 pub mod Marks
 pub mod Opening
 pub mod Telling

@@ -13,7 +13,7 @@ use Rattle.xa_coordinator.specs.declared.branches.OpenBranch.{OpenBranch}
 use Rattle.xa_coordinator.specs.declared.fault.RecoverFault.{RecoverFault}
 use Rattle.xa_coordinator.specs.declared.fault.RecoverFault.TheVariants.{Session, StillPrepared, NoMemory, Refused}
 use Rattle.xa_coordinator.specs.declared.report.Report.{Report}
-use Rattle.xa_coordinator.specs.declared.decisions.Standing.{Standing}
+use Rattle.xa_coordinator.specs.declared.decisions.Decision.{Decision}
 use Rattle.xa_coordinator.specs.declared.report.Tally.{Tally}
 use Rattle.xa_coordinator.specs.Agreement.{Agrees}
 use Rattle.xa_coordinator.specs.Stores.{AtStore, EachStore, ChangesAt, Reached, EndsAt}
@@ -55,7 +55,7 @@ found_last : {A : Type 0} (xs : List A) (y : A) → slice_get (xs ++ y ∷ []) (
 found_last [] y = refl
 found_last (x ∷ xs) y = found_last xs y
 
-module _ {S : Type 0} (view : S → SessionView) (decisions : List Standing) (name : List ℕ) where
+module _ {S : Type 0} (view : S → SessionView) (decisions : List Decision) (name : List ℕ) where
   -- the stores below a number are recovered, and the report has what was found
   pub record RecoversBelow (place : ℕ) (report : Report) (old now : List S) : Type 0 where
     pub found : List (Tally × ℕ)

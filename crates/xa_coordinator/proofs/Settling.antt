@@ -19,7 +19,7 @@ use Rattle.xa_coordinator.specs.declared.fault.Cause.TheVariants.{Session, Refus
 use Rattle.xa_session.specs.declared.fault.Fault.{Fault}
 use Rattle.xa_coordinator.specs.declared.closing.Found.{Found}
 use Rattle.xa_coordinator.specs.declared.closing.Found.TheVariants.{Closed, Missing}
-use Rattle.xa_coordinator.specs.declared.decisions.Standing.{Standing}
+use Rattle.xa_coordinator.specs.declared.decisions.Decision.{Decision}
 use Rattle.xa_coordinator.specs.declared.report.Tally.{Tally}
 use Rattle.xa_coordinator.specs.Agreement.{AddsStatements, AgreesWith, Agrees}
 use Rattle.xa_coordinator.specs.Branch.{branch_xid, IsBranchOf}
@@ -43,7 +43,7 @@ count p statements = length (filter p statements)
 count-append : (p : Statement → Bool) (xs ys : List Statement) → count p (xs ++ ys) ≡ count p xs + count p ys
 count-append p xs ys = ap length (filter-append p xs ys) ∙ length-append (filter p xs) (filter p ys)
 
-pub two_agreements : (decisions : List Standing) (name : List ℕ) (store : ℕ) (old mid new : SessionView) → Agrees decisions name store old mid
+pub two_agreements : (decisions : List Decision) (name : List ℕ) (store : ℕ) (old mid new : SessionView) → Agrees decisions name store old mid
     → Agrees decisions name store mid new → Agrees decisions name store old new
 two_agreements decisions name store old mid new one two = record {
   statements = one.statements ++ two.statements;
@@ -51,7 +51,7 @@ two_agreements decisions name store old mid new one two = record {
   each = All-append (AgreesWith decisions name store) one.statements two.statements one.each two.each;
 }
 
-module _ (decisions : List Standing) (name : List ℕ) (store : ℕ) where
+module _ (decisions : List Decision) (name : List ℕ) (store : ℕ) where
   -- the decisions allow what a recovery does
   pub allowed : (number : ℕ) (decided : Bool) → is_decided decisions number ≡ decided → Allows decisions number (finish_decided decided)
   allowed number true is = is
@@ -294,7 +294,7 @@ module _ (decisions : List Standing) (name : List ℕ) (store : ℕ) where
 
 -- ---- what a call came to, by its result
 
-module _ {S : Type 0} (view : S → SessionView) (decisions : List Standing) (name : List ℕ) (store : ℕ) where
+module _ {S : Type 0} (view : S → SessionView) (decisions : List Decision) (name : List ℕ) (store : ℕ) where
   pub listed_finished : (result : Result Tally Cause) (xids : List Xid) (place : ℕ) (old mid new : List S) → length mid ≡ length old
       → AtStore view store (ListsPrepared xids place) old mid →
       IfOk result (λ tally. AtStore view store (λ a b. Settled decisions name store a xids tally b) mid new)

@@ -15,7 +15,7 @@ use Rattle.xa_coordinator.specs.declared.fault.Cause.{Cause}
 use Rattle.xa_coordinator.specs.declared.fault.Cause.TheVariants.{Session as CauseSession, Refused as CauseRefused}
 use Rattle.xa_coordinator.specs.declared.fault.WorkFault.{WorkFault}
 use Rattle.xa_coordinator.specs.declared.fault.WorkFault.TheVariants.{Session, Refused, Lost}
-use Rattle.xa_coordinator.specs.declared.decisions.Standing.{Standing}
+use Rattle.xa_coordinator.specs.declared.decisions.Decision.{Decision}
 use Rattle.xa_coordinator.specs.declared.transaction.Transaction.{Transaction}
 use Rattle.xa_coordinator.specs.Agreement.{AddsStatements, AgreesWith, Agrees}
 use Rattle.xa_coordinator.specs.OpenBranches.{association_seen, IsWorking}
@@ -70,7 +70,7 @@ unstarted_adds row cause xid old new is = both xid row old new new (none (Start 
 
 -- ---- agreement
 
-row_agrees : (decisions : List Standing) (name : List ℕ) (store : ℕ) (row : Statement) → IsRow row → AgreesWith decisions name store row
+row_agrees : (decisions : List Decision) (name : List ℕ) (store : ℕ) (row : Statement) → IsRow row → AgreesWith decisions name store row
 row_agrees decisions name store (Start xid) is = tt
 row_agrees decisions name store (End xid) is = tt
 row_agrees decisions name store (Prepare xid) is = tt
@@ -87,7 +87,7 @@ maybe_all : (P : Statement → Type 0) (statement : Statement) (list : List Stat
 maybe_all P statement list (inl is) holds = subst (All P) (sym is) (All-nil P)
 maybe_all P statement list (inr is) holds = subst (All P) (sym is) (All-cons P statement [] holds (All-nil P))
 
-pub work_agrees : (decisions : List Standing) (name : List ℕ) (store : ℕ) (xid : Xid) (row : Statement) → IsRow row → (old new : SessionView)
+pub work_agrees : (decisions : List Decision) (name : List ℕ) (store : ℕ) (xid : Xid) (row : Statement) → IsRow row → (old new : SessionView)
     → AddsWork xid row old new → Agrees decisions name store old new
 work_agrees decisions name store xid row is old new work = record {
   statements = work.started ++ work.worked;
@@ -99,7 +99,7 @@ work_agrees decisions name store xid row is old new work = record {
 }
 
 module _ {S : Type 0} (view : S → SessionView) where
-  pub work_agrees_each : (decisions : List Standing) (name : List ℕ) (store : ℕ) (xid : Xid) (row : Statement) → IsRow row → (old new : List S)
+  pub work_agrees_each : (decisions : List Decision) (name : List ℕ) (store : ℕ) (xid : Xid) (row : Statement) → IsRow row → (old new : List S)
       → ChangesAt store old new → AtStore view store (AddsWork xid row) old new → EachStore view (Agrees decisions name) old new
   work_agrees_each decisions name store xid row is old new changes adds =
       only_at view (Agrees decisions name) store old new changes

@@ -9,7 +9,7 @@ use Rattle.xa_session.specs.Answer.{Advances, entry_of}
 use Rattle.xa_session.specs.View.{SessionView, StaysOfLog}
 use Rattle.xa_coordinator.specs.Branch.{IsBranchOf}
 use Rattle.xa_coordinator.specs.Decisions.{is_decided}
-use Rattle.xa_coordinator.specs.declared.decisions.Standing.{Standing}
+use Rattle.xa_coordinator.specs.declared.decisions.Decision.{Decision}
 
 -- the session is of its log, has seen no less than before, and added these statements, in this order
 pub record AddsStatements (statements : List Statement) (old new : SessionView) : Type 0 where
@@ -18,7 +18,7 @@ pub record AddsStatements (statements : List Statement) (old new : SessionView) 
   pub mine : new.known.mine ≡ old.known.mine ++ map (entry_of old.known.number) statements
 
 -- XA COMMIT is of a decided number's branch, with ONE PHASE of any number's; XA ROLLBACK of a branch whose number isn't decided (presumed abort)
-abbrev pub AgreesWith : List Standing → List ℕ → ℕ → Statement → Type 0
+abbrev pub AgreesWith : List Decision → List ℕ → ℕ → Statement → Type 0
 AgreesWith decisions name store (Start xid) = Unit {0}
 AgreesWith decisions name store (End xid) = Unit {0}
 AgreesWith decisions name store (Prepare xid) = Unit {0}
@@ -33,7 +33,7 @@ AgreesWith decisions name store (Del key) = Unit {0}
 AgreesWith decisions name store Disconnect = Unit {0}
 
 -- whatever was added agrees with the decisions
-pub record Agrees (decisions : List Standing) (name : List ℕ) (store : ℕ) (old new : SessionView) : Type 0 where
+pub record Agrees (decisions : List Decision) (name : List ℕ) (store : ℕ) (old new : SessionView) : Type 0 where
   pub statements : List Statement
   pub adds : AddsStatements statements old new
   pub each : All (AgreesWith decisions name store) statements

@@ -1,43 +1,43 @@
 -- How the numbers of global transactions stand. A contract sees the decisions as the list of how numbers 1, 2, .. stand.
---     standing_of      how a number stands, where it was given
+--     decision_of      how a number stands, where it was given
 --     is_decided       whether a number is decided
 --     may_be_decided   whether a number was given and isn't closed
 --     with_decided     the decisions with this number decided
 --     closed_of        how a number stands once a recovery has closed what is undecided
 use Rattle.std.specs.Prelude.{ℕ, Bool, true, false, Option, Some, None, if◌then◌else◌, ◌==◌, ◌-◌, List, slice_get, slice_set}
-use Rattle.xa_coordinator.specs.declared.decisions.Standing.{Standing}
-use Rattle.xa_coordinator.specs.declared.decisions.Standing.TheVariants.{Undecided, Decided, Closed}
+use Rattle.xa_coordinator.specs.declared.decisions.Decision.{Decision}
+use Rattle.xa_coordinator.specs.declared.decisions.Decision.TheVariants.{Undecided, Decided, Closed}
 
 -- how the number stands; numbers are given from 1 on (own rule)
-unfoldable pub standing_of : List Standing → ℕ → Option Standing
-standing_of decisions number = if number == 0 then None else slice_get decisions (number - 1)
+unfoldable pub decision_of : List Decision → ℕ → Option Decision
+decision_of decisions number = if number == 0 then None else slice_get decisions (number - 1)
 
 -- the decision to commit was recorded
-abbrev pub decides : Option Standing → Bool
+abbrev pub decides : Option Decision → Bool
 decides None = false
 decides (Some Undecided) = false
 decides (Some Decided) = true
 decides (Some Closed) = false
 
 -- the number was given, and no recovery has closed it
-abbrev pub is_not_closed : Option Standing → Bool
+abbrev pub is_not_closed : Option Decision → Bool
 is_not_closed None = false
 is_not_closed (Some Undecided) = true
 is_not_closed (Some Decided) = true
 is_not_closed (Some Closed) = false
 
-abbrev pub is_decided : List Standing → ℕ → Bool
-is_decided decisions number = decides (standing_of decisions number)
+abbrev pub is_decided : List Decision → ℕ → Bool
+is_decided decisions number = decides (decision_of decisions number)
 
-abbrev pub may_be_decided : List Standing → ℕ → Bool
-may_be_decided decisions number = is_not_closed (standing_of decisions number)
+abbrev pub may_be_decided : List Decision → ℕ → Bool
+may_be_decided decisions number = is_not_closed (decision_of decisions number)
 
 -- this number is decided, the others stand as they did
-unfoldable pub with_decided : List Standing → ℕ → List Standing
+unfoldable pub with_decided : List Decision → ℕ → List Decision
 with_decided decisions number = slice_set decisions (number - 1) Decided
 
 -- a recovery closes what is undecided
-abbrev pub closed_of : Standing → Standing
+abbrev pub closed_of : Decision → Decision
 closed_of Undecided = Closed
 closed_of Decided = Decided
 closed_of Closed = Closed

@@ -32,13 +32,13 @@ use Rattle.xa_coordinator.specs.declared.closing.Found.{Found}
 use Rattle.xa_coordinator.specs.declared.closing.Found.TheVariants.{Closed, Missing}
 use Rattle.xa_coordinator.specs.Agreement.{AddsStatements}
 use Rattle.xa_coordinator.specs.Decisions.{is_decided}
-use Rattle.xa_coordinator.specs.declared.decisions.Standing.{Standing}
-use Rattle.xa_coordinator.specs.declared.transaction.Ballot.{Ballot}
+use Rattle.xa_coordinator.specs.declared.decisions.Decision.{Decision}
+use Rattle.xa_coordinator.specs.declared.transaction.VoteKind.{VoteKind}
 use Rattle.xa_coordinator.specs.Branch.{branch_xid}
 use Rattle.xa_coordinator.specs.Stores.{AtStore, EachStore, EndsAt}
 use Rattle.xa_coordinator.specs.Participants.{takes_part, TwoTakePart, OnlyTakesPart}
 use Rattle.xa_coordinator.specs.declared.transaction.Transaction.{Transaction}
-use Rattle.xa_coordinator.specs.declared.transaction.Ballot.TheVariants.{Ready as BallotReady, OnePhase as BallotOnePhase, No as BallotNo}
+use Rattle.xa_coordinator.specs.declared.transaction.VoteKind.TheVariants.{Ready as VoteKindReady, OnePhase as VoteKindOnePhase, No as VoteKindNo}
 use Rattle.xa_coordinator.specs.declared.ending.Ending.{Ending}
 use Rattle.xa_coordinator.specs.declared.ending.Ending.TheVariants.{Committed, RolledBack, Hazard, Unfinished}
 use Rattle.xa_coordinator.specs.declared.vote.Vote.{Vote}
@@ -166,15 +166,15 @@ asked_by_vote Nothing = 0
 -- what the stores voted
 abbrev pub VotesAs : {S : Type 0} → (S → SessionView) → Transaction → Vote → List S → List S → Type 0
 VotesAs view transaction (Ready prepared) old new =
-    (prepared ≡ record { transaction = transaction; ballot = BallotReady })
+    (prepared ≡ record { transaction = transaction; vote_kind = VoteKindReady })
     × TwoTakePart transaction.participants
     × EachStore view (λ store. IsVoted (branch_of transaction store) (takes_part transaction.participants store)) old new
 VotesAs view transaction (OnePhase prepared) old new =
-    (prepared ≡ record { transaction = transaction; ballot = BallotOnePhase })
+    (prepared ≡ record { transaction = transaction; vote_kind = VoteKindOnePhase })
     × ((store : ℕ) × OnlyTakesPart transaction.participants store)
     × EachStore view (λ store. IsEnded (branch_of transaction store) (takes_part transaction.participants store)) old new
 VotesAs view transaction (No prepared store cause) old new =
-    (prepared ≡ record { transaction = transaction; ballot = BallotNo })
+    (prepared ≡ record { transaction = transaction; vote_kind = VoteKindNo })
     × (takes_part transaction.participants store ≡ true)
     × EndsAt view (λ other. IsVoted (branch_of transaction other) (takes_part transaction.participants other))
     store (IsStopped true (Prepare (branch_of transaction store)) (branch_of transaction store) cause) old new
@@ -201,14 +201,14 @@ asked_by_poll (Ok _) = 16
 asked_by_poll (Err (store, cause)) = store + 1
 
 -- the decisions allow that a transaction is finished so
-abbrev pub Allows : List Standing → ℕ → Closing → Type 0
+abbrev pub Allows : List Decision → ℕ → Closing → Type 0
 Allows decisions number InTwoPhases = is_decided decisions number ≡ true
 Allows decisions number InOnePhase = Unit {0}
 Allows decisions number RollBack = is_decided decisions number ≡ false
 
 -- how a transaction that was voted on is finished: as it was decided, and else in one phase or by rolling back (presumed abort)
-abbrev pub finish_for : Bool → Ballot → Closing
-finish_for true ballot = InTwoPhases
-finish_for false BallotReady = RollBack
-finish_for false BallotOnePhase = InOnePhase
-finish_for false BallotNo = RollBack
+abbrev pub finish_for : Bool → VoteKind → Closing
+finish_for true vote_kind = InTwoPhases
+finish_for false VoteKindReady = RollBack
+finish_for false VoteKindOnePhase = InOnePhase
+finish_for false VoteKindNo = RollBack

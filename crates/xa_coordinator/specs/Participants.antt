@@ -1,10 +1,10 @@
 -- Which stores take part in a global transaction.
 --     takes_part       whether a store takes part
---     IsTurnout        how many take part, as far as a vote has to know
+--     IsParticipation        how many take part, as far as a vote has to know
 use Rattle.std.specs.Prelude.{◌≡◌, ◌<◌, ℕ, Bool, true, false, unwrap_or, slice_get}
 use Rattle.xa_coordinator.specs.declared.participants.Participants.{Participants}
-use Rattle.xa_coordinator.specs.declared.participants.Turnout.{Turnout}
-use Rattle.xa_coordinator.specs.declared.participants.Turnout.TheVariants.{Nobody, Single, Several}
+use Rattle.xa_coordinator.specs.declared.participants.Participation.{Participation}
+use Rattle.xa_coordinator.specs.declared.participants.Participation.TheVariants.{Nobody, Single, Several}
 
 -- the store takes part
 unfoldable pub takes_part : Participants → ℕ → Bool
@@ -24,7 +24,7 @@ pub record OnlyTakesPart (participants : Participants) (store : ℕ) : Type 0 wh
   pub others : (other : ℕ) → takes_part participants other ≡ true → other ≡ store
 
 -- how many stores take part: none, one, or more
-abbrev pub IsTurnout : Participants → Turnout → Type 0
-IsTurnout participants Nobody = (store : ℕ) → takes_part participants store ≡ false
-IsTurnout participants (Single store) = OnlyTakesPart participants store
-IsTurnout participants Several = TwoTakePart participants
+abbrev pub IsParticipation : Participants → Participation → Type 0
+IsParticipation participants Nobody = (store : ℕ) → takes_part participants store ≡ false
+IsParticipation participants (Single store) = OnlyTakesPart participants store
+IsParticipation participants Several = TwoTakePart participants

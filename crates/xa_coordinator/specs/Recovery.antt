@@ -29,7 +29,7 @@ use Rattle.xa_coordinator.specs.declared.closing.Closing.{Closing}
 use Rattle.xa_coordinator.specs.declared.closing.Closing.TheVariants.{InTwoPhases, RollBack}
 use Rattle.xa_coordinator.specs.declared.closing.Found.{Found}
 use Rattle.xa_coordinator.specs.declared.closing.Found.TheVariants.{Closed, Missing}
-use Rattle.xa_coordinator.specs.declared.decisions.Standing.{Standing}
+use Rattle.xa_coordinator.specs.declared.decisions.Decision.{Decision}
 use Rattle.xa_coordinator.specs.declared.report.Tally.{Tally}
 use Rattle.xa_coordinator.specs.declared.report.Report.{Report}
 use Rattle.xa_coordinator.specs.declared.fault.RecoverFault.{RecoverFault}
@@ -76,7 +76,7 @@ finish_decided false = RollBack
 
 -- what became of a listed branch, and what is counted then: nothing is said of one that isn't of this coordinator's naming; another one is committed or rolled
 -- back as the decisions say, or was answered XAER_NOTA
-pub data SettlesOne (decisions : List Standing) (name : List ℕ) (store : ℕ) (xid : Xid) (tally : Tally) (old : SessionView) : Tally → SessionView → Type 0 where
+pub data SettlesOne (decisions : List Decision) (name : List ℕ) (store : ℕ) (xid : Xid) (tally : Tally) (old : SessionView) : Tally → SessionView → Type 0 where
   foreign : (IsNamed name store xid → ⊥) → SettlesOne decisions name store xid tally old tally old
   committed : (number : ℕ) → IsBranchOf name number store xid → is_decided decisions number ≡ true → (new : SessionView)
       → AddsStatements (Commit xid false ∷ []) old new →
@@ -99,14 +99,14 @@ counted tally false Closed = record tally { rolled_back = tally.rolled_back + 1 
 counted tally decided Missing = record tally { missing = tally.missing + 1 }
 
 -- what became of the branches of a list, one after another
-pub data Settled (decisions : List Standing) (name : List ℕ) (store : ℕ) (old : SessionView) : List Xid → Tally → SessionView → Type 0 where
+pub data Settled (decisions : List Decision) (name : List ℕ) (store : ℕ) (old : SessionView) : List Xid → Tally → SessionView → Type 0 where
   nothing : Settled decisions name store old [] (record { committed = 0; rolled_back = 0; missing = 0 }) old
   one_more : (xids : List Xid) (before : Tally) (mid : SessionView) → Settled decisions name store old xids before mid
       → (xid : Xid) (after : Tally) (new : SessionView) →
       SettlesOne decisions name store xid before mid after new → Settled decisions name store old (xids ++ xid ∷ []) after new
 
 -- the prepared branches were listed, and each of them was settled
-pub record IsFinished (decisions : List Standing) (name : List ℕ) (store : ℕ) (tally : Tally) (old new : SessionView) : Type 0 where
+pub record IsFinished (decisions : List Decision) (name : List ℕ) (store : ℕ) (tally : Tally) (old new : SessionView) : Type 0 where
   pub listing : SessionView
   pub xids : List Xid
   pub place : ℕ
@@ -114,7 +114,7 @@ pub record IsFinished (decisions : List Standing) (name : List ℕ) (store : ℕ
   pub settled : Settled decisions name store listing xids tally new
 
 -- the session let go of what it had open, and then the prepared branches were finished
-pub record IsSettled (decisions : List Standing) (name : List ℕ) (store : ℕ) (tally : Tally) (old new : SessionView) : Type 0 where
+pub record IsSettled (decisions : List Decision) (name : List ℕ) (store : ℕ) (tally : Tally) (old new : SessionView) : Type 0 where
   pub freed : SessionView
   pub disconnected : IsDisconnected old freed
   pub rest : IsFinished decisions name store tally freed new
@@ -149,7 +149,7 @@ is_rollback (Del key) = false
 is_rollback Disconnect = false
 
 -- what a recovery added is counted, and with the missing branches that is what was prepared at one place, not before what had been seen
-pub record IsCounted (decisions : List Standing) (name : List ℕ) (store : ℕ) (tally : Tally) (old new : SessionView) : Type 0 where
+pub record IsCounted (decisions : List Decision) (name : List ℕ) (store : ℕ) (tally : Tally) (old new : SessionView) : Type 0 where
   pub statements : List Statement
   pub adds : AddsStatements statements old new
   pub each : All (AgreesWith decisions name store) statements
@@ -171,7 +171,7 @@ pub record IsClear (name : List ℕ) (store front : ℕ) (old new : SessionView)
   pub none_left : NoneLeft name store new
 
 -- what the recovery of a store came to, with the place of its last list
-pub record IsRecovered (decisions : List Standing) (name : List ℕ) (store : ℕ) (tally : Tally) (front : ℕ) (old new : SessionView) : Type 0 where
+pub record IsRecovered (decisions : List Decision) (name : List ℕ) (store : ℕ) (tally : Tally) (front : ℕ) (old new : SessionView) : Type 0 where
   pub finished : SessionView
   pub settled : IsSettled decisions name store tally old finished
   pub counted : IsCounted decisions name store tally old new
@@ -180,7 +180,7 @@ pub record IsRecovered (decisions : List Standing) (name : List ℕ) (store : �
   pub none_left : NoneLeft name store new
 
 -- a statement of the recovery of a store wasn't carried out for this cause, which isn't that the branch wasn't known
-pub record IsBroken (decisions : List Standing) (name : List ℕ) (store : ℕ) (cause : Cause) (old new : SessionView) : Type 0 where
+pub record IsBroken (decisions : List Decision) (name : List ℕ) (store : ℕ) (cause : Cause) (old new : SessionView) : Type 0 where
   pub mid : SessionView
   pub before : Agrees decisions name store old mid
   pub statement : Statement
@@ -189,7 +189,7 @@ pub record IsBroken (decisions : List Standing) (name : List ℕ) (store : ℕ) 
   pub known : cause ≢ CauseRefused Nota
 
 -- the prepared branches were settled, and one of this coordinator's naming is prepared, as far as the session has seen
-pub record IsStillPrepared (decisions : List Standing) (name : List ℕ) (store : ℕ) (old new : SessionView) : Type 0 where
+pub record IsStillPrepared (decisions : List Decision) (name : List ℕ) (store : ℕ) (old new : SessionView) : Type 0 where
   pub before : Agrees decisions name store old new
   pub looked : old.known.looks < new.known.looks
   pub number : ℕ
@@ -197,11 +197,11 @@ pub record IsStillPrepared (decisions : List Standing) (name : List ℕ) (store 
   pub prepared : is_prepared (state_after new.base new.known.seen) (branch_xid name number store) ≡ true
 
 -- a store of which this tally and this place were found
-abbrev pub RecoveredBy : List Standing → List ℕ → List (Tally × ℕ) → ℕ → SessionView → SessionView → Type 0
+abbrev pub RecoveredBy : List Decision → List ℕ → List (Tally × ℕ) → ℕ → SessionView → SessionView → Type 0
 RecoveredBy decisions name found store old new = (one : Tally × ℕ) × (slice_get found store ≡ Some one) × IsRecovered decisions name store one.0 one.1 old new
 
 -- each store was recovered, and the report has the places and the sums of what was counted
-pub record Recovers {S : Type 0} (view : S → SessionView) (decisions : List Standing) (name : List ℕ) (report : Report) (old new : List S) : Type 0 where
+pub record Recovers {S : Type 0} (view : S → SessionView) (decisions : List Decision) (name : List ℕ) (report : Report) (old new : List S) : Type 0 where
   pub found : List (Tally × ℕ)
   pub count : length found ≡ length old
   pub each : EachStore view (RecoveredBy decisions name found) old new
@@ -216,19 +216,19 @@ fault_by store (CauseSession fault) = Session store fault
 fault_by store (CauseRefused error) = Refused store error
 
 -- the recovery of a store came to no end
-abbrev pub BreaksHere : {S : Type 0} → (S → SessionView) → List Standing → List ℕ → ℕ → RecoverFault → List S → List S → Type 0
+abbrev pub BreaksHere : {S : Type 0} → (S → SessionView) → List Decision → List ℕ → ℕ → RecoverFault → List S → List S → Type 0
 BreaksHere view decisions name store (Session at fault) old new = (at ≡ store) × AtStore view store (IsBroken decisions name store (CauseSession fault)) old new
 BreaksHere view decisions name store (StillPrepared at) old new = (at ≡ store) × AtStore view store (IsStillPrepared decisions name store) old new
 BreaksHere view decisions name store NoMemory old new = ⊥
 BreaksHere view decisions name store (Refused at error) old new = (at ≡ store) × AtStore view store (IsBroken decisions name store (CauseRefused error)) old new
 
 -- the recovery came to an end at a store: those below are recovered, and this one fared so
-abbrev pub BreaksAt : {S : Type 0} → (S → SessionView) → List Standing → List ℕ → ℕ → (SessionView → SessionView → Type 0) → List S → List S → Type 0
+abbrev pub BreaksAt : {S : Type 0} → (S → SessionView) → List Decision → List ℕ → ℕ → (SessionView → SessionView → Type 0) → List S → List S → Type 0
 BreaksAt view decisions name store last old new =
     (store < length old) × EndsAt view (λ other before after. (one : Tally × ℕ) × IsRecovered decisions name other one.0 one.1 before after) store last old new
 
 -- why the recovery came to no end
-abbrev pub BreaksOff : {S : Type 0} → (S → SessionView) → List Standing → List ℕ → RecoverFault → List S → List S → Type 0
+abbrev pub BreaksOff : {S : Type 0} → (S → SessionView) → List Decision → List ℕ → RecoverFault → List S → List S → Type 0
 BreaksOff view decisions name (Session store fault) old new = BreaksAt view decisions name store (IsBroken decisions name store (CauseSession fault)) old new
 BreaksOff view decisions name (StillPrepared store) old new = BreaksAt view decisions name store (IsStillPrepared decisions name store) old new
 BreaksOff view decisions name NoMemory old new = new ≡ old

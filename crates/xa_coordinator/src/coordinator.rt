@@ -22,7 +22,7 @@ pub struct Coordinator<S: Speak> {
 
 impl<S: Speak> Coordinator<S> {
     ghost use Rattle.xa_coordinator.specs.Participants.{takes_part};
-    ghost use Rattle.xa_coordinator.specs.declared.decisions.Standing.TheVariants.{Undecided};
+    ghost use Rattle.xa_coordinator.specs.declared.decisions.Decision.TheVariants.{Undecided};
 
     /// The coordinator of this name, of 1 to 56 bytes, over these stores, 1 to 16, which has nothing open in them.
     ///

@@ -1,11 +1,11 @@
 //! The decisions of a coordinator, and how each number stands.
 ghost use Rattle.std.specs.Prelude.{ℕ, ◌≡◌, ◌≤◌, ◌<◌, ◌+◌, [], ◌∷◌, ◌++◌, true, false, length, map, OnOk, OnErr, IfOk, IfSome, IfNone};
-ghost use Rattle.xa_coordinator.specs.declared.decisions.Standing.TheVariants.{Undecided as StandsUndecided};
+ghost use Rattle.xa_coordinator.specs.declared.decisions.Decision.TheVariants.{Undecided as StandsUndecided};
 ghost use Rattle.xa_coordinator.specs.Limits.{most_numbers};
-ghost use Rattle.xa_coordinator.specs.Decisions.{standing_of, is_decided as is_decided_by, may_be_decided, with_decided, closed_of};
+ghost use Rattle.xa_coordinator.specs.Decisions.{decision_of, is_decided as is_decided_by, may_be_decided, with_decided, closed_of};
 
 use crate::fault::BeginFault;
-use crate::transaction::{Ballot, Prepared};
+use crate::transaction::{Prepared, VoteKind};
 use std::alloc::Global;
 use std::marker::Model;
 use thiserror::Error;
@@ -20,27 +20,27 @@ pub struct Closed;
 /// A contract sees them as the list of how numbers 1, 2, .. stand.
 #[derive(Drop)]
 pub struct Decisions {
-    standings: Vec<Standing>,
+    by_number: Vec<Decision>,
 }
 
 impl Model for Decisions {
     ghost use Rattle.std.specs.Prelude.{List, length, ◌≤◌};
     ghost use Rattle.xa_coordinator.specs.Limits.{most_numbers};
-    ghost use Rattle.xa_coordinator.specs.declared.decisions.Standing.{Standing};
+    ghost use Rattle.xa_coordinator.specs.declared.decisions.Decision.{Decision};
 
-    ghost Value = { List Standing };
+    ghost Value = { List Decision };
 
-    ghost view = { λ decisions. decisions.standings.items };
+    ghost view = { λ decisions. decisions.by_number.items };
 
-    ghost invariant = { λ decisions. length decisions.standings.items ≤ most_numbers };
+    ghost invariant = { λ decisions. length decisions.by_number.items ≤ most_numbers };
 }
 
 /// Closes each number that is undecided.
-fn close_each(standings: &mut [Standing])
-    ensures { standings.new ≡ map closed_of standings.old }
+fn close_each(by_number: &mut [Decision])
+    ensures { by_number.new ≡ map closed_of by_number.old }
 {
-    for standing in standings.iter_mut() {
-        *standing = standing.closed();
+    for decision in by_number.iter_mut() {
+        *decision = decision.closed();
     }
 }
 
@@ -55,28 +55,28 @@ impl Decisions {
         ensures { result ≡ [] }
     {
         Decisions {
-            standings: Vec::new(alloc),
+            by_number: Vec::new(alloc),
         }
     }
 
     /// How the numbers 1, 2, .. stand that were given.
     ///
     /// Takes no memory. Doesn't wait.
-    pub fn as_slice(&self) -> &[Standing]
+    pub fn as_slice(&self) -> &[Decision]
         ensures { result.now ≡ self.now }
     {
-        self.standings.as_slice()
+        self.by_number.as_slice()
     }
 
     /// How a number stands, where it was given.
-    #[tactic(auto, unfolding(crate::specs::Decisions::standing_of))]
-    fn standing(&self, number: u64) -> Option<Standing>
-        ensures { result ≡ standing_of self.now number }
+    #[tactic(auto, unfolding(crate::specs::Decisions::decision_of))]
+    fn decision(&self, number: u64) -> Option<Decision>
+        ensures { result ≡ decision_of self.now number }
     {
         if number == 0 {
             return None;
         }
-        self.standings.get((number - 1) as usize).copied()
+        self.by_number.get((number - 1) as usize).copied()
     }
 
     /// Whether it is decided that the transaction of this number commits.
@@ -86,9 +86,9 @@ impl Decisions {
     pub fn is_decided(&self, number: u64) -> bool
         ensures { result ≡ is_decided_by self.now number }
     {
-        match self.standing(number) {
-            Some(Standing::Decided) => true,
-            Some(Standing::Undecided) | Some(Standing::Closed) | None => false,
+        match self.decision(number) {
+            Some(Decision::Decided) => true,
+            Some(Decision::Undecided) | Some(Decision::Closed) | None => false,
         }
     }
 
@@ -96,16 +96,16 @@ impl Decisions {
     fn may_be_decided(&self, number: u64) -> bool
         ensures { result ≡ may_be_decided self.now number }
     {
-        match self.standing(number) {
-            Some(Standing::Undecided) => true,
-            Some(Standing::Decided) => true,
-            Some(Standing::Closed) => false,
+        match self.decision(number) {
+            Some(Decision::Undecided) => true,
+            Some(Decision::Decided) => true,
+            Some(Decision::Closed) => false,
             None => false,
         }
     }
 
     /// Where a number stands that was given and isn't closed.
-    #[tactic(auto, using(crate::proofs::Standings::given))]
+    #[tactic(auto, using(crate::proofs::DecisionsOf::given))]
     fn place_to_decide(&self, number: u64) -> Option<usize>
         ensures some { IfSome result (λ place. (place + 1 ≡ number) × (place < length self.now) × (may_be_decided self.now number ≡ true)) }
         ensures none { IfNone result (may_be_decided self.now number ≡ false) }
@@ -125,18 +125,18 @@ impl Decisions {
         ensures spent { result ≡ Err BeginFault.NumbersSpent → length self.old ≡ most_numbers }
         ensures full { length self.old ≡ most_numbers → result ≡ Err BeginFault.NumbersSpent }
     {
-        if self.standings.len() >= Self::MOST {
+        if self.by_number.len() >= Self::MOST {
             return Err(BeginFault::NumbersSpent);
         }
-        self.standings.push(Standing::Undecided)?;
-        Ok(self.standings.len() as u64)
+        self.by_number.push(Decision::Undecided)?;
+        Ok(self.by_number.len() as u64)
     }
 
     /// Closes every undecided number.
     pub(crate) fn close_all(&mut self)
         ensures { self.new ≡ map closed_of self.old }
     {
-        close_each(self.standings.as_mut_slice());
+        close_each(self.by_number.as_mut_slice());
     }
 
     /// Records that the transaction of a vote of Ready commits, before any of its branches does.
@@ -147,7 +147,7 @@ impl Decisions {
     /// Takes no memory. Doesn't wait.
     /// Own rule: docs/COORDINATOR.md, 'Decisions'.
     pub fn decide(&mut self, prepared: &Prepared) -> Result<(), Closed>
-        requires { prepared.now.ballot ≡ Ballot.Ready }
+        requires { prepared.now.vote_kind ≡ VoteKind.Ready }
         ensures given { OnOk result (may_be_decided self.old prepared.now.transaction.number ≡ true) }
         ensures ok { OnOk result (self.new ≡ with_decided self.old prepared.now.transaction.number) }
         ensures decided { OnOk result (is_decided_by self.new prepared.now.transaction.number ≡ true) }
@@ -158,14 +158,14 @@ impl Decisions {
         let Some(place) = self.place_to_decide(prepared.number()) else {
             return Err(Closed);
         };
-        self.standings[place] = Standing::Decided;
+        self.by_number[place] = Decision::Decided;
         Ok(())
     }
 }
 
 /// How a number stands that was given.
 #[derive(Clone, Copy, Debug, PartialEq, Eq)]
-pub enum Standing {
+pub enum Decision {
     /// It isn't decided.
     Undecided,
     /// It is decided that its branches commit.
@@ -174,15 +174,15 @@ pub enum Standing {
     Closed,
 }
 
-impl Standing {
+impl Decision {
     /// How the number stands once a recovery has closed what is undecided.
-    pub(crate) fn closed(self) -> Standing
+    pub(crate) fn closed(self) -> Decision
         ensures { result ≡ closed_of self }
     {
         match self {
-            Standing::Decided => Standing::Decided,
-            Standing::Undecided => Standing::Closed,
-            Standing::Closed => Standing::Closed,
+            Decision::Decided => Decision::Decided,
+            Decision::Undecided => Decision::Closed,
+            Decision::Closed => Decision::Closed,
         }
     }
 }

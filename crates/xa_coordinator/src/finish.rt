@@ -8,25 +8,25 @@ ghost use Rattle.xa_coordinator.specs.Branch.{branch_xid};
 ghost use Rattle.arrayvec.specs.ArrayVec.{array_vec_len};
 ghost use Rattle.xa_coordinator.specs.OpenBranches.{has_working_branch, KeepsOpen};
 ghost use Rattle.xa_coordinator.specs.Outcomes.{EndsAs, ClosesNext, finish_statement, ends_first, asked_by_ending, finish_for as finish_of_vote};
-ghost use Rattle.xa_coordinator.specs.declared.decisions.Standing.{Standing};
+ghost use Rattle.xa_coordinator.specs.declared.decisions.Decision.{Decision};
 
 use crate::closing::{Closing, Found};
-use crate::transaction::Ballot;
+use crate::transaction::VoteKind;
 use crate::{Cause, Coordinator, Decisions, Ending, Prepared, Speak, Transaction};
 use arrayvec::ArrayVec;
 use std::sync::Wait;
 
 /// How a transaction that was voted on is finished.
-fn finish_for(decided: bool, ballot: Ballot) -> Closing
-    ensures { result ≡ finish_of_vote decided ballot }
+fn finish_for(decided: bool, vote_kind: VoteKind) -> Closing
+    ensures { result ≡ finish_of_vote decided vote_kind }
 {
     if decided {
         return Closing::InTwoPhases;
     }
-    match ballot {
-        Ballot::OnePhase => Closing::InOnePhase,
-        Ballot::Ready => Closing::RollBack,
-        Ballot::No => Closing::RollBack,
+    match vote_kind {
+        VoteKind::OnePhase => Closing::InOnePhase,
+        VoteKind::Ready => Closing::RollBack,
+        VoteKind::No => Closing::RollBack,
     }
 }
 
@@ -114,14 +114,14 @@ impl<S: Speak> Coordinator<S> {
         ensures count { vec_len self.new.stores ≡ vec_len self.old.stores }
         ensures elsewhere { KeepsOpen prepared.transaction.participants (asked_by_ending result) self.old.branches self.new.branches }
         ensures ends { EndsAs S.view self.old.branches prepared.transaction
-            (finish_of_vote (is_decided decisions.now prepared.transaction.number) prepared.ballot) result self.old.stores.items self.new.stores.items }
+            (finish_of_vote (is_decided decisions.now prepared.transaction.number) prepared.vote_kind) result self.old.stores.items self.new.stores.items }
         ensures agrees { EachStore S.view (Agrees decisions.now self.old.name.items) self.old.stores.items self.new.stores.items }
     {
         let Prepared {
             transaction,
-            ballot,
+            vote_kind,
         } = prepared;
-        let closing = finish_for(decisions.is_decided(transaction.number), ballot);
+        let closing = finish_for(decisions.is_decided(transaction.number), vote_kind);
         self.finish_each(rt, &transaction, closing)
     }
 
@@ -141,7 +141,7 @@ impl<S: Speak> Coordinator<S> {
         ensures count { vec_len self.new.stores ≡ vec_len self.old.stores }
         ensures elsewhere { KeepsOpen transaction.participants (asked_by_ending result) self.old.branches self.new.branches }
         ensures ends { EndsAs S.view self.old.branches transaction Closing.RollBack result self.old.stores.items self.new.stores.items }
-        ensures agrees { (decisions : List Standing)
+        ensures agrees { (decisions : List Decision)
             → is_decided decisions transaction.number ≡ false
             → EachStore S.view (Agrees decisions self.old.name.items) self.old.stores.items self.new.stores.items }
     {

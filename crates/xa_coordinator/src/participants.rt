@@ -3,7 +3,7 @@ ghost use Rattle.std.specs.Prelude.{◌≡◌, ◌<◌, ◌≤◌, ◌+◌, ℕ,
 
 /// How many stores take part, as far as a vote has to know.
 #[derive(Clone, Copy, Debug, PartialEq, Eq)]
-pub enum Turnout {
+pub enum Participation {
     /// None.
     Nobody,
     /// This one alone.
@@ -20,7 +20,7 @@ pub struct Participants {
 }
 
 impl Participants {
-    ghost use Rattle.xa_coordinator.specs.Participants.{takes_part, IsTurnout};
+    ghost use Rattle.xa_coordinator.specs.Participants.{takes_part, IsParticipation};
 
     /// No store.
     #[tactic(auto, unfolding(crate::specs::Participants::takes_part))]
@@ -68,15 +68,15 @@ impl Participants {
     }
 
     /// How many take part.
-    pub(crate) fn turnout(&self) -> Turnout
-        ensures { IsTurnout self.now result }
+    pub(crate) fn participation(&self) -> Participation
+        ensures { IsParticipation self.now result }
     {
         let Some(first) = self.next_from(0) else {
-            return Turnout::Nobody;
+            return Participation::Nobody;
         };
         match self.next_from(first + 1) {
-            None => Turnout::Single(first),
-            Some(_) => Turnout::Several,
+            None => Participation::Single(first),
+            Some(_) => Participation::Several,
         }
     }
 }

@@ -5,20 +5,20 @@ ghost use Rattle.xa_coordinator.specs.Stores.{EachStore};
 ghost use Rattle.xa_coordinator.specs.OpenBranches.{KeepsOpen};
 ghost use Rattle.xa_coordinator.specs.Outcomes.{VotesAs, PollsAs, asked_by_vote, asked_by_poll};
 ghost use Rattle.xa_coordinator.specs.Participants.{TwoTakePart, OnlyTakesPart};
-ghost use Rattle.xa_coordinator.specs.declared.decisions.Standing.{Standing};
+ghost use Rattle.xa_coordinator.specs.declared.decisions.Decision.{Decision};
 
-use crate::participants::Turnout;
-use crate::transaction::Ballot;
+use crate::participants::Participation;
+use crate::transaction::VoteKind;
 use crate::{Cause, Coordinator, Prepared, Speak, Transaction, Vote};
 use std::sync::Wait;
 
 /// A vote of No.
 fn no(transaction: Transaction, store: u8, cause: Cause) -> Vote
-    ensures { result ≡ Vote.No (record { transaction = transaction; ballot = Ballot.No }) store cause }
+    ensures { result ≡ Vote.No (record { transaction = transaction; vote_kind = VoteKind.No }) store cause }
 {
     let prepared = Prepared {
         transaction,
-        ballot: Ballot::No,
+        vote_kind: VoteKind::No,
     };
     Vote::No {
         prepared,
@@ -60,10 +60,10 @@ impl<S: Speak> Coordinator<S> {
     {
         match self.end_branch(rt, store, transaction.number) {
             Ok(()) => {
-                let ballot = Ballot::OnePhase;
+                let vote_kind = VoteKind::OnePhase;
                 Vote::OnePhase(Prepared {
                     transaction,
-                    ballot,
+                    vote_kind,
                 })
             }
             Err(cause) => no(transaction, store, cause),
@@ -82,10 +82,10 @@ impl<S: Speak> Coordinator<S> {
     {
         match self.poll(rt, &transaction) {
             Ok(()) => {
-                let ballot = Ballot::Ready;
+                let vote_kind = VoteKind::Ready;
                 Vote::Ready(Prepared {
                     transaction,
-                    ballot,
+                    vote_kind,
                 })
             }
             Err((store, cause)) => no(transaction, store, cause),
@@ -107,12 +107,12 @@ impl<S: Speak> Coordinator<S> {
         ensures count { vec_len self.new.stores ≡ vec_len self.old.stores }
         ensures elsewhere { KeepsOpen transaction.participants (asked_by_vote result) self.old.branches self.new.branches }
         ensures vote { VotesAs S.view transaction result self.old.stores.items self.new.stores.items }
-        ensures agrees { (decisions : List Standing) → EachStore S.view (Agrees decisions self.old.name.items) self.old.stores.items self.new.stores.items }
+        ensures agrees { (decisions : List Decision) → EachStore S.view (Agrees decisions self.old.name.items) self.old.stores.items self.new.stores.items }
     {
-        match transaction.participants.turnout() {
-            Turnout::Nobody => Vote::Nothing,
-            Turnout::Single(store) => self.end_alone(rt, transaction, store),
-            Turnout::Several => self.prepare_each(rt, transaction),
+        match transaction.participants.participation() {
+            Participation::Nobody => Vote::Nothing,
+            Participation::Single(store) => self.end_alone(rt, transaction, store),
+            Participation::Several => self.prepare_each(rt, transaction),
         }
     }
 }

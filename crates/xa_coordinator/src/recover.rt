@@ -1,11 +1,11 @@
 //! Recovery: what a coordinator that was stopped left behind is finished as the decisions say.
 ghost use Rattle.std.specs.Prelude.{◌≡◌, ◌≢◌, ◌<◌, ◌≤◌, ℕ, List, [], Some, None, IfOk, IfErr, OnOk, slice_get, map, vec_len, vec_capacity};
 ghost use Rattle.xa_coordinator.specs.Agreement.{Agrees};
-ghost use Rattle.xa_coordinator.specs.Decisions.{closed_of, is_decided, standing_of};
+ghost use Rattle.xa_coordinator.specs.Decisions.{closed_of, is_decided, decision_of};
 ghost use Rattle.xa_coordinator.specs.Recovery.{IsFinished, IsSettled, IsClear, IsRecovered, IsBroken, BreaksHere, Recovers, BreaksOff, asked_by_fault};
 ghost use Rattle.xa_coordinator.specs.Recovery.{fault_by};
 ghost use Rattle.xa_coordinator.specs.Stores.{AtStore, EachStore, ChangesAt};
-ghost use Rattle.xa_coordinator.specs.declared.decisions.Standing.{Standing};
+ghost use Rattle.xa_coordinator.specs.declared.decisions.Decision.{Decision};
 
 use crate::report::Tally;
 use crate::{Cause, Coordinator, Decisions, RecoverFault, Report, Speak};
@@ -78,7 +78,7 @@ impl<S: Speak> Coordinator<S> {
         ensures marks { self.new.branches ≡ self.old.branches }
         ensures clear { IfOk result (λ front. AtStore S.view store (IsClear self.old.name.items store front) self.old.stores.items self.new.stores.items) }
         ensures fails { IfErr result
-            (λ fault. (decisions : List Standing) → BreaksHere S.view decisions self.old.name.items store fault self.old.stores.items self.new.stores.items) }
+            (λ fault. (decisions : List Decision) → BreaksHere S.view decisions self.old.name.items store fault self.old.stores.items self.new.stores.items) }
     {
         match self.prepared_in(rt, store) {
             Ok(found) => match self.own_number(store, found.0.as_slice()) {
@@ -166,7 +166,7 @@ impl<S: Speak> Coordinator<S> {
         ensures name { self.new.name ≡ self.old.name }
         ensures count { vec_len self.new.stores ≡ vec_len self.old.stores }
         ensures closed { decisions.new ≡ map closed_of decisions.old }
-        ensures none_undecided { (number : ℕ) → standing_of decisions.new number ≢ Some Standing.Undecided }
+        ensures none_undecided { (number : ℕ) → decision_of decisions.new number ≢ Some Decision.Undecided }
         ensures kept { (number : ℕ) → is_decided decisions.new number ≡ is_decided decisions.old number }
         ensures free { OnOk result ((store : ℕ) → store < vec_len self.new.stores → slice_get self.new.branches store ≡ Some None) }
         ensures marks { IfErr result

@@ -40,7 +40,7 @@ impl Transaction {
 
 /// What the stores voted.
 #[derive(Clone, Copy, Debug, PartialEq, Eq)]
-pub enum Ballot {
+pub enum VoteKind {
     /// Each participant is prepared.
     Ready,
     /// The one participant can be committed without being prepared.
@@ -53,7 +53,7 @@ pub enum Ballot {
 #[derive(Debug, Drop)]
 pub struct Prepared {
     pub(crate) transaction: Transaction,
-    pub(crate) ballot: Ballot,
+    pub(crate) vote_kind: VoteKind,
 }
 
 impl Prepared {

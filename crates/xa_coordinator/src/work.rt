@@ -8,7 +8,7 @@ ghost use Rattle.xa_coordinator.specs.Participants.{takes_part};
 ghost use Rattle.xa_coordinator.specs.Stores.{AtStore, EachStore, ChangesAt};
 ghost use Rattle.xa_coordinator.specs.Told.{IsUndone};
 ghost use Rattle.xa_coordinator.specs.Work.{IsRow, IsReplied, AddsWork, KeepsOthers, WorksWithin, WorksAs};
-ghost use Rattle.xa_coordinator.specs.declared.decisions.Standing.{Standing};
+ghost use Rattle.xa_coordinator.specs.declared.decisions.Decision.{Decision};
 ghost use Rattle.xa_coordinator.specs.declared.branches.Phase.TheVariants.{Active as PhaseActive};
 
 use crate::{Cause, Coordinator, Speak, Transaction, WorkFault};
@@ -152,7 +152,7 @@ impl<S: Speak> Coordinator<S> {
         ensures works { WorksAs S.view self.old.branches self.new.branches transaction.old transaction.new store statement.now result self.old.stores.items
             self.new.stores.items }
         ensures adds { AtStore S.view store (AddsWork (branch_of transaction.old store) statement.now) self.old.stores.items self.new.stores.items }
-        ensures agrees { (decisions : List Standing) → EachStore S.view (Agrees decisions self.old.name.items) self.old.stores.items self.new.stores.items }
+        ensures agrees { (decisions : List Decision) → EachStore S.view (Agrees decisions self.old.name.items) self.old.stores.items self.new.stores.items }
     {
         self.work_at(rt, transaction, store, statement)
     }

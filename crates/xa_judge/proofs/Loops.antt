@@ -108,7 +108,7 @@ sees_reach event first known rest list new one parts (inr some) reach = λ base 
 
 -- one more answer
 pub answers_step : (known : List Configuration) (place session : ℕ) (one : Configuration) (old new : List Answer) → place < length known
-    → one ≡ get_or known place one → IsAnswerAdded (slice_get one.standings.items session) old new
+    → one ≡ get_or known place one → IsAnswerAdded (slice_get one.clients.items session) old new
     → All (IsAnsweredIn known session) old → All (IsAnsweredIn known session) new
 answers_step known place session one old new within at (inl same) all = subst (λ l. All (IsAnsweredIn known session) l) (sym same) all
 answers_step known place session one old new within at (inr more) all =

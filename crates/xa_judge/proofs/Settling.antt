@@ -9,8 +9,8 @@ use Rattle.xa_judge.specs.declared.request.Request.{Request}
 use Rattle.xa_judge.specs.declared.event.Seen.{Seen}
 use Rattle.xa_judge.specs.declared.event.Event.{Event}
 use Rattle.xa_judge.specs.declared.event.Event.TheVariants.{Return}
-use Rattle.xa_judge.specs.declared.standing.Standing.{Standing}
-use Rattle.xa_judge.specs.declared.standing.Standing.TheVariants.{Idle, Called, Answered, Gone, Left}
+use Rattle.xa_judge.specs.declared.client_state.ClientState.{ClientState}
+use Rattle.xa_judge.specs.declared.client_state.ClientState.TheVariants.{Idle, Called, Answered, Gone, Left}
 use Rattle.xa_judge.specs.declared.moves.Act.{Act}
 use Rattle.xa_judge.specs.declared.moves.Act.TheVariants.{Statement, Disconnect}
 use Rattle.xa_judge.specs.declared.moves.Move.{Move}
@@ -21,7 +21,7 @@ use Rattle.xa_judge.specs.Found.{config_of, Has, after_settling, settled_by, cal
 use Rattle.xa_judge.proofs.Places.{same_number, get_written, get_apart, mapped_place}
 use Rattle.xa_judge.proofs.Waits.{acted, may_answer, First, later, return_answered}
 
-answered_may : (o : Option Standing) → answered_so o ≡ true → may_answer o ≡ true
+answered_may : (o : Option ClientState) → answered_so o ≡ true → may_answer o ≡ true
 answered_may None e = absurd (false≢true e)
 answered_may (Some Idle) e = absurd (false≢true e)
 answered_may (Some (Called request)) e = refl
@@ -30,18 +30,18 @@ answered_may (Some (Gone request)) e = absurd (false≢true e)
 answered_may (Some Left) e = absurd (false≢true e)
 
 -- a session that can't be answered never returns
-pub dead : (old new : Config) (session : ℕ) (seen : Seen) (more : List Event) (moves : List Move) → may_answer (slice_get old.standings session) ≡ false
+pub dead : (old new : Config) (session : ℕ) (seen : Seen) (more : List Event) (moves : List Move) → may_answer (slice_get old.clients session) ≡ false
     → LeadsThrough old (Return session seen ∷ more) moves new → ⊥
 dead old new session seen more (Seeing ∷ moves) none runs =
-    false≢true (sym none ∙ answered_may (slice_get old.standings session) (return_answered old runs.0 session seen runs.1))
+    false≢true (sym none ∙ answered_may (slice_get old.clients session) (return_answered old runs.0 session seen runs.1))
 dead old new session seen more (Effect other act ∷ moves) none runs =
     let a = acted old runs.0 other act runs.2 in
-    let stays : may_answer (slice_get runs.0.standings session) ≡ false = elim (same_number other session) [
+    let stays : may_answer (slice_get runs.0.clients session) ≡ false = elim (same_number other session) [
       | inl e ↦
-          ap may_answer (ap (λ (c : Config). slice_get c.standings session) a.is ∙ ap (slice_get (set old.standings other a.next)) (sym e)
-          ∙ get_written old.standings other a.before a.next a.found)
-          ∙ a.dead (ap may_answer (sym a.found ∙ ap (slice_get old.standings) e) ∙ none)
-      | inr apart ↦ ap may_answer (ap (λ (c : Config). slice_get c.standings session) a.is ∙ get_apart old.standings other session a.next apart) ∙ none
+          ap may_answer (ap (λ (c : Config). slice_get c.clients session) a.is ∙ ap (slice_get (set old.clients other a.next)) (sym e)
+          ∙ get_written old.clients other a.before a.next a.found)
+          ∙ a.dead (ap may_answer (sym a.found ∙ ap (slice_get old.clients) e) ∙ none)
+      | inr apart ↦ ap may_answer (ap (λ (c : Config). slice_get c.clients session) a.is ∙ get_apart old.clients other session a.next apart) ∙ none
     ] in
     dead runs.0 new session seen more moves stays runs.3
 dead old new session seen more [] none runs = runs
@@ -55,9 +55,9 @@ pub record Settled (list : List Configuration) (session : ℕ) (seen : Seen) (mo
 -- where the session was answered, nothing is left to settle
 settled_answered : (old : Config) (session : ℕ) → call_is_answered old session ≡ true → after_settling old session ≡ old
 unfolding after_settling
-settled_answered old session answered = ap (λ r. settled_by r old session) (by (slice_get old.standings session) answered)
+settled_answered old session answered = ap (λ r. settled_by r old session) (by (slice_get old.clients session) answered)
   where
-    by : (o : Option Standing) → answered_so o ≡ true → called_for o ≡ None
+    by : (o : Option ClientState) → answered_so o ≡ true → called_for o ≡ None
     by None e = absurd (false≢true e)
     by (Some Idle) e = absurd (false≢true e)
     by (Some (Called request)) e = absurd (false≢true e)
@@ -81,18 +81,18 @@ own_act : (list : List Configuration) (session : ℕ) (act : Act) (seen : Seen) 
     → effect_of old session act ≡ Some mid
     → LeadsThrough mid (Return session seen ∷ more) moves new → Settled list session seen more
 unfolding effect_of carried_out disconnected after_settling
-own_act list session act seen more old mid new moves has at runs = by act (slice_get old.standings session) refl at
+own_act list session act seen more old mid new moves has at runs = by act (slice_get old.clients session) refl at
   where
-    by : (act : Act) (o : Option Standing) → slice_get old.standings session ≡ o → effect_of old session act ≡ Some mid → Settled list session seen more
+    by : (act : Act) (o : Option ClientState) → slice_get old.clients session ≡ o → effect_of old session act ≡ Some mid → Settled list session seen more
     by Statement None found is = absurd (none-some mid (sym (ap (λ o. carried_out o old session) found) ∙ is))
     by Statement (Some Idle) found is = absurd (none-some mid (sym (ap (λ o. carried_out o old session) found) ∙ is))
     by Statement (Some (Called request)) found is =
         let answer = Answered (answer_to old.state session request) in
-        let mid_is : record { state = next_state old.state session request; standings = set old.standings session answer } ≡ mid =
+        let mid_is : record { state = next_state old.state session request; clients = set old.clients session answer } ≡ mid =
         same_Some _ mid (sym (ap (λ o. carried_out o old session) found) ∙ is) in
         let here : call_is_answered mid session ≡ true =
-        ap answered_so (ap (λ (c : Config). slice_get c.standings session) (sym mid_is)
-        ∙ get_written old.standings session (Called request) answer found) in
+        ap answered_so (ap (λ (c : Config). slice_get c.clients session) (sym mid_is)
+        ∙ get_written old.clients session (Called request) answer found) in
         let same : after_settling old session ≡ mid = ap (λ r. settled_by r old session) (ap called_for found) ∙ mid_is in
         record {
           one = old;
@@ -102,11 +102,11 @@ own_act list session act seen more old mid new moves has at runs = by act (slice
     by Statement (Some (Answered answer)) found is = absurd (none-some mid (sym (ap (λ o. carried_out o old session) found) ∙ is))
     by Statement (Some (Gone request)) found is = absurd (gone Statement request found is)
       where
-        gone : (act : Act) (request : Option Request) → slice_get old.standings session ≡ Some (Gone request) → effect_of old session act ≡ Some mid → ⊥
+        gone : (act : Act) (request : Option Request) → slice_get old.clients session ≡ Some (Gone request) → effect_of old session act ≡ Some mid → ⊥
         gone act request found is =
             let a = acted old mid session act is in
             dead mid new session seen more moves
-            (ap may_answer (ap (λ (c : Config). slice_get c.standings session) a.is ∙ get_written old.standings session a.before a.next a.found)
+            (ap may_answer (ap (λ (c : Config). slice_get c.clients session) a.is ∙ get_written old.clients session a.before a.next a.found)
             ∙ a.dead (ap may_answer (sym a.found ∙ found))) runs
     by Statement (Some Left) found is = absurd (none-some mid (sym (ap (λ o. carried_out o old session) found) ∙ is))
     by Disconnect None found is = absurd (none-some mid (sym (ap (λ o. disconnected o old session) found) ∙ is))
@@ -116,7 +116,7 @@ own_act list session act seen more old mid new moves has at runs = by act (slice
     by Disconnect (Some (Gone request)) found is =
         let a = acted old mid session Disconnect is in
         absurd (dead mid new session seen more moves
-        (ap may_answer (ap (λ (c : Config). slice_get c.standings session) a.is ∙ get_written old.standings session a.before a.next a.found)
+        (ap may_answer (ap (λ (c : Config). slice_get c.clients session) a.is ∙ get_written old.clients session a.before a.next a.found)
         ∙ a.dead (ap may_answer (sym a.found ∙ found))) runs)
     by Disconnect (Some Left) found is = absurd (none-some mid (sym (ap (λ o. disconnected o old session) found) ∙ is))
 

@@ -14,13 +14,13 @@ use Rattle.xa_judge.specs.declared.request.Request.{Request}
 use Rattle.xa_judge.specs.declared.event.Seen.{Seen}
 use Rattle.xa_judge.specs.declared.event.Event.{Event}
 use Rattle.xa_judge.specs.declared.event.Event.TheVariants.{Call, Return, Lost}
-use Rattle.xa_judge.specs.declared.standing.Standing.{Standing}
-use Rattle.xa_judge.specs.declared.standing.Standing.TheVariants.{Idle, Called, Answered, Gone, Left}
+use Rattle.xa_judge.specs.declared.client_state.ClientState.{ClientState}
+use Rattle.xa_judge.specs.declared.client_state.ClientState.TheVariants.{Idle, Called, Answered, Gone, Left}
 use Rattle.xa_judge.specs.declared.moves.Act.{Act}
 use Rattle.xa_judge.specs.declared.moves.Act.TheVariants.{Statement, Disconnect}
 use Rattle.xa_judge.specs.declared.moves.Move.{Move}
 use Rattle.xa_judge.specs.declared.moves.Move.TheVariants.{Event as Seeing, Effect}
-use Rattle.xa_judge.specs.Explained.{Config, with_standing, effect_of, carried_out, disconnected, observed, called, returned, lost, shows_answer, answer_to}
+use Rattle.xa_judge.specs.Explained.{Config, with_client, effect_of, carried_out, disconnected, observed, called, returned, lost, shows_answer, answer_to}
 use Rattle.xa_judge.specs.Explained.{next_state, LeadsThrough, IsSession}
 use Rattle.xa_judge.specs.Found.{call_is_answered, answered_so, called_for}
 use Rattle.xa_judge.proofs.Places.{same_number, get_written, get_apart, set_apart}
@@ -46,11 +46,11 @@ runs_event old mid new (first ∷ events) (Seeing ∷ moves) event runs at = (ru
 runs_event old mid new [] [] event runs at = let P : Config → Type 0 = λ c. observed c event ≡ Some new in (new, subst P runs at, refl)
 runs_event old mid new (first ∷ events) [] event runs at = absurd runs
 
-abbrev pub some_config : State → List Standing → Option Config
-some_config state standings = Some (record { state = state; standings = standings })
+abbrev pub some_config : State → List ClientState → Option Config
+some_config state clients = Some (record { state = state; clients = clients })
 
 -- the session's call was or may be answered
-abbrev pub may_answer : Option Standing → Bool
+abbrev pub may_answer : Option ClientState → Bool
 may_answer None = false
 may_answer (Some Idle) = false
 may_answer (Some (Called request)) = true
@@ -60,18 +60,18 @@ may_answer (Some Left) = false
 
 -- what an act did to what its session is about; it does the same wherever the session and the server stand so
 pub record Acted (old : Config) (session : ℕ) (act : Act) (new : Config) : Type 0 where
-  pub before : Standing
-  pub next : Standing
+  pub before : ClientState
+  pub next : ClientState
   pub state : State
-  pub found : slice_get old.standings session ≡ Some before
-  pub is : new ≡ record { state = state; standings = set old.standings session next }
-  pub again : (other : Config) → slice_get other.standings session ≡ Some before → other.state ≡ old.state
-      → effect_of other session act ≡ Some (record { state = state; standings = set other.standings session next })
+  pub found : slice_get old.clients session ≡ Some before
+  pub is : new ≡ record { state = state; clients = set old.clients session next }
+  pub again : (other : Config) → slice_get other.clients session ≡ Some before → other.state ≡ old.state
+      → effect_of other session act ≡ Some (record { state = state; clients = set other.clients session next })
   pub busy : next ≡ Idle → ⊥
   pub unanswered : answered_so (Some before) ≡ false
   pub dead : may_answer (Some before) ≡ false → may_answer (Some next) ≡ false
 
-acted_statement : (o : Option Standing) (old new : Config) (session : ℕ) → slice_get old.standings session ≡ o → carried_out o old session ≡ Some new
+acted_statement : (o : Option ClientState) (old new : Config) (session : ℕ) → slice_get old.clients session ≡ o → carried_out o old session ≡ Some new
     → Acted old session Statement new
 unfolding effect_of carried_out
 acted_statement None old new session found is = absurd (none-some new is)
@@ -84,7 +84,7 @@ acted_statement (Some (Called request)) old new session found is = record {
   is = sym (same_Some _ new is);
   again = λ other at same.
       ap (λ o. carried_out o other session) at
-      ∙ ap (λ (s : State). some_config (next_state s session request) (set other.standings session (Answered (answer_to s session request)))) same;
+      ∙ ap (λ (s : State). some_config (next_state s session request) (set other.clients session (Answered (answer_to s session request)))) same;
   busy = λ e. cc;
   unanswered = refl;
   dead = λ e. absurd (false≢true (sym e));
@@ -99,14 +99,14 @@ acted_statement (Some (Gone (Some request))) old new session found is = record {
   is = sym (same_Some _ new is);
   again = λ other at same.
       ap (λ o. carried_out o other session) at
-      ∙ ap (λ (s : State). some_config (next_state s session request) (set other.standings session (Gone None))) same;
+      ∙ ap (λ (s : State). some_config (next_state s session request) (set other.clients session (Gone None))) same;
   busy = λ e. cc;
   unanswered = refl;
   dead = λ e. refl;
 }
 acted_statement (Some Left) old new session found is = absurd (none-some new is)
 
-acted_disconnect : (o : Option Standing) (old new : Config) (session : ℕ) → slice_get old.standings session ≡ o → disconnected o old session ≡ Some new
+acted_disconnect : (o : Option ClientState) (old new : Config) (session : ℕ) → slice_get old.clients session ≡ o → disconnected o old session ≡ Some new
     → Acted old session Disconnect new
 unfolding effect_of disconnected
 acted_disconnect None old new session found is = absurd (none-some new is)
@@ -121,7 +121,7 @@ acted_disconnect (Some (Gone request)) old new session found is = record {
   is = sym (same_Some _ new is);
   again = λ other at same.
       ap (λ o. disconnected o other session) at
-      ∙ ap (λ (s : State). some_config (after s session DisconnectGiven) (set other.standings session Left)) same;
+      ∙ ap (λ (s : State). some_config (after s session DisconnectGiven) (set other.clients session Left)) same;
   busy = λ e. cc;
   unanswered = refl;
   dead = λ e. refl;
@@ -130,23 +130,23 @@ acted_disconnect (Some Left) old new session found is = absurd (none-some new is
 
 pub acted : (old new : Config) (session : ℕ) (act : Act) → effect_of old session act ≡ Some new → Acted old session act new
 unfolding effect_of
-acted old new session Statement is = acted_statement (slice_get old.standings session) old new session refl is
-acted old new session Disconnect is = acted_disconnect (slice_get old.standings session) old new session refl is
+acted old new session Statement is = acted_statement (slice_get old.clients session) old new session refl is
+acted old new session Disconnect is = acted_disconnect (slice_get old.clients session) old new session refl is
 
 -- what a session has called for takes effect
-pub effect_called : (config : Config) (session : ℕ) (request : Request) → called_for (slice_get config.standings session) ≡ Some request
+pub effect_called : (config : Config) (session : ℕ) (request : Request) → called_for (slice_get config.clients session) ≡ Some request
     → effect_of config session Statement
-    ≡ some_config (next_state config.state session request) (set config.standings session (Answered (answer_to config.state session request)))
+    ≡ some_config (next_state config.state session request) (set config.clients session (Answered (answer_to config.state session request)))
 unfolding effect_of carried_out
-effect_called config session request = by (slice_get config.standings session)
+effect_called config session request = by (slice_get config.clients session)
   where
-    by : (o : Option Standing) → called_for o ≡ Some request
+    by : (o : Option ClientState) → called_for o ≡ Some request
         → carried_out o config session
-        ≡ some_config (next_state config.state session request) (set config.standings session (Answered (answer_to config.state session request)))
+        ≡ some_config (next_state config.state session request) (set config.clients session (Answered (answer_to config.state session request)))
     by None is = absurd (none-some request is)
     by (Some Idle) is = absurd (none-some request is)
     by (Some (Called other)) is =
-        ap (λ r. some_config (next_state config.state session r) (set config.standings session (Answered (answer_to config.state session r))))
+        ap (λ r. some_config (next_state config.state session r) (set config.clients session (Answered (answer_to config.state session r))))
         (same_Some other request is)
     by (Some (Answered answer)) is = absurd (none-some request is)
     by (Some (Gone other)) is = absurd (none-some request is)
@@ -160,14 +160,14 @@ session_in (Lost session) = session
 
 -- what an event did to what its session is about; it does the same wherever the session stands so
 pub record Saw (old : Config) (event : Event) (new : Config) : Type 0 where
-  pub before : Standing
-  pub next : Standing
-  pub found : slice_get old.standings (session_in event) ≡ Some before
-  pub is : new ≡ with_standing old (session_in event) next
-  pub again : (other : Config) → slice_get other.standings (session_in event) ≡ Some before
-      → observed other event ≡ Some (with_standing other (session_in event) next)
+  pub before : ClientState
+  pub next : ClientState
+  pub found : slice_get old.clients (session_in event) ≡ Some before
+  pub is : new ≡ with_client old (session_in event) next
+  pub again : (other : Config) → slice_get other.clients (session_in event) ≡ Some before
+      → observed other event ≡ Some (with_client other (session_in event) next)
 
-saw_call : (o : Option Standing) (old new : Config) (session : ℕ) (request : Request) → slice_get old.standings session ≡ o
+saw_call : (o : Option ClientState) (old new : Config) (session : ℕ) (request : Request) → slice_get old.clients session ≡ o
     → called o old session request ≡ Some new → Saw old (Call session request) new × (o ≡ Some Idle)
 unfolding observed called
 saw_call None old new session request found is = absurd (none-some new is)
@@ -186,27 +186,27 @@ saw_call (Some (Answered answer)) old new session request found is = absurd (non
 saw_call (Some (Gone other)) old new session request found is = absurd (none-some new is)
 saw_call (Some Left) old new session request found is = absurd (none-some new is)
 
-saw_return : (o : Option Standing) (old new : Config) (session : ℕ) (seen : Seen) → slice_get old.standings session ≡ o → returned o old session seen ≡ Some new
+saw_return : (o : Option ClientState) (old new : Config) (session : ℕ) (seen : Seen) → slice_get old.clients session ≡ o → returned o old session seen ≡ Some new
     → Saw old (Return session seen) new × (answered_so o ≡ true)
 unfolding observed returned
 saw_return None old new session seen found is = absurd (none-some new is)
 saw_return (Some Idle) old new session seen found is = absurd (none-some new is)
 saw_return (Some (Called request)) old new session seen found is = absurd (none-some new is)
 saw_return (Some (Answered answer)) old new session seen found is =
-    let agreed = cond_some (shows_answer seen answer) (with_standing old session Idle) new is in (
+    let agreed = cond_some (shows_answer seen answer) (with_client old session Idle) new is in (
       record {
         before = Answered answer;
         next = Idle;
         found = found;
         is = sym agreed.1;
-        again = λ other at. ap (λ o. returned o other session seen) at ∙ ap (λ b. cond b (Some (with_standing other session Idle)) None) agreed.0;
+        again = λ other at. ap (λ o. returned o other session seen) at ∙ ap (λ b. cond b (Some (with_client other session Idle)) None) agreed.0;
       },
       refl,
     )
 saw_return (Some (Gone request)) old new session seen found is = absurd (none-some new is)
 saw_return (Some Left) old new session seen found is = absurd (none-some new is)
 
-saw_lost : (o : Option Standing) (old new : Config) (session : ℕ) → slice_get old.standings session ≡ o → lost o old session ≡ Some new
+saw_lost : (o : Option ClientState) (old new : Config) (session : ℕ) → slice_get old.clients session ≡ o → lost o old session ≡ Some new
     → Saw old (Lost session) new
 unfolding observed lost
 saw_lost None old new session found is = absurd (none-some new is)
@@ -234,56 +234,56 @@ commute : (old mid new : Config) (session : ℕ) (act : Act) (event : Event) →
     → Swapped old event session act new
 commute old mid new session act event a s apart =
     let other = session_in event in
-    let here : slice_get mid.standings other ≡ slice_get old.standings other =
-    ap (λ (c : Config). slice_get c.standings other) a.is ∙ get_apart old.standings session other a.next apart in
-    let first : Config = with_standing old other s.next in
-    let there : slice_get first.standings session ≡ Some a.before = get_apart old.standings other session s.next (λ e. apart (sym e)) ∙ a.found in
-    let end : record { state = a.state; standings = set first.standings session a.next } ≡ new =
-    ap (λ l. record { state = a.state; standings = l }) (set_apart old.standings other session s.next a.next (λ e. apart (sym e)))
-    ∙ sym (s.is ∙ ap (λ (c : Config). with_standing c other s.next) a.is) in
+    let here : slice_get mid.clients other ≡ slice_get old.clients other =
+    ap (λ (c : Config). slice_get c.clients other) a.is ∙ get_apart old.clients session other a.next apart in
+    let first : Config = with_client old other s.next in
+    let there : slice_get first.clients session ≡ Some a.before = get_apart old.clients other session s.next (λ e. apart (sym e)) ∙ a.found in
+    let end : record { state = a.state; clients = set first.clients session a.next } ≡ new =
+    ap (λ l. record { state = a.state; clients = l }) (set_apart old.clients other session s.next a.next (λ e. apart (sym e)))
+    ∙ sym (s.is ∙ ap (λ (c : Config). with_client c other s.next) a.is) in
     (first, s.again old (sym here ∙ s.found), a.again first there refl ∙ ap Some end)
 
 -- the act was the loss of a client's
-lost_alone : (o : Option Standing) (old mid new : Config) (session : ℕ) → slice_get old.standings session ≡ o → carried_out o old session ≡ Some mid
-    → Saw mid (Lost session) new → lost (slice_get mid.standings session) mid session ≡ Some new
+lost_alone : (o : Option ClientState) (old mid new : Config) (session : ℕ) → slice_get old.clients session ≡ o → carried_out o old session ≡ Some mid
+    → Saw mid (Lost session) new → lost (slice_get mid.clients session) mid session ≡ Some new
     → Swapped old (Lost session) session Statement new
 unfolding effect_of observed carried_out lost
 lost_alone None old mid new session found is s at = absurd (none-some mid is)
 lost_alone (Some Idle) old mid new session found is s at = absurd (none-some mid is)
 lost_alone (Some (Called request)) old mid new session found is s at =
     let answer = Answered (answer_to old.state session request) in
-    let first : Config = with_standing old session (Gone (Some request)) in
-    let mid_is : record { state = next_state old.state session request; standings = set old.standings session answer } ≡ mid = same_Some _ mid is in
-    let here : slice_get mid.standings session ≡ Some answer =
-    ap (λ (c : Config). slice_get c.standings session) (sym mid_is) ∙ get_written old.standings session (Called request) answer found in
-    let gone : with_standing mid session (Gone None) ≡ new = same_Some _ new (sym (ap (λ o. lost o mid session) here) ∙ at) in
-    let there : slice_get first.standings session ≡ Some (Gone (Some request)) =
-    get_written old.standings session (Called request) (Gone (Some request)) found in
-    let end : record { state = next_state old.state session request; standings = set (set old.standings session (Gone (Some request))) session (Gone None) }
+    let first : Config = with_client old session (Gone (Some request)) in
+    let mid_is : record { state = next_state old.state session request; clients = set old.clients session answer } ≡ mid = same_Some _ mid is in
+    let here : slice_get mid.clients session ≡ Some answer =
+    ap (λ (c : Config). slice_get c.clients session) (sym mid_is) ∙ get_written old.clients session (Called request) answer found in
+    let gone : with_client mid session (Gone None) ≡ new = same_Some _ new (sym (ap (λ o. lost o mid session) here) ∙ at) in
+    let there : slice_get first.clients session ≡ Some (Gone (Some request)) =
+    get_written old.clients session (Called request) (Gone (Some request)) found in
+    let end : record { state = next_state old.state session request; clients = set (set old.clients session (Gone (Some request))) session (Gone None) }
     ≡ new =
-    ap (λ l. record { state = next_state old.state session request; standings = l })
-    (set-set old.standings session (Gone (Some request)) (Gone None) ∙ sym (set-set old.standings session answer (Gone None)))
-    ∙ ap (λ (c : Config). with_standing c session (Gone None)) mid_is ∙ gone in
+    ap (λ l. record { state = next_state old.state session request; clients = l })
+    (set-set old.clients session (Gone (Some request)) (Gone None) ∙ sym (set-set old.clients session answer (Gone None)))
+    ∙ ap (λ (c : Config). with_client c session (Gone None)) mid_is ∙ gone in
     (first, ap (λ o. lost o old session) found, ap (λ o. carried_out o first session) there ∙ ap Some end)
 lost_alone (Some (Answered answer)) old mid new session found is s at = absurd (none-some mid is)
 lost_alone (Some (Gone None)) old mid new session found is s at = absurd (none-some mid is)
 lost_alone (Some (Gone (Some request))) old mid new session found is s at =
-    let here : slice_get mid.standings session ≡ Some (Gone None) =
-    ap (λ (c : Config). slice_get c.standings session) (sym (same_Some _ mid is))
-    ∙ get_written old.standings session (Gone (Some request)) (Gone None) found in
+    let here : slice_get mid.clients session ≡ Some (Gone None) =
+    ap (λ (c : Config). slice_get c.clients session) (sym (same_Some _ mid is))
+    ∙ get_written old.clients session (Gone (Some request)) (Gone None) found in
     absurd (none-some new (sym (ap (λ o. lost o mid session) here) ∙ at))
 lost_alone (Some Left) old mid new session found is s at = absurd (none-some mid is)
 
-left_alone : (o : Option Standing) (old mid new : Config) (session : ℕ) → slice_get old.standings session ≡ o → disconnected o old session ≡ Some mid
-    → lost (slice_get mid.standings session) mid session ≡ Some new → ⊥
+left_alone : (o : Option ClientState) (old mid new : Config) (session : ℕ) → slice_get old.clients session ≡ o → disconnected o old session ≡ Some mid
+    → lost (slice_get mid.clients session) mid session ≡ Some new → ⊥
 unfolding disconnected lost
 left_alone None old mid new session found is at = none-some mid is
 left_alone (Some Idle) old mid new session found is at = none-some mid is
 left_alone (Some (Called request)) old mid new session found is at = none-some mid is
 left_alone (Some (Answered answer)) old mid new session found is at = none-some mid is
 left_alone (Some (Gone request)) old mid new session found is at =
-    let here : slice_get mid.standings session ≡ Some Left =
-    ap (λ (c : Config). slice_get c.standings session) (sym (same_Some _ mid is)) ∙ get_written old.standings session (Gone request) Left found in
+    let here : slice_get mid.clients session ≡ Some Left =
+    ap (λ (c : Config). slice_get c.clients session) (sym (same_Some _ mid is)) ∙ get_written old.clients session (Gone request) Left found in
     none-some new (sym (ap (λ o. lost o mid session) here) ∙ at)
 left_alone (Some Left) old mid new session found is at = none-some mid is
 
@@ -296,46 +296,46 @@ CanWait config (Lost session) = Unit {0}
 -- a session that was answered acts no more
 answered_apart : (old mid : Config) (session other : ℕ) (act : Act) → Acted old session act mid → call_is_answered old other ≡ true → session ≢ other
 answered_apart old mid session other act a answered = λ e.
-    false≢true (sym a.unanswered ∙ ap answered_so (sym a.found ∙ ap (slice_get old.standings) e) ∙ answered)
+    false≢true (sym a.unanswered ∙ ap answered_so (sym a.found ∙ ap (slice_get old.clients) e) ∙ answered)
 
 swap : (old mid new : Config) (session : ℕ) (act : Act) (event : Event) → effect_of old session act ≡ Some mid → observed mid event ≡ Some new
     → CanWait old event → Swapped old event session act new
 unfolding effect_of observed
 swap old mid new session act (Call other request) is at waits =
     let a = acted old mid session act is in
-    let s = saw_call (slice_get mid.standings other) mid new other request refl at in
+    let s = saw_call (slice_get mid.clients other) mid new other request refl at in
     commute old mid new session act (Call other request) a s.0 (λ e.
-    let here : slice_get mid.standings other ≡ Some a.next =
-    ap (λ (c : Config). slice_get c.standings other) a.is ∙ ap (slice_get (set old.standings session a.next)) (sym e)
-    ∙ get_written old.standings session a.before a.next a.found in
+    let here : slice_get mid.clients other ≡ Some a.next =
+    ap (λ (c : Config). slice_get c.clients other) a.is ∙ ap (slice_get (set old.clients session a.next)) (sym e)
+    ∙ get_written old.clients session a.before a.next a.found in
     a.busy (same_Some a.next Idle (sym here ∙ s.1)))
 swap old mid new session act (Return other seen) is at waits =
     let a = acted old mid session act is in
-    commute old mid new session act (Return other seen) a (saw_return (slice_get mid.standings other) mid new other seen refl at).0
+    commute old mid new session act (Return other seen) a (saw_return (slice_get mid.clients other) mid new other seen refl at).0
     (answered_apart old mid session other act a waits)
 swap old mid new session Statement (Lost other) is at waits = elim (same_number session other) [
   | inl e ↦
-      let at' : lost (slice_get mid.standings session) mid session ≡ Some new = ap (λ n. lost (slice_get mid.standings n) mid n) e ∙ at in
+      let at' : lost (slice_get mid.clients session) mid session ≡ Some new = ap (λ n. lost (slice_get mid.clients n) mid n) e ∙ at in
       let alone : Swapped old (Lost session) session Statement new =
-      lost_alone (slice_get old.standings session) old mid new session refl is (saw_lost (slice_get mid.standings session) mid new session refl at') at' in
+      lost_alone (slice_get old.clients session) old mid new session refl is (saw_lost (slice_get mid.clients session) mid new session refl at') at' in
       subst (λ n. Swapped old (Lost n) session Statement new) e alone
   | inr apart ↦ commute old mid new session Statement (Lost other) (acted old mid session Statement is)
-      (saw_lost (slice_get mid.standings other) mid new other refl at) apart
+      (saw_lost (slice_get mid.clients other) mid new other refl at) apart
 ]
 swap old mid new session Disconnect (Lost other) is at waits = elim (same_number session other) [
   | inl e ↦
-      let at' : lost (slice_get mid.standings session) mid session ≡ Some new = ap (λ n. lost (slice_get mid.standings n) mid n) e ∙ at in
-      absurd (left_alone (slice_get old.standings session) old mid new session refl is at')
+      let at' : lost (slice_get mid.clients session) mid session ≡ Some new = ap (λ n. lost (slice_get mid.clients n) mid n) e ∙ at in
+      absurd (left_alone (slice_get old.clients session) old mid new session refl is at')
   | inr apart ↦ commute old mid new session Disconnect (Lost other) (acted old mid session Disconnect is)
-      (saw_lost (slice_get mid.standings other) mid new other refl at) apart
+      (saw_lost (slice_get mid.clients other) mid new other refl at) apart
 ]
 
 still_waits : (old mid : Config) (session : ℕ) (act : Act) (event : Event) → effect_of old session act ≡ Some mid → CanWait old event → CanWait mid event
 still_waits old mid session act (Call other request) is waits = tt
 still_waits old mid session act (Return other seen) is waits =
     let a = acted old mid session act is in
-    ap answered_so (ap (λ (c : Config). slice_get c.standings other) a.is
-    ∙ get_apart old.standings session other a.next (answered_apart old mid session other act a waits)) ∙ waits
+    ap answered_so (ap (λ (c : Config). slice_get c.clients other) a.is
+    ∙ get_apart old.clients session other a.next (answered_apart old mid session other act a waits)) ∙ waits
 still_waits old mid session act (Lost other) is waits = tt
 
 -- the event is seen first, and then come the other moves
@@ -358,4 +358,4 @@ later old new event more [] waits runs = absurd runs
 -- where a return was seen, its session was answered
 pub return_answered : (old new : Config) (session : ℕ) (seen : Seen) → observed old (Return session seen) ≡ Some new → call_is_answered old session ≡ true
 unfolding observed
-return_answered old new session seen at = (saw_return (slice_get old.standings session) old new session seen refl at).1
+return_answered old new session seen at = (saw_return (slice_get old.clients session) old new session seen refl at).1

@@ -26,8 +26,8 @@ use Rattle.xa_judge.specs.declared.event.Seen.{Seen}
 use Rattle.xa_judge.specs.declared.event.Seen.TheVariants.{Ok as SeenOk, Value as SeenValue, Rows as SeenRows, Error as SeenError}
 use Rattle.xa_judge.specs.declared.event.Event.{Event}
 use Rattle.xa_judge.specs.declared.event.Event.TheVariants.{Call, Return, Lost}
-use Rattle.xa_judge.specs.declared.standing.Standing.{Standing}
-use Rattle.xa_judge.specs.declared.standing.Standing.TheVariants.{Idle, Called, Answered, Gone, Left}
+use Rattle.xa_judge.specs.declared.client_state.ClientState.{ClientState}
+use Rattle.xa_judge.specs.declared.client_state.ClientState.TheVariants.{Idle, Called, Answered, Gone, Left}
 use Rattle.xa_judge.specs.declared.moves.Act.{Act}
 use Rattle.xa_judge.specs.declared.moves.Act.TheVariants.{Statement as ItsStatement, Disconnect as ItsDisconnect}
 use Rattle.xa_judge.specs.declared.moves.Move.{Move}
@@ -46,41 +46,41 @@ next_state state session Unread = state
 -- a state of the server, and what each session is about, at the place of its number
 pub record Config : Type 0 where
   pub state : State
-  pub standings : List Standing
+  pub clients : List ClientState
 
 -- before all events; place 0 is no session's
 unfoldable pub opening_config : State → Config
-opening_config base = record { state = base; standings = replicate 17 Idle }
+opening_config base = record { state = base; clients = replicate 17 Idle }
 
 -- the session is about this from now on
-abbrev pub with_standing : Config → ℕ → Standing → Config
-with_standing config session standing = record { state = config.state; standings = slice_set config.standings session standing }
+abbrev pub with_client : Config → ℕ → ClientState → Config
+with_client config session client = record { state = config.state; clients = slice_set config.clients session client }
 
 -- what a session called for takes effect: it is answered, or nobody hears the answer
-unfoldable pub carried_out : Option Standing → Config → ℕ → Option Config
+unfoldable pub carried_out : Option ClientState → Config → ℕ → Option Config
 carried_out None config session = None
 carried_out (Some Idle) config session = None
 carried_out (Some (Called request)) config session =
-    Some (with_standing (record config { state = next_state config.state session request }) session (Answered (answer_to config.state session request)))
+    Some (with_client (record config { state = next_state config.state session request }) session (Answered (answer_to config.state session request)))
 carried_out (Some (Answered answer)) config session = None
 carried_out (Some (Gone None)) config session = None
 carried_out (Some (Gone (Some request))) config session =
-    Some (with_standing (record config { state = next_state config.state session request }) session (Gone None))
+    Some (with_client (record config { state = next_state config.state session request }) session (Gone None))
 carried_out (Some Left) config session = None
 
 -- the DISCONNECT of a session whose client is gone takes effect; what it had called for then never does
-unfoldable pub disconnected : Option Standing → Config → ℕ → Option Config
+unfoldable pub disconnected : Option ClientState → Config → ℕ → Option Config
 disconnected None config session = None
 disconnected (Some Idle) config session = None
 disconnected (Some (Called request)) config session = None
 disconnected (Some (Answered answer)) config session = None
-disconnected (Some (Gone request)) config session = Some (with_standing (record config { state = after config.state session Disconnect }) session Left)
+disconnected (Some (Gone request)) config session = Some (with_client (record config { state = after config.state session Disconnect }) session Left)
 disconnected (Some Left) config session = None
 
 -- an act of a session takes effect
 unfoldable pub effect_of : Config → ℕ → Act → Option Config
-effect_of config session ItsStatement = carried_out (slice_get config.standings session) config session
-effect_of config session ItsDisconnect = disconnected (slice_get config.standings session) config session
+effect_of config session ItsStatement = carried_out (slice_get config.clients session) config session
+effect_of config session ItsDisconnect = disconnected (slice_get config.clients session) config session
 
 -- two texts have the same bytes
 abbrev pub same_text : Text → Text → Bool
@@ -122,37 +122,37 @@ shows_answer (SeenRows rows) NotRead = false
 shows_answer (SeenError number) NotRead = number == 1064
 
 -- an idle session calls
-unfoldable pub called : Option Standing → Config → ℕ → Request → Option Config
+unfoldable pub called : Option ClientState → Config → ℕ → Request → Option Config
 called None config session request = None
-called (Some Idle) config session request = Some (with_standing config session (Called request))
+called (Some Idle) config session request = Some (with_client config session (Called request))
 called (Some (Called other)) config session request = None
 called (Some (Answered answer)) config session request = None
 called (Some (Gone other)) config session request = None
 called (Some Left) config session request = None
 
 -- the call of an answered session returns so
-unfoldable pub returned : Option Standing → Config → ℕ → Seen → Option Config
+unfoldable pub returned : Option ClientState → Config → ℕ → Seen → Option Config
 returned None config session seen = None
 returned (Some Idle) config session seen = None
 returned (Some (Called request)) config session seen = None
-returned (Some (Answered answer)) config session seen = cond (shows_answer seen answer) (Some (with_standing config session Idle)) None
+returned (Some (Answered answer)) config session seen = cond (shows_answer seen answer) (Some (with_client config session Idle)) None
 returned (Some (Gone request)) config session seen = None
 returned (Some Left) config session seen = None
 
 -- the client of a session is gone; an open call may still take effect, and nobody hears its answer
-unfoldable pub lost : Option Standing → Config → ℕ → Option Config
+unfoldable pub lost : Option ClientState → Config → ℕ → Option Config
 lost None config session = None
-lost (Some Idle) config session = Some (with_standing config session (Gone None))
-lost (Some (Called request)) config session = Some (with_standing config session (Gone (Some request)))
-lost (Some (Answered answer)) config session = Some (with_standing config session (Gone None))
+lost (Some Idle) config session = Some (with_client config session (Gone None))
+lost (Some (Called request)) config session = Some (with_client config session (Gone (Some request)))
+lost (Some (Answered answer)) config session = Some (with_client config session (Gone None))
 lost (Some (Gone request)) config session = None
 lost (Some Left) config session = None
 
 -- an event is seen
 unfoldable pub observed : Config → Event → Option Config
-observed config (Call session request) = called (slice_get config.standings session) config session request
-observed config (Return session seen) = returned (slice_get config.standings session) config session seen
-observed config (Lost session) = lost (slice_get config.standings session) config session
+observed config (Call session request) = called (slice_get config.clients session) config session request
+observed config (Return session seen) = returned (slice_get config.clients session) config session seen
+observed config (Lost session) = lost (slice_get config.clients session) config session
 
 -- a session's number
 abbrev pub IsSession : ℕ → Type 0

@@ -1,6 +1,6 @@
 -- The configurations that a judge keeps.
 --     config_of        a configuration as the definitions see it
---     moved_to         the configuration of this state, and of these standings but for one session's
+--     moved_to         the configuration of this state, and of these clients but for one session's
 --     called_for       what a session has called for, where that has taken no effect yet
 --     after_settling   the configuration once that has taken effect
 --     call_is_answered  the session's call was answered
@@ -14,8 +14,8 @@ use Rattle.std.specs.List.{All, Contains}
 use Rattle.xa_server.specs.State.{State}
 use Rattle.xa_judge.specs.declared.request.Request.{Request}
 use Rattle.xa_judge.specs.declared.event.Event.{Event}
-use Rattle.xa_judge.specs.declared.standing.Standing.{Standing}
-use Rattle.xa_judge.specs.declared.standing.Standing.TheVariants.{Idle, Called, Answered, Gone, Left}
+use Rattle.xa_judge.specs.declared.client_state.ClientState.{ClientState}
+use Rattle.xa_judge.specs.declared.client_state.ClientState.TheVariants.{Idle, Called, Answered, Gone, Left}
 use Rattle.xa_judge.specs.declared.answer.Answer.{Answer}
 use Rattle.xa_judge.specs.declared.moves.Act.{Act}
 use Rattle.xa_judge.specs.declared.moves.Act.TheVariants.{Statement}
@@ -26,17 +26,17 @@ use Rattle.xa_judge.specs.Explained.{Config, opening_config, effect_of, observed
 
 -- a configuration as the definitions see it
 abbrev pub config_of : Configuration → Config
-config_of one = record { state = one.server; standings = one.standings.items }
+config_of one = record { state = one.server; clients = one.clients.items }
 
--- the configuration of this state, and of these standings but for one session's
-abbrev pub moved_to : State → List Standing → ℕ → Standing → Config
-moved_to state standings session standing = record { state = state; standings = slice_set standings session standing }
+-- the configuration of this state, and of these clients but for one session's
+abbrev pub moved_to : State → List ClientState → ℕ → ClientState → Config
+moved_to state clients session client = record { state = state; clients = slice_set clients session client }
 
 abbrev pub configs : List Configuration → List Config
 configs list = map config_of list
 
 -- what a session has called for, where that has taken no effect yet
-abbrev pub called_for : Option Standing → Option Request
+abbrev pub called_for : Option ClientState → Option Request
 called_for None = None
 called_for (Some Idle) = None
 called_for (Some (Called request)) = Some request
@@ -49,14 +49,14 @@ settled_by None config session = config
 settled_by (Some request) config session =
     record {
       state = next_state config.state session request;
-      standings = slice_set config.standings session (Answered (answer_to config.state session request));
+      clients = slice_set config.clients session (Answered (answer_to config.state session request));
     }
 
 -- the configuration once what the session has called for has taken effect
 unfoldable pub after_settling : Config → ℕ → Config
-after_settling config session = settled_by (called_for (slice_get config.standings session)) config session
+after_settling config session = settled_by (called_for (slice_get config.clients session)) config session
 
-abbrev pub answered_so : Option Standing → Bool
+abbrev pub answered_so : Option ClientState → Bool
 answered_so None = false
 answered_so (Some Idle) = false
 answered_so (Some (Called request)) = false
@@ -66,7 +66,7 @@ answered_so (Some Left) = false
 
 -- the session's call was answered
 abbrev pub call_is_answered : Config → ℕ → Bool
-call_is_answered config session = answered_so (slice_get config.standings session)
+call_is_answered config session = answered_so (slice_get config.clients session)
 
 -- the trunk and its path lead to it
 unfoldable pub Reaches : State → List Event → List Move → Configuration → Type 0
@@ -103,14 +103,14 @@ IsSeenAdded event one old new =
     × AddsUnlessThere old next new)
 
 -- the list is as it was, or has this answer more
-abbrev pub IsAnswerAdded : Option Standing → List Answer → List Answer → Type 0
-IsAnswerAdded standing old new = (new ≡ old) ⊎ ((answer : Answer) × (standing ≡ Some (Answered answer)) × (new ≡ old ++ answer ∷ []))
+abbrev pub IsAnswerAdded : Option ClientState → List Answer → List Answer → Type 0
+IsAnswerAdded client old new = (new ≡ old) ⊎ ((answer : Answer) × (client ≡ Some (Answered answer)) × (new ≡ old ++ answer ∷ []))
 
 -- the session was answered so in a configuration of the list
 pub record IsAnsweredIn (list : List Configuration) (session : ℕ) (answer : Answer) : Type 0 where
   pub one : Config
   pub has : Has list one
-  pub stands : slice_get one.standings session ≡ Some (Answered answer)
+  pub stands : slice_get one.clients session ≡ Some (Answered answer)
 
 -- the one configuration before all events
 abbrev pub IsOpening : State → List Configuration → Type 0

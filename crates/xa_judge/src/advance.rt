@@ -6,7 +6,7 @@ use crate::answer::Answer;
 use crate::closing::{answers_in, close, observe_all, settle_all};
 use crate::configuration::Configuration;
 use crate::event::Event;
-use crate::mark_index::MarkIndex;
+use crate::fingerprint_index::FingerprintIndex;
 use std::alloc::Global;
 use xa_xid::{NoMemory, SessionNo};
 
@@ -25,7 +25,7 @@ pub enum Advance {
 fn seen(
     alloc: Global,
     ready: Vec<Configuration>,
-    index: &mut MarkIndex,
+    index: &mut FingerprintIndex,
     answers: Vec<Answer>,
     event: &Event,
 ) -> Result<Advance, NoMemory>
@@ -43,7 +43,7 @@ fn seen(
 fn return_seen(
     alloc: Global,
     mut known: Vec<Configuration>,
-    index: &mut MarkIndex,
+    index: &mut FingerprintIndex,
     returning: SessionNo,
     event: &Event,
     limit: usize,
@@ -65,7 +65,7 @@ fn return_seen(
 pub fn see_event(
     alloc: Global,
     known: Vec<Configuration>,
-    index: &mut MarkIndex,
+    index: &mut FingerprintIndex,
     event: &Event,
     limit: usize,
 ) -> Result<Advance, NoMemory>

@@ -5,11 +5,11 @@ ghost use Rattle.xa_judge.specs.Explained.{Config, observed};
 ghost use Rattle.xa_judge.specs.Found.{Has, Grows, KeepsReach, ReachesPast, after_settling, IsClosedBelow, IsAnsweredIn, IsAnswerAdded, IsSeenAdded};
 
 use crate::answer::Answer;
+use crate::client_state::ClientState;
 use crate::configuration::Configuration;
 use crate::event::Event;
+use crate::fingerprint_index::FingerprintIndex;
 use crate::known::{add, expand};
-use crate::mark_index::MarkIndex;
-use crate::standing::Standing;
 use std::alloc::Global;
 use xa_xid::{NoMemory, SessionNo};
 
@@ -17,7 +17,7 @@ use xa_xid::{NoMemory, SessionNo};
 /// false, once there are more than `limit` configurations.
 pub fn close(
     known: &mut Vec<Configuration>,
-    index: &mut MarkIndex,
+    index: &mut FingerprintIndex,
     returning: SessionNo,
     limit: usize,
 ) -> Result<bool, NoMemory>
@@ -56,7 +56,7 @@ pub fn settle_all(
 /// Adds the configuration once the event is seen, where it can be.
 fn add_seen(
     list: &mut Vec<Configuration>,
-    index: &mut MarkIndex,
+    index: &mut FingerprintIndex,
     one: Configuration,
     event: &Event,
 ) -> Result<(), NoMemory>
@@ -75,7 +75,7 @@ fn add_seen(
 pub fn observe_all(
     alloc: Global,
     mut known: Vec<Configuration>,
-    index: &mut MarkIndex,
+    index: &mut FingerprintIndex,
     event: &Event,
 ) -> Result<Vec<Configuration>, NoMemory>
     ensures has { IfOk result (λ list. (one new : Config) → Has known.items one → observed one event.now ≡ Some new → Has list.items new) }
@@ -95,18 +95,18 @@ fn add_answer(
     one: &Configuration,
     session: SessionNo,
 ) -> Result<(), NoMemory>
-    ensures { OnOk result (IsAnswerAdded (slice_get one.now.standings.items session) answers.old.items answers.new.items) }
+    ensures { OnOk result (IsAnswerAdded (slice_get one.now.clients.items session) answers.old.items answers.new.items) }
 {
-    match one.standing(session) {
+    match one.client(session) {
         None => Ok(()),
-        Some(Standing::Idle) => Ok(()),
-        Some(Standing::Called(_)) => Ok(()),
-        Some(Standing::Answered(answer)) => {
+        Some(ClientState::Idle) => Ok(()),
+        Some(ClientState::Called(_)) => Ok(()),
+        Some(ClientState::Answered(answer)) => {
             answers.push(answer.copy()?)?;
             Ok(())
         }
-        Some(Standing::Gone(_)) => Ok(()),
-        Some(Standing::Left) => Ok(()),
+        Some(ClientState::Gone(_)) => Ok(()),
+        Some(ClientState::Left) => Ok(()),
     }
 }
 

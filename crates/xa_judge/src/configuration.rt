@@ -7,9 +7,9 @@ ghost use Rattle.xa_server.specs.Step.{after};
 ghost use Rattle.xa_judge.specs.Explained.{opening_config, answer_to, next_state, effect_of, IsSession};
 ghost use Rattle.xa_judge.specs.Found.{config_of, moved_to, called_for, call_is_answered, after_settling, IsSettledFrom};
 
+use crate::client_state::ClientState;
 use crate::moves::{Act, Move};
 use crate::request::Request;
-use crate::standing::Standing;
 use std::alloc::Global;
 use xa_server::Server;
 use xa_xid::{NoMemory, SessionNo, Statement};
@@ -23,24 +23,24 @@ pub struct Configuration {
     /// The server.
     pub server: Server,
     /// What each session is about, at the place of its number.
-    pub standings: Vec<Standing>,
+    pub clients: Vec<ClientState>,
     /// The moves that led here, from where the trunk ends.
     pub path: Vec<Move>,
 }
 
 /// What each session is about before all events.
-fn all_idle(alloc: Global) -> Result<Vec<Standing>, NoMemory>
-    ensures { IfOk result (λ all. all.items ≡ replicate 17 Standing.Idle) }
+fn all_idle(alloc: Global) -> Result<Vec<ClientState>, NoMemory>
+    ensures { IfOk result (λ all. all.items ≡ replicate 17 ClientState.Idle) }
 {
     let mut all = Vec::new(alloc);
     for _ in 0..PLACES {
-        all.push(Standing::Idle)?;
+        all.push(ClientState::Idle)?;
     }
     Ok(all)
 }
 
 /// Whether two lists are known to be the same.
-fn is_same_list(left: &[Standing], right: &[Standing]) -> bool
+fn is_same_list(left: &[ClientState], right: &[ClientState]) -> bool
     ensures { result ≡ true → left.now ≡ right.now }
 {
     match left {
@@ -61,7 +61,7 @@ impl Configuration {
     {
         Ok(Configuration {
             server: base.copy()?,
-            standings: all_idle(alloc)?,
+            clients: all_idle(alloc)?,
             path: Vec::new(alloc),
         })
     }
@@ -82,7 +82,7 @@ impl Configuration {
     {
         Ok(Configuration {
             server: self.server.copy()?,
-            standings: self.standings.clone()?,
+            clients: self.clients.clone()?,
             path: self.path.clone()?,
         })
     }
@@ -91,30 +91,30 @@ impl Configuration {
     pub fn is_same(&self, other: &Configuration) -> bool
         ensures { result ≡ true → config_of self.now ≡ config_of other.now }
     {
-        is_same_list(self.standings.as_slice(), other.standings.as_slice())
+        is_same_list(self.clients.as_slice(), other.clients.as_slice())
             && self.server.is_same(&other.server)
     }
 
     /// What the session is about.
-    pub fn standing(&self, session: SessionNo) -> Option<&Standing>
-        ensures value { option_copied result ≡ slice_get self.now.standings.items session }
+    pub fn client(&self, session: SessionNo) -> Option<&ClientState>
+        ensures value { option_copied result ≡ slice_get self.now.clients.items session }
         ensures session { IsSession session }
     {
-        self.standings.get(session.get() as usize)
+        self.clients.get(session.get() as usize)
     }
 
     /// What the session has called for, where that has taken no effect yet.
     fn called_for(&self, session: SessionNo) -> Option<Request>
-        ensures value { result ≡ called_for (slice_get self.now.standings.items session) }
+        ensures value { result ≡ called_for (slice_get self.now.clients.items session) }
         ensures session { IsSession session }
     {
-        match self.standing(session) {
+        match self.client(session) {
             None => None,
-            Some(Standing::Idle) => None,
-            Some(Standing::Called(request)) => Some(request.copy()),
-            Some(Standing::Answered(_)) => None,
-            Some(Standing::Gone(_)) => None,
-            Some(Standing::Left) => None,
+            Some(ClientState::Idle) => None,
+            Some(ClientState::Called(request)) => Some(request.copy()),
+            Some(ClientState::Answered(_)) => None,
+            Some(ClientState::Gone(_)) => None,
+            Some(ClientState::Left) => None,
         }
     }
 
@@ -122,59 +122,59 @@ impl Configuration {
     pub fn moved(
         mut self,
         session: SessionNo,
-        standing: Standing,
+        client: ClientState,
         by: Move,
     ) -> Result<Configuration, NoMemory>
-        requires { session < vec_len self.standings }
-        ensures config { IfOk result (λ new. config_of new ≡ moved_to self.server self.standings.items session standing) }
+        requires { session < vec_len self.clients }
+        ensures config { IfOk result (λ new. config_of new ≡ moved_to self.server self.clients.items session client) }
         ensures path { IfOk result (λ new. new.path.items ≡ self.path.items ++ by ∷ []) }
     {
-        self.standings[session.get() as usize] = standing;
+        self.clients[session.get() as usize] = client;
         self.path.push(by)?;
         Ok(self)
     }
 
     /// What the session has called for takes effect, and it is answered.
     fn answered(mut self, session: SessionNo, request: &Request) -> Result<Configuration, NoMemory>
-        requires { session < vec_len self.standings }
+        requires { session < vec_len self.clients }
         ensures config { IfOk result
-            (λ new. config_of new ≡ moved_to (next_state self.server session request.now) self.standings.items session
-            (Standing.Answered (answer_to self.server session request.now))) }
+            (λ new. config_of new ≡ moved_to (next_state self.server session request.now) self.clients.items session
+            (ClientState.Answered (answer_to self.server session request.now))) }
         ensures path { IfOk result (λ new. new.path.items ≡ self.path.items ++ Move.Effect session Act.Statement ∷ []) }
     {
         let answer = request.carry_out(&mut self.server, session)?;
         self.moved(
             session,
-            Standing::Answered(answer),
+            ClientState::Answered(answer),
             Move::Effect(session, Act::Statement),
         )
     }
 
     /// What the session had called for takes effect, and nobody hears the answer.
     fn unheard(mut self, session: SessionNo, request: &Request) -> Result<Configuration, NoMemory>
-        requires { session < vec_len self.standings }
+        requires { session < vec_len self.clients }
         ensures config { IfOk result
-            (λ new. config_of new ≡ moved_to (next_state self.server session request.now) self.standings.items session (Standing.Gone None)) }
+            (λ new. config_of new ≡ moved_to (next_state self.server session request.now) self.clients.items session (ClientState.Gone None)) }
         ensures path { IfOk result (λ new. new.path.items ≡ self.path.items ++ Move.Effect session Act.Statement ∷ []) }
     {
         let _answer = request.carry_out(&mut self.server, session)?;
         self.moved(
             session,
-            Standing::Gone(None),
+            ClientState::Gone(None),
             Move::Effect(session, Act::Statement),
         )
     }
 
     /// The session's DISCONNECT takes effect.
     fn left(mut self, session: SessionNo) -> Result<Configuration, NoMemory>
-        requires { session < vec_len self.standings }
-        ensures config { IfOk result (λ new. config_of new ≡ moved_to (after self.server session Disconnect) self.standings.items session Standing.Left) }
+        requires { session < vec_len self.clients }
+        ensures config { IfOk result (λ new. config_of new ≡ moved_to (after self.server session Disconnect) self.clients.items session ClientState.Left) }
         ensures path { IfOk result (λ new. new.path.items ≡ self.path.items ++ Move.Effect session Act.Disconnect ∷ []) }
     {
         let _reply = self.server.apply(session, &Statement::Disconnect)?;
         self.moved(
             session,
-            Standing::Left,
+            ClientState::Left,
             Move::Effect(session, Act::Disconnect),
         )
     }
@@ -183,13 +183,13 @@ impl Configuration {
     pub fn is_answered(&self, session: SessionNo) -> bool
         ensures { result ≡ call_is_answered (config_of self.now) session }
     {
-        match self.standing(session) {
+        match self.client(session) {
             None => false,
-            Some(Standing::Idle) => false,
-            Some(Standing::Called(_)) => false,
-            Some(Standing::Answered(_)) => true,
-            Some(Standing::Gone(_)) => false,
-            Some(Standing::Left) => false,
+            Some(ClientState::Idle) => false,
+            Some(ClientState::Called(_)) => false,
+            Some(ClientState::Answered(_)) => true,
+            Some(ClientState::Gone(_)) => false,
+            Some(ClientState::Left) => false,
         }
     }
 
@@ -215,16 +215,18 @@ impl Configuration {
         ensures path { IfOk result (λ found. IfSome found (λ new. new.path.items ≡ self.now.path.items ++ Move.Effect session Act.Statement ∷ [])) }
         ensures session { IsSession session }
     {
-        match self.standing(session) {
+        match self.client(session) {
             None => Ok(None),
-            Some(Standing::Idle) => Ok(None),
-            Some(Standing::Called(request)) => Ok(Some(self.copy()?.answered(session, request)?)),
-            Some(Standing::Answered(_)) => Ok(None),
-            Some(Standing::Gone(None)) => Ok(None),
-            Some(Standing::Gone(Some(request))) => {
+            Some(ClientState::Idle) => Ok(None),
+            Some(ClientState::Called(request)) => Ok(Some(
+                self.copy()?.answered(session, request)?,
+            )),
+            Some(ClientState::Answered(_)) => Ok(None),
+            Some(ClientState::Gone(None)) => Ok(None),
+            Some(ClientState::Gone(Some(request))) => {
                 Ok(Some(self.copy()?.unheard(session, request)?))
             }
-            Some(Standing::Left) => Ok(None),
+            Some(ClientState::Left) => Ok(None),
         }
     }
 
@@ -235,13 +237,13 @@ impl Configuration {
         ensures path { IfOk result (λ found. IfSome found (λ new. new.path.items ≡ self.now.path.items ++ Move.Effect session Act.Disconnect ∷ [])) }
         ensures session { IsSession session }
     {
-        match self.standing(session) {
+        match self.client(session) {
             None => Ok(None),
-            Some(Standing::Idle) => Ok(None),
-            Some(Standing::Called(_)) => Ok(None),
-            Some(Standing::Answered(_)) => Ok(None),
-            Some(Standing::Gone(_)) => Ok(Some(self.copy()?.left(session)?)),
-            Some(Standing::Left) => Ok(None),
+            Some(ClientState::Idle) => Ok(None),
+            Some(ClientState::Called(_)) => Ok(None),
+            Some(ClientState::Answered(_)) => Ok(None),
+            Some(ClientState::Gone(_)) => Ok(Some(self.copy()?.left(session)?)),
+            Some(ClientState::Left) => Ok(None),
         }
     }
 

@@ -6,7 +6,7 @@ ghost use Rattle.xa_judge.specs.Verdicts.{IsVerdict};
 use crate::advance::{Advance, see_event};
 use crate::configuration::Configuration;
 use crate::event::Event;
-use crate::mark_index::MarkIndex;
+use crate::fingerprint_index::FingerprintIndex;
 use crate::moves::Move;
 use crate::verdict::Verdict;
 use std::alloc::Global;
@@ -63,7 +63,7 @@ pub fn judge(
 {
     let mut trunk = Vec::new(alloc);
     let mut known = opening(alloc, base)?;
-    let mut index = MarkIndex::new(alloc);
+    let mut index = FingerprintIndex::new(alloc);
     for place in 0..events.len() {
         known = match see_event(alloc, known, &mut index, &events[place], limit)? {
             Advance::Known(next) => next,

@@ -5,11 +5,11 @@ ghost use Rattle.xa_judge.specs.Explained.{Config, IsSession, effect_of};
 ghost use Rattle.xa_judge.specs.Found.{config_of, call_is_answered, Has, Grows, AddsUnlessThere, IsExpandedBelow};
 
 use crate::configuration::Configuration;
-use crate::mark_index::MarkIndex;
+use crate::fingerprint_index::FingerprintIndex;
 use crate::moves::Act;
 use xa_xid::{NoMemory, SessionNo};
 
-/// Lists that are shorter are looked through place by place: a mark costs more than a few comparisons.
+/// Lists that are shorter are looked through place by place: a fingerprint costs more than a few comparisons.
 const LONG: usize = 16;
 
 /// Whether things are known to stand so in a configuration of the list.
@@ -34,10 +34,10 @@ fn is_at(known: &[Configuration], place: usize, one: &Configuration) -> bool
     }
 }
 
-/// Whether things are known to stand so at one of the places that have the configuration's mark.
+/// Whether things are known to stand so at one of the places that have the configuration's fingerprint.
 fn is_marked(
     known: &[Configuration],
-    index: &MarkIndex,
+    index: &FingerprintIndex,
     one: &Configuration,
 ) -> Result<bool, NoMemory>
     ensures { IfOk result (λ found. found ≡ true → Has known.now (config_of one.now)) }
@@ -60,7 +60,7 @@ fn is_marked(
 /// Whether things are known to stand so in a configuration of the list.
 fn is_known(
     known: &[Configuration],
-    index: &mut MarkIndex,
+    index: &mut FingerprintIndex,
     one: &Configuration,
 ) -> Result<bool, NoMemory>
     ensures { IfOk result (λ found. found ≡ true → Has known.now (config_of one.now)) }
@@ -75,7 +75,7 @@ fn is_known(
 /// Adds a configuration, unless things are known to stand so in one that is there.
 pub fn add(
     known: &mut Vec<Configuration>,
-    index: &mut MarkIndex,
+    index: &mut FingerprintIndex,
     one: Configuration,
 ) -> Result<(), NoMemory>
     ensures { OnOk result (AddsUnlessThere known.old.items one known.new.items) }
@@ -90,7 +90,7 @@ pub fn add(
 /// Adds what the session's act leads to from the configuration at this place.
 fn add_effect(
     known: &mut Vec<Configuration>,
-    index: &mut MarkIndex,
+    index: &mut FingerprintIndex,
     place: usize,
     session: SessionNo,
     act: Act,
@@ -115,7 +115,7 @@ fn add_effect(
 /// Adds what the acts of the session lead to from the configuration at this place.
 fn add_effects(
     known: &mut Vec<Configuration>,
-    index: &mut MarkIndex,
+    index: &mut FingerprintIndex,
     place: usize,
     session: SessionNo,
 ) -> Result<(), NoMemory>
@@ -135,7 +135,7 @@ fn add_effects(
 /// Adds what the acts of the session of this number lead to from the configuration at this place, unless it is `returning`.
 fn add_others(
     known: &mut Vec<Configuration>,
-    index: &mut MarkIndex,
+    index: &mut FingerprintIndex,
     place: usize,
     number: u64,
     returning: SessionNo,
@@ -165,7 +165,7 @@ fn add_others(
 /// Adds what acts of other sessions than `returning` lead to from the configuration at this place.
 fn add_all(
     known: &mut Vec<Configuration>,
-    index: &mut MarkIndex,
+    index: &mut FingerprintIndex,
     place: usize,
     returning: SessionNo,
 ) -> Result<(), NoMemory>
@@ -183,7 +183,7 @@ fn add_all(
 /// answered there.
 pub fn expand(
     known: &mut Vec<Configuration>,
-    index: &mut MarkIndex,
+    index: &mut FingerprintIndex,
     place: usize,
     returning: SessionNo,
 ) -> Result<(), NoMemory>

@@ -3,19 +3,19 @@
 
 mod advance;
 mod answer;
+mod client_state;
 mod closing;
 mod configuration;
 mod event;
+mod fingerprint_index;
+mod fingerprints;
 mod judging;
 mod known;
 pub mod laws;
-mod mark_index;
-mod marks;
 mod moves;
 mod request;
 mod same;
 mod seeing;
-mod standing;
 mod verdict;
 
 pub use answer::Answer;

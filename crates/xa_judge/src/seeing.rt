@@ -4,11 +4,11 @@ ghost use Rattle.std.specs.Option.{option_map};
 ghost use Rattle.xa_judge.specs.Explained.{observed};
 ghost use Rattle.xa_judge.specs.Found.{config_of};
 
+use crate::client_state::ClientState;
 use crate::configuration::Configuration;
 use crate::event::{Event, Seen};
 use crate::moves::Move;
 use crate::request::Request;
-use crate::standing::Standing;
 use xa_xid::{NoMemory, SessionNo};
 
 impl Configuration {
@@ -22,16 +22,16 @@ impl Configuration {
         ensures config { IfOk result (λ found. option_map config_of found ≡ observed (config_of self) (Event.Call session request.now)) }
         ensures path { IfOk result (λ found. IfSome found (λ new. new.path.items ≡ self.path.items ++ Move.Event ∷ [])) }
     {
-        match self.standing(session) {
+        match self.client(session) {
             None => Ok(None),
-            Some(Standing::Idle) => {
-                let standing = Standing::Called(request.copy());
-                Ok(Some(self.moved(session, standing, Move::Event)?))
+            Some(ClientState::Idle) => {
+                let client = ClientState::Called(request.copy());
+                Ok(Some(self.moved(session, client, Move::Event)?))
             }
-            Some(Standing::Called(_)) => Ok(None),
-            Some(Standing::Answered(_)) => Ok(None),
-            Some(Standing::Gone(_)) => Ok(None),
-            Some(Standing::Left) => Ok(None),
+            Some(ClientState::Called(_)) => Ok(None),
+            Some(ClientState::Answered(_)) => Ok(None),
+            Some(ClientState::Gone(_)) => Ok(None),
+            Some(ClientState::Left) => Ok(None),
         }
     }
 
@@ -41,19 +41,19 @@ impl Configuration {
         ensures config { IfOk result (λ found. option_map config_of found ≡ observed (config_of self) (Event.Return session seen.now)) }
         ensures path { IfOk result (λ found. IfSome found (λ new. new.path.items ≡ self.path.items ++ Move.Event ∷ [])) }
     {
-        match self.standing(session) {
+        match self.client(session) {
             None => Ok(None),
-            Some(Standing::Idle) => Ok(None),
-            Some(Standing::Called(_)) => Ok(None),
-            Some(Standing::Answered(answer)) => {
+            Some(ClientState::Idle) => Ok(None),
+            Some(ClientState::Called(_)) => Ok(None),
+            Some(ClientState::Answered(answer)) => {
                 if seen.shows(answer) {
-                    Ok(Some(self.moved(session, Standing::Idle, Move::Event)?))
+                    Ok(Some(self.moved(session, ClientState::Idle, Move::Event)?))
                 } else {
                     Ok(None)
                 }
             }
-            Some(Standing::Gone(_)) => Ok(None),
-            Some(Standing::Left) => Ok(None),
+            Some(ClientState::Gone(_)) => Ok(None),
+            Some(ClientState::Left) => Ok(None),
         }
     }
 
@@ -63,15 +63,15 @@ impl Configuration {
         ensures config { IfOk result (λ found. option_map config_of found ≡ observed (config_of self) (Event.Lost session)) }
         ensures path { IfOk result (λ found. IfSome found (λ new. new.path.items ≡ self.path.items ++ Move.Event ∷ [])) }
     {
-        let standing = match self.standing(session) {
+        let client = match self.client(session) {
             None => return Ok(None),
-            Some(Standing::Idle) => Standing::Gone(None),
-            Some(Standing::Called(request)) => Standing::Gone(Some(request.copy())),
-            Some(Standing::Answered(_)) => Standing::Gone(None),
-            Some(Standing::Gone(_)) => return Ok(None),
-            Some(Standing::Left) => return Ok(None),
+            Some(ClientState::Idle) => ClientState::Gone(None),
+            Some(ClientState::Called(request)) => ClientState::Gone(Some(request.copy())),
+            Some(ClientState::Answered(_)) => ClientState::Gone(None),
+            Some(ClientState::Gone(_)) => return Ok(None),
+            Some(ClientState::Left) => return Ok(None),
         };
-        Ok(Some(self.moved(session, standing, Move::Event)?))
+        Ok(Some(self.moved(session, client, Move::Event)?))
     }
 
     /// How things stand once the event is seen, where it can be.

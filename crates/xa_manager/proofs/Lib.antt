@@ -1,7 +1,6 @@
-pub mod Desks
+pub mod States
 pub mod Passes
 pub mod Printing
-pub mod Runs
 pub mod Said
 pub mod Stages
 pub mod Limits

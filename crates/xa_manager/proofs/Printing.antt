@@ -5,7 +5,7 @@ use Rattle.std.proofs.lemmas.List.{take_more, get_or_default}
 use Rattle.std.proofs.lemmas.List.{length-take}
 use Rattle.xa_server.specs.declared.reply.Reply.{Reply}
 use Rattle.xa_session.specs.declared.fault.Fault.{Fault}
-use Rattle.xa_coordinator.specs.declared.decisions.Standing.{Standing}
+use Rattle.xa_coordinator.specs.declared.decisions.Decision.{Decision}
 use Rattle.xa_manager.specs.Texts.{stores_text, store_text, stores_shown_text, number_text, numbers_text, stands_as}
 
 -- one element more, of a text that grows by each element
@@ -41,7 +41,7 @@ shown_grown xs i x begin before now within is was step =
     grown (stores_shown_text 0) (store_text i x) xs i x begin before now within is
     (shown-more 0 (take i xs) x ∙ ap (λ k. stores_shown_text 0 (take i xs) ++ store_text k x) count) was step
 
-numbers-more : (wanted : Standing) (n : ℕ) (xs : List Standing) (x : Standing)
+numbers-more : (wanted : Decision) (n : ℕ) (xs : List Decision) (x : Decision)
     → numbers_text wanted n (xs ++ x ∷ []) ≡ numbers_text wanted n xs ++ number_text wanted (n + length xs) x
 numbers-more wanted n [] x = append-nil (number_text wanted n x) ∙ ap (λ k. number_text wanted k x) (sym (add-zero n))
 numbers-more wanted n (y ∷ ys) x =
@@ -49,16 +49,16 @@ numbers-more wanted n (y ∷ ys) x =
     ap (λ text. number_text wanted n y ++ text) (numbers-more wanted (n + 1) ys x ∙ ap (λ k. numbers_text wanted (n + 1) ys ++ number_text wanted k x) same)
     ∙ sym (append_assoc (number_text wanted n y) (numbers_text wanted (n + 1) ys) (number_text wanted (n + length (y ∷ ys)) x))
 
-pub numbers_grown : (wanted : Standing) (xs : List Standing) (i : ℕ) (x : Standing) (begin before now : List ℕ) → i < length xs → x ≡ get_or xs i x
+pub numbers_grown : (wanted : Decision) (xs : List Decision) (i : ℕ) (x : Decision) (begin before now : List ℕ) → i < length xs → x ≡ get_or xs i x
     → before ≡ begin ++ numbers_text wanted 1 (take i xs) → now ≡ before ++ number_text wanted (i + 1) x
     → now ≡ begin ++ numbers_text wanted 1 (take (i + 1) xs)
 numbers_grown wanted xs i x begin before now within is was step =
-    let count : 1 + length (take i xs) ≡ i + 1 = omega (arith, length-take {A = Standing}) in
+    let count : 1 + length (take i xs) ≡ i + 1 = omega (arith, length-take {A = Decision}) in
     grown (numbers_text wanted 1) (number_text wanted (i + 1) x) xs i x begin before now within is
     (numbers-more wanted 1 (take i xs) x ∙ ap (λ k. numbers_text wanted 1 (take i xs) ++ number_text wanted k x) count) was step
 
 -- a number is told where it stands as wanted, and nothing is where it doesn't
-pub numbers_grown_if : (wanted : Standing) (xs : List Standing) (i : ℕ) (d : Standing) (stands : Bool) (begin before now : List ℕ) → i < length xs
+pub numbers_grown_if : (wanted : Decision) (xs : List Decision) (i : ℕ) (d : Decision) (stands : Bool) (begin before now : List ℕ) → i < length xs
     → stands ≡ stands_as wanted (get_or xs i d)
     → before ≡ begin ++ numbers_text wanted 1 (take i xs)
     → ((stands ≡ true) × (now ≡ before ++ (codes " " ++ decimal (i + 1)))) ⊎ ((stands ≡ false) × (now ≡ before))

@@ -1,4 +1,4 @@
--- What was said to sessions: nothing, and a stranger's answer.
+-- What was said to sessions: nothing, and another client's answer.
 use Rattle.std.proofs.Common.{◌≡◌, ◌∙◌, List, [], ◌∷◌, length, map, ap, refl, sym, Result, Ok, Err}
 use Rattle.std.proofs.lemmas.List.{length-map}
 use Rattle.std.specs.Prelude.{IfOk, IfErr}

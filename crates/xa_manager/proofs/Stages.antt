@@ -11,7 +11,7 @@ use Rattle.xa_xid.specs.declared.statement.Statement.TheVariants.{Start, End, Pr
 use Rattle.xa_coordinator.specs.Work.{IsRow}
 use Rattle.xa_coordinator.specs.declared.transaction.Transaction.{Transaction}
 use Rattle.xa_coordinator.specs.declared.transaction.Prepared.{Prepared}
-use Rattle.xa_coordinator.specs.declared.transaction.Ballot.TheVariants.{Ready as BallotReady}
+use Rattle.xa_coordinator.specs.declared.transaction.VoteKind.TheVariants.{Ready as VoteKindReady}
 use Rattle.xa_coordinator.proofs.Places.{get_set_is, get_set_other}
 use Rattle.xa_manager.specs.declared.stage.Stage.{Stage}
 use Rattle.xa_manager.specs.declared.stage.Stage.TheVariants.{Ready, Voted, Over}
@@ -153,7 +153,7 @@ Kept count stages =
     → IsTransactionOf count number transaction
 
 abbrev pub AllReady : List Stage → Type 0
-AllReady stages = (number : ℕ) (prepared : Prepared) → stage_of stages number ≡ Some (Ready prepared) → prepared.ballot ≡ BallotReady
+AllReady stages = (number : ℕ) (prepared : Prepared) → stage_of stages number ≡ Some (Ready prepared) → prepared.vote_kind ≡ VoteKindReady
 
 pub kept_with : (count : ℕ) (stages : List Stage) (number : ℕ) (stage : Stage) → Kept count stages
     → ((transaction : Transaction) → transaction_in stage ≡ Some transaction → IsTransactionOf count number transaction)
@@ -166,7 +166,7 @@ kept_with count stages number stage kept is other found transaction there keeps 
 ]
 
 pub ready_with : (stages : List Stage) (number : ℕ) (stage : Stage) → AllReady stages
-    → ((prepared : Prepared) → stage ≡ Ready prepared → prepared.ballot ≡ BallotReady)
+    → ((prepared : Prepared) → stage ≡ Ready prepared → prepared.vote_kind ≡ VoteKindReady)
     → AllReady (with_stage stages number stage)
 ready_with stages number stage ready is other prepared there = elim (stage_of-with stages number other stage (Ready prepared) there) [
   | inl same ↦ is prepared same.1
@@ -184,7 +184,7 @@ kept_more count stages last kept is other found transaction there keeps = elim (
   | inr before ↦ kept other found transaction before keeps
 ]
 
-pub ready_more : (stages : List Stage) (last : Stage) → AllReady stages → ((prepared : Prepared) → last ≡ Ready prepared → prepared.ballot ≡ BallotReady)
+pub ready_more : (stages : List Stage) (last : Stage) → AllReady stages → ((prepared : Prepared) → last ≡ Ready prepared → prepared.vote_kind ≡ VoteKindReady)
     → AllReady (stages ++ last ∷ [])
 ready_more stages last ready is other prepared there = elim (stage_of-append stages last (Ready prepared) other there) [
   | inl same ↦ is prepared same.1

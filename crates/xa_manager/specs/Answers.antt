@@ -1,17 +1,15 @@
 -- What a transaction manager answers to a call, and how it stands then.
---     Desk             a transaction manager, as contracts see it
+--     ManagerState             a transaction manager, as contracts see it
 --     refusal_of       what a call is refused with, where it isn't carried out
---     poll_of, stage_after     what is told of a vote;  how far the transaction has come then
+--     vote_answer_of, stage_after     what is told of a vote;  how far the transaction has come then
 --     Carries          a call was carried out, and this is what the coordinator or a session answered
 --     Answers          a call was refused and changed nothing, or was carried out
---     AnswersRun       what is written for lines, one after another
---     IsTranscript     what is written for a script
 use Rattle.std.specs.Prelude.{◌≡◌, ◌⊎◌, ◌<◌, ◌+◌, ℕ, true, false, nat_lt, if◌then◌else◌, Option, Some, None, Result, List, [], ◌∷◌, ◌++◌, length, map}
 use Rattle.xa_xid.specs.declared.statement.Statement.{Statement}
 use Rattle.xa_server.specs.declared.reply.Reply.{Reply}
 use Rattle.xa_session.specs.declared.fault.Fault.{Fault}
-use Rattle.xa_coordinator.specs.declared.decisions.Standing.{Standing}
-use Rattle.xa_coordinator.specs.declared.decisions.Standing.TheVariants.{Undecided}
+use Rattle.xa_coordinator.specs.declared.decisions.Decision.{Decision}
+use Rattle.xa_coordinator.specs.declared.decisions.Decision.TheVariants.{Undecided}
 use Rattle.xa_coordinator.specs.declared.transaction.Transaction.{Transaction}
 use Rattle.xa_coordinator.specs.declared.transaction.Prepared.{Prepared}
 use Rattle.xa_coordinator.specs.declared.ending.Ending.{Ending}
@@ -22,22 +20,19 @@ use Rattle.xa_coordinator.specs.declared.vote.Vote.{Vote}
 use Rattle.xa_coordinator.specs.declared.vote.Vote.TheVariants.{Ready as VoteReady, OnePhase as VoteOnePhase, No as VoteNo, Nothing as VoteNothing}
 use Rattle.xa_coordinator.specs.Limits.{most_numbers}
 use Rattle.xa_coordinator.specs.Decisions.{closed_of, may_be_decided, with_decided}
-use Rattle.xa_transcript.specs.Printed.{converts}
-use Rattle.xa_transcript.specs.Script.{lines_of}
+use Rattle.xa_lines.specs.Printed.{converts}
 use Rattle.xa_manager.specs.declared.call.Call.{Call}
 use Rattle.xa_manager.specs.declared.call.Call.TheVariants.{Silent as SilentCall, Unread as UnreadCall, Begin, Work, Prepare, Decide, Finish, Abandon, Fail}
 use Rattle.xa_manager.specs.declared.call.Call.TheVariants.{Stop, Recover, At, Show}
 use Rattle.xa_manager.specs.declared.listing.Listing.{Listing}
-use Rattle.xa_manager.specs.declared.poll.Poll.{Poll}
-use Rattle.xa_manager.specs.declared.poll.Poll.TheVariants.{Ready as PollReady, OnePhase as PollOnePhase, Nothing as PollNothing, No as PollNo}
+use Rattle.xa_manager.specs.declared.vote_answer.VoteAnswer.{VoteAnswer}
+use Rattle.xa_manager.specs.declared.vote_answer.VoteAnswer.TheVariants.{Ready as ToldReady, OnePhase as ToldOnePhase, Nothing as ToldNothing, No as ToldNo}
 use Rattle.xa_manager.specs.declared.stage.Stage.{Stage}
 use Rattle.xa_manager.specs.declared.stage.Stage.TheVariants.{Working, Ready, Voted as VotedStage, Over}
 use Rattle.xa_manager.specs.declared.response.Response.{Response}
 use Rattle.xa_manager.specs.declared.response.Response.TheVariants.{Silent, Unread, UnknownStore, UnknownTransaction, WrongStage, Begun, NumbersSpent, Worked}
 use Rattle.xa_manager.specs.declared.response.Response.TheVariants.{Voted, Decided, Closed, Ended, Limited, Stopped, Recovered, Replied, Shown}
-use Rattle.xa_manager.specs.Calls.{call_of}
 use Rattle.xa_manager.specs.Ledger.{stage_of, with_stage}
-use Rattle.xa_manager.specs.Texts.{answer_text}
 
 -- a call that needs a transaction that takes work
 abbrev pub refusal_of_work : ℕ → Option Stage → Option Response
@@ -84,17 +79,17 @@ refusal_of stores stages (At store statement) = refusal_at stores store None
 refusal_of stores stages Show = None
 
 -- a transaction manager, as contracts see it: how many stores it has, how the numbers stand, and how far each transaction has come
-pub record Desk : Type 0 where
+pub record ManagerState : Type 0 where
   pub stores : ℕ
-  pub decisions : List Standing
+  pub decisions : List Decision
   pub stages : List Stage
 
 -- what is told of a vote
-abbrev pub poll_of : Vote → Poll
-poll_of (VoteReady prepared) = PollReady
-poll_of (VoteOnePhase prepared) = PollOnePhase
-poll_of (VoteNo prepared store cause) = PollNo store cause
-poll_of VoteNothing = PollNothing
+abbrev pub vote_answer_of : Vote → VoteAnswer
+vote_answer_of (VoteReady prepared) = ToldReady
+vote_answer_of (VoteOnePhase prepared) = ToldOnePhase
+vote_answer_of (VoteNo prepared store cause) = ToldNo store cause
+vote_answer_of VoteNothing = ToldNothing
 
 -- how far a transaction has come with its vote
 abbrev pub stage_after : Vote → Stage
@@ -104,23 +99,23 @@ stage_after (VoteNo prepared store cause) = VotedStage prepared
 stage_after VoteNothing = Over
 
 -- the same, but that this transaction has come so far
-abbrev pub with_progress : Desk → ℕ → Stage → Desk
-with_progress desk number stage = record desk { stages = with_stage desk.stages number stage }
+abbrev pub with_progress : ManagerState → ℕ → Stage → ManagerState
+with_progress state number stage = record state { stages = with_stage state.stages number stage }
 
 -- a transaction of the next number was begun, and is undecided
-pub record IsBegun (old : Desk) (response : Response) (new : Desk) : Type 0 where
+pub record IsBegun (old : ManagerState) (response : Response) (new : ManagerState) : Type 0 where
   pub transaction : Transaction
   pub told : response ≡ Begun (length old.stages + 1)
   pub stands : new ≡ record old { decisions = old.decisions ++ Undecided ∷ []; stages = old.stages ++ Working transaction ∷ [] }
 
 -- no number is left
-pub record IsSpent (old : Desk) (response : Response) (new : Desk) : Type 0 where
+pub record IsSpent (old : ManagerState) (response : Response) (new : ManagerState) : Type 0 where
   pub all : length old.decisions ≡ most_numbers
   pub told : response ≡ NumbersSpent
   pub stands : new ≡ old
 
 -- a transaction worked in a store, and this is what the coordinator answered
-pub record AnswersWork (old : Desk) (number store : ℕ) (response : Response) (new : Desk) : Type 0 where
+pub record AnswersWork (old : ManagerState) (number store : ℕ) (response : Response) (new : ManagerState) : Type 0 where
   pub before : Transaction
   pub after : Transaction
   pub answer : Result Reply WorkFault
@@ -130,15 +125,15 @@ pub record AnswersWork (old : Desk) (number store : ℕ) (response : Response) (
   pub stands : new ≡ with_progress old number (Working after)
 
 -- the stores of a transaction that took work voted, and this is the vote
-pub record AnswersVote (old : Desk) (number : ℕ) (response : Response) (new : Desk) : Type 0 where
+pub record AnswersVote (old : ManagerState) (number : ℕ) (response : Response) (new : ManagerState) : Type 0 where
   pub before : Transaction
   pub vote : Vote
   pub works : stage_of old.stages number ≡ Some (Working before)
-  pub told : response ≡ Voted (poll_of vote)
+  pub told : response ≡ Voted (vote_answer_of vote)
   pub stands : new ≡ with_progress old number (stage_after vote)
 
 -- a transaction with a vote of Ready is decided, or its number is closed
-pub record AnswersDecide (old : Desk) (number : ℕ) (response : Response) (new : Desk) : Type 0 where
+pub record AnswersDecide (old : ManagerState) (number : ℕ) (response : Response) (new : ManagerState) : Type 0 where
   pub prepared : Prepared
   pub ready : stage_of old.stages number ≡ Some (Ready prepared)
   pub outcome :
@@ -146,7 +141,7 @@ pub record AnswersDecide (old : Desk) (number : ℕ) (response : Response) (new 
       ⊎ ((may_be_decided old.decisions number ≡ false) × (response ≡ Closed) × (new ≡ old))
 
 -- a transaction was finished, and this is how it ended
-pub record AnswersFinish (old : Desk) (number : ℕ) (response : Response) (new : Desk) : Type 0 where
+pub record AnswersFinish (old : ManagerState) (number : ℕ) (response : Response) (new : ManagerState) : Type 0 where
   pub prepared : Prepared
   pub ending : Ending
   pub votes : (stage_of old.stages number ≡ Some (Ready prepared)) ⊎ (stage_of old.stages number ≡ Some (VotedStage prepared))
@@ -154,7 +149,7 @@ pub record AnswersFinish (old : Desk) (number : ℕ) (response : Response) (new 
   pub stands : new ≡ with_progress old number Over
 
 -- a transaction that took work was abandoned, and this is how it ended
-pub record IsAbandoned (old : Desk) (number : ℕ) (response : Response) (new : Desk) : Type 0 where
+pub record IsAbandoned (old : ManagerState) (number : ℕ) (response : Response) (new : ManagerState) : Type 0 where
   pub before : Transaction
   pub ending : Ending
   pub works : stage_of old.stages number ≡ Some (Working before)
@@ -162,27 +157,27 @@ pub record IsAbandoned (old : Desk) (number : ℕ) (response : Response) (new : 
   pub stands : new ≡ with_progress old number Over
 
 -- a coordinator recovered, and this is what recovery came to; every undecided number is closed
-pub record AnswersRecover (old : Desk) (response : Response) (new : Desk) : Type 0 where
+pub record AnswersRecover (old : ManagerState) (response : Response) (new : ManagerState) : Type 0 where
   pub outcome : Result Report RecoverFault
   pub told : response ≡ Recovered outcome
   pub stands : new ≡ record old { decisions = map closed_of old.decisions }
 
--- the stranger's session in a store was given a statement, and this is what it answered
-pub record AnswersStatement (old : Desk) (store : ℕ) (statement : Statement) (response : Response) (new : Desk) : Type 0 where
+-- the other client's session in a store was given a statement, and this is what it answered
+pub record AnswersStatement (old : ManagerState) (store : ℕ) (statement : Statement) (response : Response) (new : ManagerState) : Type 0 where
   pub answer : Result Reply Fault
   pub known : store < old.stores
   pub told : response ≡ Replied (converts statement) answer
   pub stands : new ≡ old
 
--- each store's stranger answered
-pub record AnswersShow (old : Desk) (response : Response) (new : Desk) : Type 0 where
+-- the other client of each store answered
+pub record AnswersShow (old : ManagerState) (response : Response) (new : ManagerState) : Type 0 where
   pub answers : Listing
   pub each : length answers.answers.items ≡ old.stores
   pub told : response ≡ Shown answers
   pub stands : new ≡ old
 
 -- a call was carried out, by the call
-abbrev pub Carries : Desk → Call → Response → Desk → Type 0
+abbrev pub Carries : ManagerState → Call → Response → ManagerState → Type 0
 Carries old SilentCall response new = (response ≡ Silent) × (new ≡ old)
 Carries old (UnreadCall place) response new = ⊥
 Carries old Begin response new = IsBegun old response new ⊎ IsSpent old response new
@@ -198,25 +193,10 @@ Carries old (At store statement) response new = AnswersStatement old store state
 Carries old Show response new = AnswersShow old response new
 
 -- a call was refused, and nothing changed
-pub record AnswersRefusal (old : Desk) (call : Call) (response : Response) (new : Desk) : Type 0 where
+pub record AnswersRefusal (old : ManagerState) (call : Call) (response : Response) (new : ManagerState) : Type 0 where
   pub told : refusal_of old.stores old.stages call ≡ Some response
   pub stands : new ≡ old
 
 -- a call was refused as it has to be, or was carried out
-abbrev pub Answers : Desk → Call → Response → Desk → Type 0
+abbrev pub Answers : ManagerState → Call → Response → ManagerState → Type 0
 Answers old call response new = AnswersRefusal old call response new ⊎ Carries old call response new
-
--- lines were answered one after another, and this was written
-abbrev pub AnswersRun : Desk → List (List ℕ) → List ℕ → Desk → Type 0
-AnswersRun old [] text new = (text ≡ []) × (new ≡ old)
-AnswersRun old (line ∷ lines) text new =
-    (mid : Desk) × (response : Response) × (rest : List ℕ)
-    × Answers old (call_of line) response mid × (text ≡ answer_text mid.decisions response ++ rest) × AnswersRun mid lines rest new
-
--- no transaction has begun over so many stores
-abbrev pub new_desk : ℕ → Desk
-new_desk stores = record { stores = stores; decisions = []; stages = [] }
-
--- what is written for a script over so many stores
-abbrev pub IsTranscript : ℕ → List ℕ → List ℕ → Type 0
-IsTranscript stores script text = (final : Desk) × AnswersRun (new_desk stores) (lines_of script) text final

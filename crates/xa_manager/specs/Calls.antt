@@ -1,31 +1,16 @@
 -- What a line tells a transaction manager. All of it is our own: docs/COORDINATOR.md, 'At the command line'.
---     number_named     the number that a word names
 --     takes_rows       the statements that a transaction gives: GET, PUT and DEL
 --     call_of          what a line tells
 --     IsWritten        a call that a line can tell
 use Rattle.std.specs.Prelude.{◌≡◌, ℕ, ◌==◌, Bool, true, false, bytes_eq, if◌then◌else◌, Option, Some, None, Result, Ok, Err, List, [], ◌∷◌, codes}
 use Rattle.xa_xid.specs.Bytes.{unblank}
-use Rattle.xa_xid.specs.Literal.{Reading}
-use Rattle.xa_xid.specs.Number.{number_ahead}
 use Rattle.xa_xid.specs.declared.statement.Statement.{Statement}
 use Rattle.xa_xid.specs.declared.statement.Statement.TheVariants.{Start, End, Prepare, Commit, Rollback, Recover, Unsupported, Get, Put, Del, Disconnect}
 use Rattle.xa_statement.specs.Reading.{read_of}
-use Rattle.xa_transcript.specs.Script.{is_empty_line, first_word, behind_word}
+use Rattle.xa_lines.specs.Script.{is_comment_line, is_empty_line, first_word, behind_word, number_of_word}
 use Rattle.xa_manager.specs.declared.call.Call.{Call}
 use Rattle.xa_manager.specs.declared.call.Call.TheVariants.{Silent, Unread, Begin, Work, Prepare as PrepareCall, Decide, Finish, Abandon, Fail, Stop}
 use Rattle.xa_manager.specs.declared.call.Call.TheVariants.{Recover as RecoverCall, At, Show}
-
--- a number that is the whole of a word
-abbrev pub whole : Reading ℕ → Option ℕ
-whole (Err fault) = None
-whole (Ok (number, [])) = Some number
-whole (Ok (number, byte ∷ rest)) = None
-
--- the number that a word names: decimal, below 2^64, without leading zeros
-unfoldable pub number_named : List ℕ → Option ℕ
-number_named [] = None
-number_named (first ∷ []) = whole (number_ahead (first ∷ []))
-number_named (first ∷ second ∷ rest) = if first == 48 then None else whole (number_ahead (first ∷ second ∷ rest))
 
 -- GET, PUT and DEL
 abbrev pub takes_rows : Statement → Bool
@@ -43,7 +28,7 @@ takes_rows Disconnect = false
 
 -- the number that is all of a text, but for blanks behind it
 unfoldable pub lone_number : List ℕ → Option ℕ
-lone_number text = if is_empty_line (behind_word text) then number_named (first_word text) else None
+lone_number text = if is_empty_line (behind_word text) then number_of_word (first_word text) else None
 
 -- a call that is all of its line
 abbrev pub alone : Call → List ℕ → Call
@@ -60,7 +45,7 @@ abbrev pub work_call : ℕ → ℕ → Result Statement ℕ → Call
 work_call number store (Err place) = Unread place
 work_call number store (Ok statement) = if takes_rows statement then Work number store statement else Unread 0
 
--- what the stranger says, where its statement is read
+-- what the other client says, where its statement is read
 abbrev pub at_call : ℕ → Result Statement ℕ → Call
 at_call store (Err place) = Unread place
 at_call store (Ok statement) = At store statement
@@ -73,17 +58,17 @@ with_number (Some number) call = call number
 -- n k STATEMENT
 unfoldable pub work_of : List ℕ → Call
 work_of text =
-    with_number (number_named (first_word text)) (λ number.
-    with_number (number_named (first_word (behind_word text))) (λ store. work_call number store (read_of (behind_word (behind_word text)))))
+    with_number (number_of_word (first_word text)) (λ number.
+    with_number (number_of_word (first_word (behind_word text))) (λ store. work_call number store (read_of (behind_word (behind_word text)))))
 
 -- k STATEMENT
 unfoldable pub at_of : List ℕ → Call
-at_of text = with_number (number_named (first_word text)) (λ store. at_call store (read_of (behind_word text)))
+at_of text = with_number (number_of_word (first_word text)) (λ store. at_call store (read_of (behind_word text)))
 
 -- k AFTER j
 unfoldable pub fail_of : List ℕ → Call
 fail_of text =
-    with_number (number_named (first_word text)) (λ store.
+    with_number (number_of_word (first_word text)) (λ store.
     if bytes_eq (first_word (behind_word text)) (codes "AFTER") then numbered (λ calls. Fail store calls) (lone_number (behind_word (behind_word text)))
     else Unread 0)
 
@@ -106,14 +91,14 @@ call_named word text =
     if bytes_eq word (codes "FINISH") then numbered (λ number. Finish number) (lone_number text) else
     if bytes_eq word (codes "ABANDON") then numbered (λ number. Abandon number) (lone_number text) else plain_call word text
 
--- a line that isn't blank at its first byte; `#` begins a comment
+-- what is left of a line behind its blanks
 abbrev pub filled_call : List ℕ → Call
 filled_call [] = Silent
-filled_call (first ∷ rest) = if first == 35 then Silent else call_named (first_word (first ∷ rest)) (behind_word (first ∷ rest))
+filled_call (first ∷ rest) = call_named (first_word (first ∷ rest)) (behind_word (first ∷ rest))
 
--- what a line tells: its words are cut at blanks, and written as they stand here
+-- what a line tells: its words are cut at blanks, and written as they stand here; a comment tells nothing
 unfoldable pub call_of : List ℕ → Call
-call_of line = filled_call (unblank line)
+call_of line = if is_comment_line line then Silent else filled_call (unblank line)
 
 -- work gives GET, PUT or DEL, as in each call that a line tells
 abbrev pub IsWritten : Call → Type 0

@@ -2,7 +2,7 @@ pub mod Calls
 pub mod Texts
 pub mod Ledger
 pub mod Answers
-pub mod Written
+pub mod Passes
 pub mod Said
 pub mod Managed
 pub mod Served

@@ -1,19 +1,19 @@
 -- A transaction manager, as contracts see it.
---     desk_of   its desk
---     floor_of  its floor
+--     state_of   its state
+--     whole_of  its whole
 use Rattle.std.specs.Prelude.{vec_len}
 use Rattle.xa_coordinator.specs.declared.speak.Speak.{Ghosts as SpeakOf}
-use Rattle.xa_manager.specs.Answers.{Desk}
-use Rattle.xa_manager.specs.Said.{Floor}
+use Rattle.xa_manager.specs.Answers.{ManagerState}
+use Rattle.xa_manager.specs.Said.{WholeManager}
 use Rattle.xa_manager.specs.declared.manager.Manager.{Manager}
 
-abbrev pub desk_of : {C T : Type 0} {session : SpeakOf C} {stranger : SpeakOf T} → Manager C T session stranger → Desk
-desk_of manager = record { stores = vec_len manager.coordinator.stores; decisions = manager.decisions; stages = manager.ledger }
+abbrev pub state_of : {C T : Type 0} {session : SpeakOf C} {other_client : SpeakOf T} → Manager C T session other_client → ManagerState
+state_of manager = record { stores = vec_len manager.coordinator.stores; decisions = manager.decisions; stages = manager.ledger }
 
-abbrev pub floor_of : {C T : Type 0} {session : SpeakOf C} {stranger : SpeakOf T} → Manager C T session stranger → Floor C T
-floor_of manager = record {
-  desk = desk_of manager;
+abbrev pub whole_of : {C T : Type 0} {session : SpeakOf C} {other_client : SpeakOf T} → Manager C T session other_client → WholeManager C T
+whole_of manager = record {
+  state = state_of manager;
   branches = manager.coordinator.branches;
   sessions = manager.coordinator.stores.items;
-  strangers = manager.strangers.items;
+  other_clients = manager.other_clients.items;
 }

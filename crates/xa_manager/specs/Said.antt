@@ -1,5 +1,5 @@
 -- What was said to the sessions of a transaction manager, by what a call was answered.
---     Floor            the sessions of a transaction manager, as contracts see them, beside its desk
+--     WholeManager            the sessions of a transaction manager, as contracts see them, beside its state
 --     IsQuiet          nothing was said to these sessions
 --     SaysWork         the coordinator worked in a store, and this is what the work came to
 --     SaysVote         the coordinator had the stores vote, and this is the vote
@@ -8,7 +8,7 @@
 --     SaysRecovery     the coordinator recovered, and this is what recovery came to
 --     reply_of         the reply of an answer
 --     RepliesAs        a session answered a statement so, or didn't for a fault
---     SaysReply        a stranger's session was given a statement, and answered so
+--     SaysReply        another client's session was given a statement, and answered so
 --     SaysNothing      nothing was said to any session
 --     SaidFor          what was said, by the response
 use Rattle.std.specs.Prelude.{◌≡◌, ◌⊎◌, ℕ, Some, Option, Result, Ok, Err, List, map, codes, IfOk, IfErr}
@@ -34,71 +34,71 @@ use Rattle.xa_coordinator.specs.declared.fault.WorkFault.{WorkFault}
 use Rattle.xa_coordinator.specs.declared.vote.Vote.{Vote}
 use Rattle.xa_manager.specs.declared.call.Call.{Call}
 use Rattle.xa_manager.specs.declared.call.Call.TheVariants.{Work, Prepare, Finish, Abandon, Recover, At}
-use Rattle.xa_manager.specs.declared.poll.Poll.{Poll}
+use Rattle.xa_manager.specs.declared.vote_answer.VoteAnswer.{VoteAnswer}
 use Rattle.xa_manager.specs.declared.stage.Stage.TheVariants.{Working, Ready, Voted as VotedStage}
 use Rattle.xa_manager.specs.declared.response.Response.{Response}
 use Rattle.xa_manager.specs.declared.response.Response.TheVariants.{Silent, Unread, UnknownStore, UnknownTransaction, WrongStage, Begun, NumbersSpent, Worked}
 use Rattle.xa_manager.specs.declared.response.Response.TheVariants.{Voted, Decided, Closed, Ended, Limited, Stopped, Recovered, Replied, Shown}
 use Rattle.xa_manager.specs.Ledger.{stage_of, with_stage}
-use Rattle.xa_manager.specs.Answers.{Desk, poll_of, stage_after}
+use Rattle.xa_manager.specs.Answers.{ManagerState, vote_answer_of, stage_after}
 
--- a transaction manager's desk, its coordinator's sessions and what is open in them, and its strangers' sessions
-pub record Floor (C T : Type 0) : Type 0 where
-  pub desk : Desk
+-- a transaction manager's state, its coordinator's sessions and what is open in them, and its other clients' sessions
+pub record WholeManager (C T : Type 0) : Type 0 where
+  pub state : ManagerState
   pub branches : List (Option OpenBranch)
   pub sessions : List C
-  pub strangers : List T
+  pub other_clients : List T
 
 -- nothing was said to these sessions
 abbrev pub IsQuiet : {S : Type 0} → (S → SessionView) → List S → List S → Type 0
 IsQuiet view old new = map view new ≡ map view old
 
 -- a transaction that takes work worked in a store, and the coordinator's work came to this
-pub record SaysWork {C T : Type 0} (view : C → SessionView) (call : Call) (answer : Result Reply WorkFault) (old new : Floor C T) : Type 0 where
+pub record SaysWork {C T : Type 0} (view : C → SessionView) (call : Call) (answer : Result Reply WorkFault) (old new : WholeManager C T) : Type 0 where
   pub number : ℕ
   pub store : ℕ
   pub statement : Statement
   pub asked : call ≡ Work number store statement
   pub before : Transaction
   pub after : Transaction
-  pub working : stage_of old.desk.stages number ≡ Some (Working before)
+  pub working : stage_of old.state.stages number ≡ Some (Working before)
   pub works : WorksAs view old.branches new.branches before after store statement answer old.sessions new.sessions
   pub others : ChangesAt store old.sessions new.sessions
-  pub stages : new.desk.stages ≡ with_stage old.desk.stages number (Working after)
+  pub stages : new.state.stages ≡ with_stage old.state.stages number (Working after)
 
 -- the coordinator had the stores of a transaction that takes work vote, and the vote is kept
-pub record SaysVote {C T : Type 0} (view : C → SessionView) (call : Call) (poll : Poll) (old new : Floor C T) : Type 0 where
+pub record SaysVote {C T : Type 0} (view : C → SessionView) (call : Call) (answer : VoteAnswer) (old new : WholeManager C T) : Type 0 where
   pub number : ℕ
   pub asked : call ≡ Prepare number
   pub before : Transaction
   pub vote : Vote
-  pub working : stage_of old.desk.stages number ≡ Some (Working before)
-  pub told : poll ≡ poll_of vote
+  pub working : stage_of old.state.stages number ≡ Some (Working before)
+  pub told : answer ≡ vote_answer_of vote
   pub votes : VotesAs view before vote old.sessions new.sessions
-  pub stages : new.desk.stages ≡ with_stage old.desk.stages number (stage_after vote)
+  pub stages : new.state.stages ≡ with_stage old.state.stages number (stage_after vote)
 
 -- the coordinator finished a transaction that was voted on, as the decisions say
-pub record SaysFinish {C T : Type 0} (view : C → SessionView) (call : Call) (ending : Ending) (old new : Floor C T) : Type 0 where
+pub record SaysFinish {C T : Type 0} (view : C → SessionView) (call : Call) (ending : Ending) (old new : WholeManager C T) : Type 0 where
   pub number : ℕ
   pub asked : call ≡ Finish number
   pub prepared : Prepared
-  pub voted : (stage_of old.desk.stages number ≡ Some (Ready prepared)) ⊎ (stage_of old.desk.stages number ≡ Some (VotedStage prepared))
+  pub voted : (stage_of old.state.stages number ≡ Some (Ready prepared)) ⊎ (stage_of old.state.stages number ≡ Some (VotedStage prepared))
   pub of_number : prepared.transaction.number ≡ number
-  pub ends : EndsAs view old.branches prepared.transaction (finish_for (is_decided old.desk.decisions number) prepared.ballot) ending old.sessions new.sessions
+  pub ends : EndsAs view old.branches prepared.transaction (finish_for (is_decided old.state.decisions number) prepared.vote_kind) ending old.sessions new.sessions
 
 -- the coordinator rolled back a transaction that takes work
-pub record SaysAbandon {C T : Type 0} (view : C → SessionView) (call : Call) (ending : Ending) (old new : Floor C T) : Type 0 where
+pub record SaysAbandon {C T : Type 0} (view : C → SessionView) (call : Call) (ending : Ending) (old new : WholeManager C T) : Type 0 where
   pub number : ℕ
   pub asked : call ≡ Abandon number
   pub before : Transaction
-  pub working : stage_of old.desk.stages number ≡ Some (Working before)
+  pub working : stage_of old.state.stages number ≡ Some (Working before)
   pub ends : EndsAs view old.branches before RollBack ending old.sessions new.sessions
 
 -- the coordinator recovered, by the decisions as they are then
-pub record SaysRecovery {C T : Type 0} (view : C → SessionView) (call : Call) (outcome : Result Report RecoverFault) (old new : Floor C T) : Type 0 where
+pub record SaysRecovery {C T : Type 0} (view : C → SessionView) (call : Call) (outcome : Result Report RecoverFault) (old new : WholeManager C T) : Type 0 where
   pub asked : call ≡ Recover
-  pub done : IfOk outcome (λ report. Recovers view new.desk.decisions (codes "c") report old.sessions new.sessions)
-  pub broken : IfErr outcome (λ fault. BreaksOff view new.desk.decisions (codes "c") fault old.sessions new.sessions)
+  pub done : IfOk outcome (λ report. Recovers view new.state.decisions (codes "c") report old.sessions new.sessions)
+  pub broken : IfErr outcome (λ fault. BreaksOff view new.state.decisions (codes "c") fault old.sessions new.sessions)
 
 -- the reply of an answer
 abbrev pub reply_of : Result Answer Fault → Result Reply Fault
@@ -110,20 +110,20 @@ abbrev pub RepliesAs : Statement → Result Reply Fault → SessionView → Sess
 RepliesAs statement (Ok reply) old new = (place : ℕ) × IsAnswered old.base statement (record { place = place; reply = reply }) old.known new.known
 RepliesAs statement (Err fault) old new = Fails old.turns old.identity.capacity old.base statement fault old.known new.known
 
--- the stranger's session in a store was given the statement, and answered so
-pub record SaysReply {C T : Type 0} (view : T → SessionView) (call : Call) (answer : Result Reply Fault) (old new : Floor C T) : Type 0 where
+-- the other client's session in a store was given the statement, and answered so
+pub record SaysReply {C T : Type 0} (view : T → SessionView) (call : Call) (answer : Result Reply Fault) (old new : WholeManager C T) : Type 0 where
   pub store : ℕ
   pub statement : Statement
   pub asked : call ≡ At store statement
-  pub replies : AtStore view store (RepliesAs statement answer) old.strangers new.strangers
-  pub others : ChangesAt store old.strangers new.strangers
+  pub replies : AtStore view store (RepliesAs statement answer) old.other_clients new.other_clients
+  pub others : ChangesAt store old.other_clients new.other_clients
 
 -- nothing was said to any session
-abbrev pub SaysNothing : {C T : Type 0} → (C → SessionView) → (T → SessionView) → Floor C T → Floor C T → Type 0
-SaysNothing view view' old new = IsQuiet view old.sessions new.sessions × IsQuiet view' old.strangers new.strangers
+abbrev pub SaysNothing : {C T : Type 0} → (C → SessionView) → (T → SessionView) → WholeManager C T → WholeManager C T → Type 0
+SaysNothing view view' old new = IsQuiet view old.sessions new.sessions × IsQuiet view' old.other_clients new.other_clients
 
 -- what was said for a call that was answered so
-abbrev pub SaidFor : {C T : Type 0} → (C → SessionView) → (T → SessionView) → Call → Response → Floor C T → Floor C T → Type 0
+abbrev pub SaidFor : {C T : Type 0} → (C → SessionView) → (T → SessionView) → Call → Response → WholeManager C T → WholeManager C T → Type 0
 SaidFor view view' call Silent old new = SaysNothing view view' old new
 SaidFor view view' call (Unread place) old new = SaysNothing view view' old new
 SaidFor view view' call (UnknownStore store) old new = SaysNothing view view' old new
@@ -131,14 +131,14 @@ SaidFor view view' call (UnknownTransaction number) old new = SaysNothing view v
 SaidFor view view' call (WrongStage number) old new = SaysNothing view view' old new
 SaidFor view view' call (Begun number) old new = SaysNothing view view' old new
 SaidFor view view' call NumbersSpent old new = SaysNothing view view' old new
-SaidFor view view' call (Worked answer) old new = SaysWork view call answer old new × IsQuiet view' old.strangers new.strangers
-SaidFor view view' call (Voted poll) old new = SaysVote view call poll old new × IsQuiet view' old.strangers new.strangers
+SaidFor view view' call (Worked answer) old new = SaysWork view call answer old new × IsQuiet view' old.other_clients new.other_clients
+SaidFor view view' call (Voted answer) old new = SaysVote view call answer old new × IsQuiet view' old.other_clients new.other_clients
 SaidFor view view' call Decided old new = SaysNothing view view' old new
 SaidFor view view' call Closed old new = SaysNothing view view' old new
 SaidFor view view' call (Ended ending) old new =
-    (SaysFinish view call ending old new ⊎ SaysAbandon view call ending old new) × IsQuiet view' old.strangers new.strangers
+    (SaysFinish view call ending old new ⊎ SaysAbandon view call ending old new) × IsQuiet view' old.other_clients new.other_clients
 SaidFor view view' call Limited old new = SaysNothing view view' old new
 SaidFor view view' call Stopped old new = SaysNothing view view' old new
-SaidFor view view' call (Recovered outcome) old new = SaysRecovery view call outcome old new × IsQuiet view' old.strangers new.strangers
+SaidFor view view' call (Recovered outcome) old new = SaysRecovery view call outcome old new × IsQuiet view' old.other_clients new.other_clients
 SaidFor view view' call (Replied convert answer) old new = SaysReply view' call answer old new × IsQuiet view old.sessions new.sessions
 SaidFor view view' call (Shown answers) old new = IsQuiet view old.sessions new.sessions

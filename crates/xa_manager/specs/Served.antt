@@ -1,6 +1,6 @@
 -- What a transaction manager answers to lines that come one after another.
---     desk_of         how the manager of a server stands
---     DeskBegins      nothing has begun
+--     state_of         how the manager of a server stands
+--     ManagerBegins      nothing has begun
 --     call_said       the call that a line is
 --     refused_text    what is told where memory is refused
 --     has_few_words   a response whose words take no memory
@@ -14,25 +14,25 @@ use Rattle.xa_coordinator.specs.declared.ending.Ending.{Ending}
 use Rattle.xa_coordinator.specs.declared.ending.Ending.TheVariants.{Committed, RolledBack, Hazard, Unfinished}
 use Rattle.xa_coordinator.specs.declared.fault.WorkFault.{WorkFault}
 use Rattle.xa_coordinator.specs.declared.fault.WorkFault.TheVariants.{Session as WorkSession, Refused as WorkRefused, Lost}
-use Rattle.xa_serve.specs.Heard.{Heard, Whole, TooLong}
+use Rattle.xa_lines.specs.Received.{Received, Whole, TooLong}
 use Rattle.xa_manager.specs.declared.call.Call.{Call}
 use Rattle.xa_manager.specs.declared.call.Call.TheVariants.{Silent, Unread}
-use Rattle.xa_manager.specs.declared.poll.Poll.{Poll}
-use Rattle.xa_manager.specs.declared.poll.Poll.TheVariants.{Ready, OnePhase, Nothing, No}
+use Rattle.xa_manager.specs.declared.vote_answer.VoteAnswer.{VoteAnswer}
+use Rattle.xa_manager.specs.declared.vote_answer.VoteAnswer.TheVariants.{Ready, OnePhase, Nothing, No}
 use Rattle.xa_manager.specs.declared.response.Response.{Response}
 use Rattle.xa_manager.specs.declared.response.Response.TheVariants.{Silent as Quiet, Unread as NotRead, UnknownStore, UnknownTransaction, WrongStage, Begun}
 use Rattle.xa_manager.specs.declared.response.Response.TheVariants.{NumbersSpent, Worked, Voted, Decided, Closed, Ended, Limited, Stopped, Recovered, Replied}
 use Rattle.xa_manager.specs.declared.response.Response.TheVariants.{Shown}
 use Rattle.xa_manager.specs.Calls.{call_of}
 use Rattle.xa_manager.specs.Texts.{answer_text}
-use Rattle.xa_manager.specs.Answers.{Desk, Answers}
+use Rattle.xa_manager.specs.Answers.{ManagerState, Answers}
 
 -- nothing has begun
-abbrev pub DeskBegins : Desk → Type 0
-DeskBegins desk = (desk.decisions ≡ []) × (desk.stages ≡ [])
+abbrev pub ManagerBegins : ManagerState → Type 0
+ManagerBegins state = (state.decisions ≡ []) × (state.stages ≡ [])
 
 -- the call that a line is; one that is too long isn't read
-abbrev pub call_said : Heard → Call
+abbrev pub call_said : Received → Call
 call_said (Whole line) = call_of line
 call_said TooLong = Unread 0
 
@@ -56,7 +56,7 @@ is_plain_work (Err (WorkRefused error)) = false
 is_plain_work (Err Lost) = true
 
 -- a vote, without a store and a cause
-abbrev pub is_plain_vote : Poll → Bool
+abbrev pub is_plain_vote : VoteAnswer → Bool
 is_plain_vote Ready = true
 is_plain_vote OnePhase = true
 is_plain_vote Nothing = true
@@ -69,7 +69,7 @@ is_plain_ending RolledBack = true
 is_plain_ending (Hazard stores) = false
 is_plain_ending (Unfinished store cause) = false
 
--- what a stranger was answered, in a word
+-- what another client was answered, in a word
 abbrev pub is_plain_reply : Result Reply Fault → Bool
 is_plain_reply (Ok reply) = is_word reply
 is_plain_reply (Err fault) = false
@@ -84,7 +84,7 @@ has_few_words (WrongStage number) = false
 has_few_words (Begun number) = true
 has_few_words NumbersSpent = true
 has_few_words (Worked worked) = is_plain_work worked
-has_few_words (Voted poll) = is_plain_vote poll
+has_few_words (Voted answer) = is_plain_vote answer
 has_few_words Decided = true
 has_few_words Closed = true
 has_few_words (Ended ending) = is_plain_ending ending
@@ -96,13 +96,13 @@ has_few_words (Shown listing) = false
 
 -- memory was refused for a call, and the transactions and decisions are as before; or it was carried out, and memory was refused for what is
 -- told of it, which is then a response of many words: so a transaction that begins, a decision, a limit and a stop aren't carried out
-pub record IsRefusedCall (old : Desk) (call : Call) (text : List ℕ) (new : Desk) : Type 0 where
+pub record IsRefusedCall (old : ManagerState) (call : Call) (text : List ℕ) (new : ManagerState) : Type 0 where
   pub speaks : call ≡ Silent → ⊥
   pub told : text ≡ refused_text
   pub stands : (new ≡ old) ⊎ ((response : Response) × (has_few_words response ≡ false) × Answers old call response new)
 
 -- a call was refused or carried out, and what it came to is told; or memory was refused
-abbrev pub IsCallAnswer : Desk → Heard → List ℕ → Desk → Type 0
+abbrev pub IsCallAnswer : ManagerState → Received → List ℕ → ManagerState → Type 0
 IsCallAnswer old line text new =
     ((response : Response) × Answers old (call_said line) response new × (text ≡ answer_text new.decisions response))
     ⊎ IsRefusedCall old (call_said line) text new

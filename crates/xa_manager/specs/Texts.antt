@@ -1,19 +1,19 @@
 -- What is written for a call, by what it was answered. All of it is our own: docs/COORDINATOR.md, 'At the command line'.
 --     fault_text, cause_text       why a statement wasn't answered, or carried out
 --     worked_text                  what work came to
---     poll_text                    what the stores voted
+--     vote_text                    what the stores voted
 --     ending_text                  how a transaction ended
 --     recovered_text               what a recovery came to
---     replied_text                 what a stranger was answered
---     stores_shown_text            each store, and what its stranger was answered
---     standings_text               the numbers by how they stand
+--     replied_text                 what another client was answered
+--     stores_shown_text            each store, and what its other client was answered
+--     decisions_text               the numbers by how they stand
 --     response_text                what a call was answered
 --     answer_text                  the same with its line feed, and nothing for a line that tells nothing
 use Rattle.std.specs.Prelude.{ℕ, ◌+◌, Bool, true, false, if◌then◌else◌, Result, Ok, Err, List, [], ◌∷◌, ◌++◌, codes, decimal}
 use Rattle.xa_server.specs.declared.reply.Reply.{Reply}
 use Rattle.xa_session.specs.declared.fault.Fault.{Fault}
 use Rattle.xa_session.specs.declared.fault.Fault.TheVariants.{Overtaken, Full, NoMemory, Busy}
-use Rattle.xa_transcript.specs.Printed.{reply_text, error_text, syntax_text}
+use Rattle.xa_lines.specs.Printed.{reply_text, error_text, syntax_text}
 use Rattle.xa_coordinator.specs.declared.fault.Cause.{Cause}
 use Rattle.xa_coordinator.specs.declared.fault.Cause.TheVariants.{Session as SessionCause, Refused as RefusedCause}
 use Rattle.xa_coordinator.specs.declared.fault.WorkFault.{WorkFault}
@@ -24,10 +24,10 @@ use Rattle.xa_coordinator.specs.declared.report.Report.{Report}
 use Rattle.xa_coordinator.specs.declared.fault.RecoverFault.{RecoverFault}
 use Rattle.xa_coordinator.specs.declared.fault.RecoverFault.TheVariants.{Session as RecoverSession, StillPrepared, NoMemory as RecoverNoMemory}
 use Rattle.xa_coordinator.specs.declared.fault.RecoverFault.TheVariants.{Refused as RecoverRefused}
-use Rattle.xa_coordinator.specs.declared.decisions.Standing.{Standing}
-use Rattle.xa_coordinator.specs.declared.decisions.Standing.TheVariants.{Undecided, Decided, Closed}
-use Rattle.xa_manager.specs.declared.poll.Poll.{Poll}
-use Rattle.xa_manager.specs.declared.poll.Poll.TheVariants.{Ready, OnePhase, Nothing, No}
+use Rattle.xa_coordinator.specs.declared.decisions.Decision.{Decision}
+use Rattle.xa_coordinator.specs.declared.decisions.Decision.TheVariants.{Undecided, Decided, Closed}
+use Rattle.xa_manager.specs.declared.vote_answer.VoteAnswer.{VoteAnswer}
+use Rattle.xa_manager.specs.declared.vote_answer.VoteAnswer.TheVariants.{Ready, OnePhase, Nothing, No}
 use Rattle.xa_manager.specs.declared.response.Response.{Response}
 use Rattle.xa_manager.specs.declared.response.Response.TheVariants.{Silent, Unread, UnknownStore, UnknownTransaction, WrongStage, Begun, NumbersSpent, Worked}
 use Rattle.xa_manager.specs.declared.response.Response.TheVariants.{Voted, Decided as WasDecided, Closed as WasClosed, Ended, Limited, Stopped, Recovered}
@@ -53,11 +53,11 @@ worked_text (Err (WorkRefused error)) = codes "NOT STARTED: " ++ error_text erro
 worked_text (Err Lost) = codes "LOST"
 
 -- what the stores voted
-abbrev pub poll_text : Poll → List ℕ
-poll_text Ready = codes "READY"
-poll_text OnePhase = codes "ONE PHASE"
-poll_text Nothing = codes "NOTHING"
-poll_text (No store cause) = codes "NO " ++ decimal store ++ codes ": " ++ cause_text cause
+abbrev pub vote_text : VoteAnswer → List ℕ
+vote_text Ready = codes "READY"
+vote_text OnePhase = codes "ONE PHASE"
+vote_text Nothing = codes "NOTHING"
+vote_text (No store cause) = codes "NO " ++ decimal store ++ codes ": " ++ cause_text cause
 
 -- the numbers of stores, each after a space
 abbrev pub stores_text : List ℕ → List ℕ
@@ -89,12 +89,12 @@ abbrev pub recovered_text : Result Report RecoverFault → List ℕ
 recovered_text (Ok report) = report_text report
 recovered_text (Err fault) = recover_fault_text fault
 
--- what a stranger was answered, recovered identifiers in digits where they are to be converted
+-- what another client was answered, recovered identifiers in digits where they are to be converted
 abbrev pub replied_text : Bool → Result Reply Fault → List ℕ
 replied_text convert (Ok reply) = reply_text convert reply
 replied_text convert (Err fault) = codes "FAULT: " ++ fault_text fault
 
--- a store, and below it what its stranger was answered
+-- a store, and below it what its other client was answered
 abbrev pub store_text : ℕ → Result Reply Fault → List ℕ
 store_text store answer = codes "STORE " ++ decimal store ++ codes "\n" ++ replied_text true answer ++ codes "\n"
 
@@ -104,7 +104,7 @@ stores_shown_text store [] = []
 stores_shown_text store (answer ∷ answers) = store_text store answer ++ stores_shown_text (store + 1) answers
 
 -- a number stands so
-abbrev pub stands_as : Standing → Standing → Bool
+abbrev pub stands_as : Decision → Decision → Bool
 stands_as Undecided Undecided = true
 stands_as Undecided Decided = false
 stands_as Undecided Closed = false
@@ -116,22 +116,22 @@ stands_as Closed Decided = false
 stands_as Closed Closed = true
 
 -- a number after a space, where it stands as wanted
-abbrev pub number_text : Standing → ℕ → Standing → List ℕ
-number_text wanted number standing = if stands_as wanted standing then codes " " ++ decimal number else []
+abbrev pub number_text : Decision → ℕ → Decision → List ℕ
+number_text wanted number decision = if stands_as wanted decision then codes " " ++ decimal number else []
 
 -- the numbers from this one on that stand as wanted, ascending, each after a space
-abbrev pub numbers_text : Standing → ℕ → List Standing → List ℕ
+abbrev pub numbers_text : Decision → ℕ → List Decision → List ℕ
 numbers_text wanted number [] = []
-numbers_text wanted number (standing ∷ standings) = number_text wanted number standing ++ numbers_text wanted (number + 1) standings
+numbers_text wanted number (decision ∷ decisions) = number_text wanted number decision ++ numbers_text wanted (number + 1) decisions
 
 -- the numbers by how they stand
-abbrev pub standings_text : List Standing → List ℕ
-standings_text standings =
-    codes "UNDECIDED" ++ numbers_text Undecided 1 standings ++ codes "\nDECIDED" ++ numbers_text Decided 1 standings ++ codes "\nCLOSED"
-    ++ numbers_text Closed 1 standings
+abbrev pub decisions_text : List Decision → List ℕ
+decisions_text decisions =
+    codes "UNDECIDED" ++ numbers_text Undecided 1 decisions ++ codes "\nDECIDED" ++ numbers_text Decided 1 decisions ++ codes "\nCLOSED"
+    ++ numbers_text Closed 1 decisions
 
 -- what a call was answered, once the decisions are these
-abbrev pub response_text : List Standing → Response → List ℕ
+abbrev pub response_text : List Decision → Response → List ℕ
 response_text decisions Silent = []
 response_text decisions (Unread place) = syntax_text place
 response_text decisions (UnknownStore store) = codes "UNKNOWN STORE " ++ decimal store
@@ -140,7 +140,7 @@ response_text decisions (WrongStage number) = codes "WRONG STAGE " ++ decimal nu
 response_text decisions (Begun number) = codes "TRANSACTION " ++ decimal number
 response_text decisions NumbersSpent = codes "NUMBERS SPENT"
 response_text decisions (Worked worked) = worked_text worked
-response_text decisions (Voted poll) = poll_text poll
+response_text decisions (Voted answer) = vote_text answer
 response_text decisions WasDecided = codes "DECIDED"
 response_text decisions WasClosed = codes "CLOSED"
 response_text decisions (Ended ending) = ending_text ending
@@ -148,7 +148,7 @@ response_text decisions Limited = codes "OK"
 response_text decisions Stopped = codes "STOPPED"
 response_text decisions (Recovered recovered) = recovered_text recovered
 response_text decisions (Replied convert answer) = replied_text convert answer
-response_text decisions (Shown listing) = stores_shown_text 0 listing.answers.items ++ standings_text decisions
+response_text decisions (Shown listing) = stores_shown_text 0 listing.answers.items ++ decisions_text decisions
 
 -- nothing is written for a line that tells nothing
 abbrev pub is_silent : Response → Bool
@@ -160,7 +160,7 @@ is_silent (WrongStage number) = false
 is_silent (Begun number) = false
 is_silent NumbersSpent = false
 is_silent (Worked worked) = false
-is_silent (Voted poll) = false
+is_silent (Voted answer) = false
 is_silent WasDecided = false
 is_silent WasClosed = false
 is_silent (Ended ending) = false
@@ -171,5 +171,5 @@ is_silent (Replied convert answer) = false
 is_silent (Shown answers) = false
 
 -- what is written for a call
-abbrev pub answer_text : List Standing → Response → List ℕ
+abbrev pub answer_text : List Decision → Response → List ℕ
 answer_text decisions response = if is_silent response then [] else response_text decisions response ++ codes "\n"

@@ -1,18 +1,18 @@
 //! Calls, carried out.
 ghost use Rattle.std.specs.Prelude.{◌≡◌, ◌≤◌, ◌<◌, ◌-◌, ◌^◌, ℕ, Ok, true, nat_lt, IfOk, OnErr, vec_len, length, map};
-ghost use Rattle.xa_manager.specs.Answers.{Answers, poll_of, stage_after as stage_with};
+ghost use Rattle.xa_manager.specs.Answers.{Answers, vote_answer_of, stage_after as stage_with};
 ghost use Rattle.xa_manager.specs.Calls.{takes_rows, IsWritten};
 ghost use Rattle.xa_manager.specs.Limits.{Passes, StartsAnew};
-ghost use Rattle.xa_manager.specs.Managed.{desk_of, floor_of};
+ghost use Rattle.xa_manager.specs.Managed.{state_of, whole_of};
 ghost use Rattle.xa_manager.specs.Said.{SaidFor, reply_of};
 
-use crate::{Call, Listing, Manager, Poll, Response, Stage};
+use crate::{Call, Listing, Manager, Response, Stage, VoteAnswer};
 use std::alloc::{AllocError, Global};
 use std::sync::Wait;
 use xa_coordinator::{BeginFault, Coordinator, Fused, Speak, Vote};
+use xa_lines::converts;
 use xa_server::Reply;
 use xa_session::{Answer, Fault};
-use xa_transcript::converts;
 use xa_xid::{NoMemory, Statement};
 
 /// The reply of an answer.
@@ -34,35 +34,35 @@ fn not_begun(fault: BeginFault) -> Result<Response, NoMemory>
 }
 
 /// What is told of a vote, and how far the transaction has come.
-fn told_of(vote: Vote) -> (Poll, Stage)
-    ensures poll { result.0 ≡ poll_of vote }
+fn told_of(vote: Vote) -> (VoteAnswer, Stage)
+    ensures answer { result.0 ≡ vote_answer_of vote }
     ensures stage { result.1 ≡ stage_with vote }
 {
     match vote {
-        Vote::Ready(prepared) => (Poll::Ready, Stage::Ready(prepared)),
-        Vote::OnePhase(prepared) => (Poll::OnePhase, Stage::Voted(prepared)),
+        Vote::Ready(prepared) => (VoteAnswer::Ready, Stage::Ready(prepared)),
+        Vote::OnePhase(prepared) => (VoteAnswer::OnePhase, Stage::Voted(prepared)),
         Vote::No {
             prepared,
             store,
             cause,
-        } => (Poll::No { store, cause }, Stage::Voted(prepared)),
-        Vote::Nothing => (Poll::Nothing, Stage::Over),
+        } => (VoteAnswer::No { store, cause }, Stage::Voted(prepared)),
+        Vote::Nothing => (VoteAnswer::Nothing, Stage::Over),
     }
 }
 
-/// What each stranger is answered to `XA RECOVER CONVERT XID`.
+/// What each other client is answered to `XA RECOVER CONVERT XID`.
 fn listed_by_each<T: Speak, R: Wait>(
     rt: &R,
     alloc: Global,
-    strangers: &mut [T],
+    other_clients: &mut [T],
 ) -> Result<Vec<Result<Reply, Fault>>, NoMemory>
-    ensures each { IfOk result (λ answers. vec_len answers ≡ length strangers.old) }
-    ensures count { length strangers.new ≡ length strangers.old }
+    ensures each { IfOk result (λ answers. vec_len answers ≡ length other_clients.old) }
+    ensures count { length other_clients.new ≡ length other_clients.old }
 {
     let mut answers = Vec::new(alloc);
     let listing = Statement::Recover { convert: true };
-    for stranger in strangers.iter_mut() {
-        answers.push(reply_in(stranger.execute(rt, &listing)))?;
+    for other_client in other_clients.iter_mut() {
+        answers.push(reply_in(other_client.execute(rt, &listing)))?;
     }
     Ok(answers)
 }
@@ -84,13 +84,13 @@ impl<C: Speak, T: Speak> Manager<C, T> {
     fn has_store(&self, store: u64) -> bool
         ensures { result ≡ nat_lt store (vec_len self.now.coordinator.stores) }
     {
-        store < self.strangers.len() as u64
+        store < self.other_clients.len() as u64
     }
 
     /// Begins a transaction.
     fn begin(&mut self) -> Result<Response, NoMemory>
-        ensures answers { IfOk result (λ response. Answers (desk_of self.old) (Call.Begin) response (desk_of self.new)) }
-        ensures says { IfOk result (λ response. SaidFor C.view T.view (Call.Begin) response (floor_of self.old) (floor_of self.new)) }
+        ensures answers { IfOk result (λ response. Answers (state_of self.old) (Call.Begin) response (state_of self.new)) }
+        ensures says { IfOk result (λ response. SaidFor C.view T.view (Call.Begin) response (whole_of self.old) (whole_of self.new)) }
         ensures kept { OnErr result
             ((vec_len self.new.coordinator.stores ≡ vec_len self.old.coordinator.stores)
             × (self.new.decisions ≡ self.old.decisions)
@@ -113,8 +113,8 @@ impl<C: Speak, T: Speak> Manager<C, T> {
     /// Gives a row statement of a transaction to a store.
     fn work<R: Wait>(&mut self, rt: &R, number: u64, store: u64, statement: &Statement) -> Response
         requires { takes_rows statement.now ≡ true }
-        ensures answers { Answers (desk_of self.old) (Call.Work number store statement.now) result (desk_of self.new) }
-        ensures says { SaidFor C.view T.view (Call.Work number store statement.now) result (floor_of self.old) (floor_of self.new) }
+        ensures answers { Answers (state_of self.old) (Call.Work number store statement.now) result (state_of self.new) }
+        ensures says { SaidFor C.view T.view (Call.Work number store statement.now) result (whole_of self.old) (whole_of self.new) }
     {
         if !self.has_store(store) {
             return Response::UnknownStore(store);
@@ -133,15 +133,15 @@ impl<C: Speak, T: Speak> Manager<C, T> {
 
     /// Has the stores of a transaction vote.
     fn prepare<R: Wait>(&mut self, rt: &R, number: u64) -> Response
-        ensures answers { Answers (desk_of self.old) (Call.Prepare number) result (desk_of self.new) }
-        ensures says { SaidFor C.view T.view (Call.Prepare number) result (floor_of self.old) (floor_of self.new) }
+        ensures answers { Answers (state_of self.old) (Call.Prepare number) result (state_of self.new) }
+        ensures says { SaidFor C.view T.view (Call.Prepare number) result (whole_of self.old) (whole_of self.new) }
     {
         match self.ledger.take_working(number) {
             Ok(transaction) => {
                 let vote = self.coordinator.prepare(rt, transaction);
-                let (poll, stage) = told_of(vote);
+                let (answer, stage) = told_of(vote);
                 self.ledger.put(number, stage);
-                Response::Voted(poll)
+                Response::Voted(answer)
             }
             Err(refusal) => refusal,
         }
@@ -149,8 +149,8 @@ impl<C: Speak, T: Speak> Manager<C, T> {
 
     /// Decides a transaction.
     fn decide(&mut self, number: u64) -> Response
-        ensures answers { Answers (desk_of self.old) (Call.Decide number) result (desk_of self.new) }
-        ensures says { SaidFor C.view T.view (Call.Decide number) result (floor_of self.old) (floor_of self.new) }
+        ensures answers { Answers (state_of self.old) (Call.Decide number) result (state_of self.new) }
+        ensures says { SaidFor C.view T.view (Call.Decide number) result (whole_of self.old) (whole_of self.new) }
     {
         match self.ledger.take_ready(number) {
             Ok(prepared) => {
@@ -167,8 +167,8 @@ impl<C: Speak, T: Speak> Manager<C, T> {
 
     /// Finishes a transaction that was voted on.
     fn finish<R: Wait>(&mut self, rt: &R, number: u64) -> Response
-        ensures answers { Answers (desk_of self.old) (Call.Finish number) result (desk_of self.new) }
-        ensures says { SaidFor C.view T.view (Call.Finish number) result (floor_of self.old) (floor_of self.new) }
+        ensures answers { Answers (state_of self.old) (Call.Finish number) result (state_of self.new) }
+        ensures says { SaidFor C.view T.view (Call.Finish number) result (whole_of self.old) (whole_of self.new) }
     {
         match self.ledger.take_voted(number) {
             Ok(prepared) => {
@@ -180,8 +180,8 @@ impl<C: Speak, T: Speak> Manager<C, T> {
 
     /// Rolls a transaction back that wasn't voted on.
     fn abandon<R: Wait>(&mut self, rt: &R, number: u64) -> Response
-        ensures answers { Answers (desk_of self.old) (Call.Abandon number) result (desk_of self.new) }
-        ensures says { SaidFor C.view T.view (Call.Abandon number) result (floor_of self.old) (floor_of self.new) }
+        ensures answers { Answers (state_of self.old) (Call.Abandon number) result (state_of self.new) }
+        ensures says { SaidFor C.view T.view (Call.Abandon number) result (whole_of self.old) (whole_of self.new) }
     {
         match self.ledger.take_working(number) {
             Ok(transaction) => Response::Ended(self.coordinator.abandon(rt, transaction)),
@@ -191,36 +191,36 @@ impl<C: Speak, T: Speak> Manager<C, T> {
 
     /// Has the coordinator recover.
     fn recover<R: Wait>(&mut self, rt: &R, alloc: Global) -> Response
-        ensures answers { Answers (desk_of self.old) (Call.Recover) result (desk_of self.new) }
-        ensures says { SaidFor C.view T.view (Call.Recover) result (floor_of self.old) (floor_of self.new) }
+        ensures answers { Answers (state_of self.old) (Call.Recover) result (state_of self.new) }
+        ensures says { SaidFor C.view T.view (Call.Recover) result (whole_of self.old) (whole_of self.new) }
     {
         Response::Recovered(self.coordinator.recover(rt, alloc, &mut self.decisions))
     }
 
-    /// Gives a statement of the stranger to a store.
+    /// Gives a statement of the other client to a store.
     fn at<R: Wait>(&mut self, rt: &R, store: u64, statement: &Statement) -> Response
-        ensures answers { Answers (desk_of self.old) (Call.At store statement.now) result (desk_of self.new) }
-        ensures says { SaidFor C.view T.view (Call.At store statement.now) result (floor_of self.old) (floor_of self.new) }
+        ensures answers { Answers (state_of self.old) (Call.At store statement.now) result (state_of self.new) }
+        ensures says { SaidFor C.view T.view (Call.At store statement.now) result (whole_of self.old) (whole_of self.new) }
     {
         if !self.has_store(store) {
             return Response::UnknownStore(store);
         }
         Response::Replied {
             convert: converts(statement),
-            answer: reply_in(self.strangers[store as usize].execute(rt, statement)),
+            answer: reply_in(self.other_clients[store as usize].execute(rt, statement)),
         }
     }
 
-    /// Has each store's stranger list what is prepared there.
+    /// Has the other client of each store list what is prepared there.
     fn show<R: Wait>(&mut self, rt: &R, alloc: Global) -> Result<Response, NoMemory>
-        ensures answers { IfOk result (λ response. Answers (desk_of self.old) (Call.Show) response (desk_of self.new)) }
-        ensures says { IfOk result (λ response. SaidFor C.view T.view (Call.Show) response (floor_of self.old) (floor_of self.new)) }
+        ensures answers { IfOk result (λ response. Answers (state_of self.old) (Call.Show) response (state_of self.new)) }
+        ensures says { IfOk result (λ response. SaidFor C.view T.view (Call.Show) response (whole_of self.old) (whole_of self.new)) }
         ensures kept { OnErr result
             ((vec_len self.new.coordinator.stores ≡ vec_len self.old.coordinator.stores)
             × (self.new.decisions ≡ self.old.decisions)
             × (self.new.ledger ≡ self.old.ledger)) }
     {
-        let answers = listed_by_each(rt, alloc, self.strangers.as_mut_slice())?;
+        let answers = listed_by_each(rt, alloc, self.other_clients.as_mut_slice())?;
         Ok(Response::Shown(Listing { answers }))
     }
 }
@@ -228,8 +228,8 @@ impl<C: Speak, T: Speak> Manager<C, T> {
 impl<S: Speak, T: Speak> Manager<Fused<S>, T> {
     /// Limits the calls that the coordinator's session in a store answers.
     fn fail(&mut self, store: u64, calls: u64) -> Response
-        ensures answers { Answers (desk_of self.old) (Call.Fail store calls) result (desk_of self.new) }
-        ensures says { SaidFor (λ session. S.view session.inner) T.view (Call.Fail store calls) result (floor_of self.old) (floor_of self.new) }
+        ensures answers { Answers (state_of self.old) (Call.Fail store calls) result (state_of self.new) }
+        ensures says { SaidFor (λ session. S.view session.inner) T.view (Call.Fail store calls) result (whole_of self.old) (whole_of self.new) }
         ensures limited { result ≡ Response.Limited → Passes store calls self.new.coordinator.stores.items }
     {
         if !self.has_store(store) {
@@ -241,11 +241,11 @@ impl<S: Speak, T: Speak> Manager<Fused<S>, T> {
 
     /// A new coordinator of the name takes the place of the old one, over the same sessions, which no longer fail.
     fn stop(&mut self) -> Response
-        ensures answers { Answers (desk_of self.old) (Call.Stop) result (desk_of self.new) }
-        ensures says { SaidFor (λ session. S.view session.inner) T.view (Call.Stop) result (floor_of self.old) (floor_of self.new) }
+        ensures answers { Answers (state_of self.old) (Call.Stop) result (state_of self.new) }
+        ensures says { SaidFor (λ session. S.view session.inner) T.view (Call.Stop) result (whole_of self.old) (whole_of self.new) }
         ensures anew { StartsAnew self.new.coordinator.branches self.new.coordinator.stores.items }
     {
-        allow_all(&mut self.coordinator, self.strangers.len() as u8);
+        allow_all(&mut self.coordinator, self.other_clients.len() as u8);
         self.coordinator.restart();
         Response::Stopped
     }
@@ -263,8 +263,8 @@ impl<S: Speak, T: Speak> Manager<Fused<S>, T> {
         call: &Call,
     ) -> Result<Response, NoMemory>
         requires { IsWritten call.now }
-        ensures answers { IfOk result (λ response. Answers (desk_of self.old) (call.now) response (desk_of self.new)) }
-        ensures says { IfOk result (λ response. SaidFor (λ session. S.view session.inner) T.view (call.now) response (floor_of self.old) (floor_of self.new)) }
+        ensures answers { IfOk result (λ response. Answers (state_of self.old) (call.now) response (state_of self.new)) }
+        ensures says { IfOk result (λ response. SaidFor (λ session. S.view session.inner) T.view (call.now) response (whole_of self.old) (whole_of self.new)) }
         ensures limited { (store calls : ℕ)
             → call.now ≡ Call.Fail store calls
             → result ≡ Ok Response.Limited

@@ -1,15 +1,15 @@
 //! Answers of few words, which take no memory.
 ghost use Rattle.std.specs.Prelude.{◌≡◌, ◌≤◌, ◌++◌, Bool, List, None, IfSome, false, length, codes, decimal};
-ghost use Rattle.xa_transcript.specs.Printed.{reply_text};
-ghost use Rattle.xa_serve.specs.Answer.{bytes_of};
+ghost use Rattle.xa_lines.specs.Printed.{reply_text};
+ghost use Rattle.xa_lines.specs.Answer.{bytes_of};
 ghost use Rattle.xa_manager.specs.Served.{has_few_words, is_word, is_plain_vote, is_plain_ending};
-ghost use Rattle.xa_manager.specs.Texts.{answer_text, ending_text, poll_text};
+ghost use Rattle.xa_manager.specs.Texts.{answer_text, ending_text, vote_text};
 
-use crate::{Poll, Response};
+use crate::{Response, VoteAnswer};
 use arrayvec::ArrayVec;
 use itoa::Buffer;
-use xa_coordinator::{Ending, Standing, WorkFault};
-use xa_serve::Answer;
+use xa_coordinator::{Decision, Ending, WorkFault};
+use xa_lines::Answer;
 use xa_server::Reply;
 
 /// An answer of at most 64 bytes.
@@ -47,15 +47,15 @@ fn word_of(reply: &Reply) -> Option<Answer>
 }
 
 /// What is told of a vote without a cause.
-fn vote_of(poll: &Poll) -> Option<Answer>
-    ensures words { IfSome result (λ answer. bytes_of answer ≡ poll_text poll.now ++ codes "\n") }
-    ensures none { result ≡ None → is_plain_vote poll.now ≡ false }
+fn vote_of(vote: &VoteAnswer) -> Option<Answer>
+    ensures words { IfSome result (λ answer. bytes_of answer ≡ vote_text vote.now ++ codes "\n") }
+    ensures none { result ≡ None → is_plain_vote vote.now ≡ false }
 {
-    match poll {
-        Poll::Ready => Some(short_answer(b"READY\n")),
-        Poll::OnePhase => Some(short_answer(b"ONE PHASE\n")),
-        Poll::Nothing => Some(short_answer(b"NOTHING\n")),
-        Poll::No { .. } => None,
+    match vote {
+        VoteAnswer::Ready => Some(short_answer(b"READY\n")),
+        VoteAnswer::OnePhase => Some(short_answer(b"ONE PHASE\n")),
+        VoteAnswer::Nothing => Some(short_answer(b"NOTHING\n")),
+        VoteAnswer::No { .. } => None,
     }
 }
 
@@ -73,7 +73,7 @@ fn ending_of(ending: &Ending) -> Option<Answer>
 
 /// The answer to a call that was carried out, where its words are few. It takes no memory.
 pub(crate) fn few_words(response: &Response) -> Option<Answer>
-    ensures words { IfSome result (λ answer. (decisions : List Standing) → bytes_of answer ≡ answer_text decisions response.now) }
+    ensures words { IfSome result (λ answer. (decisions : List Decision) → bytes_of answer ≡ answer_text decisions response.now) }
     ensures none { result ≡ None → has_few_words response.now ≡ false }
 {
     match response {
@@ -81,7 +81,7 @@ pub(crate) fn few_words(response: &Response) -> Option<Answer>
         Response::NumbersSpent => Some(short_answer(b"NUMBERS SPENT\n")),
         Response::Worked(Ok(reply)) => word_of(reply),
         Response::Worked(Err(WorkFault::Lost)) => Some(short_answer(b"LOST\n")),
-        Response::Voted(poll) => vote_of(poll),
+        Response::Voted(vote) => vote_of(vote),
         Response::Decided => Some(short_answer(b"DECIDED\n")),
         Response::Closed => Some(short_answer(b"CLOSED\n")),
         Response::Ended(ending) => ending_of(ending),

@@ -3,7 +3,7 @@
 use xa_xid::Statement;
 
 /// What a line tells a transaction manager. Transactions are numbered from 1, stores from 0; a number may be any below 2^64.
-#[derive(Debug, Drop, PartialEq, Eq)]
+#[derive(Drop)]
 pub enum Call {
     /// Nothing: a line of blanks, or a comment.
     Silent,
@@ -39,7 +39,7 @@ pub enum Call {
     Stop,
     /// The coordinator recovers.
     Recover,
-    /// The stranger gives a statement to a store.
+    /// The other client gives a statement to a store.
     At {
         /// The store.
         store: u64,

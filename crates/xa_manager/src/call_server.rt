@@ -1,17 +1,16 @@
 //! A transaction manager that answers lines.
 ghost use Rattle.std.specs.Prelude.{◌≡◌, ◌++◌, codes};
-ghost use Rattle.xa_transcript.specs.Printed.{syntax_text};
+ghost use Rattle.xa_lines.specs.Printed.{syntax_text};
 ghost use Rattle.xa_manager.specs.Served.{refused_text};
-ghost use Rattle.xa_serve.specs.Answer.{bytes_of};
+ghost use Rattle.xa_lines.specs.Answer.{bytes_of};
 
-use crate::brief::{few_words, short_answer};
-use crate::print::write_into;
-use crate::{Call, Manager, read_call};
+use crate::brief::short_answer;
+use crate::{Call, Manager, read_call, write_response};
 use arrayvec::ArrayVec;
 use std::alloc::Global;
 use std::sync::Wait;
 use xa_coordinator::{Fused, Speak};
-use xa_serve::{Answer, LineServer};
+use xa_lines::{Answer, LineServer};
 
 /// Room for what most calls are told, in bytes. It is taken before a call is carried out; only values and lists need more.
 const ANSWER_ROOM: usize = 256;
@@ -49,29 +48,26 @@ impl<'r, C: Speak, T: Speak, R: Wait> CallServer<'r, C, T, R> {
 }
 
 impl<'r, S: Speak, T: Speak, R: Wait> LineServer for CallServer<'r, Fused<S>, T, R> {
-    ghost use Rattle.xa_manager.specs.Managed.{desk_of};
-    ghost use Rattle.xa_manager.specs.Served.{DeskBegins, IsCallAnswer};
+    ghost use Rattle.xa_manager.specs.Managed.{state_of};
+    ghost use Rattle.xa_manager.specs.Served.{ManagerBegins, IsCallAnswer};
 
-    ghost begins = { λ server. DeskBegins (desk_of server.manager) };
+    ghost begins = { λ server. ManagerBegins (state_of server.manager) };
 
-    ghost answers = { λ old line text new. IsCallAnswer (desk_of old.manager) line text (desk_of new.manager) };
+    ghost answers = { λ old line text new. IsCallAnswer (state_of old.manager) line text (state_of new.manager) };
 
     fn answer(&mut self, alloc: Global, line: &[u8]) -> Answer {
         let call = read_call(line);
         if let Call::Silent = call {
             return Answer::Short(ArrayVec::new());
         }
-        let Ok(text) = Vec::with_capacity(alloc, ANSWER_ROOM) else {
+        let Ok(room) = Vec::with_capacity(alloc, ANSWER_ROOM) else {
             return refusal();
         };
         let Ok(response) = self.manager.answer(self.rt, alloc, &call) else {
             return refusal();
         };
-        if let Some(answer) = few_words(&response) {
-            return answer;
-        }
-        match write_into(alloc, text, self.manager.decisions(), &response) {
-            Ok(text) => Answer::Text(text),
+        match write_response(alloc, room, self.manager.decisions(), &response) {
+            Ok(answer) => answer,
             Err(_) => refusal(),
         }
     }

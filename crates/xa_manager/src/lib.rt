@@ -1,4 +1,4 @@
-//! A transaction manager that is told its calls line by line: a coordinator over stores of its own, and a stranger in each store.
+//! A transaction manager that is told its calls line by line: a coordinator over stores of its own, and another client in each store.
 #![tactic(auto)]
 
 mod answer;
@@ -8,21 +8,21 @@ mod call_server;
 mod ledger;
 mod listing;
 mod manager;
-mod poll;
 mod print;
 mod reading;
 mod response;
 mod run;
 mod stage;
+mod vote_answer;
 
 pub use call::Call;
 pub use call_server::CallServer;
 pub use ledger::Ledger;
 pub use listing::Listing;
 pub use manager::Manager;
-pub use poll::Poll;
 pub use print::write_response;
 pub use reading::read_call;
 pub use response::Response;
-pub use run::{converse, coordinate, manager_over, open_stores};
+pub use run::{converse, manager_over, open_stores};
 pub use stage::Stage;
+pub use vote_answer::VoteAnswer;

@@ -3,8 +3,8 @@
 use xa_server::Reply;
 use xa_session::Fault;
 
-/// What the stranger of each store, from store 0 on, was answered to `XA RECOVER CONVERT XID`.
-#[derive(Debug, Drop)]
+/// What the other client of each store, from store 0 on, was answered to `XA RECOVER CONVERT XID`.
+#[derive(Drop)]
 pub struct Listing {
     pub(crate) answers: Vec<Result<Reply, Fault>>,
 }

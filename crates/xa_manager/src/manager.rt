@@ -1,7 +1,7 @@
 //! A transaction manager.
 ghost use Rattle.std.specs.Prelude.{◌≡◌, ◌≤◌, ℕ, Some, [], vec_len, length, codes};
 ghost use Rattle.xa_manager.specs.Ledger.{stage_of, transaction_in, IsTransactionOf};
-ghost use Rattle.xa_coordinator.specs.declared.transaction.Ballot.TheVariants.{Ready as BallotReady};
+ghost use Rattle.xa_coordinator.specs.declared.transaction.VoteKind.TheVariants.{Ready as VoteKindReady};
 ghost use Rattle.xa_coordinator.specs.declared.transaction.Prepared.{Prepared};
 ghost use Rattle.xa_coordinator.specs.declared.transaction.Transaction.{Transaction};
 ghost use Rattle.xa_manager.specs.declared.stage.Stage.{Stage};
@@ -21,42 +21,40 @@ fn name() -> Bytes
     name
 }
 
-/// A transaction manager: a coordinator with a session in each store, a stranger's session in each
+/// A transaction manager: a coordinator with a session in each store, another client's session in each
 /// store, the decisions, and how far each transaction has come.
 #[derive(Drop)]
 pub struct Manager<C: Speak, T: Speak> {
     pub(crate) coordinator: Coordinator<C>,
-    pub(crate) strangers: Vec<T>,
+    pub(crate) other_clients: Vec<T>,
     pub(crate) decisions: Decisions,
     pub(crate) ledger: Ledger,
     ghost named: { coordinator.name.items ≡ codes "c" },
-    ghost pairs: { vec_len strangers ≡ vec_len coordinator.stores },
+    ghost pairs: { vec_len other_clients ≡ vec_len coordinator.stores },
     ghost counted: { length ledger ≡ length decisions },
     ghost kept: { (number : ℕ) (stage : Stage) (transaction : Transaction)
         → stage_of ledger number ≡ Some stage
         → transaction_in stage ≡ Some transaction
         → IsTransactionOf (vec_len coordinator.stores) number transaction },
-    ghost ready: { (number : ℕ) (prepared : Prepared) → stage_of ledger number ≡ Some (StageReady prepared) → prepared.ballot ≡ BallotReady },
+    ghost ready: { (number : ℕ) (prepared : Prepared) → stage_of ledger number ≡ Some (StageReady prepared) → prepared.vote_kind ≡ VoteKindReady },
 }
 
 impl<C: Speak, T: Speak> Manager<C, T> {
-    ghost use Rattle.xa_manager.specs.Answers.{Desk, new_desk};
-
-    /// A manager over these sessions, two in each store: the coordinator's and a stranger's. Nothing has begun.
+    /// A manager over these sessions, two in each store: the coordinator's and another client's. Nothing has begun.
     ///
     /// Takes no memory. Doesn't wait.
     #[tactic(auto, unfolding(crate::specs::Ledger::stage_of))]
-    pub fn new(alloc: Global, sessions: Vec<C>, strangers: Vec<T>) -> Manager<C, T>
+    pub fn new(alloc: Global, sessions: Vec<C>, other_clients: Vec<T>) -> Manager<C, T>
         requires some { 1 ≤ vec_len sessions }
         requires most { vec_len sessions ≤ 16 }
-        requires pairs { vec_len strangers ≡ vec_len sessions }
+        requires pairs { vec_len other_clients ≡ vec_len sessions }
         ensures stores { vec_len result.coordinator.stores ≡ vec_len sessions }
         ensures decisions { result.decisions ≡ [] }
         ensures ledger { result.ledger ≡ [] }
     {
         Manager {
             coordinator: Coordinator::new(name(), sessions),
-            strangers,
+            other_clients,
             decisions: Decisions::new(alloc),
             ledger: Ledger::new(alloc),
         }

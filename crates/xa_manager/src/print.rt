@@ -1,16 +1,19 @@
 //! Prints responses.
-ghost use Rattle.std.specs.Prelude.{◌≡◌, [], ◌++◌, OnOk, IfOk, codes, decimal};
-ghost use Rattle.xa_transcript.specs.Printed.{error_text};
-ghost use Rattle.xa_manager.specs.Texts.{fault_text, cause_text, stores_text, worked_text, poll_text, ending_text, recover_fault_text, report_text};
-ghost use Rattle.xa_manager.specs.Texts.{replied_text, store_text, stores_shown_text, stands_as, numbers_text, standings_text, response_text, answer_text};
+ghost use Rattle.std.specs.Prelude.{◌≡◌, [], ◌++◌, false, OnOk, OnErr, IfOk, codes, decimal};
+ghost use Rattle.xa_lines.specs.Answer.{bytes_of};
+ghost use Rattle.xa_manager.specs.Served.{has_few_words, is_plain_work, is_plain_vote, is_plain_ending};
+ghost use Rattle.xa_lines.specs.Printed.{error_text};
+ghost use Rattle.xa_manager.specs.Texts.{fault_text, cause_text, stores_text, worked_text, vote_text, ending_text, recover_fault_text, report_text};
+ghost use Rattle.xa_manager.specs.Texts.{replied_text, store_text, stores_shown_text, stands_as, numbers_text, decisions_text, response_text, answer_text};
 
-use crate::{Poll, Response};
+use crate::brief::few_words;
+use crate::{Response, VoteAnswer};
 use std::alloc::{AllocError, Global};
 use std::io::Write;
-use xa_coordinator::{Cause, Decisions, Ending, RecoverFault, Report, Standing, WorkFault};
+use xa_coordinator::{Cause, Decision, Decisions, Ending, RecoverFault, Report, WorkFault};
+use xa_lines::{Answer, push_number, push_reply, push_syntax_fault};
 use xa_server::{Reply, XaError};
 use xa_session::Fault;
-use xa_transcript::{push_number, push_reply, push_syntax_fault};
 use xa_xid::NoMemory;
 
 /// Appends a word and a number.
@@ -73,12 +76,13 @@ fn push_store_cause(
     push_cause(alloc, text, cause)
 }
 
-/// Appends what work came to.
+/// Appends what work came to, where that isn't a word.
 fn push_worked(
     alloc: Global,
     text: &mut Vec<u8>,
     worked: &Result<Reply, WorkFault>,
 ) -> Result<(), NoMemory>
+    requires { is_plain_work worked.now ≡ false }
     ensures { OnOk result (text.new.items ≡ text.old.items ++ worked_text worked.now) }
 {
     match worked {
@@ -91,19 +95,18 @@ fn push_worked(
             text.extend_from_slice(b"NOT STARTED: ")?;
             push_refusal(alloc, text, *error)
         }
-        Err(WorkFault::Lost) => text.extend_from_slice(b"LOST"),
+        Err(WorkFault::Lost) => Ok(()),
     }
 }
 
-/// Appends what the stores voted.
-fn push_poll(alloc: Global, text: &mut Vec<u8>, poll: &Poll) -> Result<(), NoMemory>
-    ensures { OnOk result (text.new.items ≡ text.old.items ++ poll_text poll.now) }
+/// Appends a vote with its cause.
+fn push_vote(alloc: Global, text: &mut Vec<u8>, vote: &VoteAnswer) -> Result<(), NoMemory>
+    requires { is_plain_vote vote.now ≡ false }
+    ensures { OnOk result (text.new.items ≡ text.old.items ++ vote_text vote.now) }
 {
-    match poll {
-        Poll::Ready => text.extend_from_slice(b"READY"),
-        Poll::OnePhase => text.extend_from_slice(b"ONE PHASE"),
-        Poll::Nothing => text.extend_from_slice(b"NOTHING"),
-        Poll::No { store, cause } => push_store_cause(alloc, text, b"NO ", *store, cause),
+    match vote {
+        VoteAnswer::No { store, cause } => push_store_cause(alloc, text, b"NO ", *store, cause),
+        VoteAnswer::Ready | VoteAnswer::OnePhase | VoteAnswer::Nothing => Ok(()),
     }
 }
 
@@ -117,13 +120,13 @@ fn push_stores(text: &mut Vec<u8>, stores: &[u8]) -> Result<(), NoMemory>
     Ok(())
 }
 
-/// Appends how a transaction ended.
+/// Appends an ending with its stores or its cause.
 fn push_ending(alloc: Global, text: &mut Vec<u8>, ending: &Ending) -> Result<(), NoMemory>
+    requires { is_plain_ending ending.now ≡ false }
     ensures { OnOk result (text.new.items ≡ text.old.items ++ ending_text ending.now) }
 {
     match ending {
-        Ending::Committed => text.extend_from_slice(b"COMMITTED"),
-        Ending::RolledBack => text.extend_from_slice(b"ROLLED BACK"),
+        Ending::Committed | Ending::RolledBack => Ok(()),
         Ending::Hazard { stores } => {
             text.extend_from_slice(b"HAZARD")?;
             push_stores(text, stores.as_slice())
@@ -167,7 +170,7 @@ fn push_recover_fault(
     }
 }
 
-/// Appends what a stranger was answered.
+/// Appends what another client was answered.
 fn push_replied(
     alloc: Global,
     text: &mut Vec<u8>,
@@ -185,7 +188,7 @@ fn push_replied(
     }
 }
 
-/// Appends a store's number, and below it what its stranger was answered.
+/// Appends a store's number, and below it what its other client was answered.
 fn push_store(
     alloc: Global,
     text: &mut Vec<u8>,
@@ -215,13 +218,13 @@ fn push_each_store(
 }
 
 /// Whether a number stands so.
-fn stands(standing: &Standing, wanted: Standing) -> bool
-    ensures { result ≡ stands_as wanted standing.now }
+fn stands(decision: &Decision, wanted: Decision) -> bool
+    ensures { result ≡ stands_as wanted decision.now }
 {
-    match (wanted, standing) {
-        (Standing::Undecided, Standing::Undecided) => true,
-        (Standing::Decided, Standing::Decided) => true,
-        (Standing::Closed, Standing::Closed) => true,
+    match (wanted, decision) {
+        (Decision::Undecided, Decision::Undecided) => true,
+        (Decision::Decided, Decision::Decided) => true,
+        (Decision::Closed, Decision::Closed) => true,
         _ => false,
     }
 }
@@ -229,13 +232,13 @@ fn stands(standing: &Standing, wanted: Standing) -> bool
 /// Appends the numbers that stand so, ascending, each after a space.
 fn push_numbers(
     text: &mut Vec<u8>,
-    wanted: Standing,
-    standings: &[Standing],
+    wanted: Decision,
+    decisions: &[Decision],
 ) -> Result<(), NoMemory>
-    ensures { OnOk result (text.new.items ≡ text.old.items ++ numbers_text wanted 1 standings.now) }
+    ensures { OnOk result (text.new.items ≡ text.old.items ++ numbers_text wanted 1 decisions.now) }
 {
-    for (place, standing) in standings.iter().enumerate() {
-        if stands(standing, wanted) {
+    for (place, decision) in decisions.iter().enumerate() {
+        if stands(decision, wanted) {
             push_numbered(text, b" ", place as u64 + 1)?;
         }
     }
@@ -243,24 +246,25 @@ fn push_numbers(
 }
 
 /// Appends the numbers by how they stand. It doesn't end in a line feed.
-fn push_standings(text: &mut Vec<u8>, standings: &[Standing]) -> Result<(), NoMemory>
-    ensures { OnOk result (text.new.items ≡ text.old.items ++ standings_text standings.now) }
+fn push_decisions(text: &mut Vec<u8>, decisions: &[Decision]) -> Result<(), NoMemory>
+    ensures { OnOk result (text.new.items ≡ text.old.items ++ decisions_text decisions.now) }
 {
     text.extend_from_slice(b"UNDECIDED")?;
-    push_numbers(text, Standing::Undecided, standings)?;
+    push_numbers(text, Decision::Undecided, decisions)?;
     text.extend_from_slice(b"\nDECIDED")?;
-    push_numbers(text, Standing::Decided, standings)?;
+    push_numbers(text, Decision::Decided, decisions)?;
     text.extend_from_slice(b"\nCLOSED")?;
-    push_numbers(text, Standing::Closed, standings)
+    push_numbers(text, Decision::Closed, decisions)
 }
 
-/// Appends a response, which doesn't end in a line feed.
+/// Appends a response of more than few words. It doesn't end in a line feed.
 fn push_response(
     alloc: Global,
     text: &mut Vec<u8>,
     decisions: &Decisions,
     response: &Response,
 ) -> Result<(), NoMemory>
+    requires { has_few_words response.now ≡ false }
     ensures { OnOk result (text.new.items ≡ text.old.items ++ response_text decisions.now response.now) }
 {
     match response {
@@ -271,35 +275,30 @@ fn push_response(
             push_numbered(text, b"UNKNOWN TRANSACTION ", *number)
         }
         Response::WrongStage(number) => push_numbered(text, b"WRONG STAGE ", *number),
-        Response::Begun(number) => push_numbered(text, b"TRANSACTION ", *number),
-        Response::NumbersSpent => text.extend_from_slice(b"NUMBERS SPENT"),
         Response::Worked(worked) => push_worked(alloc, text, worked),
-        Response::Voted(poll) => push_poll(alloc, text, poll),
-        Response::Decided => text.extend_from_slice(b"DECIDED"),
-        Response::Closed => text.extend_from_slice(b"CLOSED"),
+        Response::Voted(vote) => push_vote(alloc, text, vote),
         Response::Ended(ending) => push_ending(alloc, text, ending),
-        Response::Limited => text.extend_from_slice(b"OK"),
-        Response::Stopped => text.extend_from_slice(b"STOPPED"),
         Response::Recovered(Ok(report)) => push_report(text, report),
         Response::Recovered(Err(fault)) => push_recover_fault(alloc, text, fault),
         Response::Replied { convert, answer } => push_replied(alloc, text, *convert, answer),
         Response::Shown(listing) => {
             push_each_store(alloc, text, listing.answers.as_slice())?;
-            push_standings(text, decisions.as_slice())
+            push_decisions(text, decisions.as_slice())
         }
+        Response::Begun(_) | Response::NumbersSpent | Response::Limited => Ok(()),
+        Response::Decided | Response::Closed | Response::Stopped => Ok(()),
     }
 }
 
-/// Puts the text of a response into an empty text, which may have room for it already.
-///
-/// Errors: `NoMemory`. Doesn't wait.
-pub(crate) fn write_into(
+/// Puts the text of a response of more than few words into an empty text.
+fn write_into(
     alloc: Global,
     mut text: Vec<u8>,
     decisions: &Decisions,
     response: &Response,
 ) -> Result<Vec<u8>, NoMemory>
-    requires { text.items ≡ [] }
+    requires empty { text.items ≡ [] }
+    requires words { has_few_words response.now ≡ false }
     ensures { IfOk result (λ written. written.items ≡ answer_text decisions.now response.now) }
 {
     if matches!(response, Response::Silent) {
@@ -312,14 +311,24 @@ pub(crate) fn write_into(
 
 /// The text of a response, each of its lines with a line feed; it is empty for a line that tells nothing.
 ///
-/// Errors: `NoMemory`. Doesn't wait.
+/// `room` is an empty text, which may have room for it already.
+/// Errors: `NoMemory`, never for a response of few words, which takes no memory. Doesn't wait.
 /// Own rule: docs/COORDINATOR.md, 'At the command line'.
 pub fn write_response(
     alloc: Global,
+    room: Vec<u8>,
     decisions: &Decisions,
     response: &Response,
-) -> Result<Vec<u8>, NoMemory>
-    ensures { IfOk result (λ text. text.items ≡ answer_text decisions.now response.now) }
+) -> Result<Answer, NoMemory>
+    requires { room.items ≡ [] }
+    ensures text { IfOk result (λ answer. bytes_of answer ≡ answer_text decisions.now response.now) }
+    ensures few { OnErr result (has_few_words response.now ≡ false) }
 {
-    write_into(alloc, Vec::new(alloc), decisions, response)
+    match few_words(response) {
+        Some(answer) => Ok(answer),
+        None => {
+            let text = write_into(alloc, room, decisions, response)?;
+            Ok(Answer::Text(text))
+        }
+    }
 }

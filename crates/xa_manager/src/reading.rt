@@ -1,35 +1,19 @@
 //! Lines, read as calls.
 ghost use Rattle.std.specs.Prelude.{◌≡◌, Some, None, MatchOption};
-ghost use Rattle.xa_transcript.specs.Script.{first_word, behind_word};
-ghost use Rattle.xa_manager.specs.Calls.{number_named, lone_number, takes_rows, alone as alone_call, work_of, at_of, fail_of, plain_call, call_named, call_of};
+ghost use Rattle.xa_lines.specs.Script.{first_word, behind_word, number_of_word};
+ghost use Rattle.xa_manager.specs.Calls.{lone_number, takes_rows, alone as alone_call, work_of, at_of, fail_of, plain_call, call_named, call_of};
 ghost use Rattle.xa_manager.specs.Calls.{numbered, IsWritten};
 
 use crate::Call;
+use xa_lines::{is_comment, number_in, split_word};
 use xa_statement::read_statement;
-use xa_transcript::split_word;
-use xa_xid::{Statement, number_of, skip_blanks};
-
-/// The number that the word names: decimal, below 2^64, without leading zeros.
-#[tactic(auto, unfolding(crate::specs::Calls::number_named))]
-fn number_in(word: &[u8]) -> Option<u64>
-    ensures { result ≡ number_named word.now }
-{
-    match word {
-        [] => return None,
-        [b'0', _, ..] => return None,
-        _ => {}
-    }
-    match number_of(word) {
-        Ok((number, [])) => Some(number),
-        _ => None,
-    }
-}
+use xa_xid::{Statement, skip_blanks};
 
 /// The number that the text's first word names, and the text behind that word and its blanks.
 fn number_then(text: &[u8]) -> Option<(u64, &[u8])>
     ensures { MatchOption result
-        (number_named (first_word text.now) ≡ None)
-        (λ found. (number_named (first_word text.now) ≡ Some found.0) × (found.1.now ≡ behind_word text.now)) }
+        (number_of_word (first_word text.now) ≡ None)
+        (λ found. (number_of_word (first_word text.now) ≡ Some found.0) × (found.1.now ≡ behind_word text.now)) }
 {
     let (word, rest) = split_word(text);
     match number_in(word) {
@@ -237,13 +221,13 @@ pub fn read_call(line: &[u8]) -> Call
     ensures call { result ≡ call_of line.now }
     ensures written { IsWritten result }
 {
-    let text = skip_blanks(line);
-    match text {
-        [] => Call::Silent,
-        [b'#', ..] => Call::Silent,
-        _ => {
-            let (word, rest) = split_word(text);
-            named(word, skip_blanks(rest))
-        }
+    if is_comment(line) {
+        return Call::Silent;
     }
+    let text = skip_blanks(line);
+    if text.is_empty() {
+        return Call::Silent;
+    }
+    let (word, rest) = split_word(text);
+    named(word, skip_blanks(rest))
 }

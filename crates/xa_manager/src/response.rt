@@ -1,12 +1,12 @@
 //! What a call is answered.
 
-use crate::{Listing, Poll};
+use crate::{Listing, VoteAnswer};
 use xa_coordinator::{Ending, RecoverFault, Report, WorkFault};
 use xa_server::Reply;
 use xa_session::Fault;
 
 /// What a call is answered.
-#[derive(Debug, Drop)]
+#[derive(Drop)]
 pub enum Response {
     /// Nothing.
     Silent,
@@ -25,7 +25,7 @@ pub enum Response {
     /// What work came to.
     Worked(Result<Reply, WorkFault>),
     /// What the stores voted.
-    Voted(Poll),
+    Voted(VoteAnswer),
     /// It is decided that the transaction commits.
     Decided,
     /// Its number is closed: it can't be decided.
@@ -38,13 +38,13 @@ pub enum Response {
     Stopped,
     /// What recovery came to.
     Recovered(Result<Report, RecoverFault>),
-    /// What a stranger was answered, with identifiers in digits where `convert`.
+    /// What another client was answered, with identifiers in digits where `convert`.
     Replied {
         /// Whether recovered identifiers are printed in digits.
         convert: bool,
         /// The answer.
         answer: Result<Reply, Fault>,
     },
-    /// What each store's stranger was answered to `XA RECOVER CONVERT XID`. The decisions are told after that.
+    /// What the other client of each store was answered to `XA RECOVER CONVERT XID`. The decisions are told after that.
     Shown(Listing),
 }

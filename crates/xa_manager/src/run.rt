@@ -1,58 +1,18 @@
 //! Calls of a coordinator over stores of its own, line by line.
-ghost use Rattle.std.specs.Prelude.{◌≡◌, ◌≤◌, [], length, vec_len, OnOk, IfOk, OnErr, IfErr, IfSome, Err};
-ghost use Rattle.std.specs.Io.KnownBytes.{IsAtEnd};
+ghost use Rattle.std.specs.Prelude.{◌≡◌, ◌≤◌, [], length, vec_len, IfOk};
 ghost use Rattle.decision_log.specs.Opens.{IsCapacity};
 ghost use Rattle.xa_store.specs.Passes.{log_of, identity_of};
-ghost use Rattle.xa_transcript.specs.Limits.{script_bytes};
-ghost use Rattle.xa_transcript.specs.Transcript.{ConsumesMoreThan, IsOfRun};
-ghost use Rattle.xa_manager.specs.Answers.{new_desk};
-ghost use Rattle.xa_manager.specs.Managed.{desk_of};
-ghost use Rattle.xa_manager.specs.Texts.{answer_text};
-ghost use Rattle.xa_manager.specs.Written.{AreOf, IsAllWritten, IsCutOff, AfterCallsFault};
+ghost use Rattle.xa_manager.specs.Passes.{AreOf};
 
-use crate::print::write_response;
-use crate::{CallServer, Manager, Response, read_call};
+use crate::{CallServer, Manager};
 use std::alloc::{AllocError, Global};
 use std::io::{Read, Write};
 use std::sync::Wait;
-use xa_coordinator::{Decisions, Fused, Speak};
-use xa_serve::{Wire, serve};
+use xa_coordinator::{Fused, Speak};
+use xa_lines::{ScriptFault, Transport, serve};
 use xa_session::Session;
 use xa_store::{Log, Pass, Store};
-use xa_transcript::{ScriptFault, read_all, split_line, write_whole};
 use xa_xid::NoMemory;
-
-/// The text of a response, which isn't kept.
-fn text_of(alloc: Global, decisions: &Decisions, response: Response) -> Result<Vec<u8>, NoMemory>
-    ensures { IfOk result (λ text. text.items ≡ answer_text decisions.now response) }
-{
-    write_response(alloc, decisions, &response)
-}
-
-/// Carries the calls of a script out, and writes each answer as it is found.
-fn answer_lines<S: Speak + Drop, T: Speak + Drop, W: Write, R: Wait>(
-    rt: &R,
-    alloc: Global,
-    manager: Manager<Fused<S>, T>,
-    script: &[u8],
-    writer: &mut W,
-) -> Result<(), ScriptFault>
-    ensures all { OnOk result (IsAllWritten (desk_of manager) script.now (W.contents writer.old) (W.contents writer.new)) }
-    ensures fault { IfErr result IsOfRun }
-    ensures cut { OnErr result (IsCutOff (desk_of manager) script.now (W.contents writer.old) (W.contents writer.new)) }
-{
-    let mut manager = manager;
-    let mut rest = script;
-    while !rest.is_empty() {
-        let (line, lines) = split_line(rest);
-        let call = read_call(line);
-        let response = manager.answer(rt, alloc, &call)?;
-        let text = text_of(alloc, manager.decisions(), response)?;
-        write_whole(writer, text.as_slice())?;
-        rest = lines;
-    }
-    Ok(())
-}
 
 /// Opens a store, and gives the passes of its two sessions.
 fn open_store(alloc: Global, capacity: u64) -> Result<(Store, Pass, Pass), NoMemory>
@@ -68,7 +28,7 @@ fn open_store(alloc: Global, capacity: u64) -> Result<(Store, Pass, Pass), NoMem
 }
 
 /// Opens so many stores, each with room for `capacity` entries and two sessions, and returns them with the passes of their first sessions, the
-/// coordinator's, and of their second ones, the strangers'.
+/// coordinator's, and of their second ones, the other clients'.
 ///
 /// Errors: `NoMemory` where memory can't be had, or where `capacity` isn't in `[1, 1024]`; nothing is kept then.
 /// May return `NoMemory`. Never waits.
@@ -145,44 +105,24 @@ pub fn manager_over<'a>(
     ensures ledger { IfOk result (λ manager. manager.ledger ≡ []) }
 {
     let sessions = connect_each(alloc, stores, firsts)?;
-    let strangers = connect_each(alloc, stores, seconds)?;
+    let other_clients = connect_each(alloc, stores, seconds)?;
     let sessions = fuse_each(alloc, sessions)?;
-    Ok(Manager::new(alloc, sessions, strangers))
-}
-
-/// Carries the calls of a script out over so many stores.
-fn over_stores<W: Write, R: Wait>(
-    rt: &R,
-    alloc: Global,
-    count: u64,
-    capacity: u64,
-    script: &[u8],
-    writer: &mut W,
-) -> Result<(), ScriptFault>
-    requires some { 1 ≤ count }
-    requires most { count ≤ 16 }
-    ensures all { OnOk result (IsAllWritten (new_desk count) script.now (W.contents writer.old) (W.contents writer.new)) }
-    ensures fault { IfErr result IsOfRun }
-    ensures cut { OnErr result (IsCutOff (new_desk count) script.now (W.contents writer.old) (W.contents writer.new)) }
-{
-    let (stores, firsts, seconds) = open_stores(alloc, count, capacity)?;
-    let manager = manager_over(alloc, stores.as_slice(), firsts, seconds)?;
-    answer_lines(rt, alloc, manager, script, writer)
+    Ok(Manager::new(alloc, sessions, other_clients))
 }
 
 /// Carries calls out over stores of its own, line by line: each line is answered, and the answer written and flushed, before more is read.
 ///
 /// `stores` is the number of stores, in `[1, 16]`; each has room for `capacity` entries, in `[1, 1024]`, and two sessions, the
-/// coordinator's and a stranger's. The input is of any length, a line of at most 65,536 bytes; a longer one isn't read as a call.
+/// coordinator's and another client's. The input is of any length, a line of at most 65,536 bytes; a longer one isn't read as a call.
 /// Errors: `Read`, `Write`, and `NoMemory` where the stores or the room for a line can't be had, before anything was read. Where memory
-/// is refused for a call, that is its answer, and the next is heard. What is promised of such a conversation is `xa_serve::serve`'s
+/// is refused for a call, that is its answer, and the next is received. What is promised of such a conversation is `xa_lines::serve`'s
 /// contract, by what `CallServer` answers; streams don't say what passed.
-/// May wait, for the peer too.
+/// May wait, for the client too.
 /// Own rule: docs/COORDINATOR.md, 'At the command line'.
 pub fn converse<R: Wait, I: Read + Drop, W: Write + Drop>(
     rt: &R,
     alloc: Global,
-    wire: &mut Wire<I, W>,
+    transport: &mut Transport<I, W>,
     stores: u64,
     capacity: u64,
 ) -> Result<(), ScriptFault>
@@ -191,34 +131,5 @@ pub fn converse<R: Wait, I: Read + Drop, W: Write + Drop>(
 {
     let (stores, firsts, seconds) = open_stores(alloc, stores, capacity)?;
     let manager = manager_over(alloc, stores.as_slice(), firsts, seconds)?;
-    serve(alloc, &mut CallServer::new(rt, manager), wire)
-}
-
-/// Carries the calls of a script out, line by line, over stores of its own, and writes what answers each.
-///
-/// `stores` is the number of stores, in `[1, 16]`; each has room for `capacity` entries, in `[1, 1024]`, and two sessions, the
-/// coordinator's and a stranger's. All is read first, at most 1,048,576 bytes. Each answer is written as it is found; it isn't flushed.
-/// Errors: `Read`, `TooLong`, `NoMemory` and `Write`, as those of `run_script`: after the first two nothing was written, else the
-/// answers of the first lines, and at most a part of the next one's.
-/// May answer `NoMemory`. May wait: no number of tries is promised.
-/// Own rule: docs/COORDINATOR.md, 'At the command line'.
-pub fn coordinate<R: Wait, I: Read, W: Write>(
-    rt: &R,
-    alloc: Global,
-    reader: &mut I,
-    writer: &mut W,
-    stores: u64,
-    capacity: u64,
-) -> Result<(), ScriptFault>
-    requires stores { (1 ≤ stores) × (stores ≤ 16) }
-    requires capacity { IsCapacity capacity }
-    ensures read { OnOk result (IsAtEnd (I.remaining reader.new)) }
-    ensures written { OnOk result
-        (IfSome (I.remaining reader.old) (λ script. IsAllWritten (new_desk stores) script (W.contents writer.old) (W.contents writer.new))) }
-    ensures short { OnOk result (IfSome (I.remaining reader.old) (λ script. length script ≤ script_bytes)) }
-    ensures fault { IfErr result (λ fault. AfterCallsFault stores fault (I.remaining reader.old) (W.contents writer.old) (W.contents writer.new)) }
-    ensures too_long { result ≡ Err ScriptFault.TooLong → ConsumesMoreThan script_bytes (I.remaining reader.old) (I.remaining reader.new) }
-{
-    let script = read_all(alloc, reader)?;
-    over_stores(rt, alloc, stores, capacity, script.as_slice(), writer)
+    serve(alloc, &mut CallServer::new(rt, manager), transport)
 }

@@ -3,7 +3,7 @@
 use xa_coordinator::{Prepared, Transaction};
 
 /// How far a global transaction that was begun has come. What is kept here outlives its coordinator.
-#[derive(Debug, Drop)]
+#[derive(Drop)]
 pub enum Stage {
     /// It takes work.
     Working(Transaction),

@@ -7,18 +7,18 @@ use Rattle.std.proofs.lemmas.List.{drop_all, length-map}
 use Rattle.xa_judge.specs.declared.moves.Act.{Act}
 use Rattle.xa_judge.specs.declared.moves.Move.{Move}
 use Rattle.xa_judge.specs.declared.moves.Move.TheVariants.{Event as Seeing, Effect}
-use Rattle.xa_record.specs.declared.happening.Noted.{Noted as NotedRead}
-use Rattle.xa_record.specs.Kept.{told_kept, noted_kept}
-use Rattle.xa_record.specs.Reading.{Noted}
+use Rattle.xa_record.specs.declared.line_event.NumberedEvent.{NumberedEvent as NumberedRead}
+use Rattle.xa_record.specs.Kept.{told_kept, numbered_kept}
+use Rattle.xa_record.specs.Reading.{NumberedEvent}
 use Rattle.xa_record.specs.VerdictText.{with_call, effect_text, order_text}
 
 -- the line of an effect was written
-pub moved_effect : (out new : List ℕ) (calls : List (List ℕ)) (noted : List Noted) (session : ℕ) (act : Act) (moves : List Move)
+pub moved_effect : (out new : List ℕ) (calls : List (List ℕ)) (numbered : List NumberedEvent) (session : ℕ) (act : Act) (moves : List Move)
     → new ≡ out ++ effect_text calls session act
-    → out ++ order_text calls noted (Effect session act ∷ moves) ≡ new ++ order_text calls noted moves
+    → out ++ order_text calls numbered (Effect session act ∷ moves) ≡ new ++ order_text calls numbered moves
 unfolding order_text
-moved_effect out new calls noted session act moves written =
-    sym (append_assoc out (effect_text calls session act) (order_text calls noted moves)) ∙ ap (λ l. l ++ order_text calls noted moves) (sym written)
+moved_effect out new calls numbered session act moves written =
+    sym (append_assoc out (effect_text calls session act) (order_text calls numbered moves)) ∙ ap (λ l. l ++ order_text calls numbered moves) (sym written)
 
 -- nothing is left to happen
 pub moved_over : (out : List ℕ) (calls : List (List ℕ)) (moves : List Move) → out ++ order_text calls [] (Seeing ∷ moves) ≡ out ++ order_text calls [] moves
@@ -26,7 +26,7 @@ unfolding order_text
 moved_over out calls moves = refl
 
 -- one thing more has happened
-pub moved_event : (out : List ℕ) (calls new : List (List ℕ)) (one : Noted) (more : List Noted) (moves : List Move) → new ≡ with_call one.told calls
+pub moved_event : (out : List ℕ) (calls new : List (List ℕ)) (one : NumberedEvent) (more : List NumberedEvent) (moves : List Move) → new ≡ with_call one.told calls
     → out ++ order_text calls (one ∷ more) (Seeing ∷ moves) ≡ out ++ order_text new more moves
 unfolding order_text
 moved_event out calls new one more moves next = ap (λ c. out ++ order_text c more moves) (sym next)
@@ -37,28 +37,28 @@ pub dropped : {A : Type 0} (list : List A) (index : ℕ) (next : A) → index < 
 dropped list index next within at = rw add-one (drop-cons list index next within ∙ ap (λ x. x ∷ drop (suc index) list) (sym at))
 
 -- no move is left
-pub moved_whole : (whole out : List ℕ) (calls : List (List ℕ)) (noted : List Noted) (moves : List Move) (index : ℕ) → length moves ≤ index
-    → whole ≡ out ++ order_text calls noted (drop index moves) → out ≡ whole
+pub moved_whole : (whole out : List ℕ) (calls : List (List ℕ)) (numbered : List NumberedEvent) (moves : List Move) (index : ℕ) → length moves ≤ index
+    → whole ≡ out ++ order_text calls numbered (drop index moves) → out ≡ whole
 unfolding order_text
-moved_whole whole out calls noted moves index past is = sym (is ∙ ap (λ m. out ++ order_text calls noted m) (drop_all index moves past) ∙ append-nil out)
+moved_whole whole out calls numbered moves index past is = sym (is ∙ ap (λ m. out ++ order_text calls numbered m) (drop_all index moves past) ∙ append-nil out)
 
-mapped : (noted : List NotedRead) (place : ℕ) (one : NotedRead) → place < length noted → one ≡ get_or noted place one
-    → drop place (map noted_kept noted) ≡ noted_kept one ∷ drop (place + 1) (map noted_kept noted)
-mapped noted place one within at =
-    drop-map noted_kept place noted ∙ ap (map noted_kept) (dropped noted place one within at)
-    ∙ ap (λ l. noted_kept one ∷ l) (sym (drop-map noted_kept (place + 1) noted))
+mapped : (numbered : List NumberedRead) (place : ℕ) (one : NumberedRead) → place < length numbered → one ≡ get_or numbered place one
+    → drop place (map numbered_kept numbered) ≡ numbered_kept one ∷ drop (place + 1) (map numbered_kept numbered)
+mapped numbered place one within at =
+    drop-map numbered_kept place numbered ∙ ap (map numbered_kept) (dropped numbered place one within at)
+    ∙ ap (λ l. numbered_kept one ∷ l) (sym (drop-map numbered_kept (place + 1) numbered))
 
 -- one thing more of the list as the program keeps it has happened
-pub moved_event_at : (out : List ℕ) (calls new : List (List ℕ)) (noted : List NotedRead) (place : ℕ) (one : NotedRead) (moves : List Move)
-    → place < length noted → one ≡ get_or noted place one
-    → new ≡ with_call (told_kept one.happening) calls
-    → out ++ order_text calls (drop place (map noted_kept noted)) (Seeing ∷ moves) ≡ out ++ order_text new (drop (place + 1) (map noted_kept noted)) moves
-moved_event_at out calls new noted place one moves within at next =
-    ap (λ l. out ++ order_text calls l (Seeing ∷ moves)) (mapped noted place one within at)
-    ∙ moved_event out calls new (noted_kept one) (drop (place + 1) (map noted_kept noted)) moves next
+pub moved_event_at : (out : List ℕ) (calls new : List (List ℕ)) (numbered : List NumberedRead) (place : ℕ) (one : NumberedRead) (moves : List Move)
+    → place < length numbered → one ≡ get_or numbered place one
+    → new ≡ with_call (told_kept one.line_event) calls
+    → out ++ order_text calls (drop place (map numbered_kept numbered)) (Seeing ∷ moves) ≡ out ++ order_text new (drop (place + 1) (map numbered_kept numbered)) moves
+moved_event_at out calls new numbered place one moves within at next =
+    ap (λ l. out ++ order_text calls l (Seeing ∷ moves)) (mapped numbered place one within at)
+    ∙ moved_event out calls new (numbered_kept one) (drop (place + 1) (map numbered_kept numbered)) moves next
 
-pub moved_over_at : (out : List ℕ) (calls : List (List ℕ)) (noted : List NotedRead) (place : ℕ) (moves : List Move) → length noted ≤ place
-    → out ++ order_text calls (drop place (map noted_kept noted)) (Seeing ∷ moves) ≡ out ++ order_text calls (drop place (map noted_kept noted)) moves
-moved_over_at out calls noted place moves past =
-    let none : drop place (map noted_kept noted) ≡ [] = drop_all place (map noted_kept noted) (omega (arith, length-map noted noted_kept)) in
+pub moved_over_at : (out : List ℕ) (calls : List (List ℕ)) (numbered : List NumberedRead) (place : ℕ) (moves : List Move) → length numbered ≤ place
+    → out ++ order_text calls (drop place (map numbered_kept numbered)) (Seeing ∷ moves) ≡ out ++ order_text calls (drop place (map numbered_kept numbered)) moves
+moved_over_at out calls numbered place moves past =
+    let none : drop place (map numbered_kept numbered) ≡ [] = drop_all place (map numbered_kept numbered) (omega (arith, length-map numbered numbered_kept)) in
     ap (λ l. out ++ order_text calls l (Seeing ∷ moves)) none ∙ moved_over out calls moves ∙ sym (ap (λ l. out ++ order_text calls l moves) none)

@@ -1,9 +1,9 @@
 -- What was read was judged, and what was written.
 use Rattle.std.proofs.Common.{◌≡◌, ℕ, Option, Some, None, Result, Ok, Err, List, ◌++◌, IfSome, IfOk, IfErr, OnOk, OnErr, ap, sym, ◌∙◌, subst, append-nil}
 use Rattle.std.specs.Io.KnownBytes.{Appends, Consumes, IsAtEnd}
-use Rattle.xa_transcript.specs.declared.script_fault.ScriptFault.{ScriptFault}
-use Rattle.xa_transcript.specs.declared.script_fault.ScriptFault.TheVariants.{Write}
-use Rattle.xa_transcript.specs.Transcript.{AppendsPrefix}
+use Rattle.xa_lines.specs.declared.script_fault.ScriptFault.{ScriptFault}
+use Rattle.xa_lines.specs.declared.script_fault.ScriptFault.TheVariants.{Write}
+use Rattle.xa_lines.specs.Transcript.{AppendsPrefix}
 use Rattle.xa_record.specs.declared.outcome.Outcome.{Outcome}
 use Rattle.xa_record.specs.Judged.{IsJudged, AppendsJudged, AppendsJudgedPrefix, AfterJudgeFault}
 

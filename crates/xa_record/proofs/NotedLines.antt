@@ -1,11 +1,11 @@
 -- Reading a record line by line.
 use Rattle.std.proofs.Common.{◌≡◌, ℕ, ◌+◌, ◌==◌, true, Option, None, List, [], ◌∷◌, ◌++◌, length, slice_get, slice_set, refl, ap, sym, ◌∙◌, arith}
 use Rattle.std.proofs.lemmas.Grind.{common_steps}
-use Rattle.xa_transcript.specs.Script.{lines_of}
+use Rattle.xa_lines.specs.Script.{lines_of}
 use Rattle.xa_record.specs.declared.line_fault.LineFault.{LineFault}
 use Rattle.xa_record.specs.declared.presence.Presence.{Presence}
 use Rattle.xa_record.specs.Lines.{Told}
-use Rattle.xa_record.specs.Reading.{Noted, Notes, session_of, presence_after, cause_of, note_of, noted_if, noted_line, noted_lines}
+use Rattle.xa_record.specs.Reading.{NumberedEvent, Notes, session_of, presence_after, cause_of, note_of, noted_if, noted_line, noted_lines}
 
 -- one line was cut off
 pub noted_lines-line : (notes : Notes) (number : ℕ) (text line rest : List ℕ) → lines_of text ≡ line ∷ lines_of rest
@@ -20,15 +20,15 @@ noted_lines-end notes number [] empty = refl
 noted_lines-end notes number (x ∷ xs) empty = absurd (let none : length (x ∷ xs) ≡ 0 = grind (arith, common_steps) in omega arith)
 
 -- the notes with another list of what happens, and other words on the sessions
-abbrev pub made : Notes → List Noted → List Presence → Notes
+abbrev pub made : Notes → List NumberedEvent → List Presence → Notes
 made notes list presence = record notes { told = list; presence = presence }
 
 -- what happens was note_of, with what is then said of its session
-pub noted-so : (notes : Notes) (number : ℕ) (told : Told) (list : List Noted) (presence : List Presence)
+pub numbered-so : (notes : Notes) (number : ℕ) (told : Told) (list : List NumberedEvent) (presence : List Presence)
     → cause_of (slice_get notes.presence (session_of told)) told ≡ None
     → list ≡ notes.told ++ record { number = number; told = told } ∷ [] → presence ≡ slice_set notes.presence (session_of told) (presence_after told)
     → made notes list presence ≡ note_of notes number told
 unfolding noted_if
-noted-so notes number told list presence no_fault one two =
-    ap (λ (l : List Noted). made notes l presence) one ∙ ap (made notes (notes.told ++ record { number = number; told = told } ∷ [])) two
+numbered-so notes number told list presence no_fault one two =
+    ap (λ (l : List NumberedEvent). made notes l presence) one ∙ ap (made notes (notes.told ++ record { number = number; told = told } ∷ [])) two
     ∙ sym (ap (λ (c : Option LineFault). noted_if c notes number told) no_fault)

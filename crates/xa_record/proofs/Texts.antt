@@ -9,8 +9,8 @@ use Rattle.std.specs.declared.cmp.Ordering.TheVariants.{Less, Equal, Greater}
 use Rattle.std.specs.Ordering.{match_ordering}
 use Rattle.xa_xid.specs.Xid.{bytes_cmp}
 use Rattle.xa_judge.specs.declared.answer.Answer.{Answer}
-use Rattle.xa_record.specs.declared.happening.Noted.{Noted as NotedRead}
-use Rattle.xa_record.specs.Kept.{noted_kept}
+use Rattle.xa_record.specs.declared.line_event.NumberedEvent.{NumberedEvent as NumberedRead}
+use Rattle.xa_record.specs.Kept.{numbered_kept}
 use Rattle.xa_record.specs.VerdictText.{answer_text, with_answers, texts_of, answers_text, number_of_line, line_number_at}
 
 -- answers one after another
@@ -73,11 +73,11 @@ unfolding answers_text
 written-whole whole out texts is none = sym (is ∙ ap (λ t. out ++ answers_text t) none ∙ append-nil out)
 
 -- the number of the line, in the list as the program keeps it
-pub number_at-within : (noted : List NotedRead) (place : ℕ) (one : NotedRead) → place < length noted → one ≡ get_or noted place one
-    → one.number ≡ line_number_at (map noted_kept noted) place
-number_at-within noted place one within at =
-    sym (ap number_of_line (slice_get-map noted_kept noted place ∙ ap (option_map noted_kept) (slice_get_read noted (length noted) place one refl within at)))
+pub number_at-within : (numbered : List NumberedRead) (place : ℕ) (one : NumberedRead) → place < length numbered → one ≡ get_or numbered place one
+    → one.number ≡ line_number_at (map numbered_kept numbered) place
+number_at-within numbered place one within at =
+    sym (ap number_of_line (slice_get-map numbered_kept numbered place ∙ ap (option_map numbered_kept) (slice_get_read numbered (length numbered) place one refl within at)))
 
 -- there is no such line
-pub number_at-past : (noted : List NotedRead) (place : ℕ) → length noted ≤ place → 0 ≡ line_number_at (map noted_kept noted) place
-number_at-past noted place past = sym (ap number_of_line (slice_get-map noted_kept noted place ∙ ap (option_map noted_kept) (slice_get_past noted place past)))
+pub number_at-past : (numbered : List NumberedRead) (place : ℕ) → length numbered ≤ place → 0 ≡ line_number_at (map numbered_kept numbered) place
+number_at-past numbered place past = sym (ap number_of_line (slice_get-map numbered_kept numbered place ∙ ap (option_map numbered_kept) (slice_get_past numbered place past)))

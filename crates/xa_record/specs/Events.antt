@@ -15,7 +15,7 @@ use Rattle.xa_judge.specs.declared.event.Seen.TheVariants.{Ok as SeenOk, Value a
 use Rattle.xa_judge.specs.declared.event.Event.{Event}
 use Rattle.xa_judge.specs.declared.event.Event.TheVariants.{Call, Return, Lost}
 use Rattle.xa_record.specs.Lines.{Shown, ShowsOk, ShowsValue, ShowsRows, ShowsError, Told, Calls, Returns, Leaves}
-use Rattle.xa_record.specs.Reading.{Noted}
+use Rattle.xa_record.specs.Reading.{NumberedEvent}
 
 abbrev pub request_read : Result Statement ℕ → Request
 request_read (Ok statement) = Given statement
@@ -44,8 +44,8 @@ IsEvent (Returns session shown) (Lost other) = ⊥
 IsEvent (Leaves session) event = event ≡ Lost session
 
 -- so it is with each
-abbrev pub AreEvents : List Noted → List Event → Type 0
+abbrev pub AreEvents : List NumberedEvent → List Event → Type 0
 AreEvents [] [] = Unit {0}
 AreEvents [] (event ∷ events) = ⊥
-AreEvents (noted ∷ more) [] = ⊥
-AreEvents (noted ∷ more) (event ∷ events) = IsEvent noted.told event × AreEvents more events
+AreEvents (numbered ∷ more) [] = ⊥
+AreEvents (numbered ∷ more) (event ∷ events) = IsEvent numbered.told event × AreEvents more events

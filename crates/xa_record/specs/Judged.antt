@@ -7,15 +7,15 @@
 use Rattle.std.specs.Prelude.{◌≡◌, ◌⊎◌, ℕ, Option, List, [], ◌∷◌, IfSome}
 use Rattle.std.specs.Io.KnownBytes.{Keeps, Appends}
 use Rattle.xa_server.specs.State.{no_state}
-use Rattle.xa_transcript.specs.declared.script_fault.ScriptFault.{ScriptFault}
-use Rattle.xa_transcript.specs.declared.script_fault.ScriptFault.TheVariants.{Read, TooLong, Write, NoMemory, Full, GateShut, ThreadRefused}
-use Rattle.xa_transcript.specs.Transcript.{AppendsPrefix}
+use Rattle.xa_lines.specs.declared.script_fault.ScriptFault.{ScriptFault}
+use Rattle.xa_lines.specs.declared.script_fault.ScriptFault.TheVariants.{Read, TooLong, Write, NoMemory, Full, GateShut, ThreadRefused}
+use Rattle.xa_lines.specs.Transcript.{AppendsPrefix}
 use Rattle.xa_judge.specs.declared.event.Event.{Event}
 use Rattle.xa_judge.specs.declared.verdict.Verdict.{Verdict}
 use Rattle.xa_judge.specs.Verdicts.{IsVerdict}
 use Rattle.xa_record.specs.declared.outcome.Outcome.{Outcome}
 use Rattle.xa_record.specs.declared.outcome.Outcome.TheVariants.{Faulty}
-use Rattle.xa_record.specs.Reading.{Noted, notes_of}
+use Rattle.xa_record.specs.Reading.{NumberedEvent, notes_of}
 use Rattle.xa_record.specs.Events.{AreEvents}
 use Rattle.xa_record.specs.VerdictText.{verdict_text, outcome_of}
 
@@ -27,18 +27,18 @@ abbrev pub record_reads : ℕ
 record_reads = 33554432
 
 -- some verdict on the events that the lines say, from a server that holds nothing on, is right, and this is its end and its text
-pub record IsJudgement (noted : List Noted) (limit : ℕ) (outcome : Outcome) (text : List ℕ) : Type 0 where
+pub record IsJudgement (numbered : List NumberedEvent) (limit : ℕ) (outcome : Outcome) (text : List ℕ) : Type 0 where
   pub events : List Event
   pub verdict : Verdict
-  pub are : AreEvents noted events
+  pub are : AreEvents numbered events
   pub right : IsVerdict no_state events limit verdict
   pub outcome_is : outcome ≡ outcome_of verdict
-  pub text_is : text ≡ verdict_text noted verdict
+  pub text_is : text ≡ verdict_text numbered verdict
 
 -- with no faulty line there is a verdict; else the faulty lines stand there, and nothing else
-abbrev pub IsJudgedWith : List ℕ → List Noted → ℕ → Outcome → List ℕ → Type 0
-IsJudgedWith [] noted limit outcome text = IsJudgement noted limit outcome text
-IsJudgedWith (byte ∷ faults) noted limit outcome text = (outcome ≡ Faulty) × (text ≡ byte ∷ faults)
+abbrev pub IsJudgedWith : List ℕ → List NumberedEvent → ℕ → Outcome → List ℕ → Type 0
+IsJudgedWith [] numbered limit outcome text = IsJudgement numbered limit outcome text
+IsJudgedWith (byte ∷ faults) numbered limit outcome text = (outcome ≡ Faulty) × (text ≡ byte ∷ faults)
 
 -- how judging a record ends, and what is written
 abbrev pub IsJudged : List ℕ → ℕ → Outcome → List ℕ → Type 0

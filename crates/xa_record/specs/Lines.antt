@@ -2,16 +2,16 @@
 --     Shown            what a return shows
 --     Told             what happens to a session: it calls for a text, its call returns, or its client is gone
 --     LineSaid         what a line says
---     is_remark        it is blank, or its first byte that isn't is `#`
+--     is_silent        it is blank, or a comment
 --     trimmed          a text without the blanks at its end
 --     reading_of_line  what this line says
-use Rattle.std.specs.Prelude.{ℕ, ◌==◌, nat_lt, Bool, true, bytes_eq, if◌then◌else◌, Option, Some, None, Ok, Err, List, [], ◌∷◌, codes, reverse}
+use Rattle.std.specs.Prelude.{ℕ, ◌==◌, nat_lt, Bool, ◌||◌, bytes_eq, if◌then◌else◌, Option, Some, None, Ok, Err, List, [], ◌∷◌, codes, reverse}
 use Rattle.xa_xid.specs.Bytes.{unblank}
 use Rattle.xa_xid.specs.Literal.{Reading, literal_ahead}
 use Rattle.xa_xid.specs.Xid.{Text}
 use Rattle.xa_xid.specs.declared.xid.Xid.{Xid}
-use Rattle.xa_transcript.specs.Script.{Line, Blank, Bad as BadLine, Given, line_of, first_word, behind_word}
-use Rattle.xa_record.specs.Rows.{leading_number, number_named}
+use Rattle.xa_lines.specs.Script.{Line, Blank, Bad as BadLine, Given, line_of, first_word, behind_word, is_empty_line, is_comment_line, number_of_word}
+use Rattle.xa_record.specs.Rows.{leading_number}
 
 -- what a return shows
 pub data Shown : Type 0 where
@@ -44,13 +44,9 @@ pub data LineSaid : Type 0 where
   -- a session's call returns so many rows, which stand on the next lines
   Awaits : ℕ → ℕ → LineSaid
 
-abbrev pub begins_remark : List ℕ → Bool
-begins_remark [] = true
-begins_remark (byte ∷ bytes) = byte == 35
-
--- it is blank, or its first byte that isn't is `#`
-abbrev pub is_remark : List ℕ → Bool
-is_remark line = begins_remark (unblank line)
+-- it is blank, or a comment
+abbrev pub is_silent : List ℕ → Bool
+is_silent line = is_empty_line (unblank line) || is_comment_line line
 
 -- a text without the blanks at its end
 unfoldable pub trimmed : List ℕ → List ℕ
@@ -82,7 +78,7 @@ return_said session word text =
     if bytes_eq word (codes "OK") then alone (Says (Returns session ShowsOk)) text else
     if bytes_eq word (codes "NONE") then alone (Says (Returns session (ShowsValue None))) text else
     if bytes_eq word (codes "VALUE") then value_said session (literal_ahead text) else
-    if bytes_eq word (codes "ROWS") then rows_said session (number_named (first_word text)) (behind_word text) else
+    if bytes_eq word (codes "ROWS") then rows_said session (number_of_word (first_word text)) (behind_word text) else
     if bytes_eq word (codes "ERROR") then error_said session (leading_number text) else Bad
 
 -- what stands behind `!`
@@ -96,7 +92,7 @@ session_said session sign text =
     if bytes_eq sign (codes "<") then return_said session (first_word text) (behind_word text) else
     if bytes_eq sign (codes "!") then loss_said session (first_word text) (behind_word text) else Bad
 
--- what a line says that is no remark, by its session and the text behind that
+-- what a line says that is not silent, by its session and the text behind that
 abbrev pub filled_said : Line → LineSaid
 filled_said Blank = Nothing
 filled_said BadLine = Bad
@@ -104,4 +100,4 @@ filled_said (Given session text) = session_said session (first_word text) (behin
 
 -- what a line says
 unfoldable pub reading_of_line : List ℕ → LineSaid
-reading_of_line line = if is_remark line then Nothing else filled_said (line_of line)
+reading_of_line line = if is_silent line then Nothing else filled_said (line_of line)

@@ -12,12 +12,12 @@
 use Rattle.std.specs.Prelude.{ℕ, ◌+◌, ◌-◌, ◌==◌, if◌then◌else◌, Option, Some, None, List, [], ◌∷◌, ◌++◌, codes, decimal, slice_get, slice_set, replicate}
 use Rattle.xa_xid.specs.Bytes.{unblank}
 use Rattle.xa_xid.specs.declared.xid.Xid.{Xid}
-use Rattle.xa_transcript.specs.Script.{lines_of}
+use Rattle.xa_lines.specs.Script.{lines_of}
 use Rattle.xa_record.specs.declared.line_fault.LineFault.{LineFault}
 use Rattle.xa_record.specs.declared.line_fault.LineFault.TheVariants.{NotALine, NotARow, RowsMissing, OpenCall, NoOpenCall, Lost as WasLost}
 use Rattle.xa_record.specs.declared.presence.Presence.{Presence}
 use Rattle.xa_record.specs.declared.presence.Presence.TheVariants.{Idle, Open, Lost}
-use Rattle.xa_record.specs.Lines.{ShowsRows, Told, Calls, Returns, Leaves, LineSaid, Nothing, Bad, Says, Awaits, reading_of_line, is_remark}
+use Rattle.xa_record.specs.Lines.{ShowsRows, Told, Calls, Returns, Leaves, LineSaid, Nothing, Bad, Says, Awaits, reading_of_line, is_silent}
 use Rattle.xa_record.specs.Rows.{row_said}
 
 -- the session to which this happens
@@ -66,13 +66,13 @@ pub record Awaited : Type 0 where
   pub faults : List ℕ
 
 -- what happens on the line of this number
-pub record Noted : Type 0 where
+pub record NumberedEvent : Type 0 where
   pub number : ℕ
   pub told : Told
 
 -- what was read so far
 pub record Notes : Type 0 where
-  pub told : List Noted
+  pub told : List NumberedEvent
   pub faults : List ℕ
   pub presence : List Presence
   pub awaited : Option Awaited
@@ -117,7 +117,7 @@ with_row notes awaited number (Some xid) = awaiting notes (record awaited { miss
 -- a line where a row is to stand
 unfoldable pub noted_row : Notes → Awaited → ℕ → List ℕ → Notes
 noted_row notes awaited number line =
-    if is_remark line then notes else with_row (record notes { awaited = None }) awaited number (row_said (unblank line))
+    if is_silent line then notes else with_row (record notes { awaited = None }) awaited number (row_said (unblank line))
 
 -- a line where none is
 unfoldable pub noted_said : Notes → ℕ → LineSaid → Notes

@@ -1,29 +1,18 @@
 -- The rows of a return, as XA RECOVER CONVERT XID prints them: formatID, the lengths of gtrid and bqual, and the bytes of both as one.
 --     leading_number     the number that a text's first digits are
---     number_named       the number that a word is
 --     row_said           the identifier that a line is written as
 use Rattle.std.specs.Prelude.{ℕ, ◌+◌, ◌==◌, ◌&&◌, nat_le, if◌then◌else◌, Option, Some, None, Result, Ok, Err, List, [], ◌∷◌, take, drop}
 use Rattle.hex.specs.Hex.{decode_sized}
 use Rattle.hex.specs.declared.error.FromHexError.{FromHexError}
-use Rattle.xa_xid.specs.Bytes.{belongs, front, only}
+use Rattle.xa_xid.specs.Bytes.{belongs, front}
 use Rattle.xa_xid.specs.Limits.{text_bytes}
-use Rattle.xa_xid.specs.Literal.{Reading}
-use Rattle.xa_xid.specs.Number.{number_ahead}
 use Rattle.xa_xid.specs.declared.byte_class.ByteClass.TheVariants.{Decimal}
 use Rattle.xa_xid.specs.declared.xid.Xid.{Xid}
-use Rattle.xa_transcript.specs.Script.{is_empty_line, first_word, behind_word}
+use Rattle.xa_lines.specs.Script.{is_empty_line, first_word, behind_word, number_of_word}
 
-abbrev pub number_read : Reading ℕ → Option ℕ
-number_read (Ok (number, rest)) = Some number
-number_read (Err fault) = None
-
--- the number that a text's first digits are, below 2^64
+-- the number that a text's first digits are
 unfoldable pub leading_number : List ℕ → Option ℕ
-leading_number text = number_read (number_ahead (front (belongs Decimal) text))
-
--- the number that a word is: decimal digits alone, below 2^64
-unfoldable pub number_named : List ℕ → Option ℕ
-number_named word = if only (belongs Decimal) word then leading_number word else None
+leading_number text = number_of_word (front (belongs Decimal) text)
 
 -- the digits of a word behind its `0x`
 abbrev pub digits_named : List ℕ → Option (List ℕ)
@@ -52,7 +41,7 @@ xid_with (Some format_id) (Some gtrid) (Some bqual) (Some digits) = xid_written 
 -- the identifier of four words, behind which nothing stands
 unfoldable pub row_of : List ℕ → List ℕ → List ℕ → List ℕ → Option Xid
 row_of first second third fourth =
-    if is_empty_line (behind_word fourth) then xid_with (number_named (first_word first)) (number_named (first_word second)) (number_named (first_word third))
+    if is_empty_line (behind_word fourth) then xid_with (number_of_word (first_word first)) (number_of_word (first_word second)) (number_of_word (first_word third))
     (digits_named (first_word fourth)) else None
 
 -- the identifier that a line is written as, from its first byte on that isn't a blank

@@ -13,7 +13,7 @@ use Rattle.xa_xid.specs.declared.statement.Statement.{Statement}
 use Rattle.xa_xid.specs.declared.statement.Statement.TheVariants.{Start, End, Prepare, Commit, Rollback, Recover, Unsupported, Get, Put, Del, Disconnect}
 use Rattle.xa_statement.specs.Canonical.{statement_text}
 use Rattle.xa_statement.specs.Reading.{read_of}
-use Rattle.xa_transcript.specs.Printed.{reply_text}
+use Rattle.xa_lines.specs.Printed.{reply_text}
 use Rattle.xa_judge.specs.declared.answer.Answer.{Answer}
 use Rattle.xa_judge.specs.declared.answer.Answer.TheVariants.{Reply as Replied, Unread as NotRead}
 use Rattle.xa_judge.specs.declared.moves.Act.{Act}
@@ -25,7 +25,7 @@ use Rattle.xa_judge.specs.declared.verdict.Verdict.TheVariants.{Legal, Illegal, 
 use Rattle.xa_record.specs.declared.outcome.Outcome.{Outcome}
 use Rattle.xa_record.specs.declared.outcome.Outcome.TheVariants.{Legal as IsLegal, Illegal as IsIllegal, Undecided as IsUndecided}
 use Rattle.xa_record.specs.Lines.{Told, Calls, Returns, Leaves}
-use Rattle.xa_record.specs.Reading.{Noted}
+use Rattle.xa_record.specs.Reading.{NumberedEvent}
 
 -- the canonical form of a statement, or its text where it has none
 abbrev pub canonical_text : Statement → List ℕ → List ℕ
@@ -69,11 +69,11 @@ abbrev pub effect_text : List (List ℕ) → ℕ → Act → List ℕ
 effect_text calls session act = decimal session ++ codes " " ++ act_text act (slice_get calls session) ++ codes "\n"
 
 -- the effects of an order, where what happens is this and the sessions called for these texts before
-unfoldable pub order_text : List (List ℕ) → List Noted → List Move → List ℕ
-order_text calls noted [] = []
-order_text calls noted (Effect session act ∷ moves) = effect_text calls session act ++ order_text calls noted moves
+unfoldable pub order_text : List (List ℕ) → List NumberedEvent → List Move → List ℕ
+order_text calls numbered [] = []
+order_text calls numbered (Effect session act ∷ moves) = effect_text calls session act ++ order_text calls numbered moves
 order_text calls [] (Seeing ∷ moves) = order_text calls [] moves
-order_text calls (noted ∷ more) (Seeing ∷ moves) = order_text (with_call noted.told calls) more moves
+order_text calls (numbered ∷ more) (Seeing ∷ moves) = order_text (with_call numbered.told calls) more moves
 
 -- no session has called
 abbrev pub no_calls : List (List ℕ)
@@ -98,23 +98,23 @@ unfoldable pub answers_text : List (List ℕ) → List ℕ
 answers_text [] = []
 answers_text (text ∷ texts) = codes "COULD BE " ++ text ++ codes "\n" ++ answers_text texts
 
-abbrev pub number_of_line : Option Noted → ℕ
+abbrev pub number_of_line : Option NumberedEvent → ℕ
 number_of_line None = 0
-number_of_line (Some noted) = noted.number
+number_of_line (Some numbered) = numbered.number
 
 -- the number of the line on which something happens
-abbrev pub line_number_at : List Noted → ℕ → ℕ
-line_number_at noted place = number_of_line (slice_get noted place)
+abbrev pub line_number_at : List NumberedEvent → ℕ → ℕ
+line_number_at numbered place = number_of_line (slice_get numbered place)
 
 -- the first line of a verdict that names a line
 abbrev pub line_text : List ℕ → ℕ → List ℕ
 line_text word number = word ++ codes " line " ++ decimal number ++ codes "\n"
 
 -- what is written for a verdict
-abbrev pub verdict_text : List Noted → Verdict → List ℕ
-verdict_text noted (Legal moves) = codes "LEGAL\n" ++ order_text no_calls noted moves.items
-verdict_text noted (Illegal place answers) = line_text (codes "ILLEGAL") (line_number_at noted place) ++ answers_text (texts_of answers.items)
-verdict_text noted (Undecided place) = line_text (codes "UNDECIDED") (line_number_at noted place)
+abbrev pub verdict_text : List NumberedEvent → Verdict → List ℕ
+verdict_text numbered (Legal moves) = codes "LEGAL\n" ++ order_text no_calls numbered moves.items
+verdict_text numbered (Illegal place answers) = line_text (codes "ILLEGAL") (line_number_at numbered place) ++ answers_text (texts_of answers.items)
+verdict_text numbered (Undecided place) = line_text (codes "UNDECIDED") (line_number_at numbered place)
 
 -- which of the four ends it is
 abbrev pub outcome_of : Verdict → Outcome

@@ -2,24 +2,13 @@
 ghost use Rattle.std.specs.Prelude.{◌≡◌, map, IfOk};
 ghost use Rattle.std.specs.List.Sorted.{IsPermutation, IsSorted};
 ghost use Rattle.xa_xid.specs.Xid.{xid_cmp};
-ghost use Rattle.xa_record.specs.Events.{request_called, IsSeen, IsEvent, AreEvents};
-ghost use Rattle.xa_record.specs.Kept.{shown_kept, told_kept, noted_kept};
+ghost use Rattle.xa_record.specs.Events.{IsSeen, IsEvent, AreEvents};
+ghost use Rattle.xa_record.specs.Kept.{shown_kept, told_kept, numbered_kept};
 
-use crate::happening::{Happening, Noted};
+use crate::line_event::{LineEvent, NumberedEvent};
 use std::alloc::Global;
-use xa_judge::{Event, Request, Seen};
-use xa_statement::read_statement;
+use xa_judge::{Event, Seen};
 use xa_xid::{NoMemory, Xid, copy_of};
-
-/// What a session asks for that calls for this text.
-fn request_of(text: &[u8]) -> Request
-    ensures { result ≡ request_called text.now }
-{
-    match read_statement(text) {
-        Ok(statement) => Request::Statement(statement),
-        Err(_) => Request::Unread,
-    }
-}
 
 /// The identifiers in ascending order.
 fn ascending(rows: &Vec<Xid>) -> Result<Vec<Xid>, NoMemory>
@@ -45,23 +34,23 @@ fn seen_of(shown: &Seen) -> Result<Seen, NoMemory>
 }
 
 /// The event that is what happens.
-fn event_of(happening: &Happening) -> Result<Event, NoMemory>
-    ensures { IfOk result (IsEvent (told_kept happening.now)) }
+fn event_of(line_event: &LineEvent) -> Result<Event, NoMemory>
+    ensures { IfOk result (IsEvent (told_kept line_event.now)) }
 {
-    match happening {
-        Happening::Call(session, text) => Ok(Event::Call(*session, request_of(text))),
-        Happening::Return(session, seen) => Ok(Event::Return(*session, seen_of(seen)?)),
-        Happening::Lost(session) => Ok(Event::Lost(*session)),
+    match line_event {
+        LineEvent::Call(session, called) => Ok(Event::Call(*session, called.request().copy())),
+        LineEvent::Return(session, seen) => Ok(Event::Return(*session, seen_of(seen)?)),
+        LineEvent::Lost(session) => Ok(Event::Lost(*session)),
     }
 }
 
 /// The events that are what happens, in order.
-pub fn events_of(alloc: Global, noted: &[Noted]) -> Result<Vec<Event>, NoMemory>
-    ensures { IfOk result (λ events. AreEvents (map noted_kept noted.now) events.items) }
+pub fn events_of(alloc: Global, numbered: &[NumberedEvent]) -> Result<Vec<Event>, NoMemory>
+    ensures { IfOk result (λ events. AreEvents (map numbered_kept numbered.now) events.items) }
 {
     let mut events = Vec::new(alloc);
-    for one in noted {
-        let event = event_of(&one.happening)?;
+    for one in numbered {
+        let event = event_of(&one.line_event)?;
         events.push(event)?;
     }
     Ok(events)

@@ -45,11 +45,11 @@ pub fn judge_text(alloc: Global, text: &[u8], limit: usize) -> Result<Judged, No
             text: notes.faults,
         });
     }
-    let events = events_of(alloc, notes.noted.as_slice())?;
+    let events = events_of(alloc, notes.numbered.as_slice())?;
     let base = Server::new(alloc);
     let verdict = judge(alloc, &base, events.as_slice(), limit)?;
     Ok(Judged {
         outcome: outcome_of(&verdict),
-        text: verdict_text(alloc, notes.noted.as_slice(), &verdict)?,
+        text: verdict_text(alloc, notes.numbered.as_slice(), &verdict)?,
     })
 }

@@ -1,10 +1,11 @@
 //! Records of what clients of a server saw: read, judged, and the verdict written.
 #![tactic(auto)]
 
+mod called;
 mod events;
-mod happening;
 mod judging;
 mod line;
+mod line_event;
 mod line_fault;
 mod notes;
 mod order;

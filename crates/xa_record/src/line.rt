@@ -1,16 +1,17 @@
 //! What a line of a record says.
 ghost use Rattle.std.specs.Prelude.{◌≡◌};
-ghost use Rattle.xa_transcript.specs.Script.{first_word, behind_word as behind_word_of};
-ghost use Rattle.xa_record.specs.Rows.{leading_number as leading_number_of, number_named};
-ghost use Rattle.xa_record.specs.Lines.{alone, begins_remark, is_remark as is_remark_line, trimmed as trimmed_text, value_said, rows_said, error_said};
+ghost use Rattle.xa_lines.specs.Script.{first_word, behind_word as behind_word_of, number_of_word};
+ghost use Rattle.xa_record.specs.Rows.{leading_number as leading_number_of};
+ghost use Rattle.xa_record.specs.Lines.{alone, is_silent as is_silent_line, trimmed as trimmed_text, value_said, rows_said, error_said};
 ghost use Rattle.xa_record.specs.Lines.{return_said, loss_said, session_said, reading_of_line, Says, Awaits, Calls, Returns, Leaves};
 ghost use Rattle.xa_record.specs.Kept.{shown_kept, line_kept};
 ghost use Rattle.xa_xid.specs.Literal.{literal_ahead};
 
-use crate::happening::Happening;
-use crate::rows::{behind_word, leading_number, number_in};
+use crate::called::Called;
+use crate::line_event::LineEvent;
+use crate::rows::{behind_word, leading_number};
 use xa_judge::Seen;
-use xa_transcript::{ScriptLine, read_line, split_word};
+use xa_lines::{ScriptLine, is_comment, number_in, read_line, split_word};
 use xa_xid::{ByteClass, SessionNo, literal_of, skip_blanks};
 
 /// What a line of a record says.
@@ -21,19 +22,16 @@ pub enum RecordLine<'a> {
     /// It isn't written as a line of a record is.
     Bad,
     /// This happens.
-    Happens(Happening<'a>),
+    Happens(LineEvent<'a>),
     /// A call of the session returns so many rows, which stand on the next lines.
     Rows(SessionNo, u64),
 }
 
-/// Whether the line is blank, or its first byte that isn't is `#`.
-pub fn is_remark(line: &[u8]) -> bool
-    ensures { result ≡ is_remark_line line.now }
+/// Whether the line is blank or a comment.
+pub fn is_silent(line: &[u8]) -> bool
+    ensures { result ≡ is_silent_line line.now }
 {
-    match skip_blanks(line) {
-        [] => true,
-        [first, ..] => *first == b'#',
-    }
+    skip_blanks(line).is_empty() || is_comment(line)
 }
 
 /// The text without the blanks at its end.
@@ -56,7 +54,7 @@ fn alone(session: SessionNo, seen: Seen, rest: &[u8]) -> RecordLine<'static>
     ensures { line_kept result ≡ alone (Says (Returns session (shown_kept seen))) rest.now }
 {
     if rest.is_empty() {
-        RecordLine::Happens(Happening::Return(session, seen))
+        RecordLine::Happens(LineEvent::Return(session, seen))
     } else {
         RecordLine::Bad
     }
@@ -74,13 +72,13 @@ fn value(session: SessionNo, text: &[u8]) -> RecordLine<'static>
 
 /// What `ROWS` says, with the text behind it.
 fn rows(session: SessionNo, text: &[u8]) -> RecordLine<'static>
-    ensures { line_kept result ≡ rows_said session (number_named (first_word text.now)) (behind_word_of text.now) }
+    ensures { line_kept result ≡ rows_said session (number_of_word (first_word text.now)) (behind_word_of text.now) }
 {
-    let (word, _) = split_word(text);
+    let (word, rest) = split_word(text);
     match number_in(word) {
         None => RecordLine::Bad,
         Some(count) => {
-            if behind_word(text).is_empty() {
+            if skip_blanks(rest).is_empty() {
                 RecordLine::Rows(session, count)
             } else {
                 RecordLine::Bad
@@ -97,7 +95,7 @@ fn error(session: SessionNo, text: &[u8]) -> RecordLine<'static>
         None => RecordLine::Bad,
         Some(number) => {
             if number < 65_536 {
-                RecordLine::Happens(Happening::Return(session, Seen::Error(number as u16)))
+                RecordLine::Happens(LineEvent::Return(session, Seen::Error(number as u16)))
             } else {
                 RecordLine::Bad
             }
@@ -130,7 +128,7 @@ fn loss(session: SessionNo, word: &[u8], text: &[u8]) -> RecordLine<'static>
     ensures { line_kept result ≡ loss_said session word.now text.now }
 {
     if word == b"LOST".as_slice() && text.is_empty() {
-        RecordLine::Happens(Happening::Lost(session))
+        RecordLine::Happens(LineEvent::Lost(session))
     } else {
         RecordLine::Bad
     }
@@ -142,11 +140,13 @@ fn session_line<'a>(session: SessionNo, sign: &[u8], text: &'a [u8]) -> RecordLi
     ensures { line_kept result ≡ session_said session sign.now text.now }
 {
     if sign == b">".as_slice() {
-        RecordLine::Happens(Happening::Call(session, trimmed(text)))
+        RecordLine::Happens(LineEvent::Call(session, Called::read(trimmed(text))))
     } else if sign == b"<".as_slice() {
-        returned(session, split_word(text).0, behind_word(text))
+        let (word, rest) = split_word(text);
+        returned(session, word, skip_blanks(rest))
     } else if sign == b"!".as_slice() {
-        loss(session, split_word(text).0, behind_word(text))
+        let (word, rest) = split_word(text);
+        loss(session, word, skip_blanks(rest))
     } else {
         RecordLine::Bad
     }
@@ -160,14 +160,15 @@ fn session_line<'a>(session: SessionNo, sign: &[u8], text: &'a [u8]) -> RecordLi
 pub fn read_record_line(line: &[u8]) -> RecordLine<'_>
     ensures { line_kept result ≡ reading_of_line line.now }
 {
-    if is_remark(line) {
+    if is_silent(line) {
         return RecordLine::Nothing;
     }
     match read_line(line) {
         ScriptLine::Blank => RecordLine::Nothing,
         ScriptLine::Bad => RecordLine::Bad,
         ScriptLine::Given(session, text) => {
-            session_line(session, split_word(text).0, behind_word(text))
+            let (sign, rest) = split_word(text);
+            session_line(session, sign, skip_blanks(rest))
         }
     }
 }

@@ -2,7 +2,7 @@
 ghost use Rattle.std.specs.Prelude.{◌≡◌, ◌++◌, OnOk, decimal, codes};
 ghost use Rattle.xa_record.specs.Reading.{cause_text, fault_text};
 
-use xa_transcript::push_number;
+use xa_lines::push_number;
 use xa_xid::{NoMemory, SessionNo};
 
 /// Why a line of a record is faulty.

@@ -4,8 +4,8 @@ ghost use Rattle.std.specs.Option.{option_map};
 ghost use Rattle.xa_record.specs.Reading.{no_notes, blamed, blamed_too, note_of, returned, awaiting, with_row, noted_row, noted_said, noted_line, ended_by};
 ghost use Rattle.xa_record.specs.Kept.{told_kept, awaited_kept, line_kept, notes_kept};
 
-use crate::happening::{Happening, Noted};
-use crate::line::{RecordLine, is_remark, read_record_line};
+use crate::line::{RecordLine, is_silent, read_record_line};
+use crate::line_event::{LineEvent, NumberedEvent};
 use crate::line_fault::LineFault;
 use crate::pending::Pending;
 use crate::presence::Presence;
@@ -18,7 +18,7 @@ use xa_xid::{NoMemory, SessionNo, Xid, skip_blanks};
 #[derive(Drop)]
 pub struct Notes<'a> {
     /// What happens, in order.
-    pub noted: Vec<Noted<'a>>,
+    pub numbered: Vec<NumberedEvent<'a>>,
     /// What is written for faulty lines.
     pub faults: Vec<u8>,
     /// At each session's number what the lines say of it.
@@ -33,7 +33,7 @@ impl<'a> Notes<'a> {
         ensures { notes_kept result ≡ no_notes }
     {
         Notes {
-            noted: Vec::new(alloc),
+            numbered: Vec::new(alloc),
             faults: Vec::new(alloc),
             presence: [Presence::Idle; 17],
             pending: None,
@@ -64,15 +64,15 @@ impl<'a> Notes<'a> {
 
     /// This happens on the line of this number, or the line is faulty.
     #[tactic(auto, unfolding(crate::specs::Reading::noted_if))]
-    fn note(&mut self, number: u64, happening: Happening<'a>) -> Result<(), NoMemory>
-        ensures { OnOk result (notes_kept self.new ≡ note_of (notes_kept self.old) number (told_kept happening.entry)) }
+    fn note(&mut self, number: u64, line_event: LineEvent<'a>) -> Result<(), NoMemory>
+        ensures { OnOk result (notes_kept self.new ≡ note_of (notes_kept self.old) number (told_kept line_event.entry)) }
     {
-        let session = happening.session();
-        match happening.fault(self.presence_of(session)) {
+        let session = line_event.session();
+        match line_event.fault(self.presence_of(session)) {
             Some(fault) => self.blame(number, fault),
             None => {
-                self.presence[session.get() as usize] = happening.presence();
-                self.noted.push(Noted { number, happening })?;
+                self.presence[session.get() as usize] = line_event.presence();
+                self.numbered.push(NumberedEvent { number, line_event })?;
                 Ok(())
             }
         }
@@ -89,7 +89,7 @@ impl<'a> Notes<'a> {
             rows,
             faults,
         } = pending;
-        self.note(number, Happening::Return(session, Seen::Rows(rows)))?;
+        self.note(number, LineEvent::Return(session, Seen::Rows(rows)))?;
         self.blame_too(faults.as_slice())
     }
 
@@ -136,7 +136,7 @@ impl<'a> Notes<'a> {
         match said {
             RecordLine::Nothing => Ok(()),
             RecordLine::Bad => self.blame(number, LineFault::NotALine),
-            RecordLine::Happens(happening) => self.note(number, happening),
+            RecordLine::Happens(line_event) => self.note(number, line_event),
             RecordLine::Rows(session, missing) => self.wait_for(Pending {
                 session,
                 number,
@@ -155,7 +155,7 @@ impl<'a> Notes<'a> {
         match self.pending.take() {
             None => self.take_said(alloc, number, read_record_line(line)),
             Some(pending) => {
-                if is_remark(line) {
+                if is_silent(line) {
                     self.pending = Some(pending);
                     Ok(())
                 } else {

@@ -1,14 +1,14 @@
 //! Writes an order that explains a record, as a script.
 ghost use Rattle.std.specs.Prelude.{◌≡◌, ◌++◌, ◌∷◌, List, OnOk, IfOk, map, drop, slice_get};
 ghost use Rattle.xa_judge.specs.declared.moves.Move.{Move as MoveSeen};
-ghost use Rattle.xa_record.specs.Kept.{told_kept, noted_kept, calls_kept};
+ghost use Rattle.xa_record.specs.Kept.{told_kept, numbered_kept, calls_kept};
 ghost use Rattle.xa_record.specs.VerdictText.{canonical_text, call_text, with_call, text_of_call, act_text, effect_text, order_text, no_calls};
 
-use crate::happening::{Happening, Noted};
+use crate::line_event::{LineEvent, NumberedEvent};
 use std::alloc::Global;
 use xa_judge::{Act, Move};
+use xa_lines::push_number;
 use xa_statement::{read_statement, write_statement};
-use xa_transcript::push_number;
 use xa_xid::{NoMemory, SessionNo, Statement};
 
 /// Appends the canonical form of a statement, or its text where it has none.
@@ -63,13 +63,13 @@ impl<'a> Calls<'a> {
     }
 
     /// This happens next.
-    fn follow(&mut self, happening: &Happening<'a>)
-        ensures { calls_kept self.new ≡ with_call (told_kept happening.now) (calls_kept self.old) }
+    fn follow(&mut self, line_event: &LineEvent<'a>)
+        ensures { calls_kept self.new ≡ with_call (told_kept line_event.now) (calls_kept self.old) }
     {
-        match happening {
-            Happening::Call(session, text) => self.texts[session.get() as usize] = *text,
-            Happening::Return(_, _) => {}
-            Happening::Lost(_) => {}
+        match line_event {
+            LineEvent::Call(session, called) => self.texts[session.get() as usize] = called.text(),
+            LineEvent::Return(_, _) => {}
+            LineEvent::Lost(_) => {}
         }
     }
 
@@ -114,13 +114,13 @@ fn push_move<'a>(
     alloc: Global,
     out: &mut Vec<u8>,
     calls: &mut Calls<'a>,
-    noted: &[Noted<'a>],
+    numbered: &[NumberedEvent<'a>],
     place: usize,
     step: &Move,
 ) -> Result<usize, NoMemory>
     ensures { IfOk result (λ next. (moves : List MoveSeen) →
-        out.old.items ++ order_text (calls_kept calls.old) (drop place (map noted_kept noted.now)) (step.now ∷ moves)
-        ≡ out.new.items ++ order_text (calls_kept calls.new) (drop next (map noted_kept noted.now)) moves) }
+        out.old.items ++ order_text (calls_kept calls.old) (drop place (map numbered_kept numbered.now)) (step.now ∷ moves)
+        ≡ out.new.items ++ order_text (calls_kept calls.new) (drop next (map numbered_kept numbered.now)) moves) }
 {
     match step {
         Move::Effect(session, act) => {
@@ -128,8 +128,8 @@ fn push_move<'a>(
             Ok(place)
         }
         Move::Event => {
-            if place < noted.len() {
-                calls.follow(&noted[place].happening);
+            if place < numbered.len() {
+                calls.follow(&numbered[place].line_event);
                 Ok(place + 1)
             } else {
                 Ok(place)
@@ -142,15 +142,15 @@ fn push_move<'a>(
 pub fn push_order(
     alloc: Global,
     out: &mut Vec<u8>,
-    noted: &[Noted],
+    numbered: &[NumberedEvent],
     moves: &[Move],
 ) -> Result<(), NoMemory>
-    ensures { OnOk result (out.new.items ≡ out.old.items ++ order_text no_calls (map noted_kept noted.now) moves.now) }
+    ensures { OnOk result (out.new.items ≡ out.old.items ++ order_text no_calls (map numbered_kept numbered.now) moves.now) }
 {
     let mut calls = Calls::none();
     let mut place = 0;
     for step in moves {
-        place = push_move(alloc, out, &mut calls, noted, place, step)?;
+        place = push_move(alloc, out, &mut calls, numbered, place, step)?;
     }
     Ok(())
 }

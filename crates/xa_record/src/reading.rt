@@ -5,7 +5,7 @@ ghost use Rattle.xa_record.specs.Kept.{notes_kept};
 
 use crate::notes::Notes;
 use std::alloc::Global;
-use xa_transcript::split_line;
+use xa_lines::split_line;
 use xa_xid::NoMemory;
 
 /// What is read of a record.

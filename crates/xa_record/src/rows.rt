@@ -2,12 +2,12 @@
 ghost use Rattle.std.specs.Prelude.{◌≡◌, ◌≤◌, ◌+◌, length, take, drop, IfSome, option_copied, Some, Ok};
 ghost use Rattle.hex.specs.Hex.{decode_sized};
 ghost use Rattle.xa_xid.specs.Limits.{text_bytes};
-ghost use Rattle.xa_transcript.specs.Script.{first_word, behind_word as behind_word_of};
-ghost use Rattle.xa_record.specs.Rows.{leading_number as leading_number_of, number_named, digits_named, xid_of, xid_written, xid_with, row_of, row_said};
+ghost use Rattle.xa_lines.specs.Script.{first_word, behind_word as behind_word_of};
+ghost use Rattle.xa_record.specs.Rows.{leading_number as leading_number_of, digits_named, xid_of, xid_written, xid_with, row_of, row_said};
 
 use arrayvec::ArrayVec;
-use xa_transcript::split_word;
-use xa_xid::{ByteClass, Bytes, Xid, number_of, skip_blanks};
+use xa_lines::{number_in, split_word};
+use xa_xid::{ByteClass, Bytes, Xid, skip_blanks};
 
 /// The text behind a word and the blanks after it.
 pub fn behind_word(text: &[u8]) -> &[u8]
@@ -16,27 +16,12 @@ pub fn behind_word(text: &[u8]) -> &[u8]
     skip_blanks(split_word(text).1)
 }
 
-/// The number that the text's first digits are, below 2^64.
+/// The number that the text's first digits are.
 #[tactic(auto, unfolding(crate::specs::Rows::leading_number))]
 pub fn leading_number(text: &[u8]) -> Option<u64>
     ensures { result ≡ leading_number_of text.now }
 {
-    match number_of(ByteClass::Decimal.split(text).0) {
-        Ok((number, _)) => Some(number),
-        Err(_) => None,
-    }
-}
-
-/// The number that the word is: decimal digits alone, below 2^64.
-#[tactic(auto, unfolding(crate::specs::Rows::number_named))]
-pub fn number_in(word: &[u8]) -> Option<u64>
-    ensures { result ≡ number_named word.now }
-{
-    if ByteClass::Decimal.split(word).1.is_empty() {
-        leading_number(word)
-    } else {
-        None
-    }
+    number_in(ByteClass::Decimal.split(text).0)
 }
 
 /// The digits of a word behind its `0x`.

@@ -1,14 +1,14 @@
 //! Judges a record that is read, and writes the verdict.
 ghost use Rattle.std.specs.Prelude.{◌≡◌, ◌≤◌, length, vec_len, IfOk, IfErr, OnOk, OnErr, IfSome, Err};
 ghost use Rattle.std.specs.Io.KnownBytes.{Appends, Consumes, IsAtEnd};
-ghost use Rattle.xa_transcript.specs.Transcript.{AppendsPrefix, ConsumesMoreThan};
+ghost use Rattle.xa_lines.specs.Transcript.{AppendsPrefix, ConsumesMoreThan};
 ghost use Rattle.xa_record.specs.Judged.{record_bytes, AppendsJudged, AfterJudgeFault, IsFaultOfReading};
 
 use crate::judging::{Judged, judge_text};
 use crate::outcome::Outcome;
 use std::alloc::Global;
 use std::io::{Read, Write};
-use xa_transcript::{ScriptFault, write_whole};
+use xa_lines::{ScriptFault, write_whole};
 
 /// The greatest length of a record, in bytes.
 const RECORD_BYTES: usize = 16_777_216;

@@ -1,15 +1,15 @@
 //! Writes verdicts.
 ghost use Rattle.std.specs.Prelude.{◌≡◌, ◌++◌, [], OnOk, IfOk, map};
-ghost use Rattle.xa_record.specs.Kept.{noted_kept};
+ghost use Rattle.xa_record.specs.Kept.{numbered_kept};
 ghost use Rattle.xa_record.specs.VerdictText.{answer_text as text_of_answer, texts_of, answers_text, line_text, line_number_at};
 ghost use Rattle.xa_record.specs.VerdictText.{verdict_text as text_of_verdict};
 
-use crate::happening::Noted;
+use crate::line_event::NumberedEvent;
 use crate::order::push_order;
 use std::alloc::Global;
 use std::collections::BTreeSet;
 use xa_judge::{Answer, Verdict};
-use xa_transcript::{push_number, push_reply};
+use xa_lines::{push_number, push_reply};
 use xa_xid::NoMemory;
 
 /// The text of an answer: a reply as `run` prints it, rows as `CONVERT XID` does.
@@ -49,42 +49,51 @@ fn push_texts(out: &mut Vec<u8>, texts: &BTreeSet<Vec<u8>>) -> Result<(), NoMemo
 }
 
 /// The number of the line on which this happens.
-fn number_of(noted: &[Noted], place: usize) -> u64
-    ensures { result ≡ line_number_at (map noted_kept noted.now) place }
+fn number_of(numbered: &[NumberedEvent], place: usize) -> u64
+    ensures { result ≡ line_number_at (map numbered_kept numbered.now) place }
 {
-    if place < noted.len() {
-        noted[place].number
+    if place < numbered.len() {
+        numbered[place].number
     } else {
         0
     }
 }
 
 /// Appends a word, `line` and the number of the line on which this happens.
-fn push_line(out: &mut Vec<u8>, word: &[u8], noted: &[Noted], place: usize) -> Result<(), NoMemory>
-    ensures { OnOk result (out.new.items ≡ out.old.items ++ line_text word.now (line_number_at (map noted_kept noted.now) place)) }
+fn push_line(
+    out: &mut Vec<u8>,
+    word: &[u8],
+    numbered: &[NumberedEvent],
+    place: usize,
+) -> Result<(), NoMemory>
+    ensures { OnOk result (out.new.items ≡ out.old.items ++ line_text word.now (line_number_at (map numbered_kept numbered.now) place)) }
 {
     out.extend_from_slice(word)?;
     out.extend_from_slice(b" line ")?;
-    push_number(out, number_of(noted, place))?;
+    push_number(out, number_of(numbered, place))?;
     out.extend_from_slice(b"\n")
 }
 
 /// The text of a verdict on what happens in a record.
-pub fn verdict_text(alloc: Global, noted: &[Noted], verdict: &Verdict) -> Result<Vec<u8>, NoMemory>
-    ensures { IfOk result (λ text. text.items ≡ text_of_verdict (map noted_kept noted.now) verdict.now) }
+pub fn verdict_text(
+    alloc: Global,
+    numbered: &[NumberedEvent],
+    verdict: &Verdict,
+) -> Result<Vec<u8>, NoMemory>
+    ensures { IfOk result (λ text. text.items ≡ text_of_verdict (map numbered_kept numbered.now) verdict.now) }
 {
     let mut out = Vec::new(alloc);
     match verdict {
         Verdict::Legal(moves) => {
             out.extend_from_slice(b"LEGAL\n")?;
-            push_order(alloc, &mut out, noted, moves.as_slice())?;
+            push_order(alloc, &mut out, numbered, moves.as_slice())?;
         }
         Verdict::Illegal(place, answers) => {
-            push_line(&mut out, b"ILLEGAL", noted, *place)?;
+            push_line(&mut out, b"ILLEGAL", numbered, *place)?;
             let texts = answer_texts(alloc, answers.as_slice())?;
             push_texts(&mut out, &texts)?;
         }
-        Verdict::Undecided(place) => push_line(&mut out, b"UNDECIDED", noted, *place)?,
+        Verdict::Undecided(place) => push_line(&mut out, b"UNDECIDED", numbered, *place)?,
     }
     Ok(out)
 }

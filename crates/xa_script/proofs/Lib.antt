@@ -1,3 +1,3 @@
 pub mod CommandFaults
-pub mod Jobs
+pub mod NamedJobs
 pub mod Options

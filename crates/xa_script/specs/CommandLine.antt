@@ -9,26 +9,33 @@ use Rattle.std.specs.Option.{IsSomeAnd}
 use Rattle.std.specs.Str.Parse.{IsNumeral, digits_value, without_leading_plus}
 use Rattle.clap.specs.Words.{App, Text, Row, Rule, new_app, new_rule, one_of, subcommand_of, with_rule, with_subcommand, fault_of, HasKind}
 use Rattle.clap.specs.Simple.{on_top}
+use Rattle.clap.specs.declared.builder.value_parser.ValueParser.{ValueParser}
 use Rattle.clap.specs.declared.builder.value_parser.ValueParser.TheVariants as parser
 use Rattle.clap.specs.declared.builder.action.ArgAction.TheVariants.{SetTrue}
 use Rattle.clap.specs.declared.builder.command.Command.{Command}
 use Rattle.clap.specs.declared.builder.command.Command.TheViews.{out-Command}
 use Rattle.clap.specs.declared.error.Error.{Error}
 use Rattle.decision_log.specs.Opens.{IsCapacity}
-use Rattle.xa_script.specs.declared.manner.Manner.{Manner}
-use Rattle.xa_script.specs.declared.manner.Manner.TheVariants.{Freely, Together, Shuffled}
+use Rattle.xa_script.specs.declared.schedule.Schedule.{Schedule}
+use Rattle.xa_script.specs.declared.schedule.Schedule.TheVariants.{Freely, Together, Shuffled}
 use Rattle.xa_script.specs.declared.command.Job.{Job}
 use Rattle.xa_script.specs.declared.command.Job.TheVariants.{Run, Race, Coordinate, Serve, Show, Judge}
 
+-- `--NAME N`, which this parser reads, with a default
+abbrev pub number_rule : Text → ValueParser → Text → Rule
+number_rule name reads default = record (new_rule name) { long = Some name; value_names = 1; parser = Some reads; defaults = default ∷ [] }
+
+-- `--NAME`, which has no value
+abbrev pub flag_rule : Text → Rule
+flag_rule name = record (new_rule name) { long = Some name; action = Some SetTrue }
+
 -- `--capacity N`, a number from 1 to 1024, and 1024 where it isn't given
 abbrev pub capacity_rule : Rule
-capacity_rule =
-    record (new_rule (codes "capacity"))
-    { long = Some (codes "capacity"); value_names = 1; parser = Some (parser.Unsigned 1 1024); defaults = codes "1024" ∷ [] }
+capacity_rule = number_rule (codes "capacity") (parser.Unsigned 1 1024) (codes "1024")
 
 -- `--together`, which has no value
 abbrev pub together_rule : Rule
-together_rule = record (new_rule (codes "together")) { long = Some (codes "together"); action = Some SetTrue }
+together_rule = flag_rule (codes "together")
 
 -- `--shuffle SEED`, a number from 0 to 2^64 - 1
 abbrev pub shuffle_rule : Rule
@@ -36,7 +43,7 @@ shuffle_rule = record (new_rule (codes "shuffle")) { long = Some (codes "shuffle
 
 -- `--renew`, which has no value
 abbrev pub renew_rule : Rule
-renew_rule = record (new_rule (codes "renew")) { long = Some (codes "renew"); action = Some SetTrue }
+renew_rule = flag_rule (codes "renew")
 
 -- `race [--capacity N] [--together] [--shuffle SEED] [--renew]`
 abbrev pub race_app : App
@@ -44,8 +51,7 @@ race_app = with_rule (with_rule (with_rule (with_rule (new_app (codes "race")) c
 
 -- `--stores N`, a number from 1 to 16, and 3 where it isn't given
 abbrev pub stores_rule : Rule
-stores_rule =
-    record (new_rule (codes "stores")) { long = Some (codes "stores"); value_names = 1; parser = Some (parser.Unsigned 1 16); defaults = codes "3" ∷ [] }
+stores_rule = number_rule (codes "stores") (parser.Unsigned 1 16) (codes "3")
 
 -- `coordinate [--stores N] [--capacity C]`
 abbrev pub coordinate_app : App
@@ -53,9 +59,7 @@ coordinate_app = with_rule (with_rule (new_app (codes "coordinate")) stores_rule
 
 -- `--limit N`, a number from 1 to 1,000,000, and 100,000 where it isn't given
 abbrev pub limit_rule : Rule
-limit_rule =
-    record (new_rule (codes "limit"))
-    { long = Some (codes "limit"); value_names = 1; parser = Some (parser.Unsigned 1 1000000); defaults = codes "100000" ∷ [] }
+limit_rule = number_rule (codes "limit") (parser.Unsigned 1 1000000) (codes "100000")
 
 -- `judge [--limit N]`
 abbrev pub judge_app : App
@@ -105,21 +109,21 @@ abbrev pub HasNoSeed : Option Text → Type 0
 HasNoSeed shuffle = (seed : ℕ) → IsSomeAnd shuffle (IsSeedText seed) → ⊥
 
 -- how the sessions come to their lines, by the values of `--together` and `--shuffle`; a seed goes first
-abbrev pub IsMannerOf : (together shuffle : Option Text) → Manner → Type 0
-IsMannerOf together shuffle Freely = HasNoSeed shuffle × (together ≢ Some (codes "true"))
-IsMannerOf together shuffle Together = HasNoSeed shuffle × (together ≡ Some (codes "true"))
-IsMannerOf together shuffle (Shuffled seed) = IsSomeAnd shuffle (IsSeedText seed)
+abbrev pub IsScheduleOf : (together shuffle : Option Text) → Schedule → Type 0
+IsScheduleOf together shuffle Freely = HasNoSeed shuffle × (together ≢ Some (codes "true"))
+IsScheduleOf together shuffle Together = HasNoSeed shuffle × (together ≡ Some (codes "true"))
+IsScheduleOf together shuffle (Shuffled seed) = IsSomeAnd shuffle (IsSeedText seed)
 
 -- whether a race goes on in rounds, by the value of `--renew`
 abbrev pub IsRenewalOf : (renew : Option Text) → Bool → Type 0
 IsRenewalOf renew true = renew ≡ Some (codes "true")
 IsRenewalOf renew false = renew ≢ Some (codes "true")
 
--- the job is a race of the capacity that a value's text is, in the manner that two others give, and in rounds where a fourth says so
+-- the job is a race of the capacity that a value's text is, in the schedule that two others give, and in rounds where a fourth says so
 abbrev pub IsRaceOf : (capacity together shuffle renew : Option Text) → Job → Type 0
 IsRaceOf capacity together shuffle renew Run = ⊥
-IsRaceOf capacity together shuffle renew (Race room manner renews) =
-    IsSomeAnd capacity (IsCapacityText room) × IsMannerOf together shuffle manner × IsRenewalOf renew renews
+IsRaceOf capacity together shuffle renew (Race room schedule renews) =
+    IsSomeAnd capacity (IsCapacityText room) × IsScheduleOf together shuffle schedule × IsRenewalOf renew renews
 IsRaceOf capacity together shuffle renew (Coordinate stores room) = ⊥
 IsRaceOf capacity together shuffle renew Serve = ⊥
 IsRaceOf capacity together shuffle renew Show = ⊥
@@ -130,7 +134,7 @@ abbrev pub IsCoordinateOf : (stores capacity : Option Text) → Job → Type 0
 IsCoordinateOf stores capacity Run = ⊥
 IsCoordinateOf stores capacity Serve = ⊥
 IsCoordinateOf stores capacity Show = ⊥
-IsCoordinateOf stores capacity (Race room manner renews) = ⊥
+IsCoordinateOf stores capacity (Race room schedule renews) = ⊥
 IsCoordinateOf stores capacity (Judge limit) = ⊥
 IsCoordinateOf stores capacity (Coordinate count room) = IsSomeAnd stores (IsStoresText count) × IsSomeAnd capacity (IsCapacityText room)
 
@@ -139,7 +143,7 @@ abbrev pub IsJudgeOf : (limit : Option Text) → Job → Type 0
 IsJudgeOf limit Run = ⊥
 IsJudgeOf limit Serve = ⊥
 IsJudgeOf limit Show = ⊥
-IsJudgeOf limit (Race room manner renews) = ⊥
+IsJudgeOf limit (Race room schedule renews) = ⊥
 IsJudgeOf limit (Coordinate count room) = ⊥
 IsJudgeOf limit (Judge kept) = IsSomeAnd limit (IsLimitText kept)
 
@@ -148,10 +152,10 @@ abbrev pub IsJob : Job → Text × List Row → Type 0
 IsJob Run found = found.0 ≡ codes "run"
 IsJob Serve found = found.0 ≡ codes "serve"
 IsJob Show found = found.0 ≡ codes "show"
-IsJob (Race capacity manner renews) found =
+IsJob (Race capacity schedule renews) found =
     (found.0 ≡ codes "race")
     × IsRaceOf (one_of (codes "capacity") found.1) (one_of (codes "together") found.1) (one_of (codes "shuffle") found.1) (one_of (codes "renew") found.1)
-    (Race capacity manner renews)
+    (Race capacity schedule renews)
 IsJob (Coordinate stores capacity) found =
     (found.0 ≡ codes "coordinate") × IsCoordinateOf (one_of (codes "stores") found.1) (one_of (codes "capacity") found.1) (Coordinate stores capacity)
 IsJob (Judge limit) found = (found.0 ≡ codes "judge") × IsJudgeOf (one_of (codes "limit") found.1) (Judge limit)
@@ -169,7 +173,7 @@ ReadsCommand words answer =
 -- a log can have the capacity, there are 1 to 16 stores, and a limit is at most 1,000,000
 abbrev pub CanBeDone : Job → Type 0
 CanBeDone Run = Unit {0}
-CanBeDone (Race capacity manner renews) = IsCapacity capacity
+CanBeDone (Race capacity schedule renews) = IsCapacity capacity
 CanBeDone (Coordinate stores capacity) = IsStoreCount stores × IsCapacity capacity
 CanBeDone Serve = Unit {0}
 CanBeDone Show = Unit {0}

@@ -1,14 +1,14 @@
 //! The command line.
 ghost use Rattle.std.specs.Prelude.{◌≡◌, ◌≢◌, ℕ, Some, None, IfOk, IfSome, true, false, map, codes};
 ghost use Rattle.std.specs.Option.{IsSomeAnd};
-ghost use Rattle.clap.specs.Words.{found_of, one_text, subcommand_rows_of};
-ghost use Rattle.xa_script.specs.CommandLine.{IsCapacityText, IsSeedText, IsStoresText, IsLimitText, HasNoSeed, IsMannerOf, IsRenewalOf, IsRaceOf};
-ghost use Rattle.xa_script.specs.CommandLine.{IsCoordinateOf, IsJudgeOf, IsJob, Names, CanBeDone, ReadsCommand};
+ghost use Rattle.clap.specs.Words.{app_of, found_of, one_text, subcommand_rows_of};
+ghost use Rattle.xa_script.specs.CommandLine.{IsCapacityText, IsSeedText, IsStoresText, IsLimitText, HasNoSeed, IsScheduleOf, IsRenewalOf, IsRaceOf};
+ghost use Rattle.xa_script.specs.CommandLine.{IsCoordinateOf, IsJudgeOf, IsJob, Names, CanBeDone, ReadsCommand, script_app};
 
-use crate::Manner;
+use crate::Schedule;
 use crate::subcommands::script_command;
 use clap::error::ErrorKind;
-use clap::{ArgMatches, Error};
+use clap::{ArgMatches, Command, Error};
 use std::alloc::Global;
 use std::convert::AsStr;
 
@@ -22,7 +22,7 @@ pub enum Job {
         /// How many entries the log has room for, in `[1, 1024]`.
         capacity: u64,
         /// How the sessions come to their lines.
-        manner: Manner,
+        schedule: Schedule,
         /// Whether the race goes on in rounds of that capacity.
         renews: bool,
     },
@@ -72,16 +72,16 @@ fn begins_together(found: &ArgMatches<'_>) -> bool
 }
 
 /// How the sessions are to come to their lines.
-fn manner_in(found: &ArgMatches<'_>) -> Manner
-    ensures { IsMannerOf (one_text (found_of found.now) (codes "together")) (one_text (found_of found.now) (codes "shuffle")) result }
+fn schedule_in(found: &ArgMatches<'_>) -> Schedule
+    ensures { IsScheduleOf (one_text (found_of found.now) (codes "together")) (one_text (found_of found.now) (codes "shuffle")) result }
 {
     match seed_in(found) {
-        Some(seed) => Manner::Shuffled(seed),
+        Some(seed) => Schedule::Shuffled(seed),
         None => {
             if begins_together(found) {
-                Manner::Together
+                Schedule::Together
             } else {
-                Manner::Freely
+                Schedule::Freely
             }
         }
     }
@@ -104,7 +104,7 @@ fn race_in(found: &ArgMatches<'_>) -> Option<Job>
     match capacity_in(found) {
         Some(capacity) => Some(Job::Race {
             capacity,
-            manner: manner_in(found),
+            schedule: schedule_in(found),
             renews: renews_in(found),
         }),
         None => None,
@@ -184,10 +184,24 @@ fn job_in(matches: &ArgMatches<'_>) -> Option<Job>
     }
 }
 
+/// The job that the words name, by this command.
+fn job_by<'a, S: AsStr>(command: &mut Command<'a>, words: &'a [S]) -> Result<Job, Error>
+    requires { app_of command.old ≡ script_app }
+    ensures job { IfOk result (Names (map S.text words.entry.now)) }
+    ensures capacity { IfOk result CanBeDone }
+    ensures fault { ReadsCommand (map S.text words.entry.now) result }
+{
+    let matches = command.try_get_matches_from_mut(words)?;
+    match job_in(&matches) {
+        Some(job) => Ok(job),
+        None => Err(command.error(ErrorKind::InvalidSubcommand, "no such job")?),
+    }
+}
+
 /// The job that the words of a command line name. The first word is the program's own name.
 ///
 /// A capacity is in `[1, 1024]`, and 1024 where the words don't give it; a number of stores in `[1, 16]`, and 3; a limit in
-/// `[1, 1_000_000]`, and 100,000. Where a race has a seed, its manner is `Shuffled`.
+/// `[1, 1_000_000]`, and 100,000. Where a race has a seed, its schedule is `Shuffled`.
 /// Errors: what `clap` says of words that name no job, or that ask for help or the version; out of memory is one of its kinds.
 /// Takes memory. Doesn't wait.
 /// Own rule: docs/BEHAVIOR.md, 'The program'.
@@ -197,9 +211,5 @@ pub fn read_command<'a, S: AsStr>(alloc: Global, words: &'a [S]) -> Result<Job, 
     ensures fault { ReadsCommand (map S.text words.entry.now) result }
 {
     let mut command = script_command(alloc)?;
-    let matches = command.try_get_matches_from_mut(words)?;
-    match job_in(&matches) {
-        Some(job) => Ok(job),
-        None => Err(command.error(ErrorKind::InvalidSubcommand, "no such job")?),
-    }
+    job_by(&mut command, words)
 }

@@ -5,8 +5,8 @@ ghost use Rattle.xa_script.specs.Status.{status_for, AppendsVerdict};
 
 use std::alloc::Global;
 use std::io::{Read, Write};
+use xa_lines::ScriptFault;
 use xa_record::{Outcome, judge_record};
-use xa_transcript::ScriptFault;
 
 /// The status of a record that some order explains.
 const LEGAL: u8 = 0;
@@ -49,29 +49,4 @@ pub fn judge_within<R: Read, W: Write>(
 {
     let outcome = judge_record(alloc, reader, writer, limit as usize)?;
     Ok(status_of_outcome(outcome))
-}
-
-#[cfg(test)]
-mod tests {
-    use super::*;
-
-    #[test]
-    fn each_end_has_its_status(rt: HostRuntime) {
-        let wide = b"1 > PUT 'a','v'\n2 > PUT 'b','v'\n1 < OK\n".as_slice();
-        let ends: [(&[u8], u64, u8); 5] = [
-            (b"1 > GET 'k'\n1 < NONE\n", 1, 0),
-            (b"1 > GET 'k'\n1 < OK\n", 1, 4),
-            (wide, 1, 5),
-            (wide, 1_000_000, 0),
-            (b"1 < OK\n", 1, 6),
-        ];
-        for (record, limit, status) in ends {
-            let mut reader = record;
-            let mut writer = Vec::new(rt.alloc());
-            assert_eq!(rt;
-                judge_within(rt.alloc(), &mut reader, &mut writer, limit).ok(),
-                Some(status)
-            );
-        }
-    }
 }

@@ -10,33 +10,25 @@ ghost use Rattle.xa_script.specs.CommandLine.{CanBeDone};
 ghost use Rattle.xa_script.specs.Status.{status_after};
 
 mod command;
-#[cfg(test)]
-mod command_tests;
 mod help;
+mod jobs;
 mod judging;
-mod manner;
 mod racing;
+mod schedule;
 mod subcommands;
 
 use clap::Error;
 use clap::error::ErrorKind;
 pub use command::{Job, read_command};
-use judging::judge_within;
-pub use manner::Manner;
-use racing::race_by;
+pub use schedule::Schedule;
 use std::alloc::Global;
 use std::env::Env;
-use std::io::{BufWriter, Write};
 use std::process::ExitCode;
 use std::sync::Wait;
 use std::thread::Threads;
 use std::{env, io};
-use xa_manager::converse;
-use xa_serve::{Wire, serve_statements};
-use xa_show::show_statements;
-pub use xa_transcript::{
-    CutReader, CutWriter, ScriptFault, race_script, race_script_in_rounds, run_script,
-};
+pub use xa_lines::{CutReader, CutWriter, ScriptFault, run_script};
+pub use xa_races::{race_script, race_script_in_rounds};
 
 /// The status of a run that was done, and of help.
 const DONE: u8 = 0;
@@ -89,41 +81,25 @@ fn refuse_words<R: Eprint>(rt: &R, error: &io::Error) -> u8 {
     COMMAND_FAULT
 }
 
-/// Runs or races the script of the standard input, judges the record there, carries its calls out, or serves whoever speaks there;
-/// and gives the status.
+/// Does a job, and gives the status.
 fn carry_out<R: Input + Print + Alloc<A = Global> + Threads + Wait + Sync>(
     rt: &R,
     job: Job,
 ) -> Result<u8, ScriptFault>
     requires { CanBeDone job }
 {
-    let mut input = rt.reader();
-    let Ok(mut output) = BufWriter::new(rt.alloc(), io::writer(rt)) else {
-        return Err(ScriptFault::NoMemory);
-    };
-    let result = match job {
-        Job::Run => run_script(rt.alloc(), &mut input, &mut output).and(Ok(DONE)),
+    match job {
+        Job::Run => jobs::run(rt),
         Job::Race {
             capacity,
-            manner,
+            schedule,
             renews,
-        } => race_by(rt, &mut input, &mut output, capacity, manner, renews).and(Ok(DONE)),
-        Job::Judge { limit } => judge_within(rt.alloc(), &mut input, &mut output, limit),
-        Job::Coordinate { stores, capacity } => {
-            let mut wire = Wire::new(input, output);
-            return converse(rt, rt.alloc(), &mut wire, stores, capacity).and(Ok(DONE));
-        }
-        Job::Serve => {
-            return serve_statements(rt.alloc(), &mut Wire::new(input, output)).and(Ok(DONE));
-        }
-        Job::Show => {
-            return show_statements(rt.alloc(), &mut Wire::new(input, output)).and(Ok(DONE));
-        }
-    };
-    if output.flush().is_err() {
-        return Err(ScriptFault::Write);
+        } => jobs::race(rt, capacity, schedule, renews),
+        Job::Coordinate { stores, capacity } => jobs::coordinate(rt, stores, capacity),
+        Job::Serve => jobs::serve(rt),
+        Job::Show => jobs::show(rt),
+        Job::Judge { limit } => jobs::judge(rt, limit),
     }
-    result
 }
 
 /// Writes why a command line isn't carried out, or what it asks for, and gives the status.

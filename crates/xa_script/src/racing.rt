@@ -1,13 +1,14 @@
 //! Races of the script of the standard input.
 ghost use Rattle.decision_log.specs.Opens.{IsCapacity};
 
-use crate::Manner;
+use crate::Schedule;
 use std::alloc::{Alloc, Global};
 use std::io::{Read, Write};
 use std::sync::Wait;
 use std::thread::Threads;
+use xa_lines::ScriptFault;
+use xa_races::{race_script, race_script_in_rounds};
 use xa_store::{Gate, OpenGate, ShuffledGate, TogetherGate};
-use xa_transcript::{ScriptFault, race_script, race_script_in_rounds};
 
 /// Races a script behind a gate, in rounds where it renews.
 fn race_behind<I: Read, O: Write, G: Gate + Sync, R: Alloc<A = Global> + Threads + Wait + Sync>(
@@ -27,24 +28,24 @@ fn race_behind<I: Read, O: Write, G: Gate + Sync, R: Alloc<A = Global> + Threads
     }
 }
 
-/// Races a script, by the gate of a manner, in rounds where it renews.
+/// Races a script, by the gate of a schedule, in rounds where it renews.
 pub fn race_by<I: Read, O: Write, R: Alloc<A = Global> + Threads + Wait + Sync>(
     rt: &R,
     input: &mut I,
     output: &mut O,
     capacity: u64,
-    manner: Manner,
+    schedule: Schedule,
     renews: bool,
 ) -> Result<(), ScriptFault>
     requires { IsCapacity capacity }
 {
-    match manner {
-        Manner::Freely => race_behind(rt, input, output, capacity, &OpenGate, renews),
-        Manner::Together => {
+    match schedule {
+        Schedule::Freely => race_behind(rt, input, output, capacity, &OpenGate, renews),
+        Schedule::Together => {
             let gate = TogetherGate::new();
             race_behind(rt, input, output, capacity, &gate, renews)
         }
-        Manner::Shuffled(seed) => {
+        Schedule::Shuffled(seed) => {
             let gate = ShuffledGate::new(seed);
             race_behind(rt, input, output, capacity, &gate, renews)
         }

@@ -1,24 +1,52 @@
 //! The command and its subcommands, as `clap` sees them.
-ghost use Rattle.std.specs.Prelude.{◌≡◌, false, IfOk};
-ghost use Rattle.clap.specs.Words.{app_of, new_app, rule_of};
+ghost use Rattle.std.specs.Prelude.{◌≡◌, false, IfOk, codes};
+ghost use Rattle.clap.specs.Words.{app_of, new_app, rule_of, with_subcommand};
 ghost use Rattle.xa_script.specs.CommandLine.{bare_app, race_app, coordinate_app, judge_app, IsLocal, capacity_rule, together_rule, shuffle_rule, renew_rule};
-ghost use Rattle.xa_script.specs.CommandLine.{stores_rule, limit_rule, script_app};
+ghost use Rattle.xa_script.specs.CommandLine.{stores_rule, limit_rule, number_rule, flag_rule, script_app};
 
 use crate::help::{CALLS, LINES, RECORDS, SHOWN, VERSION};
+use clap::builder::ValueParser;
 use clap::{Arg, ArgAction, Command, value_parser};
 use std::alloc::{AllocError, Global};
 
-/// The option that says for how many entries a race's log has room.
+/// An option whose value this parser reads, and which has a default.
+fn number_option<'a>(
+    alloc: Global,
+    name: &'a str,
+    help: &'a str,
+    parser: ValueParser<'a>,
+    default: &'a str,
+) -> Arg<'a>
+    ensures rule { rule_of result ≡ number_rule name.entry.now parser.entry default.entry.now }
+    ensures global { result.global ≡ false }
+{
+    Arg::new(alloc, name)
+        .long(name)
+        .value_name("N")
+        .help(help)
+        .value_parser(parser)
+        .default_value(default)
+}
+
+/// An option without a value.
+fn flag_option<'a>(alloc: Global, name: &'a str, help: &'a str) -> Arg<'a>
+    ensures rule { rule_of result ≡ flag_rule name.entry.now }
+    ensures global { result.global ≡ false }
+{
+    Arg::new(alloc, name)
+        .long(name)
+        .help(help)
+        .action(ArgAction::SetTrue)
+}
+
+/// The option that says for how many entries a log has room.
 fn capacity_option<'a>(alloc: Global) -> Arg<'a>
     ensures rule { rule_of result ≡ capacity_rule }
     ensures global { result.global ≡ false }
 {
-    Arg::new(alloc, "capacity")
-        .long("capacity")
-        .value_name("N")
-        .help("How many entries the history has room for")
-        .value_parser(value_parser!(u64).range(1..=1024))
-        .default_value("1024")
+    let help = "How many entries the history has room for";
+    let parser = value_parser!(u64).range(1..=1024);
+    number_option(alloc, "capacity", help, parser, "1024")
 }
 
 /// The option by which the sessions of a race meet before their first lines.
@@ -26,10 +54,8 @@ fn together_option<'a>(alloc: Global) -> Arg<'a>
     ensures rule { rule_of result ≡ together_rule }
     ensures global { result.global ≡ false }
 {
-    Arg::new(alloc, "together")
-        .long("together")
-        .help("Lets no session past its first line until all stand there")
-        .action(ArgAction::SetTrue)
+    let help = "Lets no session past its first line until all stand there";
+    flag_option(alloc, "together", help)
 }
 
 /// The option by which they moreover step aside.
@@ -49,10 +75,8 @@ fn renew_option<'a>(alloc: Global) -> Arg<'a>
     ensures rule { rule_of result ≡ renew_rule }
     ensures global { result.global ≡ false }
 {
-    Arg::new(alloc, "renew")
-        .long("renew")
-        .help("Goes on where the history is full, in rounds of N entries each")
-        .action(ArgAction::SetTrue)
+    let help = "Goes on where the history is full, in rounds of N entries each";
+    flag_option(alloc, "renew", help)
 }
 
 /// The option that says how many stores there are.
@@ -60,12 +84,8 @@ fn stores_option<'a>(alloc: Global) -> Arg<'a>
     ensures rule { rule_of result ≡ stores_rule }
     ensures global { result.global ≡ false }
 {
-    Arg::new(alloc, "stores")
-        .long("stores")
-        .value_name("N")
-        .help("How many stores there are")
-        .value_parser(value_parser!(u64).range(1..=16))
-        .default_value("3")
+    let parser = value_parser!(u64).range(1..=16);
+    number_option(alloc, "stores", "How many stores there are", parser, "3")
 }
 
 /// The option that says how many configurations may be kept.
@@ -73,12 +93,9 @@ fn limit_option<'a>(alloc: Global) -> Arg<'a>
     ensures rule { rule_of result ≡ limit_rule }
     ensures global { result.global ≡ false }
 {
-    Arg::new(alloc, "limit")
-        .long("limit")
-        .value_name("N")
-        .help("How many configurations may be kept before a return")
-        .value_parser(value_parser!(u64).range(1..=1_000_000))
-        .default_value("100000")
+    let help = "How many configurations may be kept before a return";
+    let parser = value_parser!(u64).range(1..=1_000_000);
+    number_option(alloc, "limit", help, parser, "100000")
 }
 
 /// A subcommand without options, with what its help shows behind them.
@@ -135,20 +152,72 @@ fn bare_command<'a>(alloc: Global) -> Command<'a>
         .subcommand_required(true)
 }
 
+/// Adds a subcommand without options.
+fn with_plain<'a>(
+    command: Command<'a>,
+    alloc: Global,
+    name: &'a str,
+    about: &'a str,
+    help: &'a str,
+) -> Result<Command<'a>, AllocError>
+    ensures { IfOk result (λ more. app_of more ≡ with_subcommand (app_of command.entry) (new_app name.entry.now).top) }
+{
+    command.subcommand(plain_command(alloc, name, about, help))
+}
+
+/// Adds the subcommand that runs a script.
+fn with_run<'a>(alloc: Global, command: Command<'a>) -> Result<Command<'a>, AllocError>
+    ensures { IfOk result (λ more. app_of more ≡ with_subcommand (app_of command.entry) (new_app (codes "run")).top) }
+{
+    let about = "Runs the script of the standard input";
+    with_plain(command, alloc, "run", about, LINES)
+}
+
+/// Adds the subcommand that races a script.
+fn with_race<'a>(alloc: Global, command: Command<'a>) -> Result<Command<'a>, AllocError>
+    ensures { IfOk result (λ more. app_of more ≡ with_subcommand (app_of command.entry) race_app.top) }
+{
+    command.subcommand(race_command(alloc)?)
+}
+
+/// Adds the subcommand that carries calls out.
+fn with_coordinate<'a>(alloc: Global, command: Command<'a>) -> Result<Command<'a>, AllocError>
+    ensures { IfOk result (λ more. app_of more ≡ with_subcommand (app_of command.entry) coordinate_app.top) }
+{
+    command.subcommand(coordinate_command(alloc)?)
+}
+
+/// Adds the subcommand that serves whoever speaks.
+fn with_serve<'a>(alloc: Global, command: Command<'a>) -> Result<Command<'a>, AllocError>
+    ensures { IfOk result (λ more. app_of more ≡ with_subcommand (app_of command.entry) (new_app (codes "serve")).top) }
+{
+    let about = "Answers each line of the standard input before it reads more";
+    with_plain(command, alloc, "serve", about, LINES)
+}
+
+/// Adds the subcommand that shows the store too.
+fn with_show<'a>(alloc: Global, command: Command<'a>) -> Result<Command<'a>, AllocError>
+    ensures { IfOk result (λ more. app_of more ≡ with_subcommand (app_of command.entry) (new_app (codes "show")).top) }
+{
+    let about = "Answers each line as serve does, and shows the store behind each answer";
+    with_plain(command, alloc, "show", about, SHOWN)
+}
+
+/// Adds the subcommand that judges a record.
+fn with_judge<'a>(alloc: Global, command: Command<'a>) -> Result<Command<'a>, AllocError>
+    ensures { IfOk result (λ more. app_of more ≡ with_subcommand (app_of command.entry) judge_app.top) }
+{
+    command.subcommand(judge_command(alloc)?)
+}
+
 /// The command and its subcommands.
 pub fn script_command<'a>(alloc: Global) -> Result<Command<'a>, AllocError>
     ensures { IfOk result (λ command. app_of command ≡ script_app) }
 {
-    let run = plain_command(alloc, "run", "Runs the script of the standard input", LINES);
-    let about = "Answers each line of the standard input before it reads more";
-    let serve = plain_command(alloc, "serve", about, LINES);
-    let about = "Answers each line as serve does, and shows the store behind each answer";
-    let show = plain_command(alloc, "show", about, SHOWN);
-    bare_command(alloc)
-        .subcommand(run)?
-        .subcommand(race_command(alloc)?)?
-        .subcommand(coordinate_command(alloc)?)?
-        .subcommand(serve)?
-        .subcommand(show)?
-        .subcommand(judge_command(alloc)?)
+    let command = with_run(alloc, bare_command(alloc))?;
+    let command = with_race(alloc, command)?;
+    let command = with_coordinate(alloc, command)?;
+    let command = with_serve(alloc, command)?;
+    let command = with_show(alloc, command)?;
+    with_judge(alloc, command)
 }

@@ -9,12 +9,10 @@
 --     IsFull           there is no room for a statement that enters
 --     Fails            why a statement was not answered
 --     IsFinal          trying again is of no use
---     RepliesAfter     an answer, or Full, comes only once the replica stands for what it was found on
+--     FullAfter        Full comes only once the replica stands for all that is seen
 --     IsKept           an answered statement has been replayed
 --     WantsMemory      the only causes of NoMemory
---     Tries            how often an attempt without an answer has tried to add
---     LooksLast        no try to add has followed the last look
-use Rattle.std.specs.Prelude.{◌≡◌, ◌<◌, ◌≤◌, ◌+◌, ℕ, Bool, true, false, IsTrue, ◌⊎◌, List, [], ◌∷◌, ◌++◌, length, take, slice_get, Some, Result, Ok, Err}
+use Rattle.std.specs.Prelude.{◌≡◌, ◌<◌, ◌≤◌, ℕ, Bool, true, false, IsTrue, ◌⊎◌, List, [], ◌∷◌, ◌++◌, length, take, slice_get, Some}
 use Rattle.xa_words.specs.Entry.{Entry}
 use Rattle.xa_xid.specs.declared.statement.Statement.{Statement}
 use Rattle.xa_server.specs.State.{State}
@@ -91,13 +89,12 @@ IsFinal Full = Unit {0}
 IsFinal NoMemory = Unit {0}
 IsFinal Busy = ⊥
 
--- NoMemory of the replica comes before every answer and before Full: the replica has replayed what these were found on
-abbrev pub RepliesAfter : Result Answer Fault → Replica → Known → Type 0
-RepliesAfter (Ok answer) replica known = answer.place ≤ replica.replayed
-RepliesAfter (Err (Overtaken front)) replica known = Unit {0}
-RepliesAfter (Err Full) replica known = replica.replayed ≡ length known.seen
-RepliesAfter (Err NoMemory) replica known = Unit {0}
-RepliesAfter (Err Busy) replica known = Unit {0}
+-- NoMemory of the replica comes before Full: the replica has replayed all that is seen
+abbrev pub FullAfter : Fault → Replica → Known → Type 0
+FullAfter (Overtaken front) replica known = Unit {0}
+FullAfter Full replica known = replica.replayed ≡ length known.seen
+FullAfter NoMemory replica known = Unit {0}
+FullAfter Busy replica known = Unit {0}
 
 -- all that is seen has been replayed, an added statement too, but for one that may take memory there
 abbrev pub IsKept : State → Statement → Answer → Replica → Known → Type 0
@@ -110,14 +107,3 @@ WantsMemory statement (Overtaken front) replica known = Unit {0}
 WantsMemory statement Full replica known = Unit {0}
 WantsMemory statement NoMemory replica known = (is_recover statement ≡ true) ⊎ (replica.replayed < length known.seen)
 WantsMemory statement Busy replica known = Unit {0}
-
--- an attempt without an answer has lost one try to add, or else has not tried
-abbrev pub Tries : Fault → Known → Known → Type 0
-Tries (Overtaken front) old new = new.tries ≡ old.tries + 1
-Tries Full old new = new.tries ≡ old.tries
-Tries NoMemory old new = new.tries ≡ old.tries
-Tries Busy old new = new.tries ≡ old.tries + 1
-
--- where each try comes after a look of its own, more looks than tries say that the last look was followed by none
-abbrev pub LooksLast : Known → Known → Type 0
-LooksLast old new = new.tries + old.looks < new.looks + old.tries

@@ -1,6 +1,9 @@
--- The numbers of a session's faults.
+-- A session's faults: their numbers, and those that an add comes to.
 --     number_of_fault       why a statement wasn't answered
+--     fault_of              why an entry wasn't added, as why its statement wasn't answered
 use Rattle.std.specs.Prelude.{ℕ}
+use Rattle.decision_log.specs.declared.fault.AddFault.{AddFault}
+use Rattle.decision_log.specs.declared.fault.AddFault.TheVariants.{Overtaken as IsOvertaken, Full as IsFull, Busy as IsBusy}
 use Rattle.xa_session.specs.declared.fault.Fault.{Fault}
 use Rattle.xa_session.specs.declared.fault.Fault.TheVariants.{Overtaken, Full, NoMemory, Busy}
 
@@ -10,3 +13,9 @@ number_of_fault (Overtaken front) = 1
 number_of_fault Full = 2
 number_of_fault NoMemory = 3
 number_of_fault Busy = 4
+
+-- the fault of the same name
+abbrev pub fault_of : AddFault → Fault
+fault_of (IsOvertaken front) = Overtaken front
+fault_of IsFull = Full
+fault_of IsBusy = Busy

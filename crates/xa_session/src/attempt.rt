@@ -1,8 +1,12 @@
 //! One try to have a statement answered.
-ghost use Rattle.std.specs.Prelude.{◌≡◌, ◌⊎◌, ◌<◌, ◌≤◌, ◌+◌, ◌^◌, true, length, slice_get, Some, IfOk, IfErr, OnOk, OnErr};
+ghost use Rattle.std.specs.Prelude.{◌≡◌, ◌⊎◌, ◌<◌, ◌^◌, true, length, slice_get, Some, IfOk, OnOk, OnErr};
 ghost use Rattle.decision_log.specs.Calls.{Looked, Adds};
 ghost use Rattle.xa_server.specs.Step.{enters, may_take_memory};
-ghost use Rattle.xa_session.specs.Answer.{entry_of, IsAnswered, Fails, RepliesAfter, WantsMemory, Tries, IsKept};
+ghost use Rattle.xa_session.specs.Answer.{entry_of};
+ghost use Rattle.xa_session.specs.Outcome.{Answers};
+ghost use Rattle.xa_session.specs.Replays.{ReplaysOne, CatchesUp};
+ghost use Rattle.xa_session.specs.Stays.{Stays};
+ghost use Rattle.xa_session.specs.Tries.{TriesOnce};
 
 use crate::{Answer, Fault, Session};
 use decision_log::{AddFault, DecisionLog};
@@ -14,11 +18,9 @@ impl<'a, L: DecisionLog> Session<'a, L> {
     fn replay_next(&mut self) -> Result<(), NoMemory>
         requires seen { self.old.replica.replayed < length (L.known self.old.pass).seen }
         requires fits { length (L.known self.old.pass).seen < 2 ^ 64 }
-        ensures belongs { L.belongs_to self.new.pass ≡ L.belongs_to self.old.pass }
-        ensures base { self.new.base.now ≡ self.old.base.now }
+        ensures stays { Stays self.old self.new }
         ensures known { L.known self.new.pass ≡ L.known self.old.pass }
-        ensures next { OnOk result (self.new.replica.replayed ≡ self.old.replica.replayed + 1) }
-        ensures err { OnErr result (self.new.replica ≡ self.old.replica) }
+        ensures replays { ReplaysOne result self.old.replica self.new.replica }
     {
         let entry = self.log.entry(&mut self.pass, self.replica.replayed);
         self.replica.replay(&entry)
@@ -26,12 +28,9 @@ impl<'a, L: DecisionLog> Session<'a, L> {
 
     /// Has the replica stand for all that is seen: it replays the entries that it hasn't replayed.
     fn catch_up(&mut self) -> Result<(), NoMemory>
-        ensures belongs { L.belongs_to self.new.pass ≡ L.belongs_to self.old.pass }
-        ensures base { self.new.base.now ≡ self.old.base.now }
+        ensures stays { Stays self.old self.new }
         ensures known { L.known self.new.pass ≡ L.known self.old.pass }
-        ensures folds { self.old.replica.replayed ≤ self.new.replica.replayed }
-        ensures whole { OnOk result (self.new.replica.replayed ≡ length (L.known self.new.pass).seen) }
-        ensures memory { OnErr result (self.new.replica.replayed < length (L.known self.new.pass).seen) }
+        ensures catches_up { CatchesUp result self.new.replica (L.known self.new.pass) }
     {
         for _ in self.replica.replayed..self.log.length(&self.pass) {
             self.replay_next()?;
@@ -41,13 +40,10 @@ impl<'a, L: DecisionLog> Session<'a, L> {
 
     /// Looks, and has the replica stand for all that is seen then. The answer is how many entries that is.
     fn observe(&mut self) -> Result<u64, NoMemory>
-        ensures belongs { L.belongs_to self.new.pass ≡ L.belongs_to self.old.pass }
-        ensures base { self.new.base.now ≡ self.old.base.now }
+        ensures stays { Stays self.old self.new }
         ensures looked { Looked (L.known self.old.pass) (L.known self.new.pass) }
         ensures length { IfOk result (λ count. count ≡ length (L.known self.new.pass).seen) }
-        ensures folds { self.old.replica.replayed ≤ self.new.replica.replayed }
-        ensures whole { OnOk result (self.new.replica.replayed ≡ length (L.known self.new.pass).seen) }
-        ensures memory { OnErr result (self.new.replica.replayed < length (L.known self.new.pass).seen) }
+        ensures catches_up { CatchesUp result self.new.replica (L.known self.new.pass) }
     {
         let count = self.look();
         self.catch_up()?;
@@ -58,11 +54,9 @@ impl<'a, L: DecisionLog> Session<'a, L> {
     fn keep(&mut self, session: SessionNo, statement: &Statement) -> Result<(), NoMemory>
         requires enters { enters self.old.replica.server session statement.now ≡ true }
         requires next { slice_get (L.known self.old.pass).seen self.old.replica.replayed ≡ Some (entry_of session statement.now) }
-        ensures belongs { L.belongs_to self.new.pass ≡ L.belongs_to self.old.pass }
-        ensures base { self.new.base.now ≡ self.old.base.now }
+        ensures stays { Stays self.old self.new }
         ensures known { L.known self.new.pass ≡ L.known self.old.pass }
-        ensures next { OnOk result (self.new.replica.replayed ≡ self.old.replica.replayed + 1) }
-        ensures err { OnErr result (self.new.replica ≡ self.old.replica) }
+        ensures replays { ReplaysOne result self.old.replica self.new.replica }
         ensures memory { OnErr result (may_take_memory self.old.replica.server session statement.now ≡ true) }
     {
         // It bounds the count of entries.
@@ -76,11 +70,9 @@ impl<'a, L: DecisionLog> Session<'a, L> {
         requires own { session ≡ (L.known self.old.pass).number }
         requires whole { self.old.replica.replayed ≡ length (L.known self.old.pass).seen }
         requires enters { enters self.old.replica.server session statement.now ≡ true }
-        ensures belongs { L.belongs_to self.new.pass ≡ L.belongs_to self.old.pass }
-        ensures base { self.new.base.now ≡ self.old.base.now }
+        ensures stays { Stays self.old self.new }
         ensures added { Adds L.TURNS (L.belongs_to self.old.pass).capacity (entry_of session statement.now) result (L.known self.old.pass)
             (L.known self.new.pass) }
-        ensures folds { self.old.replica.replayed ≤ self.new.replica.replayed }
         ensures kept { OnOk result
             ((self.new.replica.replayed ≡ length (L.known self.new.pass).seen) ⊎ (may_take_memory self.old.replica.server session statement.now ≡ true)) }
         ensures err { OnErr result (self.new.replica ≡ self.old.replica) }
@@ -101,19 +93,9 @@ impl<'a, L: DecisionLog> Session<'a, L> {
     /// May answer `NoMemory`, and never after an add. Doesn't wait.
     /// Own rule: docs/BEHAVIOR.md, 'Sessions'.
     pub fn attempt(&mut self, statement: &Statement) -> Result<Answer, Fault>
-        ensures belongs { L.belongs_to self.new.pass ≡ L.belongs_to self.old.pass }
-        ensures base { self.new.base.now ≡ self.old.base.now }
-        ensures answered { IfOk result (λ answer. IsAnswered self.old.base.now statement.now answer (L.known self.old.pass) (L.known self.new.pass)) }
-        ensures fails { IfErr result
-            (λ fault. Fails L.TURNS (L.belongs_to self.old.pass).capacity self.old.base.now statement.now fault (L.known self.old.pass)
-            (L.known self.new.pass)) }
-        ensures looked { (L.known self.old.pass).looks < (L.known self.new.pass).looks }
-        ensures tries { (L.known self.new.pass).tries ≤ (L.known self.old.pass).tries + 1 }
-        ensures tried { IfErr result (λ fault. Tries fault (L.known self.old.pass) (L.known self.new.pass)) }
-        ensures replayed { RepliesAfter result self.new.replica (L.known self.new.pass) }
-        ensures folds { self.old.replica.replayed ≤ self.new.replica.replayed }
-        ensures memory { IfErr result (λ fault. WantsMemory statement.now fault self.new.replica (L.known self.new.pass)) }
-        ensures kept { IfOk result (λ answer. IsKept self.old.base.now statement.now answer self.new.replica (L.known self.new.pass)) }
+        ensures stays { Stays self.old self.new }
+        ensures answers { Answers statement.now result self.old self.new }
+        ensures once { TriesOnce result (L.known self.old.pass) (L.known self.new.pass) }
     {
         let place = self.observe()?;
         let session = self.number();
@@ -122,11 +104,7 @@ impl<'a, L: DecisionLog> Session<'a, L> {
         if !enters {
             return Ok(answer);
         }
-        match self.add(session, statement) {
-            Ok(()) => Ok(answer),
-            Err(AddFault::Overtaken { front }) => Err(Fault::Overtaken { front }),
-            Err(AddFault::Full) => Err(Fault::Full),
-            Err(AddFault::Busy) => Err(Fault::Busy),
-        }
+        self.add(session, statement)?;
+        Ok(answer)
     }
 }

@@ -1,8 +1,11 @@
 //! Trying until a statement is answered.
-ghost use Rattle.std.specs.Prelude.{◌≡◌, ◌≤◌, ℕ, Err, IfOk, IfErr, OnErr};
+ghost use Rattle.std.specs.Prelude.{◌≡◌, ℕ, IfOk, IfErr, OnErr};
 ghost use Rattle.xa_server.specs.declared.reply.Reply.TheVariants.{Ok as Accepted};
 ghost use Rattle.xa_xid.specs.declared.statement.Statement.TheVariants.{Disconnect};
-ghost use Rattle.xa_session.specs.Answer.{IsAnswered, Fails, IsFinal, IsKept, RepliesAfter, WantsMemory, LooksLast};
+ghost use Rattle.xa_session.specs.Answer.{IsAnswered, IsFinal};
+ghost use Rattle.xa_session.specs.Outcome.{Answers, HasFailed};
+ghost use Rattle.xa_session.specs.Stays.{Stays};
+ghost use Rattle.xa_session.specs.Tries.{LooksLast};
 
 use crate::{Answer, Fault, Session};
 use decision_log::DecisionLog;
@@ -18,17 +21,9 @@ impl<'a, L: DecisionLog> Session<'a, L> {
     /// May answer `NoMemory`, and never after an add. May wait: no number of tries is promised.
     /// Own rule: docs/BEHAVIOR.md, 'Sessions'.
     pub fn execute<R: Wait>(&mut self, rt: &R, statement: &Statement) -> Result<Answer, Fault>
-        ensures belongs { L.belongs_to self.new.pass ≡ L.belongs_to self.old.pass }
-        ensures base { self.new.base.now ≡ self.old.base.now }
-        ensures answered { IfOk result (λ answer. IsAnswered self.old.base.now statement.now answer (L.known self.old.pass) (L.known self.new.pass)) }
-        ensures fails { IfErr result
-            (λ fault. Fails L.TURNS (L.belongs_to self.old.pass).capacity self.old.base.now statement.now fault (L.known self.old.pass)
-            (L.known self.new.pass)) }
+        ensures stays { Stays self.old self.new }
+        ensures answers { Answers statement.now result self.old self.new }
         ensures lasts { IfErr result IsFinal }
-        ensures replayed { RepliesAfter result self.new.replica (L.known self.new.pass) }
-        ensures folds { self.old.replica.replayed ≤ self.new.replica.replayed }
-        ensures memory { IfErr result (λ fault. WantsMemory statement.now fault self.new.replica (L.known self.new.pass)) }
-        ensures kept { IfOk result (λ answer. IsKept self.old.base.now statement.now answer self.new.replica (L.known self.new.pass)) }
         ensures tried { OnErr result (LooksLast (L.known self.old.pass) (L.known self.new.pass)) }
     {
         for _ in rt.forever() {
@@ -51,14 +46,9 @@ impl<'a, L: DecisionLog> Session<'a, L> {
         ensures answered { IfOk result
             (λ pass. (place : ℕ)
             × IsAnswered self.entry.base.now Disconnect (record { place = place; reply = Accepted }) (L.known self.entry.pass) (L.known pass)) }
-        ensures stays { IfErr result (λ refused. (L.belongs_to refused.0.pass ≡ L.belongs_to self.entry.pass) × (refused.0.base.now ≡ self.entry.base.now)) }
-        ensures fails { IfErr result
-            (λ refused. Fails L.TURNS (L.belongs_to self.entry.pass).capacity self.entry.base.now Disconnect refused.1 (L.known self.entry.pass)
-            (L.known refused.0.pass)) }
+        ensures stays { IfErr result (λ refused. Stays self.entry refused.0) }
+        ensures cause { IfErr result (λ refused. HasFailed Disconnect refused.1 self.entry refused.0) }
         ensures lasts { IfErr result (λ refused. IsFinal refused.1) }
-        ensures replayed { IfErr result (λ refused. RepliesAfter (Err refused.1) refused.0.replica (L.known refused.0.pass)) }
-        ensures folds { IfErr result (λ refused. self.entry.replica.replayed ≤ refused.0.replica.replayed) }
-        ensures memory { IfErr result (λ refused. WantsMemory Disconnect refused.1 refused.0.replica (L.known refused.0.pass)) }
         ensures tried { IfErr result (λ refused. LooksLast (L.known self.entry.pass) (L.known refused.0.pass)) }
     {
         match self.execute(rt, &Statement::Disconnect) {

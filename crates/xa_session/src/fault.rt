@@ -2,6 +2,7 @@
 ghost use Rattle.std.specs.Prelude.{◌≡◌};
 ghost use Rattle.xa_session.specs.Faults.{number_of_fault};
 
+use decision_log::AddFault;
 use std::alloc::AllocError;
 use thiserror::Error;
 
@@ -50,5 +51,20 @@ impl From<AllocError> for Fault {
 
     fn from(_refused: AllocError) -> Fault {
         Fault::NoMemory
+    }
+}
+
+impl From<AddFault> for Fault {
+    ghost use Rattle.std.specs.Prelude.{◌≡◌};
+    ghost use Rattle.xa_session.specs.Faults.{fault_of};
+
+    ghost from_gives = { λ added fault. fault ≡ fault_of added };
+
+    fn from(added: AddFault) -> Fault {
+        match added {
+            AddFault::Overtaken { front } => Fault::Overtaken { front },
+            AddFault::Full => Fault::Full,
+            AddFault::Busy => Fault::Busy,
+        }
     }
 }

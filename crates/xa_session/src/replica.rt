@@ -6,6 +6,7 @@ ghost use Rattle.xa_server.specs.Replies.{reply_to};
 ghost use Rattle.xa_server.specs.Step.{is_refused, may_take_memory};
 ghost use Rattle.xa_session.specs.Answer.{entry_of};
 ghost use Rattle.xa_session.specs.Replay.{Stands};
+ghost use Rattle.xa_session.specs.Replays.{ReplaysOne};
 
 use xa_server::Server;
 use xa_words::Entry;
@@ -42,8 +43,7 @@ impl Replica {
             → Stands base seen self.old
             → slice_get seen self.old.replayed ≡ Some entry.now
             → Stands base seen self.new) }
-        ensures next { OnOk result (self.new.replayed ≡ self.old.replayed + 1) }
-        ensures err { OnErr result (self.new ≡ self.old) }
+        ensures replays { ReplaysOne result self.old self.new }
     {
         self.server.apply(entry.session(), entry.statement())?;
         self.replayed += 1;
@@ -65,8 +65,7 @@ impl Replica {
             → Stands base seen self.old
             → slice_get seen self.old.replayed ≡ Some (entry_of session statement.now)
             → Stands base seen self.new) }
-        ensures next { OnOk result (self.new.replayed ≡ self.old.replayed + 1) }
-        ensures err { OnErr result (self.new ≡ self.old) }
+        ensures replays { ReplaysOne result self.old self.new }
         ensures memory { OnErr result (may_take_memory self.old.server session statement.now ≡ true) }
     {
         self.server.accept(session, statement)?;

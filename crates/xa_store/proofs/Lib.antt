@@ -2,7 +2,9 @@ pub mod Gathering
 pub mod Legality
 pub mod Spreading
 pub mod Races
+pub mod Leaves
 pub mod RoundLists
 pub mod Later
 pub mod OnTheRound
 pub mod InRounds
+pub mod RoundByRound

@@ -4,7 +4,14 @@ use Rattle.std.specs.Prelude.{slice_get}
 use Rattle.std.specs.List.{All, AllZip, AllByRecursion}
 use Rattle.std.proofs.lemmas.List.Elements.{All-head, All-tail, All-cons, All-nil}
 use Rattle.xa_store.specs.Spread.{AllThree}
-use Rattle.xa_store.proofs.Spreading.{three_all}
+
+-- what holds of each first holds of each second
+pub zip_all : {A B : Type 0} (K : A → B → Type 0) (P : A → Type 0) (Q : B → Type 0) → ((a : A) (b : B) → K a b → P a → Q b) → (xs : List A) (ys : List B)
+    → AllZip K xs ys → AllByRecursion P xs → AllByRecursion Q ys
+zip_all K P Q keep [] [] zip is = tt
+zip_all K P Q keep [] (b ∷ ys) zip is = absurd zip
+zip_all K P Q keep (a ∷ xs) [] zip is = absurd zip
+zip_all K P Q keep (a ∷ xs) (b ∷ ys) zip is = (keep a b zip.0 is.0, zip_all K P Q keep xs ys zip.1 is.1)
 
 -- what holds of each first holds of each third
 pub three_last : {A B C : Type 0} (R : A → B → C → Type 0) (P : A → Type 0) (Q : C → Type 0) → ((a : A) (b : B) (c : C) → R a b c → P a → Q c)
@@ -17,11 +24,10 @@ three_last R P Q keep (a ∷ xs) (b ∷ ys) [] all is = absurd all
 three_last R P Q keep (a ∷ xs) (b ∷ ys) (c ∷ zs) all is = (keep a b c all.0 is.0, three_last R P Q keep xs ys zs all.1 is.1)
 
 -- what holds of each first holds of what its third becomes
-pub three_become : {A B C D F : Type 0} (R : A → B → C → Type 0) (H : C → D → F → Type 0) (P : A → Type 0) (P' : C → Type 0) (Q : D → Type 0)
-    → ((a : A) (b : B) (c : C) → R a b c → P a → P' c) → ((c : C) (d : D) (f : F) → H c d f → P' c → Q d)
-    → (xs : List A) (ys : List B) (zs : List C) (ws : List D) (us : List F) → AllThree R xs ys zs → AllThree H zs ws us → AllByRecursion P xs
-    → AllByRecursion Q ws
-three_become R H P P' Q keep keep' xs ys zs ws us three went is = three_all H P' Q keep' zs ws us went (three_last R P P' keep xs ys zs three is)
+pub three_become : {A B C D : Type 0} (R : A → B → C → Type 0) (H : C → D → Type 0) (P : A → Type 0) (P' : C → Type 0) (Q : D → Type 0)
+    → ((a : A) (b : B) (c : C) → R a b c → P a → P' c) → ((c : C) (d : D) → H c d → P' c → Q d)
+    → (xs : List A) (ys : List B) (zs : List C) (ws : List D) → AllThree R xs ys zs → AllZip H zs ws → AllByRecursion P xs → AllByRecursion Q ws
+three_become R H P P' Q keep keep' xs ys zs ws three went is = zip_all H P' Q keep' zs ws went (three_last R P P' keep xs ys zs three is)
 
 -- the lists have one length
 pub three_lengths : {A B C : Type 0} (R : A → B → C → Type 0) (xs : List A) (ys : List B) (zs : List C) → AllThree R xs ys zs → length zs ≡ length ys
@@ -32,45 +38,27 @@ three_lengths R (a ∷ xs) [] zs all = absurd all
 three_lengths R (a ∷ xs) (b ∷ ys) [] all = absurd all
 three_lengths R (a ∷ xs) (b ∷ ys) (c ∷ zs) all = ap suc (three_lengths R xs ys zs all.1)
 
-pub three_firsts : {A B C : Type 0} (R : A → B → C → Type 0) (xs : List A) (ys : List B) (zs : List C) → AllThree R xs ys zs → length ys ≡ length xs
-three_firsts R [] [] [] all = refl
-three_firsts R [] [] (c ∷ zs) all = absurd all
-three_firsts R [] (b ∷ ys) zs all = absurd all
-three_firsts R (a ∷ xs) [] zs all = absurd all
-three_firsts R (a ∷ xs) (b ∷ ys) [] all = absurd all
-three_firsts R (a ∷ xs) (b ∷ ys) (c ∷ zs) all = ap suc (three_firsts R xs ys zs all.1)
-
 pub zip_lengths : {A B : Type 0} (K : A → B → Type 0) (xs : List A) (ys : List B) → AllZip K xs ys → length ys ≡ length xs
 zip_lengths K [] [] zip = refl
 zip_lengths K [] (b ∷ ys) zip = absurd zip
 zip_lengths K (a ∷ xs) [] zip = absurd zip
 zip_lengths K (a ∷ xs) (b ∷ ys) zip = ap suc (zip_lengths K xs ys zip.1)
 
--- what holds of each first holds of each second
-pub zip_all : {A B : Type 0} (K : A → B → Type 0) (P : A → Type 0) (Q : B → Type 0) → ((a : A) (b : B) → K a b → P a → Q b) → (xs : List A) (ys : List B)
-    → AllZip K xs ys → AllByRecursion P xs → AllByRecursion Q ys
-zip_all K P Q keep [] [] zip is = tt
-zip_all K P Q keep [] (b ∷ ys) zip is = absurd zip
-zip_all K P Q keep (a ∷ xs) [] zip is = absurd zip
-zip_all K P Q keep (a ∷ xs) (b ∷ ys) zip is = (keep a b zip.0 is.0, zip_all K P Q keep xs ys zip.1 is.1)
-
 -- what a place's third becomes, and what that leaves
-pub three_ended : {A B C D E F : Type 0} (R : A → B → C → Type 0) (H : C → D → F → Type 0) (W : D → E → Type 0) (Q : A → B → F → Type 0)
-    → ((a : A) (b : B) (c : C) (d : D) (e : E) (f : F) → R a b c → H c d f → W d e → Q a b f)
-    → (xs : List A) (ys : List B) (zs : List C) (ws : List D) (vs : List E) (us : List F) → AllThree R xs ys zs → AllThree H zs ws us → AllZip W ws vs
-    → AllThree Q xs ys us
-three_ended R H W Q keep [] [] [] [] vs [] three went wound = tt
-three_ended R H W Q keep [] [] [] [] vs (f ∷ us) three went wound = absurd went
-three_ended R H W Q keep [] [] [] (d ∷ ws) vs us three went wound = absurd went
-three_ended R H W Q keep [] [] (c ∷ zs) ws vs us three went wound = absurd three
-three_ended R H W Q keep [] (b ∷ ys) zs ws vs us three went wound = absurd three
-three_ended R H W Q keep (a ∷ xs) [] zs ws vs us three went wound = absurd three
-three_ended R H W Q keep (a ∷ xs) (b ∷ ys) [] ws vs us three went wound = absurd three
-three_ended R H W Q keep (a ∷ xs) (b ∷ ys) (c ∷ zs) [] vs us three went wound = absurd went
-three_ended R H W Q keep (a ∷ xs) (b ∷ ys) (c ∷ zs) (d ∷ ws) vs [] three went wound = absurd went
-three_ended R H W Q keep (a ∷ xs) (b ∷ ys) (c ∷ zs) (d ∷ ws) [] (f ∷ us) three went wound = absurd wound
-three_ended R H W Q keep (a ∷ xs) (b ∷ ys) (c ∷ zs) (d ∷ ws) (e ∷ vs) (f ∷ us) three went wound =
-    (keep a b c d e f three.0 went.0 wound.0, three_ended R H W Q keep xs ys zs ws vs us three.1 went.1 wound.1)
+pub three_ended : {A B C D E F : Type 0} (R : A → B → C → Type 0) (H : C → D → Type 0) (W : D → E → Type 0) (Q : A → B → F → Type 0) (f : D → F)
+    → ((a : A) (b : B) (c : C) (d : D) (e : E) → R a b c → H c d → W d e → Q a b (f d))
+    → (xs : List A) (ys : List B) (zs : List C) (ws : List D) (vs : List E) → AllThree R xs ys zs → AllZip H zs ws → AllZip W ws vs
+    → AllThree Q xs ys (map f ws)
+three_ended R H W Q f keep [] [] [] [] vs three went left = tt
+three_ended R H W Q f keep [] [] [] (d ∷ ws) vs three went left = absurd went
+three_ended R H W Q f keep [] [] (c ∷ zs) ws vs three went left = absurd three
+three_ended R H W Q f keep [] (b ∷ ys) zs ws vs three went left = absurd three
+three_ended R H W Q f keep (a ∷ xs) [] zs ws vs three went left = absurd three
+three_ended R H W Q f keep (a ∷ xs) (b ∷ ys) [] ws vs three went left = absurd three
+three_ended R H W Q f keep (a ∷ xs) (b ∷ ys) (c ∷ zs) [] vs three went left = absurd went
+three_ended R H W Q f keep (a ∷ xs) (b ∷ ys) (c ∷ zs) (d ∷ ws) [] three went left = absurd left
+three_ended R H W Q f keep (a ∷ xs) (b ∷ ys) (c ∷ zs) (d ∷ ws) (e ∷ vs) three went left =
+    (keep a b c d e three.0 went.0 left.0, three_ended R H W Q f keep xs ys zs ws vs three.1 went.1 left.1)
 
 -- the element of a place, and those beside it
 pub record IsBeside {A B C : Type 0} (R : A → B → C → Type 0) (xs : List A) (ys : List B) (place : ℕ) (z : C) : Type 0 where

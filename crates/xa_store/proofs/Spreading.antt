@@ -23,59 +23,39 @@ three_more R (a ∷ xs) [] zs x y z all is = absurd all
 three_more R (a ∷ xs) (b ∷ ys) [] x y z all is = absurd all
 three_more R (a ∷ xs) (b ∷ ys) (c ∷ zs) x y z all is = (all.0, three_more R xs ys zs x y z all.1 is)
 
--- the first stands for another
-pub three_through : {A B C D : Type 0} (Z : A → B → Type 0) (R : B → C → D → Type 0) (Q : A → C → D → Type 0)
-    → ((a : A) (b : B) (c : C) (d : D) → Z a b → R b c d → Q a c d) → (ws : List A) (xs : List B) (ys : List C) (zs : List D) → AllZip Z ws xs
-    → AllThree R xs ys zs → AllThree Q ws ys zs
-three_through Z R Q keep [] [] [] [] zip all = tt
-three_through Z R Q keep [] [] [] (d ∷ zs) zip all = absurd all
-three_through Z R Q keep [] [] (c ∷ ys) zs zip all = absurd all
-three_through Z R Q keep [] (b ∷ xs) ys zs zip all = absurd zip
-three_through Z R Q keep (a ∷ ws) [] ys zs zip all = absurd zip
-three_through Z R Q keep (a ∷ ws) (b ∷ xs) [] zs zip all = absurd all
-three_through Z R Q keep (a ∷ ws) (b ∷ xs) (c ∷ ys) [] zip all = absurd all
-three_through Z R Q keep (a ∷ ws) (b ∷ xs) (c ∷ ys) (d ∷ zs) zip all = (keep a b c d zip.0 all.0, three_through Z R Q keep ws xs ys zs zip.1 all.1)
+-- the second becomes a third
+pub zip_chain : {A B C : Type 0} (Z : A → B → Type 0) (R : B → C → Type 0) (Q : A → C → Type 0) → ((a : A) (b : B) (c : C) → Z a b → R b c → Q a c)
+    → (xs : List A) (ys : List B) (zs : List C) → AllZip Z xs ys → AllZip R ys zs → AllZip Q xs zs
+zip_chain Z R Q keep [] [] [] zip all = tt
+zip_chain Z R Q keep [] [] (c ∷ zs) zip all = absurd all
+zip_chain Z R Q keep [] (b ∷ ys) zs zip all = absurd zip
+zip_chain Z R Q keep (a ∷ xs) [] zs zip all = absurd zip
+zip_chain Z R Q keep (a ∷ xs) (b ∷ ys) [] zip all = absurd all
+zip_chain Z R Q keep (a ∷ xs) (b ∷ ys) (c ∷ zs) zip all = (keep a b c zip.0 all.0, zip_chain Z R Q keep xs ys zs zip.1 all.1)
 
--- the second becomes another, and the first is related to the third by it, or to what it became
-pub three_changed : {A B B' C : Type 0} (R : A → B → C → Type 0) (K : B → B' → Type 0) (Q : A → C → Type 0)
-    → ((a : A) (b : B) (b' : B') (c : C) → R a b c → K b b' → Q a c) → (xs : List A) (ys : List B) (ys' : List B') (zs : List C) → AllThree R xs ys zs
-    → AllZip K ys ys' → AllZip Q xs zs
-three_changed R K Q keep [] [] ys' [] all zip = tt
-three_changed R K Q keep [] [] ys' (c ∷ zs) all zip = absurd all
-three_changed R K Q keep [] (b ∷ ys) ys' zs all zip = absurd all
-three_changed R K Q keep (a ∷ xs) [] ys' zs all zip = absurd all
-three_changed R K Q keep (a ∷ xs) (b ∷ ys) ys' [] all zip = absurd all
-three_changed R K Q keep (a ∷ xs) (b ∷ ys) [] (c ∷ zs) all zip = absurd zip
-three_changed R K Q keep (a ∷ xs) (b ∷ ys) (b' ∷ ys') (c ∷ zs) all zip = (keep a b b' c all.0 zip.0, three_changed R K Q keep xs ys ys' zs all.1 zip.1)
-
-pub three_second : {A B B' C : Type 0} (R : A → B → C → Type 0) (K : B → B' → Type 0) (Q : A → B' → Type 0)
-    → ((a : A) (b : B) (b' : B') (c : C) → R a b c → K b b' → Q a b') → (xs : List A) (ys : List B) (ys' : List B') (zs : List C) → AllThree R xs ys zs
-    → AllZip K ys ys' → AllZip Q xs ys'
-three_second R K Q keep [] [] [] zs all zip = tt
-three_second R K Q keep [] [] (b' ∷ ys') zs all zip = absurd zip
-three_second R K Q keep [] (b ∷ ys) ys' zs all zip = absurd all
-three_second R K Q keep (a ∷ xs) [] ys' zs all zip = absurd all
-three_second R K Q keep (a ∷ xs) (b ∷ ys) ys' [] all zip = absurd all
-three_second R K Q keep (a ∷ xs) (b ∷ ys) [] (c ∷ zs) all zip = absurd zip
-three_second R K Q keep (a ∷ xs) (b ∷ ys) (b' ∷ ys') (c ∷ zs) all zip = (keep a b b' c all.0 zip.0, three_second R K Q keep xs ys ys' zs all.1 zip.1)
-
--- what holds of each first holds of each second
-pub three_all : {A B C : Type 0} (R : A → B → C → Type 0) (P : A → Type 0) (Q : B → Type 0) → ((a : A) (b : B) (c : C) → R a b c → P a → Q b)
-    → (xs : List A) (ys : List B) (zs : List C) → AllThree R xs ys zs → AllByRecursion P xs → AllByRecursion Q ys
-three_all R P Q keep [] [] zs all is = tt
-three_all R P Q keep [] (b ∷ ys) zs all is = absurd all
-three_all R P Q keep (a ∷ xs) [] zs all is = absurd all
-three_all R P Q keep (a ∷ xs) (b ∷ ys) [] all is = absurd all
-three_all R P Q keep (a ∷ xs) (b ∷ ys) (c ∷ zs) all is = (keep a b c all.0 is.0, three_all R P Q keep xs ys zs all.1 is.1)
+-- the second becomes a third, and something of the second is told of the first
+pub zip_ended : {A B C D : Type 0} (H : A → B → Type 0) (W : B → C → Type 0) (Q : A → D → Type 0) (f : B → D)
+    → ((a : A) (b : B) (c : C) → H a b → W b c → Q a (f b)) → (xs : List A) (ys : List B) (zs : List C) → AllZip H xs ys → AllZip W ys zs
+    → AllZip Q xs (map f ys)
+zip_ended H W Q f keep [] [] zs went left = tt
+zip_ended H W Q f keep [] (b ∷ ys) zs went left = absurd went
+zip_ended H W Q f keep (a ∷ xs) [] zs went left = absurd went
+zip_ended H W Q f keep (a ∷ xs) (b ∷ ys) [] went left = absurd left
+zip_ended H W Q f keep (a ∷ xs) (b ∷ ys) (c ∷ zs) went left = (keep a b c went.0 left.0, zip_ended H W Q f keep xs ys zs went.1 left.1)
 
 -- what each place has of its first
-pub three_first : {A B C : Type 0} (R : A → B → C → Type 0) (P : A → Type 0) → ((a : A) (b : B) (c : C) → R a b c → P a)
-    → (xs : List A) (ys : List B) (zs : List C) → AllThree R xs ys zs → AllByRecursion P xs
-three_first R P keep [] [] zs all = tt
-three_first R P keep [] (b ∷ ys) zs all = absurd all
-three_first R P keep (a ∷ xs) [] zs all = absurd all
-three_first R P keep (a ∷ xs) (b ∷ ys) [] all = absurd all
-three_first R P keep (a ∷ xs) (b ∷ ys) (c ∷ zs) all = (keep a b c all.0, three_first R P keep xs ys zs all.1)
+pub zip_first : {A B : Type 0} (K : A → B → Type 0) (P : A → Type 0) → ((a : A) (b : B) → K a b → P a) → (xs : List A) (ys : List B) → AllZip K xs ys
+    → AllByRecursion P xs
+zip_first K P keep [] [] zip = tt
+zip_first K P keep [] (b ∷ ys) zip = absurd zip
+zip_first K P keep (a ∷ xs) [] zip = absurd zip
+zip_first K P keep (a ∷ xs) (b ∷ ys) zip = (keep a b zip.0, zip_first K P keep xs ys zip.1)
+
+pub zip_unmapped : {A B C : Type 0} (K : B → C → Type 0) (f : A → B) (xs : List A) (ys : List C) → AllZip K (map f xs) ys → AllZip (λ x y. K (f x) y) xs ys
+zip_unmapped K f [] [] zip = tt
+zip_unmapped K f [] (b ∷ ys) zip = absurd zip
+zip_unmapped K f (a ∷ xs) [] zip = absurd zip
+zip_unmapped K f (a ∷ xs) (b ∷ ys) zip = (zip.0, zip_unmapped K f xs ys zip.1)
 
 -- a list and another, element by element
 
@@ -85,13 +65,6 @@ zip_mapped K Q f keep [] [] zip = tt
 zip_mapped K Q f keep [] (b ∷ ys) zip = absurd zip
 zip_mapped K Q f keep (a ∷ xs) [] zip = absurd zip
 zip_mapped K Q f keep (a ∷ xs) (b ∷ ys) zip = (keep a b zip.0, zip_mapped K Q f keep xs ys zip.1)
-
-pub zip_and_all : {A B : Type 0} (K : A → B → Type 0) (P : B → Type 0) → (xs : List A) (ys : List B) → AllZip K xs ys → AllByRecursion P ys
-    → AllZip (λ x y. K x y × P y) xs ys
-zip_and_all K P [] [] zip all = tt
-zip_and_all K P [] (b ∷ ys) zip all = absurd zip
-zip_and_all K P (a ∷ xs) [] zip all = absurd zip
-zip_and_all K P (a ∷ xs) (b ∷ ys) zip all = ((zip.0, all.0), zip_and_all K P xs ys zip.1 all.1)
 
 pub zip_get : {A B : Type 0} (K : A → B → Type 0) (xs : List A) (ys : List B) (place : ℕ) (y : B) → AllZip K xs ys → slice_get ys place ≡ Some y
     → (x : A) × (slice_get xs place ≡ Some x) × K x y

@@ -4,5 +4,6 @@ pub mod Legal
 pub mod Renewal
 pub mod Faults
 pub mod Spread
+pub mod Closed
 pub mod Rounds
-pub mod Runs
+pub mod Held

@@ -4,6 +4,7 @@ ghost use Rattle.xa_session.specs.Answer.{IsAnswered};
 ghost use Rattle.xa_store.specs.Legal.{Halts, Stops};
 ghost use Rattle.xa_store.specs.Spread.{HasRun};
 
+use crate::task::Returned;
 use crate::{Gate, RaceFault};
 use decision_log::DecisionLog;
 use std::alloc::Global;
@@ -54,12 +55,12 @@ pub(crate) fn answer_all<'a, L: DecisionLog, G: Gate, R: Wait>(
     mut session: Session<'a, L>,
     lines: &[Statement],
     gate: &G,
-) -> Result<(Session<'a, L>, Vec<Answer>), RaceFault>
+) -> Result<Returned<'a, L, Vec<Answer>>, RaceFault>
 where
     L::Pass: Drop,
     ensures ok { IfOk result
-        (λ done. HasRun L.belongs_to L.known (G.may_answer gate.now) session.entry.base.now session.entry.pass lines.now done.0.base.now done.0.pass
-        done.1.items) }
+        (λ done. HasRun L.belongs_to L.known (G.may_answer gate.now) session.entry.base.now session.entry.pass lines.now done.session.base.now
+        done.session.pass done.done.items) }
     ensures fault { IfErr result
         (λ fault. Stops (G.may_answer gate.now) session.entry.base.now (L.belongs_to session.entry.pass).capacity (L.known session.entry.pass) lines.now
         fault) }
@@ -69,5 +70,8 @@ where
         let answer = answer_one(rt, &mut session, index as u64, &lines[index], gate)?;
         answers.push_reserved(answer);
     }
-    Ok((session, answers))
+    Ok(Returned {
+        session,
+        done: answers,
+    })
 }

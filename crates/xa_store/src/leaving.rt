@@ -36,7 +36,7 @@ impl Store {
     ///
     /// May answer `NoMemory`. Doesn't wait.
     /// Own rule: docs/BEHAVIOR.md, 'Stores'.
-    pub fn wind_up<'s>(
+    pub fn close<'s>(
         &self,
         alloc: Global,
         mut sessions: Vec<Session<'s, Log>>,

@@ -3,9 +3,10 @@
 
 mod answering;
 mod carrying;
-mod ended;
+mod closing;
 mod first_fault;
 mod gate;
+mod held;
 mod history;
 mod holding;
 mod leaving;
@@ -17,12 +18,13 @@ mod racing;
 mod renew;
 mod resuming;
 mod round;
-mod rounding;
 mod rounds;
 mod run;
+mod running;
 mod shuffled;
 mod spread;
 mod store;
+mod task;
 mod together;
 
 pub use gate::{Gate, OpenGate};

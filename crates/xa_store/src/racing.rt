@@ -1,35 +1,44 @@
 //! Runs of sessions side by side.
-ghost use Rattle.std.specs.Prelude.{◌≡◌, length, map, IfOk, IfErr, OnOk};
+ghost use Rattle.std.specs.Prelude.{◌≡◌, length, IfOk, IfErr, OnOk};
 ghost use Rattle.std.specs.List.{All, AllZip};
 ghost use Rattle.xa_store.specs.Passes.{identity_of, log_of, known_of};
-ghost use Rattle.xa_store.specs.Gathered.{IsTakenIn, AddsNothing, last_known};
 ghost use Rattle.xa_store.specs.Legal.{IsOutcome, LetsIn, Blames};
 
-use crate::spread::{AllEnded, Started, run_all};
-use crate::{Gate, Log, Outcome, Pass, RaceFault, Run, Store};
+use crate::closing::{Closed, close_all};
+use crate::running::Started;
+use crate::spread::run_all;
+use crate::{Gate, Log, Outcome, RaceFault, Run, Store};
 use std::alloc::Global;
 use std::sync::Wait;
 use std::thread::Threads;
-use xa_session::Session;
 use xa_xid::NoMemory;
 
 /// A session for each run, in the order of the runs.
-fn start_all<'a>(
+fn start_all<'a, G: Gate>(
     alloc: Global,
     store: &'a Store,
     runs: Vec<Run>,
-) -> Result<Vec<Started<'a, Log>>, NoMemory>
+    gate: &'a G,
+) -> Result<Vec<Started<'a, Log, G>>, NoMemory>
     requires { All (λ run. log_of run.pass ≡ identity_of store.now.log) runs.items }
     ensures { IfOk result
         (λ all. AllZip
-        (λ run started. (started.session.base.now ≡ store.entry.now.base) × (started.session.pass ≡ run.pass) × (started.lines.items ≡ run.lines.items))
+        (λ run started. (started.session.base.now ≡ store.entry.now.base)
+        × (started.session.pass ≡ run.pass)
+        × (started.lines.items ≡ run.lines.items)
+        × (started.gate.now ≡ gate.entry.now))
         runs.items all.items) }
 {
     let mut all = Vec::with_capacity(alloc, runs.len())?;
     for run in runs {
         let Run { pass, lines } = run;
         match store.connect(pass) {
-            Ok(session) => all.push(Started { session, lines })?,
+            Ok(session) => all.push(Started {
+                session,
+                lines,
+                alloc,
+                gate,
+            })?,
             Err((_, error)) => return Err(error),
         }
     }
@@ -45,28 +54,6 @@ pub(crate) fn count_speakers(runs: &[Run]) -> u64 {
         }
     }
     count
-}
-
-/// All that a race gives, once its runs have ended: the sessions meet, and leave.
-fn outcome_of(alloc: Global, store: &Store, ended: AllEnded<'_, Log>) -> Result<Outcome, NoMemory>
-    requires { All (λ session. log_of session.pass ≡ identity_of store.now.log) ended.sessions.items }
-    ensures answers { IfOk result (λ outcome. outcome.answers ≡ ended.entry.answers) }
-    ensures passes { IfOk result
-        (λ outcome. AllZip (λ session pass. (log_of pass ≡ log_of session.pass) × AddsNothing (known_of session.pass) (known_of pass))
-        ended.entry.sessions.items outcome.passes.items) }
-    ensures last { IfOk result (λ outcome. outcome.history.items ≡ (last_known (map known_of outcome.passes.items)).seen) }
-    ensures whole { IfOk result (λ outcome. All (λ pass. IsTakenIn outcome.history.items (known_of pass)) outcome.passes.items) }
-{
-    let AllEnded { sessions, answers } = ended;
-    let (history, passes) = match store.wind_up(alloc, sessions) {
-        Ok(ended) => ended,
-        Err((_, error)) => return Err(error),
-    };
-    Ok(Outcome {
-        history,
-        answers,
-        passes,
-    })
 }
 
 /// Runs each of the runs on a thread of its own, and gives all answers with the one history that explains them.
@@ -92,8 +79,17 @@ pub fn race<G: Gate + Sync, R: Threads + Wait + Sync>(
     ensures fault { IfErr result (λ fault. Blames (G.may_answer gate.now) store.now.base runs.items fault) }
 {
     gate.announce(count_speakers(runs.as_slice()));
-    let started = start_all(alloc, store, runs)?;
-    let ended = run_all(rt, alloc, started, gate)?;
-    let outcome = outcome_of(alloc, store, ended)?;
-    Ok(outcome)
+    let started = start_all(alloc, store, runs, gate)?;
+    let returned = run_all(rt, alloc, started)?;
+    let closed = close_all(alloc, store, returned)?;
+    let Closed {
+        history,
+        passes,
+        done,
+    } = closed;
+    Ok(Outcome {
+        history,
+        answers: done,
+        passes,
+    })
 }

@@ -1,14 +1,13 @@
 //! What passes from one round of a race to the next.
-ghost use Rattle.std.specs.Prelude.{◌≡◌, ◌<◌, ◌≤◌, ◌++◌, [], length, map, true, false, IfOk, IfErr, OnOk, vec_len};
+ghost use Rattle.std.specs.Prelude.{◌≡◌, ◌<◌, ◌≤◌, ◌++◌, [], length, map, true, false, IfOk, IfErr, OnOk};
 ghost use Rattle.std.specs.List.{All};
-ghost use Rattle.xa_session.specs.Replay.{state_after};
-ghost use Rattle.xa_store.specs.Passes.{identity_of, log_of, known_of};
-ghost use Rattle.xa_store.specs.Gathered.{last_known};
+ghost use Rattle.xa_store.specs.Passes.{identity_of};
 ghost use Rattle.xa_store.specs.Renewal.{AreGathered};
-ghost use Rattle.xa_store.specs.Rounds.{AreFresh};
+ghost use Rattle.xa_store.specs.Held.{CarriesOver};
 
+use crate::held::Held;
 use crate::progress::Progress;
-use crate::{Pass, RaceFault, Run, Store};
+use crate::{Pass, RaceFault, Run};
 use std::alloc::Global;
 use xa_session::Answer;
 use xa_words::Entry;
@@ -69,26 +68,31 @@ pub(crate) fn answers_of(
     Ok(all)
 }
 
-/// The store of the next round, and the passes of as many of its sessions.
-pub(crate) fn carried(
-    alloc: Global,
-    store: Store,
-    passes: Vec<Pass>,
-) -> Result<(Store, Vec<Pass>), RaceFault>
-    requires gathered { AreGathered (identity_of store.log) passes.items }
-    requires few { vec_len passes ≤ (identity_of store.log).sessions }
-    ensures base { IfOk result (λ opened. opened.0.base ≡ state_after store.base (last_known (map known_of passes.items)).seen) }
-    ensures sessions { IfOk result (λ opened. (identity_of opened.0.log).sessions ≡ (identity_of store.log).sessions) }
-    ensures belongs { IfOk result (λ opened. All (λ pass. log_of pass ≡ identity_of opened.0.log) opened.1.items) }
-    ensures fresh { IfOk result (λ opened. AreFresh opened.1.items) }
-    ensures count { IfOk result (λ opened. vec_len opened.1 ≡ vec_len passes) }
+/// All rounds so far, with the store of the next one and the passes of as many of its sessions.
+///
+/// Errors: `NoMemory`; all is then dropped.
+pub(crate) fn carried(alloc: Global, held: Held) -> Result<Held, RaceFault>
+    requires gathered { AreGathered (identity_of held.store.log) held.passes.items }
+    requires few { length held.passes.items ≤ (identity_of held.store.log).sessions }
+    ensures ok { IfOk result (CarriesOver held) }
     ensures fault { IfErr result (λ fault. fault ≡ RaceFault.NoMemory) }
 {
+    let Held {
+        store,
+        history,
+        passes,
+        progress,
+    } = held;
     let count = passes.len();
     match store.carry_over(alloc, passes) {
         Ok((store, mut passes)) => {
             passes.truncate(count);
-            Ok((store, passes))
+            Ok(Held {
+                store,
+                history,
+                passes,
+                progress,
+            })
         }
         Err(_) => Err(RaceFault::NoMemory),
     }

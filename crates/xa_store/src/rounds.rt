@@ -1,5 +1,5 @@
 //! Races of any length: whenever the history is full, the store is carried over.
-ghost use Rattle.std.specs.Prelude.{◌≡◌, ◌<◌, ◌≤◌, [], length, map, IfOk, IfErr, vec_len};
+ghost use Rattle.std.specs.Prelude.{◌≡◌, ◌<◌, [], length, map, IfOk, IfErr};
 ghost use Rattle.std.specs.List.{All};
 ghost use Rattle.decision_log.specs.Known.{AllOf};
 ghost use Rattle.xa_session.specs.Replay.{state_after};
@@ -7,62 +7,137 @@ ghost use Rattle.xa_store.specs.Passes.{identity_of, log_of, known_of};
 ghost use Rattle.xa_store.specs.Gathered.{last_known};
 ghost use Rattle.xa_store.specs.Renewal.{AreGathered};
 ghost use Rattle.xa_store.specs.Legal.{Legal};
-ghost use Rattle.xa_store.specs.Rounds.{AllLegalSoFar, AreFresh, BlamesRounds};
+ghost use Rattle.xa_store.specs.Rounds.{AreFresh, BlamesRounds};
+ghost use Rattle.xa_store.specs.Held.{CanBegin, AddsRound, AreHeld, AreTold};
 
-use crate::ended::Ended;
+use crate::closing::Closed;
+use crate::held::Held;
 use crate::holding::hold_round;
-use crate::progress::Progress;
 use crate::racing::count_speakers;
 use crate::resuming::{answers_of, are_done, carried, extend, split};
-use crate::{Gate, Outcome, Pass, RaceFault, Run, Store};
+use crate::{Gate, Outcome, RaceFault, Run, Store};
 use std::alloc::Global;
 use std::sync::Wait;
 use std::thread::Threads;
+use xa_xid::NoMemory;
+
+/// The runs before the first round.
+fn begin(alloc: Global, store: Store, runs: Vec<Run>) -> Result<Held, NoMemory>
+    requires belongs { All (λ run. log_of run.pass ≡ identity_of store.log) runs.items }
+    requires fresh { AreFresh (map (λ run. run.pass) runs.items) }
+    ensures first { IfOk result CanBegin }
+    ensures store { IfOk result (λ held. held.store ≡ store) }
+    ensures lines { IfOk result (λ held. map (λ one. one.lines.items) held.progress.items ≡ map (λ run. run.lines.items) runs.items) }
+{
+    let (passes, progress) = split(alloc, runs)?;
+    Ok(Held {
+        store,
+        history: Vec::new(alloc),
+        passes,
+        progress,
+    })
+}
+
+/// Holds one round more, and puts its history behind that of the rounds so far.
+///
+/// Errors: those of `hold_round`; `NoMemory` also where there is none for the longer history.
+fn hold_next<G: Gate + Sync, R: Threads + Wait + Sync>(
+    rt: &R,
+    alloc: Global,
+    held: Held,
+    gate: &G,
+) -> Result<Held, RaceFault>
+    requires count { length held.passes.items ≡ length held.progress.items }
+    requires belongs { All (λ pass. log_of pass ≡ identity_of held.store.log) held.passes.items }
+    requires fresh { AreFresh held.passes.items }
+    ensures ok { IfOk result (AddsRound held) }
+    ensures fault { IfErr result (BlamesRounds (G.may_answer gate.now) (map (λ one. one.lines.items) held.progress.items)) }
+{
+    let Held {
+        store,
+        mut history,
+        passes,
+        progress,
+    } = held;
+    let before = history.len() as u64;
+    let closed = hold_round(rt, alloc, &store, passes, progress, before, gate)?;
+    let Closed {
+        history: round,
+        passes,
+        done,
+    } = closed;
+    extend(&mut history, round)?;
+    Ok(Held {
+        store,
+        history,
+        passes,
+        progress: done,
+    })
+}
 
 /// Holds rounds until each statement of each session was answered.
+///
+/// Errors: those of the first round with a fault; `NoMemory` also where the store can't be carried over.
 fn hold_rounds<G: Gate + Sync, R: Threads + Wait + Sync>(
     rt: &R,
     alloc: Global,
-    mut store: Store,
-    mut passes: Vec<Pass>,
-    mut progress: Vec<Progress>,
+    mut held: Held,
     gate: &G,
-) -> Result<(Store, Ended), RaceFault>
-    requires count { vec_len passes ≡ vec_len progress }
-    requires belongs { All (λ pass. log_of pass ≡ identity_of store.log) passes.items }
-    requires fresh { AreFresh passes.items }
-    requires none { All (λ one. one.answers.items ≡ []) progress.items }
-    ensures legal { IfOk result (λ held. AllLegalSoFar store.base held.1.history.items 1 (map (λ one. one.lines.items) progress.items) held.1.progress.items) }
-    ensures done { IfOk result (λ held. All (λ one. length one.lines.items ≤ length one.answers.items) held.1.progress.items) }
-    ensures own { IfOk result (λ held. AllOf (identity_of store.log).sessions held.1.history.items) }
-    ensures none { vec_len progress ≡ 0 → IfOk result (λ held. held.1.history.items ≡ []) }
-    ensures gathered { IfOk result (λ held. 0 < vec_len progress → AreGathered (identity_of held.0.log) held.1.passes.items) }
-    ensures state { IfOk result
-        (λ held. state_after held.0.base (last_known (map known_of held.1.passes.items)).seen ≡ state_after store.base held.1.history.items) }
-    ensures fault { IfErr result (BlamesRounds (G.may_answer gate.now) (map (λ one. one.lines.items) progress.items)) }
+) -> Result<Held, RaceFault>
+    requires { CanBegin held }
+    ensures ok { IfOk result (AreHeld held) }
+    ensures fault { IfErr result (BlamesRounds (G.may_answer gate.now) (map (λ one. one.lines.items) held.progress.items)) }
 {
-    let mut history = Vec::new(alloc);
     for _ in rt.forever() {
-        let before = history.len() as u64;
-        let ended = hold_round(rt, alloc, &store, passes, progress, before, gate)?;
-        let Ended {
-            history: round,
-            passes: left,
-            progress: answered,
-        } = ended;
-        extend(&mut history, round)?;
-        if are_done(answered.as_slice()) {
-            let whole = Ended {
-                history,
-                passes: left,
-                progress: answered,
-            };
-            return Ok((store, whole));
+        let next = hold_next(rt, alloc, held, gate)?;
+        if are_done(next.progress.as_slice()) {
+            return Ok(next);
         }
-        (store, passes) = carried(alloc, store, left)?;
-        progress = answered;
+        held = carried(alloc, next)?;
     }
     unreachable!()
+}
+
+/// The store and the outcome, once each statement was answered.
+fn tell(alloc: Global, held: Held) -> Result<(Store, Outcome), NoMemory>
+    ensures store { IfOk result (λ told. told.0 ≡ held.store) }
+    ensures history { IfOk result (λ told. told.1.history ≡ held.history) }
+    ensures passes { IfOk result (λ told. told.1.passes ≡ held.passes) }
+    ensures answers { IfOk result
+        (λ told. map (λ answers. answers.items) told.1.answers.items ≡ map (λ one. one.answers.items) held.progress.items) }
+{
+    let Held {
+        store,
+        history,
+        passes,
+        progress,
+    } = held;
+    let answers = answers_of(alloc, progress)?;
+    let outcome = Outcome {
+        history,
+        answers,
+        passes,
+    };
+    Ok((store, outcome))
+}
+
+/// Holds all rounds, from the runs to the outcome.
+fn hold_all<G: Gate + Sync, R: Threads + Wait + Sync>(
+    rt: &R,
+    alloc: Global,
+    store: Store,
+    runs: Vec<Run>,
+    gate: &G,
+) -> Result<(Store, Outcome), RaceFault>
+    requires belongs { All (λ run. log_of run.pass ≡ identity_of store.log) runs.items }
+    requires fresh { AreFresh (map (λ run. run.pass) runs.items) }
+    ensures ok { IfOk result (λ ended. AreTold store runs.items ended.0 ended.1) }
+    ensures fault { IfErr result (BlamesRounds (G.may_answer gate.now) (map (λ run. run.lines.items) runs.items)) }
+{
+    let first = begin(alloc, store, runs)?;
+    let last = hold_rounds(rt, alloc, first, gate)?;
+    let told = tell(alloc, last)?;
+    Ok(told)
 }
 
 /// Runs each of the runs on a thread of its own, in rounds, and gives all answers with the one history that explains them.
@@ -95,18 +170,5 @@ pub fn race_in_rounds<G: Gate + Sync, R: Threads + Wait + Sync>(
     ensures fault { IfErr result (BlamesRounds (G.may_answer gate.now) (map (λ run. run.lines.items) runs.items)) }
 {
     gate.announce(count_speakers(runs.as_slice()));
-    let (passes, progress) = split(alloc, runs)?;
-    let (store, ended) = hold_rounds(rt, alloc, store, passes, progress, gate)?;
-    let Ended {
-        history,
-        passes,
-        progress,
-    } = ended;
-    let answers = answers_of(alloc, progress)?;
-    let outcome = Outcome {
-        history,
-        answers,
-        passes,
-    };
-    Ok((store, outcome))
+    hold_all(rt, alloc, store, runs, gate)
 }

@@ -1,7 +1,7 @@
 """The scripts, calls and records of the repository, which the page offers to open."""
 
 KINDS = {
-    "stories": ["crates/xa_stories/data/*.script"],
+    "stories": ["cases/show/*.script"],
     "scripts": ["examples/*.script", "examples/schedules/*.script"],
     "races": ["drivers/page/races/*.script", "examples/races/*.script"],
     "calls": ["examples/*.calls"],

@@ -8,7 +8,7 @@ from selenium.webdriver.common.keys import Keys
 from support import ROOT, says
 from views import View, replies, shown_bytes
 
-STORY = (ROOT / "crates/xa_stories/data/shared_rows.script").read_bytes()
+STORY = (ROOT / "cases/show/shared_rows.script").read_bytes()
 TENTH = 0.1
 
 

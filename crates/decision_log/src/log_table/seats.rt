@@ -6,7 +6,7 @@ ghost use Rattle.decision_log.specs.Observed.{met, MetAt};
 ghost use Rattle.decision_log.specs.Seats.{following, pass_view, second};
 
 use super::LogTable;
-use super::plays::Met;
+use super::transitions::Met;
 use crate::{LogWords, SeatView, Seating};
 use atomic_table::Seat;
 use xa_words::Entry;

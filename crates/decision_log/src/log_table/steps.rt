@@ -7,8 +7,8 @@ ghost use Rattle.decision_log.specs.Atomic.{Load, Store, Exchange, Tells, Counts
 ghost use Rattle.decision_log.specs.Seats.{pass_view, seated};
 
 use super::LogTable;
-use super::plays::{Exchanged, Loaded, Stored};
-use crate::{LogPlay, LogWords, SeatView};
+use super::transitions::{Exchanged, Loaded, Stored};
+use crate::{LogTransition, LogWords, SeatView};
 use atomic_table::Seat;
 use xa_words::Entry;
 
@@ -16,7 +16,7 @@ impl<R: LogWords> LogTable<R> {
     /// Loads a word.
     ///
     /// Takes no memory. Doesn't wait.
-    pub fn load<M: LogPlay<R>>(&self, seat: &mut Seat<Entry, SeatView>, word: usize) -> u64
+    pub fn load<M: LogTransition<R>>(&self, seat: &mut Seat<Entry, SeatView>, word: usize) -> u64
         requires table { seat.old.table_id ≡ self.now.inner.shared.table_id }
         requires held { seat.old.me ≡ seated (pass_view seat.old) }
         requires word { word < self.now.inner.shared.table_id.words }
@@ -34,7 +34,12 @@ impl<R: LogWords> LogTable<R> {
     /// Stores a word.
     ///
     /// Takes no memory. Doesn't wait.
-    pub fn store<M: LogPlay<R>>(&self, seat: &mut Seat<Entry, SeatView>, word: usize, new: u64)
+    pub fn store<M: LogTransition<R>>(
+        &self,
+        seat: &mut Seat<Entry, SeatView>,
+        word: usize,
+        new: u64,
+    )
         requires table { seat.old.table_id ≡ self.now.inner.shared.table_id }
         requires held { seat.old.me ≡ seated (pass_view seat.old) }
         requires word { word < self.now.inner.shared.table_id.words }
@@ -52,7 +57,7 @@ impl<R: LogWords> LogTable<R> {
     /// Makes a word `new` where it is `old`. The answer is what it was.
     ///
     /// Takes no memory. Doesn't wait.
-    pub fn compare_exchange<M: LogPlay<R>>(
+    pub fn compare_exchange<M: LogTransition<R>>(
         &self,
         seat: &mut Seat<Entry, SeatView>,
         word: usize,
@@ -78,7 +83,7 @@ impl<R: LogWords> LogTable<R> {
     /// The same, told the entry that is announced, which is for the proof alone.
     ///
     /// Takes no memory. Doesn't wait.
-    pub fn compare_exchange_with<M: LogPlay<R>>(
+    pub fn compare_exchange_with<M: LogTransition<R>>(
         &self,
         seat: &mut Seat<Entry, SeatView>,
         word: usize,

@@ -16,14 +16,14 @@ ghost use Rattle.xa_words.specs.Words.{words_of};
 ghost use Rattle.decision_log.specs.TurnRule.{row_at};
 ghost use Rattle.decision_log.specs.Draft.{drafted};
 ghost use Rattle.decision_log.specs.Observed.{HistoryIs};
-ghost use Rattle.decision_log.specs.TurnPlays.{with_look, tried, published, released};
+ghost use Rattle.decision_log.specs.TurnTransitions.{with_look, tried, published, released};
 ghost use Rattle.decision_log.specs.Seats.{pass_view};
 ghost use Rattle.decision_log.specs.TurnSeat.{IsSeat};
 ghost use Rattle.decision_log.specs.declared.view.Turn.TheVariants.{Without, Won, Fresh};
 
 use super::TurnLog;
 use super::layout::{COUNT, TURN};
-use super::plays::{DraftWord, Publish, ReadWord, Release, SeeAll, TakeTurn};
+use super::transitions::{DraftWord, Publish, ReadWord, Release, SeeAll, TakeTurn};
 use crate::SeatView;
 use atomic_table::Seat;
 use xa_words::Entry;

@@ -1,5 +1,5 @@
 use Rattle.std.proofs.Common.{◌≤◌, ◌-◌, vec_len}
-use Rattle.xa_manager.specs.Written.{AreOf}
+use Rattle.xa_manager.specs.Passes.{AreOf}
 use Rattle.xa_manager.proofs.run.open_stores.Given as goal
 
 abbrev pub invariant-loop-alloc : goal.invariant-loop-alloc

@@ -1,7 +1,7 @@
 use Rattle.std.proofs.Common.{map, take}
 use Rattle.xa_record.specs.Events.{AreEvents}
-use Rattle.xa_record.specs.Kept.{noted_kept}
+use Rattle.xa_record.specs.Kept.{numbered_kept}
 use Rattle.xa_record.proofs.events.events_of.Given as goal
 
 abbrev pub invariant-loop-one : goal.invariant-loop-one
-invariant-loop-one l = AreEvents (map noted_kept (take l.one-index l.noted)) l.events.items
+invariant-loop-one l = AreEvents (map numbered_kept (take l.one-index l.numbered)) l.events.items

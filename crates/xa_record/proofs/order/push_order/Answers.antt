@@ -1,5 +1,5 @@
 use Rattle.std.proofs.Common.{◌+◌, ◌++◌, map, drop, ap, ◌∙◌, arith}
-use Rattle.xa_record.specs.Kept.{noted_kept, calls_kept}
+use Rattle.xa_record.specs.Kept.{numbered_kept, calls_kept}
 use Rattle.xa_record.specs.VerdictText.{order_text}
 use Rattle.xa_record.proofs.Effects.{dropped, moved_whole}
 use Rattle.xa_record.proofs.order.push_order.Goals as goal
@@ -7,7 +7,7 @@ use Rattle.xa_record.proofs.order.push_order.Goals as goal
 pub loop-step-preserved : goal.loop-step-preserved
 loop-step-preserved c =
     let calls = calls_kept c.loop-step.calls in
-    let left = drop c.loop-step.place (map noted_kept c.args.noted.now) in
+    let left = drop c.loop-step.place (map numbered_kept c.args.numbered.now) in
     c.loop-step.invariant
     ∙ ap (λ m. c.loop-step.out.items ++ order_text calls left m)
     (dropped c.args.moves.now c.loop-step.step-index c.step-item.result c.loop-step-test.true c.step-item.is)
@@ -16,5 +16,5 @@ loop-step-preserved c =
 pub returns : goal.returns
 returns c =
     moved_whole _ c.loop-step.out.items (calls_kept c.loop-step.calls)
-    (drop c.loop-step.place (map noted_kept c.args.noted.now)) c.args.moves.now c.loop-step.step-index
+    (drop c.loop-step.place (map numbered_kept c.args.numbered.now)) c.args.moves.now c.loop-step.step-index
     (omega (arith, c.loop-step-test.false, c.loop-step.auto.step-index-end)) c.loop-step.invariant

@@ -1,5 +1,5 @@
 use Rattle.std.proofs.Common.{◌+◌, ap, sym, ◌∙◌, arith}
-use Rattle.xa_transcript.specs.Script.{lines_of}
+use Rattle.xa_lines.specs.Script.{lines_of}
 use Rattle.xa_record.specs.Reading.{Notes, noted_lines, notes_of, ended_by}
 use Rattle.xa_record.specs.Kept.{notes_kept}
 use Rattle.xa_record.proofs.NotedLines.{noted_lines-line, noted_lines-end}

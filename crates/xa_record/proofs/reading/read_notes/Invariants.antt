@@ -1,5 +1,5 @@
 use Rattle.std.proofs.Common.{◌≡◌, ◌+◌, ◌≤◌, length}
-use Rattle.xa_transcript.specs.Script.{lines_of}
+use Rattle.xa_lines.specs.Script.{lines_of}
 use Rattle.xa_record.specs.Reading.{no_notes, noted_lines}
 use Rattle.xa_record.specs.Kept.{notes_kept}
 use Rattle.xa_record.proofs.reading.read_notes.Given as goal

@@ -1,12 +1,12 @@
 use Rattle.std.proofs.Common.{ap, sym, ◌∙◌, arith}
-use Rattle.xa_record.specs.declared.happening.Noted.{Noted}
+use Rattle.xa_record.specs.declared.line_event.NumberedEvent.{NumberedEvent}
 use Rattle.xa_record.proofs.Texts.{number_at-within, number_at-past}
 use Rattle.xa_record.proofs.verdict_text.number_of.Goals as goal
 
-pub returns-then-place-noted : goal.returns-then-place-noted
-returns-then-place-noted c =
-    ap (λ (n : Noted). n.number) (sym c.index-noted-place.is)
-    ∙ number_at-within c.args.noted.now c.args.place c.index-noted-place.result (omega arith) c.index-noted-place.is
+pub returns-then-place-numbered : goal.returns-then-place-numbered
+returns-then-place-numbered c =
+    ap (λ (n : NumberedEvent). n.number) (sym c.index-numbered-place.is)
+    ∙ number_at-within c.args.numbered.now c.args.place c.index-numbered-place.result (omega arith) c.index-numbered-place.is
 
-pub returns-else-place-noted : goal.returns-else-place-noted
-returns-else-place-noted c = number_at-past c.args.noted.now c.args.place (omega arith)
+pub returns-else-place-numbered : goal.returns-else-place-numbered
+returns-else-place-numbered c = number_at-past c.args.numbered.now c.args.place (omega arith)

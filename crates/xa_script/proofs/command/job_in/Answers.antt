@@ -1,7 +1,7 @@
 use Rattle.std.proofs.Common.{sym, codes}
 use Rattle.std.proofs.lemmas.Slice.Eq.{bytes_eq-Decides}
 use Rattle.clap.specs.Words.{found_of, rows_of}
-use Rattle.xa_script.proofs.Jobs.{rows_are, races_if, no_race, coordinates_if, no_coordinates, judges_if, no_judge}
+use Rattle.xa_script.proofs.NamedJobs.{rows_are, races_if, no_race, coordinates_if, no_coordinates, judges_if, no_judge}
 use Rattle.xa_script.proofs.command.job_in.Goals as goal
 
 pub returns-then-eq-2-clause-some : goal.returns-then-eq-2-clause-some

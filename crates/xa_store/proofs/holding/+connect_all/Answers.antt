@@ -5,13 +5,13 @@ use Rattle.xa_store.proofs.Spreading.{three_more}
 use Rattle.xa_store.proofs.holding.+connect_all.Goals as goal
 
 pub connect-requires : goal.connect-requires
-connect-requires t c =
+connect-requires g t c =
     (All-pop (λ pass. log_of pass ≡ identity_of c.args.store.now.log) c.args.passes.items c.take_last-pass.new.self.items
     (Some c.take_last-pass.result) c.take_last-pass.ensures.items c.requires.belongs).1
 
 pub returns : goal.returns
-returns t c =
+returns g t c =
     rw (c.take_last-pass.ensures.items, c.take_last-one.ensures.items, c.in_ok-push-in-Ok.ensures.items)
     (three_more _ c.take_last-pass.new.self.items c.take_last-one.new.self.items c.in_ok-all.all.items c.take_last-pass.result c.take_last-one.result _
     c.in_ok-all.ensures
-    (c.in-Ok.ensures.pass, c.in-Ok.ensures.base, refl, refl))
+    (c.in-Ok.ensures.pass, c.in-Ok.ensures.base, refl, refl, refl))

@@ -1,6 +1,6 @@
 use Rattle.std.proofs.Common.{refl}
 use Rattle.decision_log.specs.Seats.{pass_view}
-use Rattle.chain_log.specs.ChainPlays.{with_look}
+use Rattle.chain_log.specs.ChainTransitions.{with_look}
 use Rattle.chain_log.proofs.PassColumns.{kept_before}
 use Rattle.chain_log.proofs.calls.ChainLogDecisionLog.look.Goals as goal
 

@@ -1,7 +1,7 @@
 use Rattle.std.proofs.Common.{ap, sym, subst, ◌∙◌}
 use Rattle.decision_log.specs.History.{Begins}
 use Rattle.decision_log.specs.Seats.{pass_view}
-use Rattle.chain_log.specs.ChainPlays.{lost}
+use Rattle.chain_log.specs.ChainTransitions.{lost}
 use Rattle.chain_log.proofs.PassColumns.{kept_before, kept_after}
 use Rattle.chain_log.proofs.calls.ChainLogDecisionLog.try_add.Goals as goal
 

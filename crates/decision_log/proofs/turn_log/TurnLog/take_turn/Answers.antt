@@ -5,7 +5,7 @@ use mathlib.Core.Option.{none}
 use Rattle.atomic_table.specs.Table.{Allows}
 use Rattle.decision_log.specs.Atomic.{Tells}
 use Rattle.decision_log.specs.Seats.{pass_view_of, seated}
-use Rattle.decision_log.specs.TurnPlays.{Takes}
+use Rattle.decision_log.specs.TurnTransitions.{Takes}
 use Rattle.decision_log.proofs.TurnSteps.{Rules}
 use Rattle.decision_log.proofs.TurnStores.{take_step}
 use Rattle.decision_log.proofs.turn_log.TurnLog.take_turn.Goals as goal

@@ -1,8 +1,8 @@
 use Rattle.std.proofs.Common.{ap, ◌∙◌}
 use Rattle.std.specs.Prelude.{slice_set}
 use Rattle.xa_coordinator.specs.Decisions.{is_decided}
-use Rattle.xa_coordinator.specs.declared.decisions.Standing.TheVariants.{Decided}
-use Rattle.xa_coordinator.proofs.Standings.{decided_after, decided_kept, with_decided-at}
+use Rattle.xa_coordinator.specs.declared.decisions.Decision.TheVariants.{Decided}
+use Rattle.xa_coordinator.proofs.DecisionsOf.{decided_after, decided_kept, with_decided-at}
 use Rattle.xa_coordinator.proofs.decisions.Decisions.decide.Goals as goal
 
 pub returns-clause-ok : goal.returns-clause-ok

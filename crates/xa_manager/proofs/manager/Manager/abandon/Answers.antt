@@ -1,7 +1,7 @@
 use Rattle.std.proofs.Common.{◌∙◌, length, vec_len, ap, refl, sym, inr}
 use Rattle.xa_manager.specs.declared.stage.Stage.TheVariants.{Working, Over}
 use Rattle.xa_manager.proofs.Stages.{with_stage-length, kept_over, ready_over}
-use Rattle.xa_manager.proofs.Desks.{same_desk, kept_as, ready_as}
+use Rattle.xa_manager.proofs.States.{same_desk, kept_as, ready_as}
 use Rattle.xa_manager.proofs.manager.Manager.abandon.Goals as goal
 
 pub abandon-requires-clause-name : goal.abandon-requires-clause-name

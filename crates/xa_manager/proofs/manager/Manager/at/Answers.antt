@@ -18,10 +18,10 @@ returns-clause-says g c =
         statement = c.args.statement.now;
         asked = refl;
         replies =
-            at_place view (codes "c") (RepliesAs c.args.statement.now c.reply_in.result) was.strangers.items c.args.store old new c.index_mut.ensures.value
+            at_place view (codes "c") (RepliesAs c.args.statement.now c.reply_in.result) was.other_clients.items c.args.store old new c.index_mut.ensures.value
             (subst P (sym c.reply_in.ensures)
             (replied_as c.args.statement.now c.execute.result (view old) (view new) c.execute.ensures.answered c.execute.ensures.fails));
-        others = changes_at was.strangers.items c.args.store new;
+        others = changes_at was.other_clients.items c.args.store new;
       },
       refl,
     )

@@ -1,7 +1,7 @@
 use Rattle.std.proofs.Common.{◌≡◌, ◌∙◌, length, ap, refl, sym, inl, inr}
 use Rattle.xa_manager.specs.declared.stage.Stage.TheVariants.{Ready, Over}
 use Rattle.xa_manager.proofs.Stages.{put_back}
-use Rattle.xa_manager.proofs.Desks.{same_desk, kept_as, ready_as, after_decision}
+use Rattle.xa_manager.proofs.States.{same_desk, kept_as, ready_as, after_decision}
 use Rattle.xa_manager.proofs.manager.Manager.decide.Goals as goal
 
 pub invariant_of-self : goal.invariant_of-self

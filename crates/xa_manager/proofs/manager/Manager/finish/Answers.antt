@@ -1,7 +1,7 @@
 use Rattle.std.proofs.Common.{◌∙◌, length, vec_len, ap, refl, sym, inl, inr}
 use Rattle.xa_manager.specs.declared.stage.Stage.TheVariants.{Over}
 use Rattle.xa_manager.proofs.Stages.{with_stage-length, kept_over, ready_over, kept_voted}
-use Rattle.xa_manager.proofs.Desks.{same_desk, kept_as, ready_as}
+use Rattle.xa_manager.proofs.States.{same_desk, kept_as, ready_as}
 use Rattle.xa_manager.proofs.manager.Manager.finish.Goals as goal
 
 pub finish-requires-clause-name : goal.finish-requires-clause-name

@@ -4,7 +4,7 @@ use Rattle.xa_manager.specs.declared.response.Response.TheVariants.{Voted as Tol
 use Rattle.xa_manager.specs.Ledger.{with_stage}
 use Rattle.xa_manager.specs.Answers.{stage_after}
 use Rattle.xa_manager.proofs.Stages.{with_stage-length, kept_with, ready_with, put_on}
-use Rattle.xa_manager.proofs.Desks.{same_desk, kept_as, ready_as, voted_kept, voted_ready}
+use Rattle.xa_manager.proofs.States.{same_desk, kept_as, ready_as, voted_kept, voted_ready}
 use Rattle.xa_manager.proofs.manager.Manager.prepare.Goals as goal
 
 pub prepare-vote-requires-clause-name : goal.prepare-vote-requires-clause-name
@@ -22,7 +22,7 @@ invariant_of-self g c =
     let was = c.args.self.now in
     let stage = stage_after c.prepare-vote.result in
     let put : c.put.new.self ≡ with_stage c.take_working.new.self c.args.number stage =
-    c.put.ensures ∙ ap (λ s. with_stage c.take_working.new.self c.args.number s) c.told_of-poll.ensures.stage in
+    c.put.ensures ∙ ap (λ s. with_stage c.take_working.new.self c.args.number s) c.told_of-answer.ensures.stage in
     let on = put_on was.ledger c.args.number Over stage c.take_working.new.self c.put.new.self c.in-Ok.ensures.over put in
     let is = was.kept c.args.number (Working c.in-Ok.transaction) c.in-Ok.transaction c.in-Ok.ensures.taken refl in
     let stores = was.coordinator.stores in
@@ -45,13 +45,13 @@ returns-in-Ok-clause-answers g c =
     let was = c.args.self.now in
     let stage = stage_after c.prepare-vote.result in
     let put : c.put.new.self ≡ with_stage c.take_working.new.self c.args.number stage =
-    c.put.ensures ∙ ap (λ s. with_stage c.take_working.new.self c.args.number s) c.told_of-poll.ensures.stage in
+    c.put.ensures ∙ ap (λ s. with_stage c.take_working.new.self c.args.number s) c.told_of-answer.ensures.stage in
     let on = put_on was.ledger c.args.number Over stage c.take_working.new.self c.put.new.self c.in-Ok.ensures.over put in
     inr (record {
       before = c.in-Ok.transaction;
       vote = c.prepare-vote.result;
       works = c.in-Ok.ensures.taken;
-      told = ap (λ poll. Told poll) c.told_of-poll.ensures.poll;
+      told = ap (λ answer. Told answer) c.told_of-answer.ensures.answer;
       stands = same_desk _ _ _ _ _ _ c.prepare-vote.ensures.count refl on;
     })
 
@@ -60,7 +60,7 @@ returns-in-Ok-clause-says g c =
     let was = c.args.self.now in
     let stage = stage_after c.prepare-vote.result in
     let put : c.put.new.self ≡ with_stage c.take_working.new.self c.args.number stage =
-    c.put.ensures ∙ ap (λ s. with_stage c.take_working.new.self c.args.number s) c.told_of-poll.ensures.stage in
+    c.put.ensures ∙ ap (λ s. with_stage c.take_working.new.self c.args.number s) c.told_of-answer.ensures.stage in
     let on = put_on was.ledger c.args.number Over stage c.take_working.new.self c.put.new.self c.in-Ok.ensures.over put in (
       record {
         number = c.args.number;
@@ -68,7 +68,7 @@ returns-in-Ok-clause-says g c =
         before = c.in-Ok.transaction;
         vote = c.prepare-vote.result;
         working = c.in-Ok.ensures.taken;
-        told = c.told_of-poll.ensures.poll;
+        told = c.told_of-answer.ensures.answer;
         votes = c.prepare-vote.ensures.vote;
         stages = on;
       },

@@ -1,5 +1,5 @@
 use Rattle.std.proofs.Common.{refl, inr}
-use Rattle.xa_manager.proofs.Desks.{same_desk}
+use Rattle.xa_manager.proofs.States.{same_desk}
 use Rattle.xa_manager.proofs.manager.Manager.recover.Goals as goal
 
 pub returns-clause-answers : goal.returns-clause-answers

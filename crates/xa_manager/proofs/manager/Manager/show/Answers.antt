@@ -7,7 +7,7 @@ returns-clause-answers g c =
     let items = c.in_ok-answers.answers.ok.0 in
     let each : vec_len c.in_ok-answers.answers ≡ length c.as_mut_slice.result.now = c.in_ok-answers.ensures.each in
     let value = c.as_mut_slice.ensures.value in
-    let strangers = was.strangers.ok.0 in
+    let other_clients = was.other_clients.ok.0 in
     let pairs = was.pairs in
     inr (record {
       answers = record { answers = c.in_ok-answers.answers };

@@ -1,0 +1,73 @@
+//! What a session is about.
+ghost use Rattle.std.specs.Prelude.{◌≡◌, true};
+
+use crate::answer::Answer;
+use crate::request::Request;
+use std::alloc::AllocError;
+
+/// What a session is about.
+#[derive(Debug, Drop)]
+pub enum ClientState {
+    /// It has no open call.
+    Idle,
+    /// It has called, and its request has taken no effect yet.
+    Called(Request),
+    /// Its request has taken effect, and was answered so.
+    Answered(Answer),
+    /// Its client is gone: the request, if there is one, may still take effect, and after that its DISCONNECT.
+    Gone(Option<Request>),
+    /// Its client is gone, and its DISCONNECT has taken effect.
+    Left,
+}
+
+impl Clone for ClientState {
+    ghost is_clone = { λ client copy. copy ≡ client };
+
+    fn clone(&self) -> Result<ClientState, AllocError> {
+        match self {
+            ClientState::Idle => Ok(ClientState::Idle),
+            ClientState::Called(request) => Ok(ClientState::Called(request.copy())),
+            ClientState::Answered(answer) => Ok(ClientState::Answered(answer.copy()?)),
+            ClientState::Gone(None) => Ok(ClientState::Gone(None)),
+            ClientState::Gone(Some(request)) => Ok(ClientState::Gone(Some(request.copy()))),
+            ClientState::Left => Ok(ClientState::Left),
+        }
+    }
+}
+
+/// Whether two requests are known to be the same, or neither is there.
+fn is_same_request(left: &Option<Request>, right: &Option<Request>) -> bool
+    ensures { result ≡ true → left.now ≡ right.now }
+{
+    match left {
+        None => right.is_none(),
+        Some(request) => match right {
+            None => false,
+            Some(other) => request.is_same(other),
+        },
+    }
+}
+
+impl ClientState {
+    /// Whether both are known to be the same.
+    pub fn is_same(&self, other: &ClientState) -> bool
+        ensures { result ≡ true → self.now ≡ other.now }
+    {
+        match self {
+            ClientState::Idle => matches!(other, ClientState::Idle),
+            ClientState::Called(request) => match other {
+                ClientState::Called(another) => request.is_same(another),
+                _ => false,
+            },
+            ClientState::Answered(answer) => match other {
+                ClientState::Answered(another) => answer.is_same(another),
+                _ => false,
+            },
+            ClientState::Gone(request) => match other {
+                ClientState::Gone(another) => is_same_request(request, another),
+                _ => false,
+            },
+            ClientState::Left => matches!(other, ClientState::Left),
+        }
+    }
+}

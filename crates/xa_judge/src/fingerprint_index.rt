@@ -1,0 +1,87 @@
+//! Where in a list the configurations of each fingerprint stand.
+
+use crate::configuration::Configuration;
+use crate::event::Event;
+use crate::fingerprints::mark_of;
+use crate::request::Request;
+use std::alloc::Global;
+use std::collections::BTreeMap;
+use xa_xid::{Key, NoMemory, Statement};
+
+/// Where in a list the configurations of each fingerprint stand, as a chain of places for each fingerprint.
+///
+/// Whoever looks at a place compares what stands there. So nothing rests on what this says but how soon a configuration is found.
+#[derive(Drop)]
+pub struct FingerprintIndex {
+    /// The last place of each fingerprint.
+    last: BTreeMap<u64, usize>,
+    /// For each place the one before it that has its fingerprint, if there is one.
+    before: Vec<Option<usize>>,
+    /// The rows that any event called to write. All others have the same value in each configuration.
+    written: Vec<Key>,
+    alloc: Global,
+}
+
+/// The row that the event calls to write, if it does.
+fn key_written(event: &Event) -> Option<&Key> {
+    match event {
+        Event::Call(_, Request::Statement(Statement::Put(key, _))) => Some(key),
+        Event::Call(_, Request::Statement(Statement::Del(key))) => Some(key),
+        _ => None,
+    }
+}
+
+impl FingerprintIndex {
+    /// Of a list that has no places.
+    pub fn new(alloc: Global) -> FingerprintIndex {
+        FingerprintIndex {
+            last: BTreeMap::new(alloc),
+            before: Vec::new(alloc),
+            written: Vec::new(alloc),
+            alloc,
+        }
+    }
+
+    /// Forgets all places, for another list.
+    pub fn clear(&mut self) {
+        self.last.clear();
+        self.before.clear();
+    }
+
+    /// Forgets all places, for a list of configurations that have seen this event too.
+    pub fn go_on(&mut self, event: &Event) -> Result<(), NoMemory> {
+        self.clear();
+        if let Some(key) = key_written(event)
+            && !self.written.contains(key)
+        {
+            self.written.push(key.copy())?;
+        }
+        Ok(())
+    }
+
+    /// The fingerprint of a configuration.
+    fn mark_of(&self, one: &Configuration) -> Result<u64, NoMemory> {
+        mark_of(self.alloc, one, self.written.as_slice())
+    }
+
+    /// Takes up the places of the list that it doesn't have yet.
+    pub fn catch_up(&mut self, known: &[Configuration]) -> Result<(), NoMemory> {
+        for place in self.before.len()..known.len() {
+            let fingerprint = self.mark_of(&known[place])?;
+            let before = self.last.insert(fingerprint, place)?;
+            self.before.push(before)?;
+        }
+        Ok(())
+    }
+
+    /// The last place that has the fingerprint of this configuration, if one has.
+    pub fn last_of(&self, one: &Configuration) -> Result<Option<usize>, NoMemory> {
+        let fingerprint = self.mark_of(one)?;
+        Ok(self.last.get(&fingerprint).copied())
+    }
+
+    /// The place before this one that has its fingerprint, if one has.
+    pub fn before(&self, place: usize) -> Option<usize> {
+        self.before.get(place).copied().flatten()
+    }
+}

@@ -1,0 +1,8 @@
+pub mod Lines
+pub mod Effects
+pub mod Answers
+pub mod Tests
+pub mod Steps
+pub mod Histories
+pub mod Schedules
+pub mod Outcomes

@@ -1,0 +1,113 @@
+-- The line of an effect, read back.
+use Rattle.std.proofs.Common.{◌≡◌, ◌≢◌, ℕ, zero, suc, ◌+◌, true, false, Result, Ok, Err, List, [], ◌∷◌, ◌++◌, codes, decimal, refl, ap, sym, ◌∙◌, subst}
+use Rattle.std.proofs.Common.{arith, lit<, lit≤}
+use Rattle.std.proofs.lemmas.Fmt.{decimal_digit, decimal_step}
+use Rattle.xa_xid.specs.Bytes.{belongs, behind, unblank}
+use Rattle.xa_xid.specs.declared.statement.Statement.{Statement}
+use Rattle.xa_xid.specs.declared.statement.Statement.TheVariants.{Start, End, Prepare, Commit, Rollback, Recover, Unsupported, Get, Put, Del, Disconnect}
+use Rattle.xa_statement.specs.Canonical.{statement_text}
+use Rattle.xa_statement.specs.Grammar.{Spells}
+use Rattle.xa_statement.specs.Reading.{read_of}
+use Rattle.xa_statement.proofs.Faults.{reads_spelled}
+use Rattle.xa_lines.specs.Script.{Given, line_of}
+use Rattle.xa_judge.specs.Explained.{IsSession}
+use Rattle.xa_record.specs.Events.{request_read, request_called}
+use Rattle.xa_record.specs.VerdictText.{call_text, text_read, canonical_text}
+use Rattle.xa_laws.specs.Replaying.{IsWellCalled}
+
+-- a session's number, a blank and a text that begins with none are a line of that session
+pub line_back : (session : ℕ) → IsSession session → (text : List ℕ) → unblank text ≡ text
+    → line_of (decimal session ++ codes " " ++ text) ≡ Given session text
+unfolding line_of behind belongs
+line_back zero is text bare = absurd (omega (arith, is.0))
+line_back (suc zero) is text bare =
+    subst (λ (d : List ℕ). line_of (d ++ codes " " ++ text) ≡ Given 1 text) (sym (decimal_digit 1 (lit< tt))) (ap (Given 1) bare)
+line_back (suc (suc zero)) is text bare =
+    subst (λ (d : List ℕ). line_of (d ++ codes " " ++ text) ≡ Given 2 text) (sym (decimal_digit 2 (lit< tt))) (ap (Given 2) bare)
+line_back (suc (suc (suc zero))) is text bare =
+    subst (λ (d : List ℕ). line_of (d ++ codes " " ++ text) ≡ Given 3 text) (sym (decimal_digit 3 (lit< tt))) (ap (Given 3) bare)
+line_back (suc (suc (suc (suc zero)))) is text bare =
+    subst (λ (d : List ℕ). line_of (d ++ codes " " ++ text) ≡ Given 4 text) (sym (decimal_digit 4 (lit< tt))) (ap (Given 4) bare)
+line_back (suc (suc (suc (suc (suc zero))))) is text bare =
+    subst (λ (d : List ℕ). line_of (d ++ codes " " ++ text) ≡ Given 5 text) (sym (decimal_digit 5 (lit< tt))) (ap (Given 5) bare)
+line_back (suc (suc (suc (suc (suc (suc zero)))))) is text bare =
+    subst (λ (d : List ℕ). line_of (d ++ codes " " ++ text) ≡ Given 6 text) (sym (decimal_digit 6 (lit< tt))) (ap (Given 6) bare)
+line_back (suc (suc (suc (suc (suc (suc (suc zero))))))) is text bare =
+    subst (λ (d : List ℕ). line_of (d ++ codes " " ++ text) ≡ Given 7 text) (sym (decimal_digit 7 (lit< tt))) (ap (Given 7) bare)
+line_back (suc (suc (suc (suc (suc (suc (suc (suc zero)))))))) is text bare =
+    subst (λ (d : List ℕ). line_of (d ++ codes " " ++ text) ≡ Given 8 text) (sym (decimal_digit 8 (lit< tt))) (ap (Given 8) bare)
+line_back (suc (suc (suc (suc (suc (suc (suc (suc (suc zero))))))))) is text bare =
+    subst (λ (d : List ℕ). line_of (d ++ codes " " ++ text) ≡ Given 9 text) (sym (decimal_digit 9 (lit< tt))) (ap (Given 9) bare)
+line_back (suc (suc (suc (suc (suc (suc (suc (suc (suc (suc zero)))))))))) is text bare =
+    subst (λ (d : List ℕ). line_of (d ++ codes " " ++ text) ≡ Given 10 text)
+    (sym (decimal_step 10 (lit≤ tt) (lit< tt) ∙ ap (λ (d : List ℕ). d ++ 48 ∷ []) (decimal_digit 1 (lit< tt)))) (ap (Given 10) bare)
+line_back (suc (suc (suc (suc (suc (suc (suc (suc (suc (suc (suc zero))))))))))) is text bare =
+    subst (λ (d : List ℕ). line_of (d ++ codes " " ++ text) ≡ Given 11 text)
+    (sym (decimal_step 11 (lit≤ tt) (lit< tt) ∙ ap (λ (d : List ℕ). d ++ 49 ∷ []) (decimal_digit 1 (lit< tt)))) (ap (Given 11) bare)
+line_back (suc (suc (suc (suc (suc (suc (suc (suc (suc (suc (suc (suc zero)))))))))))) is text bare =
+    subst (λ (d : List ℕ). line_of (d ++ codes " " ++ text) ≡ Given 12 text)
+    (sym (decimal_step 12 (lit≤ tt) (lit< tt) ∙ ap (λ (d : List ℕ). d ++ 50 ∷ []) (decimal_digit 1 (lit< tt)))) (ap (Given 12) bare)
+line_back (suc (suc (suc (suc (suc (suc (suc (suc (suc (suc (suc (suc (suc zero))))))))))))) is text bare =
+    subst (λ (d : List ℕ). line_of (d ++ codes " " ++ text) ≡ Given 13 text)
+    (sym (decimal_step 13 (lit≤ tt) (lit< tt) ∙ ap (λ (d : List ℕ). d ++ 51 ∷ []) (decimal_digit 1 (lit< tt)))) (ap (Given 13) bare)
+line_back (suc (suc (suc (suc (suc (suc (suc (suc (suc (suc (suc (suc (suc (suc zero)))))))))))))) is text bare =
+    subst (λ (d : List ℕ). line_of (d ++ codes " " ++ text) ≡ Given 14 text)
+    (sym (decimal_step 14 (lit≤ tt) (lit< tt) ∙ ap (λ (d : List ℕ). d ++ 52 ∷ []) (decimal_digit 1 (lit< tt)))) (ap (Given 14) bare)
+line_back (suc (suc (suc (suc (suc (suc (suc (suc (suc (suc (suc (suc (suc (suc (suc zero))))))))))))))) is text bare =
+    subst (λ (d : List ℕ). line_of (d ++ codes " " ++ text) ≡ Given 15 text)
+    (sym (decimal_step 15 (lit≤ tt) (lit< tt) ∙ ap (λ (d : List ℕ). d ++ 53 ∷ []) (decimal_digit 1 (lit< tt)))) (ap (Given 15) bare)
+line_back (suc (suc (suc (suc (suc (suc (suc (suc (suc (suc (suc (suc (suc (suc (suc (suc zero)))))))))))))))) is text bare =
+    subst (λ (d : List ℕ). line_of (d ++ codes " " ++ text) ≡ Given 16 text)
+    (sym (decimal_step 16 (lit≤ tt) (lit< tt) ∙ ap (λ (d : List ℕ). d ++ 54 ∷ []) (decimal_digit 1 (lit< tt)))) (ap (Given 16) bare)
+line_back (suc (suc (suc (suc (suc (suc (suc (suc (suc (suc (suc (suc (suc (suc (suc (suc (suc more))))))))))))))))) is text bare = absurd (omega (arith, is.1))
+
+-- the canonical form of a statement begins with no blank
+canonical_bare : (statement : Statement) (text : List ℕ) → unblank text ≡ text
+    → unblank (canonical_text statement text) ≡ canonical_text statement text
+unfolding statement_text behind belongs
+canonical_bare (Start xid) text bare = refl
+canonical_bare (End xid) text bare = refl
+canonical_bare (Prepare xid) text bare = refl
+canonical_bare (Commit xid false) text bare = refl
+canonical_bare (Commit xid true) text bare = refl
+canonical_bare (Rollback xid) text bare = refl
+canonical_bare (Recover false) text bare = refl
+canonical_bare (Recover true) text bare = refl
+canonical_bare Unsupported text bare = bare
+canonical_bare (Get key) text bare = refl
+canonical_bare (Put key value) text bare = refl
+canonical_bare (Del key) text bare = refl
+canonical_bare Disconnect text bare = refl
+
+text_bare : (read : Result Statement ℕ) (text : List ℕ) → unblank text ≡ text → unblank (text_read read text) ≡ text_read read text
+text_bare (Ok statement) text bare = canonical_bare statement text bare
+text_bare (Err place) text bare = bare
+
+pub call_bare : (text : List ℕ) → unblank text ≡ text → unblank (call_text text) ≡ call_text text
+call_bare text bare = text_bare (read_of text) text bare
+
+spelled_back : (statement : Statement) → Spells (statement_text statement) statement → read_of (statement_text statement) ≡ Ok statement
+spelled_back statement spells = (reads_spelled (statement_text statement) statement).1 spells
+
+canonical_back : (statement : Statement) (text : List ℕ) → read_of text ≡ Ok statement → (statement ≢ Unsupported → Spells (statement_text statement) statement)
+    → read_of (canonical_text statement text) ≡ Ok statement
+canonical_back (Start xid) text is spells = spelled_back (Start xid) (spells (λ e. cc))
+canonical_back (End xid) text is spells = spelled_back (End xid) (spells (λ e. cc))
+canonical_back (Prepare xid) text is spells = spelled_back (Prepare xid) (spells (λ e. cc))
+canonical_back (Commit xid one_phase) text is spells = spelled_back (Commit xid one_phase) (spells (λ e. cc))
+canonical_back (Rollback xid) text is spells = spelled_back (Rollback xid) (spells (λ e. cc))
+canonical_back (Recover convert) text is spells = spelled_back (Recover convert) (spells (λ e. cc))
+canonical_back Unsupported text is spells = is
+canonical_back (Get key) text is spells = spelled_back (Get key) (spells (λ e. cc))
+canonical_back (Put key value) text is spells = spelled_back (Put key value) (spells (λ e. cc))
+canonical_back (Del key) text is spells = spelled_back (Del key) (spells (λ e. cc))
+canonical_back Disconnect text is spells = spelled_back Disconnect (spells (λ e. cc))
+
+read_back : (read : Result Statement ℕ) (text : List ℕ) → read_of text ≡ read → IsWellCalled text
+    → request_read read ≡ request_read (read_of (text_read read text))
+read_back (Ok statement) text is well = sym (ap request_read (canonical_back statement text is (well.canonical statement is)))
+read_back (Err place) text is well = sym (ap request_read is)
+
+-- what is written for a text that a session called for is read as the same
+pub call_back : (text : List ℕ) → IsWellCalled text → request_called text ≡ request_read (read_of (call_text text))
+call_back text well = read_back (read_of text) text refl well

@@ -1,0 +1,107 @@
+-- The script that is written for an order, and what its lines give. All of it is our own: docs/JUDGE.md, 'The verdict'.
+--     effect_line, order_lines     the line of an effect;  the lines of an order
+--     joined                       lines, each with a line feed
+--     GivesRequest                 a line gives a request of a session
+--     AnswersSo                    what `run` writes for a request
+--     requested                    what takes effect by an act of a session
+--     AreEffects                   the lines give what takes effect, in order, along moves that lead through the events
+--     AreWellCalled                what sessions call for begins with no blank, and is written so that it is read as the same
+use Rattle.std.specs.Prelude.{◌≡◌, ◌≢◌, ℕ, Option, Some, None, Ok, List, [], ◌∷◌, ◌++◌, codes, decimal, slice_get}
+use Rattle.xa_xid.specs.Bytes.{unblank}
+use Rattle.xa_xid.specs.declared.statement.Statement.{Statement}
+use Rattle.xa_xid.specs.declared.statement.Statement.TheVariants.{Unsupported, Disconnect}
+use Rattle.xa_statement.specs.Canonical.{statement_text}
+use Rattle.xa_statement.specs.Grammar.{Spells}
+use Rattle.xa_statement.specs.Reading.{read_of}
+use Rattle.xa_server.specs.State.{State}
+use Rattle.xa_server.specs.Replies.{reply_to}
+use Rattle.xa_lines.specs.Script.{Given, line_of}
+use Rattle.xa_lines.specs.Printed.{reply_text, syntax_text, converts, answer_text}
+use Rattle.xa_judge.specs.declared.request.Request.{Request}
+use Rattle.xa_judge.specs.declared.request.Request.TheVariants.{Statement as Asked, Unread}
+use Rattle.xa_judge.specs.declared.event.Event.{Event}
+use Rattle.xa_judge.specs.declared.client_state.ClientState.{ClientState}
+use Rattle.xa_judge.specs.declared.client_state.ClientState.TheVariants.{Idle, Called, Answered, Gone, Left}
+use Rattle.xa_judge.specs.declared.moves.Act.{Act}
+use Rattle.xa_judge.specs.declared.moves.Act.TheVariants.{Statement as ItsStatement, Disconnect as ItsDisconnect}
+use Rattle.xa_judge.specs.declared.moves.Move.{Move}
+use Rattle.xa_judge.specs.declared.moves.Move.TheVariants.{Event as Seeing, Effect}
+use Rattle.xa_judge.specs.Explained.{Config, effect_of, observed}
+use Rattle.xa_record.specs.Lines.{Told, Calls, Returns, Leaves}
+use Rattle.xa_record.specs.Reading.{NumberedEvent}
+use Rattle.xa_record.specs.Events.{request_read}
+use Rattle.xa_record.specs.VerdictText.{with_call, act_text}
+
+-- the line of an effect, without its line feed
+abbrev pub effect_line : List (List ℕ) → ℕ → Act → List ℕ
+effect_line calls session act = decimal session ++ codes " " ++ act_text act (slice_get calls session)
+
+-- the lines of an order
+unfoldable pub order_lines : List (List ℕ) → List NumberedEvent → List Move → List (List ℕ)
+order_lines calls numbered [] = []
+order_lines calls numbered (Effect session act ∷ moves) = effect_line calls session act ∷ order_lines calls numbered moves
+order_lines calls [] (Seeing ∷ moves) = order_lines calls [] moves
+order_lines calls (numbered ∷ more) (Seeing ∷ moves) = order_lines (with_call numbered.told calls) more moves
+
+-- lines, each with a line feed
+unfoldable pub joined : List (List ℕ) → List ℕ
+joined [] = []
+joined (line ∷ lines) = line ++ codes "\n" ++ joined lines
+
+-- the line gives this request of the session
+pub record GivesRequest (line : List ℕ) (session : ℕ) (request : Request) : Type 0 where
+  pub text : List ℕ
+  pub given : line_of line ≡ Given session text
+  pub asks : request ≡ request_read (read_of text)
+
+-- what `run` writes for the request: the reply, or that the text is no statement
+abbrev pub AnswersSo : State → ℕ → Request → List ℕ → Type 0
+AnswersSo state session (Asked statement) written = written ≡ answer_text (decimal session) (reply_text (converts statement) (reply_to state session statement))
+AnswersSo state session Unread written = (place : ℕ) × (written ≡ answer_text (decimal session) (syntax_text place))
+
+-- what a session has called for that may still take effect
+abbrev pub open_request : Option ClientState → Option Request
+open_request None = None
+open_request (Some Idle) = None
+open_request (Some (Called request)) = Some request
+open_request (Some (Answered answer)) = None
+open_request (Some (Gone request)) = request
+open_request (Some Left) = None
+
+-- what takes effect by an act of a session
+abbrev pub requested : Config → ℕ → Act → Option Request
+requested config session ItsStatement = open_request (slice_get config.clients session)
+requested config session ItsDisconnect = Some (Asked Disconnect)
+
+-- the line gives what takes effect
+pub record IsEffectLine (config : Config) (session : ℕ) (act : Act) (line : List ℕ) : Type 0 where
+  pub request : Request
+  pub is : requested config session act ≡ Some request
+  pub gives : GivesRequest line session request
+
+-- the lines give what takes effect, in order, along moves that lead through the events
+abbrev pub AreEffects : Config → List Event → List Move → List (List ℕ) → Type 0
+AreEffects old events (Effect session act ∷ moves) [] = ⊥
+AreEffects old events (Effect session act ∷ moves) (line ∷ lines) =
+    (mid : Config) × (effect_of old session act ≡ Some mid) × IsEffectLine old session act line × AreEffects mid events moves lines
+AreEffects old [] (Seeing ∷ moves) lines = ⊥
+AreEffects old (event ∷ events) (Seeing ∷ moves) lines = (mid : Config) × (observed old event ≡ Some mid) × AreEffects mid events moves lines
+AreEffects old [] [] [] = Unit {0}
+AreEffects old [] [] (line ∷ lines) = ⊥
+AreEffects old (event ∷ events) [] lines = ⊥
+
+-- a text that a session calls for begins with no blank, and the canonical form of its statement is read as that statement, as `canonical_text_is_spelled` of
+-- `xa_statement` says of each
+pub record IsWellCalled (text : List ℕ) : Type 0 where
+  pub bare : unblank text ≡ text
+  pub canonical : (statement : Statement) → read_of text ≡ Ok statement → statement ≢ Unsupported → Spells (statement_text statement) statement
+
+abbrev pub IsWellTold : Told → Type 0
+IsWellTold (Calls session text) = IsWellCalled text
+IsWellTold (Returns session shown) = Unit {0}
+IsWellTold (Leaves session) = Unit {0}
+
+-- so it is with each call
+abbrev pub AreWellCalled : List NumberedEvent → Type 0
+AreWellCalled [] = Unit {0}
+AreWellCalled (numbered ∷ more) = IsWellTold numbered.told × AreWellCalled more

@@ -1,0 +1,103 @@
+//! Runs over streams that fault, give little at a time, or give much.
+use std::alloc::Global;
+use std::io::{Read, Write};
+use std::process::Abort;
+use std::test::Fail;
+use xa_lines::{CutReader, CutWriter, ScriptFault, run_script};
+
+/// A script of 126 bytes.
+const SCRIPT: &[u8] = b"1 XA START 'abc','def'\n1 XA END 'abc','def'\n1 XA PREPARE 'abc','def'\n\
+1 XA COMMIT 'abc','def'\n1 XA COMMIT 'abc','def'\n";
+
+/// What answers it: the case committed_once.
+const ANSWERS: &[u8] = b"1 OK\n1 OK\n1 OK\n1 OK\n1 ERROR 1397 (XAE04): XAER_NOTA unknown xid\n";
+
+/// Asks for a run of the script to end in a read fault at once, with nothing written.
+fn is_not_read(rt: &impl Abort, alloc: Global, input: &mut CutReader<'_>) {
+    let mut output = Vec::new(alloc);
+    let result = run_script(alloc, input, &mut output);
+    assert_eq!(rt; result, Err(ScriptFault::Read));
+    assert!(rt; output.is_empty());
+}
+
+#[test]
+fn read_fault_leaves_nothing(rt: HostRuntime) {
+    for reads in 0..21 {
+        is_not_read(&rt, rt.alloc(), &mut CutReader::new(SCRIPT, 6, reads));
+        let mut input = CutReader::once(SCRIPT, 6, reads);
+        is_not_read(&rt, rt.alloc(), &mut input);
+        assert_eq!(rt; input.reads_after_a_fault(), 0);
+    }
+}
+
+/// Asks for a run of the script to end in a write fault, with so many bytes of the answers written.
+fn is_cut(rt: &impl Abort, alloc: Global, output: &mut CutWriter, room: usize) {
+    let mut input = SCRIPT;
+    let result = run_script(alloc, &mut input, output);
+    assert_eq!(rt; result, Err(ScriptFault::Write));
+    assert_eq!(rt; Some(output.as_slice()), ANSWERS.get(..room));
+}
+
+#[test]
+fn write_fault_leaves_a_prefix(rt: HostRuntime) {
+    for room in 0..ANSWERS.len() {
+        is_cut(
+            &rt,
+            rt.alloc(),
+            &mut CutWriter::new(rt.alloc(), 3, room),
+            room,
+        );
+        let mut output = CutWriter::once(rt.alloc(), 3, room);
+        is_cut(&rt, rt.alloc(), &mut output, room);
+        assert_eq!(rt; output.writes_after_a_fault(), 0);
+    }
+}
+
+#[test]
+fn cut_reader_goes_on_after_one_fault(rt: HostRuntime) {
+    let mut input = CutReader::once(b"abc", 2, 1);
+    let mut piece = [0u8; 4];
+    assert_eq!(rt; input.read(&mut piece).ok(), Some(2));
+    assert!(rt; input.read(&mut piece).is_err());
+    assert_eq!(rt; input.read(&mut piece).ok(), Some(1));
+    assert_eq!(rt; piece[0], b'c');
+    assert_eq!(rt; input.reads_after_a_fault(), 1);
+}
+
+#[test]
+fn cut_writer_goes_on_after_one_fault(rt: HostRuntime) {
+    let mut output = CutWriter::once(rt.alloc(), 2, 1);
+    assert_eq!(rt; output.write(b"abc").ok(), Some(1));
+    assert!(rt; output.write(b"bc").is_err());
+    assert_eq!(rt; output.write(b"bc").ok(), Some(2));
+    assert_eq!(rt; output.as_slice(), b"abc".as_slice());
+    assert_eq!(rt; output.writes_after_a_fault(), 1);
+}
+
+#[test]
+fn pieces_of_a_script_make_no_difference(rt: HostRuntime) -> Result<(), Fail> {
+    for piece in 1..40 {
+        let mut input = CutReader::new(SCRIPT, piece, 1000);
+        let mut output = CutWriter::new(rt.alloc(), piece, 1000);
+        run_script(rt.alloc(), &mut input, &mut output)?;
+        assert_eq!(rt; output.as_slice(), ANSWERS);
+    }
+    Ok(())
+}
+
+#[test]
+fn script_takes_at_most_2097152_reads(rt: HostRuntime) -> Result<(), Fail> {
+    let mut spaces = Vec::new(rt.alloc());
+    for _ in 0..1_048_576 {
+        spaces.push(b' ')?;
+    }
+    let mut input = CutReader::new(spaces.as_slice(), 1, 2_097_152);
+    let mut output = Vec::new(rt.alloc());
+    run_script(rt.alloc(), &mut input, &mut output)?;
+    assert!(rt; output.is_empty());
+    assert_eq!(rt; input.reads_left(), 2_097_152 - 1_048_577);
+    spaces.push(b' ')?;
+    let result = run_script(rt.alloc(), &mut spaces.as_slice(), &mut output);
+    assert_eq!(rt; result, Err(ScriptFault::TooLong));
+    Ok(())
+}

@@ -1,0 +1,10 @@
+pub mod Counting
+pub mod Printed
+pub mod Script
+pub mod Transcript
+pub mod Written
+pub mod Cut
+pub mod Under
+pub mod Clients
+pub mod Told
+pub mod Behind

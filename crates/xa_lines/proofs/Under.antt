@@ -1,0 +1,298 @@
+-- A conversation, byte by byte and answer by answer.
+use Rattle.std.proofs.Common.{◌≡◌, ℕ, ◌==◌, true, false, List, [], ◌∷◌, ◌++◌, length, take, drop, refl, sym, ap, subst, ◌∙◌, append_assoc, append-nil, ◌≤◌, ◌+◌}
+use Rattle.std.proofs.Common.{arith, length-append}
+use Rattle.std.proofs.lemmas.List.{length-take}
+use Rattle.std.proofs.lemmas.Bool.Decides.{nat_tests}
+use Rattle.std.proofs.lemmas.List.{take-append-drop}
+use Rattle.xa_lines.specs.Script.{lines_of}
+use Rattle.xa_lines.specs.Received.{Received, Whole, received_line, longer, is_nothing, IsCutIntoLines}
+use Rattle.xa_lines.specs.Exchange.{Exchange, IsFresh, with_received}
+use Rattle.xa_lines.specs.Served.{AnswersAll, AreAnswers, IsAnswerSoFar, AwaitsMore, IsServed, IsBegunAnswer}
+use Rattle.xa_lines.specs.UnderWay.{IsUnderWay, IsReady, IsAllAnswered}
+use Rattle.xa_lines.specs.declared.stage.Stage.{Stage}
+use Rattle.xa_lines.specs.declared.stage.Stage.TheVariants.{Open, Ended, Deaf}
+use Rattle.xa_lines.proofs.Cut.{cut_none, cut_more, cut_feed, lines_of-cut, lines_of-cut_feed, lines_of-some, lines_of-nothing, nothing_begun}
+use Rattle.xa_lines.proofs.Cut.{received_line-nothing, received_line-longer}
+
+-- a read that gives something
+longer_received : (reads n : ℕ) (received piece : List ℕ) → (n == 0) ≡ false → n ≤ length piece → reads ≤ length received → reads + 1 ≤ length (received ++ take n piece)
+longer_received reads n received piece some within before = grind (arith, nat_tests, length-append, length-take)
+
+module _ {S : Type 0} (Begins : S → Type 0) (Answers : S → Received → List ℕ → S → Type 0) where
+  answers_none : (state : S) → AnswersAll Answers state [] [] state
+  unfolding AnswersAll
+  answers_none state = (refl, refl)
+
+  -- one line more is answered
+  answers_more : (lines : List (List ℕ)) (first mid last : S) (text : List ℕ) (line answer : List ℕ) → AnswersAll Answers first lines text mid
+      → Answers mid (received_line line) answer last
+      → AnswersAll Answers first (lines ++ line ∷ []) (text ++ answer) last
+  unfolding AnswersAll
+  answers_more [] first mid last text line answer before now =
+      let P : S → Type 0 = λ s. Answers s (received_line line) answer last in
+      (last, answer, [], subst P before.1 now, (refl, refl), ap (λ xs. xs ++ answer) before.0 ∙ sym (append-nil answer))
+  answers_more (x ∷ lines) first mid last text line answer before now =
+      let more = answers_more lines before.0 mid last before.2 line answer before.4 now in
+      (before.0, before.1, before.2 ++ answer, before.3, more, ap (λ xs. xs ++ answer) before.5 ∙ append_assoc before.1 before.2 answer)
+
+  -- nothing has passed yet
+  pub fresh : (exchange : Exchange) (line : Received) (server : S) → IsFresh exchange → line ≡ Whole [] → Begins server
+      → IsReady Begins Answers Open 0 exchange line server
+  fresh exchange line server none nothing begins =
+      let P : List ℕ → Type 0 = λ xs. AnswersAll Answers server [] xs server in (
+        none.2 ∙ sym none.1,
+        record {
+          done = [];
+          lines = [];
+          begun = [];
+          first = server;
+          parts = none.0;
+          cut = cut_none;
+          held = nothing ∙ received_line-nothing;
+          begins = begins;
+          answers = subst P (sym none.1) (answers_none server);
+          stage_is = none.3;
+          counted = omega arith;
+        },
+      )
+
+  -- one byte more of a line
+  pub put : (stage : Stage) (reads : ℕ) (exchange : Exchange) (byte : ℕ) (waiting : List ℕ) (line next : Received) (server : S) → (byte == 10) ≡ false
+      → next ≡ longer line byte
+      → IsUnderWay Begins Answers stage reads exchange (byte ∷ waiting) line server → IsUnderWay Begins Answers stage reads exchange waiting next server
+  put stage reads exchange byte waiting line next server other is u = record {
+    done = u.done ++ byte ∷ [];
+    lines = u.lines;
+    begun = u.begun ++ byte ∷ [];
+    first = u.first;
+    parts = u.parts ∙ sym (append_assoc u.done (byte ∷ []) waiting);
+    cut = cut_more u.done u.lines u.begun byte other u.cut;
+    held = is ∙ ap (λ l. longer l byte) u.held ∙ received_line-longer u.begun byte;
+    begins = u.begins;
+    answers = u.answers;
+    stage_is = u.stage_is;
+    counted = u.counted;
+  }
+
+  -- a line feed, and the answer to the line that it ends
+  pub answered : (stage : Stage) (reads : ℕ) (exchange new : Exchange) (waiting answer : List ℕ) (line : Received) (server after : S)
+      → new ≡ record exchange { given = exchange.given ++ answer } → Answers server line answer after
+      → IsUnderWay Begins Answers stage reads exchange (10 ∷ waiting) line server → IsUnderWay Begins Answers stage reads new waiting (Whole []) after
+  answered stage reads exchange new waiting answer line server after is now u =
+      let P : Exchange → Type 0 = λ e. IsUnderWay Begins Answers stage reads e waiting (Whole []) after in
+      let Q : Received → Type 0 = λ l. Answers server l answer after in
+      subst P (sym is) (record {
+        done = u.done ++ 10 ∷ [];
+        lines = u.lines ++ u.begun ∷ [];
+        begun = [];
+        first = u.first;
+        parts = u.parts ∙ sym (append_assoc u.done (10 ∷ []) waiting);
+        cut = cut_feed u.done u.lines u.begun u.cut;
+        held = received_line-nothing;
+        begins = u.begins;
+        answers = answers_more u.lines u.first server after exchange.given u.begun answer u.answers (subst Q u.held now);
+        stage_is = u.stage_is;
+        counted = u.counted;
+      })
+
+  -- the answer to the line is given in part
+  pub begun_answer : (stage : Stage) (reads : ℕ) (exchange new : Exchange) (waiting answer : List ℕ) (n : ℕ) (line : Received) (server after : S)
+      → new ≡ record exchange { given = exchange.given ++ take n answer } → Answers server line answer after
+      → IsUnderWay Begins Answers stage reads exchange (10 ∷ waiting) line server → IsBegunAnswer Begins Answers new.received new.given
+  begun_answer stage reads exchange new waiting answer n line server after is now u =
+      let P : Exchange → Type 0 = λ e. IsBegunAnswer Begins Answers e.received e.given in
+      let Q : Received → Type 0 = λ l. Answers server l answer after in
+      let R : List ℕ → Type 0 = λ text. AreAnswers Begins Answers (u.lines ++ u.begun ∷ []) text in
+      let whole : exchange.given ++ answer ≡ (exchange.given ++ take n answer) ++ drop n answer =
+      ap (λ xs. exchange.given ++ xs) (sym (take-append-drop n answer)) ∙ sym (append_assoc exchange.given (take n answer) (drop n answer)) in
+      subst P (sym is) (record {
+        lines = u.lines ++ u.begun ∷ [];
+        later = lines_of waiting;
+        unsaid = drop n answer;
+        parts = ap lines_of u.parts ∙ lines_of-cut_feed u.done u.lines u.begun waiting u.cut;
+        answers =
+            subst R whole (record {
+              first = u.first;
+              last = after;
+              begins = u.begins;
+              answers = answers_more u.lines u.first server after exchange.given u.begun answer u.answers (subst Q u.held now);
+            });
+      })
+
+  -- what was received waits
+  pub received : (reads : ℕ) (exchange new : Exchange) (n : ℕ) (piece : List ℕ) (line : Received) (server : S) → (n == 0) ≡ false → n ≤ length piece
+      → new ≡ with_received exchange n piece
+      → IsUnderWay Begins Answers Open reads exchange [] line server → IsUnderWay Begins Answers Open (reads + 1) new (take n piece) line server
+  received reads exchange new n piece line server some within is u =
+      let P : Exchange → Type 0 = λ e. IsUnderWay Begins Answers Open (reads + 1) e (take n piece) line server in
+      subst P (sym is) (record {
+        done = u.done;
+        lines = u.lines;
+        begun = u.begun;
+        first = u.first;
+        parts = ap (λ xs. xs ++ take n piece) (u.parts ∙ append-nil u.done);
+        cut = u.cut;
+        held = u.held;
+        begins = u.begins;
+        answers = u.answers;
+        stage_is = rw some refl;
+        counted = longer_received reads n exchange.received piece some within u.counted;
+      })
+
+  -- nothing more is to be received
+  pub received_end : (reads : ℕ) (exchange new : Exchange) (n : ℕ) (piece : List ℕ) (line : Received) (server : S) → (n == 0) ≡ true
+      → new ≡ with_received exchange n piece
+      → IsUnderWay Begins Answers Open reads exchange [] line server → IsUnderWay Begins Answers Ended reads new [] line server
+  received_end reads exchange new n piece line server none is u =
+      let P : Exchange → Type 0 = λ e. IsUnderWay Begins Answers Ended reads e [] line server in
+      let zero_is : n ≡ 0 = grind (arith, nat_tests) in
+      let same : exchange.received ++ take n piece ≡ exchange.received = ap (λ k. exchange.received ++ take k piece) zero_is ∙ append-nil exchange.received in
+      let Q : List ℕ → Type 0 = λ xs. reads ≤ length xs in
+      subst P (sym is) (record {
+        done = u.done;
+        lines = u.lines;
+        begun = u.begun;
+        first = u.first;
+        parts = same ∙ u.parts;
+        cut = u.cut;
+        held = u.held;
+        begins = u.begins;
+        answers = u.answers;
+        stage_is = rw none refl;
+        counted = subst Q (sym same) u.counted;
+      })
+
+  -- all whole lines are answered
+  so_far : (stage : Stage) (reads : ℕ) (exchange : Exchange) (text : List ℕ) (line : Received) (server : S) → text ≡ exchange.given
+      → IsUnderWay Begins Answers stage reads exchange [] line server → IsAnswerSoFar Begins Answers exchange.received text
+  so_far stage reads exchange text line server is u =
+      let P : List ℕ → Type 0 = λ xs. IsCutIntoLines xs u.lines u.begun in
+      let Q : List ℕ → Type 0 = λ xs. AreAnswers Begins Answers u.lines xs in
+      record {
+        lines = u.lines;
+        begun = u.begun;
+        cut = subst P (sym (u.parts ∙ append-nil u.done)) u.cut;
+        answers = subst Q (sym is) (record { first = u.first; last = server; begins = u.begins; answers = u.answers });
+      }
+
+  pub ready_answered : (reads : ℕ) (exchange : Exchange) (line : Received) (server : S) → IsReady Begins Answers Open reads exchange line server
+      → AwaitsMore Begins Answers exchange
+  ready_answered reads exchange line server r = (r.1.stage_is, so_far Open reads exchange exchange.told line server r.0 r.1)
+
+  -- the client is deaf from now on
+  pub deaf : (reads : ℕ) (exchange new : Exchange) (line : Received) (server : S) → new ≡ record exchange { stage = Deaf }
+      → IsReady Begins Answers Open reads exchange line server → IsAnswerSoFar Begins Answers new.received new.told × (new.stage ≡ Deaf)
+  deaf reads exchange new line server is r =
+      let P : Exchange → Type 0 = λ e. IsAnswerSoFar Begins Answers e.received e.told × (e.stage ≡ Deaf) in
+      subst P (sym is) (so_far Open reads exchange exchange.told line server r.0 r.1, refl)
+
+  -- all that was given was said
+  pub flushed : (stage : Stage) (reads : ℕ) (exchange new : Exchange) (line : Received) (server : S) → new ≡ record exchange { told = exchange.given }
+      → IsUnderWay Begins Answers stage reads exchange [] line server → IsReady Begins Answers stage reads new line server
+  flushed stage reads exchange new line server is u =
+      let P : Exchange → Type 0 = λ e. IsReady Begins Answers stage reads e line server in
+      subst P (sym is) (
+        refl,
+        record {
+          done = u.done;
+          lines = u.lines;
+          begun = u.begun;
+          first = u.first;
+          parts = u.parts;
+          cut = u.cut;
+          held = u.held;
+          begins = u.begins;
+          answers = u.answers;
+          stage_is = u.stage_is;
+          counted = u.counted;
+        },
+      )
+
+  -- the whole lines are answered, and the line that has begun may be unanswered
+  pub unflushed : (stage : Stage) (reads : ℕ) (exchange new : Exchange) (told : List ℕ) (line : Received) (server : S) → new ≡ record exchange { told = told }
+      → IsUnderWay Begins Answers stage reads exchange [] line server → IsBegunAnswer Begins Answers new.received new.given
+  unflushed stage reads exchange new told line server is u =
+      let P : Exchange → Type 0 = λ e. IsBegunAnswer Begins Answers e.received e.given in
+      let Q : List ℕ → Type 0 = λ xs. AreAnswers Begins Answers u.lines xs in
+      subst P (sym is) (record {
+        lines = u.lines;
+        later = lines_of (u.begun ++ []);
+        unsaid = [];
+        parts = ap lines_of u.parts ∙ lines_of-cut u.done u.lines u.begun [] u.cut;
+        answers = subst Q (sym (append-nil exchange.given)) (record { first = u.first; last = server; begins = u.begins; answers = u.answers });
+      })
+
+  -- nothing of a last line has come
+  pub end_nothing : (reads : ℕ) (exchange : Exchange) (line : Received) (server : S) → is_nothing line ≡ true
+      → IsUnderWay Begins Answers Ended reads exchange [] line server → IsAllAnswered Begins Answers exchange
+  end_nothing reads exchange line server none u =
+      let none_begun : u.begun ≡ [] = nothing_begun u.begun (ap is_nothing (sym u.held) ∙ none) in
+      let all : lines_of exchange.received ≡ u.lines =
+      ap lines_of u.parts ∙ lines_of-cut u.done u.lines u.begun [] u.cut ∙ ap (λ xs. u.lines ++ lines_of (xs ++ [])) none_begun
+      ∙ ap (λ xs. u.lines ++ xs) lines_of-nothing ∙ append-nil u.lines in
+      let P : List (List ℕ) → Type 0 = λ lines. AreAnswers Begins Answers lines exchange.given in
+      (u.stage_is, subst P (sym all) (record { first = u.first; last = server; begins = u.begins; answers = u.answers }))
+
+  -- the lines, where the last of them has no line feed
+  all_lines : (reads : ℕ) (exchange : Exchange) (line : Received) (server : S) → is_nothing line ≡ false
+      → (u : IsUnderWay Begins Answers Ended reads exchange [] line server) → lines_of exchange.received ≡ u.lines ++ u.begun ∷ []
+  all_lines reads exchange line server some u =
+      ap lines_of u.parts ∙ lines_of-cut u.done u.lines u.begun [] u.cut ∙ ap (λ xs. u.lines ++ lines_of xs) (append-nil u.begun)
+      ∙ ap (λ xs. u.lines ++ xs) (lines_of-some u.begun u.cut.last (ap is_nothing (sym u.held) ∙ some))
+
+  -- the last line is answered
+  pub end_answered : (reads : ℕ) (exchange new : Exchange) (answer : List ℕ) (line : Received) (server after : S) → is_nothing line ≡ false
+      → new ≡ record exchange { given = exchange.given ++ answer } → Answers server line answer after
+      → IsUnderWay Begins Answers Ended reads exchange [] line server → IsAllAnswered Begins Answers new
+  end_answered reads exchange new answer line server after some is now u =
+      let P : Exchange → Type 0 = λ e. IsAllAnswered Begins Answers e in
+      let Q : Received → Type 0 = λ l. Answers server l answer after in
+      let R : List (List ℕ) → Type 0 = λ lines. AreAnswers Begins Answers lines (exchange.given ++ answer) in
+      let answers = answers_more u.lines u.first server after exchange.given u.begun answer u.answers (subst Q u.held now) in
+      subst P (sym is) (
+        u.stage_is,
+        subst R (sym (all_lines reads exchange line server some u)) (record { first = u.first; last = after; begins = u.begins; answers = answers }),
+      )
+
+  -- or in part
+  pub end_begun : (reads : ℕ) (exchange new : Exchange) (answer : List ℕ) (n : ℕ) (line : Received) (server after : S) → is_nothing line ≡ false
+      → new ≡ record exchange { given = exchange.given ++ take n answer }
+      → Answers server line answer after → IsUnderWay Begins Answers Ended reads exchange [] line server → IsBegunAnswer Begins Answers new.received new.given
+  end_begun reads exchange new answer n line server after some is now u =
+      let P : Exchange → Type 0 = λ e. IsBegunAnswer Begins Answers e.received e.given in
+      let Q : Received → Type 0 = λ l. Answers server l answer after in
+      let R : List ℕ → Type 0 = λ text. AreAnswers Begins Answers (u.lines ++ u.begun ∷ []) text in
+      let whole : exchange.given ++ answer ≡ (exchange.given ++ take n answer) ++ drop n answer =
+      ap (λ xs. exchange.given ++ xs) (sym (take-append-drop n answer)) ∙ sym (append_assoc exchange.given (take n answer) (drop n answer)) in
+      subst P (sym is) (record {
+        lines = u.lines ++ u.begun ∷ [];
+        later = [];
+        unsaid = drop n answer;
+        parts = all_lines reads exchange line server some u ∙ sym (append-nil (u.lines ++ u.begun ∷ []));
+        answers =
+            subst R whole (record {
+              first = u.first;
+              last = after;
+              begins = u.begins;
+              answers = answers_more u.lines u.first server after exchange.given u.begun answer u.answers (subst Q u.held now);
+            });
+      })
+
+  -- all that was given was said
+  pub served : (exchange new : Exchange) → new ≡ record exchange { told = exchange.given } → IsAllAnswered Begins Answers exchange → IsServed Begins Answers new
+  served exchange new is all =
+      let P : Exchange → Type 0 = λ e. IsServed Begins Answers e in
+      subst P (sym is) (all.0, refl, all.1)
+
+  pub unserved : (exchange new : Exchange) (told : List ℕ) → new ≡ record exchange { told = told } → IsAllAnswered Begins Answers exchange
+      → IsBegunAnswer Begins Answers new.received new.given
+  unserved exchange new told is all =
+      let P : Exchange → Type 0 = λ e. IsBegunAnswer Begins Answers e.received e.given in
+      let Q : List ℕ → Type 0 = λ xs. AreAnswers Begins Answers (lines_of exchange.received) xs in
+      subst P (sym is) (record {
+        lines = lines_of exchange.received;
+        later = [];
+        unsaid = [];
+        parts = sym (append-nil (lines_of exchange.received));
+        answers = subst Q (sym (append-nil exchange.given)) all.1;
+      })

@@ -1,0 +1,7 @@
+use Rattle.std.proofs.Common.{[], refl}
+use Rattle.xa_lines.specs.Answer.{bytes_of}
+use Rattle.xa_lines.proofs.Behind.{bad_shown}
+use Rattle.xa_lines.proofs.shown.show_bad.Goals as goal
+
+pub returns : goal.returns
+returns c = bad_shown c.args.server.now (bytes_of c.bad_line.result) (bytes_of c.with_shown.result) [] refl c.bad_line.ensures c.with_shown.ensures

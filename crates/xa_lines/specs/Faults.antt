@@ -1,0 +1,15 @@
+-- The numbers of the faults of a script's run or race.
+--     number_of_script_fault     why it ended early
+use Rattle.std.specs.Prelude.{ℕ}
+use Rattle.xa_lines.specs.declared.script_fault.ScriptFault.{ScriptFault}
+use Rattle.xa_lines.specs.declared.script_fault.ScriptFault.TheVariants.{Read, TooLong, Write, NoMemory, Full, GateShut, ThreadRefused}
+
+-- those of the streams first, then those of a race (own rule)
+abbrev pub number_of_script_fault : ScriptFault → ℕ
+number_of_script_fault Read = 1
+number_of_script_fault TooLong = 2
+number_of_script_fault Write = 3
+number_of_script_fault NoMemory = 4
+number_of_script_fault Full = 5
+number_of_script_fault GateShut = 6
+number_of_script_fault ThreadRefused = 7

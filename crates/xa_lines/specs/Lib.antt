@@ -1,0 +1,15 @@
+pub mod Script
+pub mod Printed
+pub mod Transcript
+pub mod Cut
+pub mod Limits
+pub mod Faults
+pub mod Received
+pub mod Answer
+pub mod Exchange
+pub mod Served
+pub mod UnderWay
+pub mod Statements
+pub mod Recorded
+pub mod Listing
+pub mod Shown

@@ -1,0 +1,63 @@
+-- What answers a line of which the store is shown behind the answer.
+--     comment_text               how a comment is repeated
+--     keys_asked                 the rows that a line is about
+--     listing_after              what stands behind the answer to a line
+--     BeginsEmpty, IsShown       how it begins, and how it may answer a line
+use Rattle.std.specs.Prelude.{◌≡◌, ◌⊎◌, ℕ, Bool, true, false, List, [], ◌++◌, codes, Result, Ok, Err}
+use Rattle.xa_xid.specs.declared.statement.Statement.{Statement}
+use Rattle.xa_statement.specs.Reading.{read_of}
+use Rattle.xa_server.specs.Overview.{keys_about}
+use Rattle.xa_server.specs.State.{State, no_state}
+use Rattle.xa_lines.specs.Script.{Line, Blank, Bad, Given, line_of, is_comment_line}
+use Rattle.xa_lines.specs.Received.{Received, Whole, TooLong}
+use Rattle.xa_lines.specs.Statements.{IsAnswerTo}
+use Rattle.xa_lines.specs.Listing.{listing}
+use Rattle.xa_lines.specs.declared.shown.Shown.{Shown}
+
+-- a comment is repeated, behind two blanks
+abbrev pub comment_text : List ℕ → List ℕ
+comment_text line = codes "  " ++ line ++ codes "\n"
+
+abbrev pub keys_of_read : State → ℕ → Result Statement ℕ → List (List ℕ)
+keys_of_read state session (Ok statement) = keys_about state session statement
+keys_of_read state session (Err place) = []
+
+-- the rows that a line is about, before it is answered
+unfoldable pub keys_asked : State → Line → List (List ℕ)
+keys_asked state Blank = []
+keys_asked state Bad = []
+keys_asked state (Given session text) = keys_of_read state session (read_of text)
+
+-- behind the answer to a line stand the branches and the rows that the line is about, as they are then; a line of blanks has
+-- no answer, and nothing stands behind it
+unfoldable pub listing_after : State → Line → State → List ℕ
+listing_after old Blank new = []
+listing_after old Bad new = listing new []
+listing_after old (Given session text) new = listing new (keys_asked old (Given session text))
+
+-- the answer that serving gives, and behind it the listing, or nothing where memory is refused for that
+pub record IsAnswerShown (old : State) (line : Line) (text : List ℕ) (new : State) : Type 0 where
+  pub answer : List ℕ
+  pub is : IsAnswerTo old line answer new
+  pub shown : (text ≡ answer ++ listing_after old line new) ⊎ (text ≡ answer)
+
+-- a comment is repeated, or nothing is where memory is refused for that; it changes nothing
+abbrev pub IsCommentShown : State → List ℕ → List ℕ → State → Type 0
+IsCommentShown old line text new = ((text ≡ comment_text line) ⊎ (text ≡ [])) × (new ≡ old)
+
+-- how a line may be answered, which is a comment or isn't
+abbrev pub IsLineShown : Bool → State → List ℕ → List ℕ → State → Type 0
+IsLineShown true old line text new = IsCommentShown old line text new
+IsLineShown false old line text new = IsAnswerShown old (line_of line) text new
+
+-- how a line may be answered; one that is too long is a bad one, whatever it begins with
+unfoldable pub IsShown : State → Received → List ℕ → State → Type 0
+IsShown old (Whole line) text new = IsLineShown (is_comment_line line) old line text new
+IsShown old TooLong text new = IsAnswerShown old Bad text new
+
+-- the server holds nothing yet
+abbrev pub BeginsEmpty : Shown → Type 0
+BeginsEmpty shown = shown.server ≡ no_state
+
+abbrev pub Shows : Shown → Received → List ℕ → Shown → Type 0
+Shows old line text new = IsShown old.server line text new.server

@@ -1,0 +1,108 @@
+-- What the sequential server answers to lines of statements.
+--     said            what a line says
+--     refused_text    the answer where memory is refused for a statement
+--     HoldsNothing                how it begins
+--     IsAnswerTo, IsLineAnswer    how it may answer what is said, and a line
+--     IsToldAll, AfterFaultOfStatements   what is told to a client that ends, and what a fault leaves
+--     served_text     the answers to lines, where it is known for which memory was refused
+use Rattle.std.specs.Prelude.{◌≡◌, ◌⊎◌, ◌≤◌, ℕ, ◌-◌, ◌^◌, Bool, true, false, List, [], ◌∷◌, ◌++◌, length, codes, decimal}
+use Rattle.xa_server.specs.State.{State, no_state}
+use Rattle.xa_lines.specs.Script.{Line, Blank, Bad, Given, line_of, lines_of}
+use Rattle.xa_lines.specs.Printed.{answer_text}
+use Rattle.xa_lines.specs.Transcript.{answer_of, state_after_line}
+use Rattle.xa_lines.specs.declared.script_fault.ScriptFault.{ScriptFault}
+use Rattle.xa_lines.specs.declared.script_fault.ScriptFault.TheVariants.{Read, TooLong as ScriptTooLong, Write, NoMemory, Full, GateShut, ThreadRefused}
+use Rattle.xa_lines.specs.Received.{Received, Whole, TooLong, received_line, IsCutIntoLines}
+use Rattle.xa_lines.specs.Exchange.{Exchange, IsFresh}
+use Rattle.xa_lines.specs.declared.stage.Stage.TheVariants.{Ended, Deaf}
+use Rattle.xa_lines.specs.declared.TheConstants.{LINE_BYTES}
+
+-- what a line says; one that is too long is a bad one (own rule)
+abbrev pub said : Received → Line
+said (Whole line) = line_of line
+said TooLong = Bad
+
+-- the answer where memory is refused for a session's statement (number and SQLSTATE are the manual's, ER_OUTOFMEMORY; that it is answered so is our own)
+abbrev pub refused_text : ℕ → List ℕ
+refused_text session = answer_text (decimal session) (codes "ERROR 1037 (HY001): out of memory")
+
+-- the server holds nothing yet
+abbrev pub HoldsNothing : State → Type 0
+HoldsNothing state = state ≡ no_state
+
+-- only for a statement memory may be refused
+abbrev pub IsRefusal : Line → List ℕ → Type 0
+IsRefusal Blank text = ⊥
+IsRefusal Bad text = ⊥
+IsRefusal (Given session statement) text = text ≡ refused_text session
+
+-- what is said is answered as a script's line is; or memory is refused for its statement, and nothing changes
+abbrev pub IsAnswerTo : State → Line → List ℕ → State → Type 0
+IsAnswerTo old line text new = ((text ≡ answer_of old line) × (new ≡ state_after_line old line)) ⊎ (IsRefusal line text × (new ≡ old))
+
+-- so is a line
+abbrev pub IsLineAnswer : State → Received → List ℕ → State → Type 0
+IsLineAnswer old line text new = IsAnswerTo old (said line) text new
+
+-- the answer to a line, if memory is refused for its statement or isn't
+abbrev pub text_of : Bool → State → Line → List ℕ
+text_of true state (Given session statement) = refused_text session
+text_of true state Blank = answer_of state Blank
+text_of true state Bad = answer_of state Bad
+text_of false state line = answer_of state line
+
+-- the state after it
+abbrev pub state_of : Bool → State → Line → State
+state_of true state (Given session statement) = state
+state_of true state Blank = state_after_line state Blank
+state_of true state Bad = state_after_line state Bad
+state_of false state line = state_after_line state line
+
+-- whether memory is refused for the next statement; behind the marks it isn't
+abbrev pub next_mark : List Bool → Bool
+next_mark [] = false
+next_mark (mark ∷ marks) = mark
+
+abbrev pub later_marks : List Bool → List Bool
+later_marks [] = []
+later_marks (mark ∷ marks) = marks
+
+-- the answers to these lines, where a mark for each says whether memory is refused for its statement
+unfoldable pub served_text : List Bool → State → List (List ℕ) → List ℕ
+served_text marks state [] = []
+served_text marks state (line ∷ lines) =
+    text_of (next_mark marks) state (said (received_line line))
+    ++ served_text (later_marks marks) (state_of (next_mark marks) state (said (received_line line))) lines
+
+-- nothing more is to be received; what was told are the answers to all lines, for some of whose statements memory was refused
+abbrev pub IsToldAll : Exchange → Type 0
+IsToldAll exchange = (exchange.stage ≡ Ended) × ((marks : List Bool) × (exchange.told ≡ served_text marks no_state (lines_of exchange.received)))
+
+-- the text answers the whole lines of what was received
+pub record IsToldSoFar (received text : List ℕ) : Type 0 where
+  pub lines : List (List ℕ)
+  pub begun : List ℕ
+  pub marks : List Bool
+  pub cut : IsCutIntoLines received lines begun
+  pub told : text ≡ served_text marks no_state lines
+
+-- the text begins the answers to what was received
+pub record IsToldInPart (received text : List ℕ) : Type 0 where
+  pub marks : List Bool
+  pub unsaid : List ℕ
+  pub whole : served_text marks no_state (lines_of received) ≡ text ++ unsaid
+
+-- what a fault leaves: after a read fault all whole lines are answered, and the client is deaf, or gave more reads than are
+-- counted; after a write fault the answers are begun; without memory nothing has passed
+abbrev pub AfterFaultOfStatements : ScriptFault → Exchange → Type 0
+AfterFaultOfStatements Read exchange = IsToldSoFar exchange.received exchange.told × ((exchange.stage ≡ Deaf) ⊎ (2 ^ 64 - 1 ≤ length exchange.received))
+AfterFaultOfStatements Write exchange = IsToldInPart exchange.received exchange.given
+AfterFaultOfStatements NoMemory exchange = IsFresh exchange
+AfterFaultOfStatements ScriptTooLong exchange = ⊥
+AfterFaultOfStatements Full exchange = ⊥
+AfterFaultOfStatements GateShut exchange = ⊥
+AfterFaultOfStatements ThreadRefused exchange = ⊥
+
+-- the line has no more bytes than are kept
+abbrev pub IsShort : List ℕ → Type 0
+IsShort line = length line ≤ LINE_BYTES

@@ -1,0 +1,82 @@
+-- What a script's run writes.
+--     answer_of       what is written for a line
+--     state_after_line  the state after a line
+--     run_text        what is written for all lines
+--     transcript      what is written for a script
+--     AppendsPrefix, AfterFault      what a fault leaves in the writer
+--     ConsumesMoreThan               how long a script is too long
+use Rattle.std.specs.Prelude.{◌≡◌, ◌⊎◌, ℕ, ◌<◌, Option, List, [], ◌∷◌, ◌++◌, length, take, codes, decimal, IfSome, Result, Ok, Err}
+use Rattle.std.specs.Io.KnownBytes.{Keeps, Appends, Consumes}
+use Rattle.xa_xid.specs.declared.statement.Statement.{Statement}
+use Rattle.xa_server.specs.State.{State, no_state}
+use Rattle.xa_server.specs.Replies.{reply_to}
+use Rattle.xa_server.specs.Step.{after}
+use Rattle.xa_lines.specs.declared.script_fault.ScriptFault.{ScriptFault}
+use Rattle.xa_lines.specs.declared.script_fault.ScriptFault.TheVariants.{Read, TooLong, Write, NoMemory, Full, GateShut, ThreadRefused}
+use Rattle.xa_lines.specs.Script.{Line, Blank, Bad, Given, line_of, lines_of}
+use Rattle.xa_lines.specs.Printed.{reply_text, syntax_text, converts, answer_text}
+use Rattle.xa_statement.specs.Reading.{read_of}
+
+-- what is written for a session's statement, read or not; that `read_of` reads by the grammar is `xa_statement::laws::reading_is_the_grammar`
+abbrev pub answer_to : State → ℕ → Result Statement ℕ → List ℕ
+answer_to state session (Ok statement) = answer_text (decimal session) (reply_text (converts statement) (reply_to state session statement))
+answer_to state session (Err place) = answer_text (decimal session) (syntax_text place)
+
+-- a statement that isn't read changes nothing
+abbrev pub state_then : State → ℕ → Result Statement ℕ → State
+state_then state session (Ok statement) = after state session statement
+state_then state session (Err place) = state
+
+-- what is written for a line; a bad one names no session
+unfoldable pub answer_of : State → Line → List ℕ
+answer_of state Blank = []
+answer_of state Bad = answer_text (codes "-") (syntax_text 0)
+answer_of state (Given session text) = answer_to state session (read_of text)
+
+-- the state after a line
+unfoldable pub state_after_line : State → Line → State
+state_after_line state Blank = state
+state_after_line state Bad = state
+state_after_line state (Given session text) = state_then state session (read_of text)
+
+-- what is written for these lines, one after another
+unfoldable pub run_text : State → List (List ℕ) → List ℕ
+run_text state [] = []
+run_text state (line ∷ lines) = answer_of state (line_of line) ++ run_text (state_after_line state (line_of line)) lines
+
+-- what is written for a script, by a server that holds nothing at first
+abbrev pub transcript : List ℕ → List ℕ
+transcript script = run_text no_state (lines_of script)
+
+-- the writer got the first n of these bytes, for some n
+abbrev pub AppendsPrefix : Option (List ℕ) → Option (List ℕ) → List ℕ → Type 0
+AppendsPrefix old new bytes = (n : ℕ) × Appends old new (take n bytes)
+
+-- the reader gave more bytes than this
+abbrev pub ConsumesMoreThan : ℕ → Option (List ℕ) → Option (List ℕ) → Type 0
+ConsumesMoreThan limit old new = (bytes : List ℕ) × Consumes old new bytes × (limit < length bytes)
+
+-- a fault by which a script isn't read
+abbrev pub IsOfReading : ScriptFault → Type 0
+IsOfReading fault = (fault ≡ Read) ⊎ (fault ≡ TooLong) ⊎ (fault ≡ NoMemory)
+
+-- a fault by which a script's run ends
+abbrev pub IsOfRun : ScriptFault → Type 0
+IsOfRun fault = (fault ≡ Write) ⊎ (fault ≡ NoMemory)
+
+-- what a fault leaves in the writer, by the fault: nothing where the script wasn't read, else a prefix of its transcript; a run
+-- has no fault of a race
+abbrev pub AfterFault : ScriptFault → Option (List ℕ) → Option (List ℕ) → Option (List ℕ) → Type 0
+AfterFault Read input old new = Keeps old new
+AfterFault TooLong input old new = Keeps old new
+AfterFault Write input old new = IfSome input (λ script. AppendsPrefix old new (transcript script))
+AfterFault NoMemory input old new = IfSome input (λ script. AppendsPrefix old new (transcript script))
+AfterFault Full input old new = ⊥
+AfterFault GateShut input old new = ⊥
+AfterFault ThreadRefused input old new = ⊥
+
+-- the writer got the whole but for what is left of it
+pub record IsWrittenUpTo (old new : Option (List ℕ)) (whole left : List ℕ) : Type 0 where
+  pub written : List ℕ
+  pub appended : Appends old new written
+  pub parts : whole ≡ written ++ left

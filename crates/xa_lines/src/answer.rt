@@ -1,0 +1,29 @@
+//! What a line is answered.
+ghost use Rattle.std.specs.Prelude.{◌≡◌};
+
+use arrayvec::ArrayVec;
+
+/// What a line is answered, with its line feed; nothing for a line that has no answer.
+#[derive(Drop)]
+pub enum Answer {
+    /// A text of any length.
+    Text(Vec<u8>),
+    /// A text of at most 64 bytes, which takes no memory.
+    Short(ArrayVec<u8, 64>),
+}
+
+impl Answer {
+    ghost use Rattle.xa_lines.specs.Answer.{bytes_of};
+
+    /// The bytes of the answer.
+    ///
+    /// Takes no memory. Doesn't wait.
+    pub fn as_slice(&self) -> &[u8]
+        ensures { result.now ≡ bytes_of self.now }
+    {
+        match self {
+            Answer::Text(text) => text.as_slice(),
+            Answer::Short(text) => text.as_slice(),
+        }
+    }
+}

@@ -1,0 +1,153 @@
+//! Answers a client, line by line.
+ghost use Rattle.std.specs.Prelude.{◌≡◌, ◌≤◌, ◌∷◌, [], ℕ, List, IfErr, IfSome, OnOk, OnErr};
+ghost use Rattle.xa_lines.specs.Answer.{bytes_of};
+ghost use Rattle.xa_lines.specs.Received.{held_by, Whole};
+ghost use Rattle.xa_lines.specs.Exchange.{Exchange, IsFresh, WritesText, Flushes};
+ghost use Rattle.xa_lines.specs.Served.{IsServed, IsBegunAnswer, AfterServing};
+ghost use Rattle.xa_lines.specs.declared.stage.Stage.{Stage};
+ghost use Rattle.xa_lines.specs.UnderWay.{UnderWay, IsAllAnswered};
+
+use crate::begun_line::BegunLine;
+use crate::{Client, LineServer, ScriptFault};
+use std::alloc::Global;
+
+/// Says all that was given to the client.
+fn flush<S: LineServer, P: Client<S>>(client: &mut P) -> Result<(), ScriptFault>
+    ensures flushed { Flushes (P.exchange client.old) (P.exchange client.new) result }
+    ensures fault { IfErr result (λ fault. fault ≡ ScriptFault.Write) }
+{
+    match client.flush() {
+        Ok(()) => Ok(()),
+        Err(_) => Err(ScriptFault::Write),
+    }
+}
+
+/// Answers the line that has come, and begins the next.
+fn answer_begun<S: LineServer, P: Client<S>>(
+    alloc: Global,
+    server: &mut S,
+    client: &mut P,
+    line: &mut BegunLine,
+) -> Result<(), ScriptFault>
+    ensures answer { (answer : List ℕ)
+        × S.answers server.old (held_by line.old) answer server.new
+        × WritesText (P.exchange client.old) (P.exchange client.new) result answer }
+    ensures next { held_by line.new ≡ Whole [] }
+    ensures fault { IfErr result (λ fault. fault ≡ ScriptFault.Write) }
+{
+    let answer = line.answer(alloc, server);
+    line.clear();
+    match client.tell(answer.as_slice()) {
+        Ok(()) => Ok(()),
+        Err(_) => Err(ScriptFault::Write),
+    }
+}
+
+/// Takes a byte of what was received: a line feed ends the line that has come, and has it answered.
+fn take_byte<S: LineServer, P: Client<S>>(
+    alloc: Global,
+    server: &mut S,
+    client: &mut P,
+    line: &mut BegunLine,
+    byte: u8,
+) -> Result<(), ScriptFault>
+    ensures ok { OnOk result
+        ((reads : ℕ) (waiting : List ℕ)
+        → UnderWay S.begins S.answers Stage.Open reads (P.exchange client.old) (byte ∷ waiting) (held_by line.old) server.old
+        → UnderWay S.begins S.answers Stage.Open reads (P.exchange client.new) waiting (held_by line.new) server.new) }
+    ensures err { OnErr result
+        ((reads : ℕ) (waiting : List ℕ)
+        → UnderWay S.begins S.answers Stage.Open reads (P.exchange client.old) (byte ∷ waiting) (held_by line.old) server.old
+        → IfSome (P.exchange client.new) (λ exchange. IsBegunAnswer S.begins S.answers exchange.received exchange.given)) }
+    ensures fault { IfErr result (λ fault. fault ≡ ScriptFault.Write) }
+{
+    if byte == b'\n' {
+        answer_begun(alloc, server, client, line)
+    } else {
+        line.put(byte);
+        Ok(())
+    }
+}
+
+/// Takes a piece of what was received, and answers each line that ends in it.
+fn take_piece<S: LineServer, P: Client<S>>(
+    alloc: Global,
+    server: &mut S,
+    client: &mut P,
+    line: &mut BegunLine,
+    piece: &[u8],
+) -> Result<(), ScriptFault>
+    ensures ok { OnOk result
+        ((reads : ℕ)
+        → UnderWay S.begins S.answers Stage.Open reads (P.exchange client.old) piece.now (held_by line.old) server.old
+        → UnderWay S.begins S.answers Stage.Open reads (P.exchange client.new) [] (held_by line.new) server.new) }
+    ensures err { OnErr result
+        ((reads : ℕ)
+        → UnderWay S.begins S.answers Stage.Open reads (P.exchange client.old) piece.now (held_by line.old) server.old
+        → IfSome (P.exchange client.new) (λ exchange. IsBegunAnswer S.begins S.answers exchange.received exchange.given)) }
+    ensures fault { IfErr result (λ fault. fault ≡ ScriptFault.Write) }
+{
+    for byte in piece {
+        take_byte(alloc, server, client, line, *byte)?;
+    }
+    Ok(())
+}
+
+/// Answers the last line, where it has no line feed, when nothing more is to be received.
+fn answer_last<S: LineServer, P: Client<S>>(
+    alloc: Global,
+    server: &mut S,
+    client: &mut P,
+    line: &mut BegunLine,
+) -> Result<(), ScriptFault>
+    ensures ok { OnOk result
+        ((reads : ℕ)
+        → UnderWay S.begins S.answers Stage.Ended reads (P.exchange client.old) [] (held_by line.old) server.old
+        → IfSome (P.exchange client.new) (IsAllAnswered S.begins S.answers)) }
+    ensures err { OnErr result
+        ((reads : ℕ)
+        → UnderWay S.begins S.answers Stage.Ended reads (P.exchange client.old) [] (held_by line.old) server.old
+        → IfSome (P.exchange client.new) (λ exchange. IsBegunAnswer S.begins S.answers exchange.received exchange.given)) }
+    ensures fault { IfErr result (λ fault. fault ≡ ScriptFault.Write) }
+{
+    if line.is_empty() {
+        return Ok(());
+    }
+    answer_begun(alloc, server, client, line)
+}
+
+/// Serves a client to its end: receives a piece, answers each line that ends in it, flushes the answers, and only then receives more.
+///
+/// The server answers lines as they come, of any number; a line has at most 65,536 bytes without its line feed, and of a longer
+/// one no more is kept. Any fault of a read or a write, whatever its kind, ends it at once.
+/// Errors: `NoMemory` where the memory for a line was refused, before anything was received; `Read` where a read failed, or after
+/// 2 ^ 64 - 1 reads; `Write` where a write or a flush failed. After `Read` all whole lines are answered; after `Write` a prefix
+/// of the answers was given.
+/// Takes memory for a line, once, and what the server's answers take. Doesn't wait, unless the client does.
+/// Own rule: docs/BEHAVIOR.md, 'Serving'.
+pub fn serve<S: LineServer, P: Client<S>>(
+    alloc: Global,
+    server: &mut S,
+    client: &mut P,
+) -> Result<(), ScriptFault>
+    requires begins { S.begins server.old }
+    requires fresh { IfSome (P.exchange client.old) IsFresh }
+    ensures ok { OnOk result (IfSome (P.exchange client.new) (IsServed S.begins S.answers)) }
+    ensures fault { IfErr result (λ fault. IfSome (P.exchange client.new) (AfterServing S.begins S.answers fault)) }
+{
+    let mut line = BegunLine::new(alloc)?;
+    let mut piece = [0u8; 4096];
+    for _read in 0..u64::MAX {
+        let count = match client.receive(&mut piece) {
+            Ok(count) => count,
+            Err(_) => return Err(ScriptFault::Read),
+        };
+        if count == 0 {
+            answer_last(alloc, server, client, &mut line)?;
+            return flush(client);
+        }
+        take_piece(alloc, server, client, &mut line, &piece[..count])?;
+        flush(client)?;
+    }
+    Err(ScriptFault::Read)
+}

@@ -1,0 +1,118 @@
+//! A reader for tests.
+ghost use Rattle.std.specs.Prelude.{◌≡◌, ◌||◌, ◌<◌, ◌≤◌, ◌-◌, ◌+◌, ◌^◌, min, ◌↔◌, false, true, length, Some, IsTrue, IsErr, IfOk, OnErr, OnOk};
+ghost use Rattle.std.specs.Io.{ReadsAtMost};
+ghost use Rattle.std.specs.Io.KnownBytes.{ReadConsumes};
+
+use std::io;
+use std::io::{ErrorKind, Read};
+
+/// Gives bytes in pieces of one size, and faults after a stated number of reads: at each read from then on, or once.
+///
+/// The fault is an interrupted read, which std's own loops would try again.
+#[derive(Drop)]
+pub struct CutReader<'a> {
+    /// The bytes that are left.
+    rest: &'a [u8],
+    /// The greatest number of bytes that one read gives.
+    piece: usize,
+    /// How many reads are left before the fault.
+    reads: u64,
+    /// Whether it goes on after one fault.
+    once: bool,
+    /// Whether it has faulted.
+    faulted: bool,
+    /// How often it was read after its first fault, or 2^64-1 where that is more.
+    after: u64,
+    ghost some: { 0 < piece },
+}
+
+impl<'a> CutReader<'a> {
+    ghost use Rattle.xa_lines.specs.Cut.{left_in, piece_of, reads_left_in, goes_on_behind, has_faulted, reads_after};
+
+    /// Gives these bytes, at most `piece` at a time, and faults at each read after the first `reads`.
+    ///
+    /// Takes no memory. Doesn't wait.
+    pub fn new(bytes: &'a [u8], piece: usize, reads: u64) -> CutReader<'a>
+        requires { 0 < piece }
+        ensures bytes { left_in result ≡ bytes.now }
+        ensures piece { piece_of result ≡ piece }
+        ensures reads { reads_left_in result ≡ reads }
+        ensures each_time { goes_on_behind result ≡ false }
+        ensures fresh { (has_faulted result ≡ false) × (reads_after result ≡ 0) }
+    {
+        CutReader {
+            rest: bytes,
+            piece,
+            reads,
+            once: false,
+            faulted: false,
+            after: 0,
+        }
+    }
+
+    /// The same, but it faults at one read alone, and gives the bytes that are left to those after it.
+    ///
+    /// Takes no memory. Doesn't wait.
+    pub fn once(bytes: &'a [u8], piece: usize, reads: u64) -> CutReader<'a>
+        requires { 0 < piece }
+        ensures bytes { left_in result ≡ bytes.now }
+        ensures piece { piece_of result ≡ piece }
+        ensures reads { reads_left_in result ≡ reads }
+        ensures once { goes_on_behind result ≡ true }
+        ensures fresh { (has_faulted result ≡ false) × (reads_after result ≡ 0) }
+    {
+        let mut reader = CutReader::new(bytes, piece, reads);
+        reader.once = true;
+        reader
+    }
+
+    /// How many more reads it takes before it faults.
+    ///
+    /// Takes no memory. Doesn't wait.
+    pub fn reads_left(&self) -> u64
+        ensures { result ≡ reads_left_in self.now }
+    {
+        self.reads
+    }
+
+    /// How often it was read after its first fault.
+    ///
+    /// Takes no memory. Doesn't wait.
+    pub fn reads_after_a_fault(&self) -> u64
+        ensures { result ≡ reads_after self.now }
+    {
+        self.after
+    }
+}
+
+impl<'a> Read for CutReader<'a> {
+    ghost use Rattle.xa_lines.specs.Cut.{left_in, piece_of, reads_left_in, goes_on_behind, has_faulted, reads_after, faults_next};
+
+    ghost remaining = { λ reader. Some (left_in reader) };
+
+    fn read(&mut self, buf: &mut [u8]) -> io::Result<usize>
+        ensures bound { ReadsAtMost result buf.new }
+        ensures bytes { ReadConsumes (Some (left_in self.old)) (Some (left_in self.new)) result buf.new }
+        ensures piece { IfOk result (λ count. count ≡ min (min (length (left_in self.old)) (length buf.new)) (piece_of self.old)) }
+        ensures fault { IsErr result ↔ IsTrue (faults_next self.old) }
+        ensures reads { reads_left_in self.new ≡ reads_left_in self.old - 1 }
+        ensures kept { (piece_of self.new ≡ piece_of self.old) × (goes_on_behind self.new ≡ goes_on_behind self.old) }
+        ensures faulted { has_faulted self.new ≡ (has_faulted self.old || faults_next self.old) }
+        ensures after { has_faulted self.old ≡ false → reads_after self.new ≡ reads_after self.old }
+        ensures more { IsTrue (has_faulted self.old) → reads_after self.new ≡ min (reads_after self.old + 1) (2 ^ 64 - 1) }
+    {
+        if self.faulted {
+            self.after = self.after.saturating_add(1);
+        }
+        if self.reads == 0 && !(self.once && self.faulted) {
+            self.faulted = true;
+            return Err(ErrorKind::Interrupted.into());
+        }
+        self.reads = self.reads.saturating_sub(1);
+        let count = self.rest.len().min(buf.len()).min(self.piece);
+        let (piece, rest) = self.rest.split_at(count);
+        buf[..count].copy_from_slice(piece);
+        self.rest = rest;
+        Ok(count)
+    }
+}

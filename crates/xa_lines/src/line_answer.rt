@@ -1,0 +1,133 @@
+//! Answers the lines of a script.
+ghost use Rattle.std.specs.Prelude.{◌≡◌, ◌++◌, codes, decimal, Ok, IfOk, OnOk, OnErr};
+ghost use Rattle.xa_statement.specs.Reading.{read_of};
+ghost use Rattle.xa_server.specs.Replies.{reply_to};
+ghost use Rattle.xa_server.specs.Step.{after, enters as enters_at};
+ghost use Rattle.xa_lines.specs.Printed.{answer_text, reply_text, syntax_text, converts as converts_of};
+ghost use Rattle.xa_lines.specs.Script.{line_of};
+ghost use Rattle.xa_lines.specs.Transcript.{answer_of, answer_to, state_after_line, state_then};
+
+use crate::lines::{ScriptLine, read_line};
+use crate::print::{push_number, push_reply, push_syntax_fault};
+use crate::short_answer::bad_line;
+use std::alloc::Global;
+use xa_server::Server;
+use xa_server::laws::statement_outside_history_changes_nothing;
+use xa_statement::read_statement;
+use xa_xid::{NoMemory, SessionNo, Statement};
+
+/// Whether recovered identifiers are to be printed in digits.
+///
+/// Takes no memory. Doesn't wait.
+/// Own rule: docs/BEHAVIOR.md, 'Scripts'.
+pub fn converts(statement: &Statement) -> bool
+    ensures { result ≡ converts_of statement.now }
+{
+    match statement {
+        Statement::Recover { convert } => *convert,
+        _ => false,
+    }
+}
+
+/// The session to whom an answer is, at the front of it.
+fn begin_answer(alloc: Global, session: SessionNo) -> Result<Vec<u8>, NoMemory>
+    ensures { IfOk result (λ text. text.items ≡ decimal session ++ codes " ") }
+{
+    let mut answer = Vec::new(alloc);
+    push_number(&mut answer, session.get())?;
+    answer.extend_from_slice(b" ")?;
+    Ok(answer)
+}
+
+/// Carries out a statement of which the reply is known, where it enters the history; else it changes nothing.
+#[tactic(auto, unfolding(xa_server::specs::Step::enters))]
+fn carry_out(
+    server: &mut Server,
+    session: SessionNo,
+    statement: &Statement,
+    enters: bool,
+) -> Result<(), NoMemory>
+    requires { enters ≡ enters_at server.old session statement.now }
+    ensures after { OnOk result (server.new ≡ after server.old session statement.now) }
+    ensures unchanged { OnErr result (server.new ≡ server.old) }
+{
+    if !enters {
+        statement_outside_history_changes_nothing();
+        return Ok(());
+    }
+    server.accept(session, statement)
+}
+
+/// Answers a statement that was read, and carries it out.
+pub(crate) fn answer_read(
+    alloc: Global,
+    server: &mut Server,
+    session: SessionNo,
+    statement: &Statement,
+) -> Result<Vec<u8>, NoMemory>
+    ensures answer { IfOk result (λ answer. answer.items ≡ answer_to server.old session (Ok statement.now)) }
+    ensures after { OnOk result (server.new ≡ state_then server.old session (Ok statement.now)) }
+    ensures unchanged { OnErr result (server.new ≡ server.old) }
+{
+    let mut answer = begin_answer(alloc, session)?;
+    let (reply, enters) = server.reply(session, statement)?;
+    push_reply(alloc, &mut answer, converts(statement), &reply)?;
+    answer.extend_from_slice(b"\n")?;
+    carry_out(server, session, statement, enters)?;
+    Ok(answer)
+}
+
+/// Answers a text that isn't a statement, with the place where it goes wrong.
+pub(crate) fn answer_unread(
+    alloc: Global,
+    session: SessionNo,
+    place: u64,
+) -> Result<Vec<u8>, NoMemory>
+    ensures { IfOk result (λ answer. answer.items ≡ answer_text (decimal session) (syntax_text place)) }
+{
+    let mut answer = begin_answer(alloc, session)?;
+    push_syntax_fault(&mut answer, place)?;
+    answer.extend_from_slice(b"\n")?;
+    Ok(answer)
+}
+
+/// Gives the statement of the text to the server, and answers it.
+///
+/// The text is a statement's, without its session. The answer is printed before the statement is carried out.
+/// Errors: `NoMemory` where an allocation failed; then the server is as before.
+/// Takes memory for the answer. Doesn't wait.
+/// Own rule: docs/BEHAVIOR.md, 'Scripts'.
+pub fn answer_statement(
+    alloc: Global,
+    server: &mut Server,
+    session: SessionNo,
+    text: &[u8],
+) -> Result<Vec<u8>, NoMemory>
+    ensures answer { IfOk result (λ answer. answer.items ≡ answer_to server.old session (read_of text.now)) }
+    ensures after { OnOk result (server.new ≡ state_then server.old session (read_of text.now)) }
+    ensures unchanged { OnErr result (server.new ≡ server.old) }
+{
+    match read_statement(text) {
+        Ok(statement) => answer_read(alloc, server, session, &statement),
+        Err(fault) => answer_unread(alloc, session, fault.at),
+    }
+}
+
+/// Gives the line's statement to the server, where it has one, and answers the line.
+///
+/// The line is one of a script, without its line feed. The answer ends in a line feed; it is empty for a line of blanks.
+/// Errors: `NoMemory` where an allocation failed; then the server is as before.
+/// Takes memory for the answer. Doesn't wait.
+/// Own rule: docs/BEHAVIOR.md, 'Scripts'.
+#[tactic(auto, unfolding(crate::specs::Transcript::answer_of, crate::specs::Transcript::state_after_line))]
+pub fn answer_line(alloc: Global, server: &mut Server, line: &[u8]) -> Result<Vec<u8>, NoMemory>
+    ensures answer { IfOk result (λ answer. answer.items ≡ answer_of server.old (line_of line.now)) }
+    ensures after { OnOk result (server.new ≡ state_after_line server.old (line_of line.now)) }
+    ensures unchanged { OnErr result (server.new ≡ server.old) }
+{
+    match read_line(line) {
+        ScriptLine::Blank => Ok(Vec::new(alloc)),
+        ScriptLine::Bad => Vec::from_slice(alloc, bad_line().as_slice()),
+        ScriptLine::Given(session, text) => answer_statement(alloc, server, session, text),
+    }
+}

@@ -1,0 +1,29 @@
+//! What answers lines.
+ghost use Rattle.std.specs.Prelude.{ℕ, List};
+
+use crate::Answer;
+use std::alloc::Global;
+
+/// A server of lines: it answers one after another, and each answer may depend on the lines before.
+///
+/// A contract sees how it may begin, and how it may answer a line. Own rule: docs/BEHAVIOR.md, 'Serving'.
+pub trait LineServer {
+    ghost use Rattle.xa_lines.specs.Received.{Received, Whole, TooLong};
+    ghost use Rattle.xa_lines.specs.Answer.{bytes_of};
+
+    // The server may begin so.
+    ghost begins: { Self → Type 0 };
+
+    // From the first state on, the line may be answered with the text, and the last state is then the server's.
+    ghost answers: { Self → Received → List ℕ → Self → Type 0 };
+
+    /// Answers a line, without its line feed.
+    ///
+    /// The line has at most 65,536 bytes. An answer needs no memory: a server that is refused some answers so.
+    fn answer(&mut self, alloc: Global, line: &[u8]) -> Answer
+        ensures { answers self.old (Whole line.now) (bytes_of result) self.new };
+
+    /// Answers a line of more than 65,536 bytes.
+    fn answer_long(&mut self) -> Answer
+        ensures { answers self.old TooLong (bytes_of result) self.new };
+}

@@ -1,0 +1,127 @@
+//! The lines of a script, and what each says.
+ghost use Rattle.std.specs.Prelude.{◌≡◌, ◌≤◌, ◌<◌, ◌∷◌, ◌==◌, not, length, IsTrue, MatchOption, None, Some};
+ghost use Rattle.std.specs.List.{prefix_len};
+ghost use Rattle.xa_lines.specs.Script.{is_no_blank, first_word, after_word, session_named, line_of, lines_of, line_seen};
+ghost use Rattle.xa_lines.specs.Script.{is_comment_line, number_of_word};
+
+use xa_xid::{ByteClass, SessionNo, number_of, skip_blanks};
+
+/// How many bytes stand before the first line feed.
+pub fn line_length(text: &[u8]) -> usize
+    ensures length { result ≡ prefix_len (λ byte. not (byte == 10)) text.now }
+    ensures within { result ≤ length text.now }
+{
+    text.iter()
+        .position(|byte| *byte == b'\n')
+        .unwrap_or(text.len())
+}
+
+/// How many bytes stand before the first blank.
+fn word_length(text: &[u8]) -> usize
+    ensures length { result ≡ prefix_len is_no_blank text.now }
+    ensures within { result ≤ length text.now }
+{
+    text.iter()
+        .position(|byte| ByteClass::Blank.has(*byte))
+        .unwrap_or(text.len())
+}
+
+/// The session that the word names.
+fn session_of(word: &[u8]) -> Option<SessionNo>
+    ensures { result ≡ session_named word.now }
+{
+    match word {
+        [one @ b'1'..=b'9'] => SessionNo::of(u64::from(*one - b'0')),
+        [b'1', one @ b'0'..=b'6'] => SessionNo::of(10 + u64::from(*one - b'0')),
+        _ => None,
+    }
+}
+
+/// What a line of a script says.
+///
+/// Own rule: docs/BEHAVIOR.md, 'Scripts'.
+pub enum ScriptLine<'a> {
+    /// Nothing: it has no answer.
+    Blank,
+    /// It isn't written as a line is.
+    Bad,
+    /// The session gives the statement of this text.
+    Given(SessionNo, &'a [u8]),
+}
+
+/// The first line, without its line feed, and what stands after that.
+///
+/// Takes no memory. Doesn't wait.
+/// Own rule: docs/BEHAVIOR.md, 'Scripts'.
+pub fn split_line(text: &[u8]) -> (&[u8], &[u8])
+    requires { 0 < length text.now }
+    ensures lines { lines_of text.now ≡ result.0.now ∷ lines_of result.1.now }
+    ensures shorter { length result.1.now < length text.now }
+{
+    let (line, rest) = text.split_at(line_length(text));
+    match rest {
+        [] => (line, rest),
+        [_, lines @ ..] => (line, lines),
+    }
+}
+
+/// The text up to its first blank, and from there on.
+///
+/// Takes no memory. Doesn't wait.
+/// Own rule: docs/BEHAVIOR.md, 'Scripts'.
+pub fn split_word(text: &[u8]) -> (&[u8], &[u8])
+    ensures word { result.0.now ≡ first_word text.now }
+    ensures rest { result.1.now ≡ after_word text.now }
+{
+    text.split_at(word_length(text))
+}
+
+/// Whether the line is a comment: its first byte that isn't a blank is `#`.
+///
+/// The line is without its line feed. Takes no memory. Doesn't wait.
+/// Own rule: docs/BEHAVIOR.md, 'Scripts'.
+pub fn is_comment(line: &[u8]) -> bool
+    ensures { result ≡ is_comment_line line.now }
+{
+    match skip_blanks(line) {
+        [] => false,
+        [first, ..] => *first == b'#',
+    }
+}
+
+/// The number that the word is: decimal digits, in `[0, 2^64 - 1]`, without a sign and without leading zeros.
+///
+/// None for any other word. Takes no memory. Doesn't wait.
+/// Own rule: docs/BEHAVIOR.md, 'Scripts'.
+#[tactic(auto, unfolding(crate::specs::Script::number_of_word))]
+pub fn number_in(word: &[u8]) -> Option<u64>
+    ensures { result ≡ number_of_word word.now }
+{
+    match word {
+        [] => return None,
+        [b'0', _, ..] => return None,
+        _ => {}
+    }
+    match number_of(word) {
+        Ok((number, [])) => Some(number),
+        _ => None,
+    }
+}
+
+/// What the line says.
+///
+/// The line is one of a script, without its line feed. Takes no memory. Doesn't wait.
+/// Own rule: docs/BEHAVIOR.md, 'Scripts'.
+pub fn read_line(line: &[u8]) -> ScriptLine<'_>
+    ensures { line_seen result ≡ line_of line.now }
+{
+    let text = skip_blanks(line);
+    if text.is_empty() {
+        return ScriptLine::Blank;
+    }
+    let (word, rest) = split_word(text);
+    match session_of(word) {
+        None => ScriptLine::Bad,
+        Some(session) => ScriptLine::Given(session, skip_blanks(rest)),
+    }
+}

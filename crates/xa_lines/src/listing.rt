@@ -1,0 +1,169 @@
+//! Prints what a server holds.
+ghost use Rattle.std.specs.Prelude.{◌≡◌, ◌++◌, IfOk, codes};
+ghost use Rattle.std.specs.List.{flat_map};
+ghost use Rattle.xa_xid.specs.XidText.{part_text};
+ghost use Rattle.xa_server.specs.Overview.{branches_of};
+ghost use Rattle.xa_lines.specs.Listing.{phase_text, owner_text, branch_line, hold_text, hold_line, branch_lines, value_text, row_line, listing};
+
+use crate::push_number;
+use std::alloc::Global;
+use xa_server::{BranchEntry, HeldRow, Hold, Phase, Server};
+use xa_xid::{Bytes, Key, NoMemory, SessionNo, with_part, with_xid};
+
+/// The words of a phase.
+fn words_of(phase: Phase) -> &'static [u8]
+    ensures { result.now ≡ phase_text phase }
+{
+    match phase {
+        Phase::Active => b" ACTIVE",
+        Phase::Idle => b" IDLE",
+        Phase::Prepared => b" PREPARED",
+    }
+}
+
+/// A text with the owner of a branch at its end.
+fn with_owner(mut text: Vec<u8>, owner: Option<SessionNo>) -> Result<Vec<u8>, NoMemory>
+    ensures { IfOk result (λ longer. longer.items ≡ text.items ++ owner_text owner) }
+{
+    if let Some(session) = owner {
+        text.extend_from_slice(b" SESSION ")?;
+        push_number(&mut text, session.get())?;
+    }
+    Ok(text)
+}
+
+/// A text with the line of a branch at its end.
+fn with_branch_line(mut text: Vec<u8>, branch: &BranchEntry) -> Result<Vec<u8>, NoMemory>
+    ensures { IfOk result (λ longer. longer.items ≡ text.items ++ branch_line branch.now) }
+{
+    text.extend_from_slice(b"  BRANCH ")?;
+    let mut text = with_xid(text, &branch.xid)?;
+    text.extend_from_slice(words_of(branch.phase))?;
+    let mut text = with_owner(text, branch.owner)?;
+    text.extend_from_slice(b"\n")?;
+    Ok(text)
+}
+
+/// A text with a row that is held, and how, at its end.
+fn with_hold(mut text: Vec<u8>, key: &Key, hold: &Hold) -> Result<Vec<u8>, NoMemory>
+    ensures { IfOk result (λ longer. longer.items ≡ text.items ++ hold_text key.now hold.now) }
+{
+    match hold {
+        Hold::Shared => {
+            text.extend_from_slice(b"    SHARES ")?;
+            with_part(text, key.as_slice())
+        }
+        Hold::Put(value) => {
+            text.extend_from_slice(b"    HOLDS ")?;
+            let mut text = with_part(text, key.as_slice())?;
+            text.extend_from_slice(b" WRITES ")?;
+            with_part(text, value.as_slice())
+        }
+        Hold::Delete => {
+            text.extend_from_slice(b"    HOLDS ")?;
+            let mut text = with_part(text, key.as_slice())?;
+            text.extend_from_slice(b" DELETES")?;
+            Ok(text)
+        }
+    }
+}
+
+/// A text with the lines of rows that a branch holds at its end.
+fn with_holds(text: Vec<u8>, rows: &[HeldRow]) -> Result<Vec<u8>, NoMemory>
+    ensures { IfOk result (λ longer. longer.items ≡ text.items ++ flat_map hold_line rows.now) }
+{
+    let mut longer = text;
+    for row in rows {
+        longer = with_hold(longer, &row.key, &row.hold)?;
+        longer.extend_from_slice(b"\n")?;
+    }
+    Ok(longer)
+}
+
+/// A text with a branch, and the rows that it holds, at its end.
+fn with_branch(
+    alloc: Global,
+    text: Vec<u8>,
+    server: &Server,
+    branch: &BranchEntry,
+) -> Result<Vec<u8>, NoMemory>
+    ensures { IfOk result (λ longer. longer.items ≡ text.items ++ branch_lines server.now branch.now) }
+{
+    let rows = server.rows_of(alloc, &branch.xid)?;
+    let text = with_branch_line(text, branch)?;
+    with_holds(text, rows.as_slice())
+}
+
+/// A text with branches, and the rows that each holds, at its end.
+fn with_branches(
+    alloc: Global,
+    text: Vec<u8>,
+    server: &Server,
+    branches: &[BranchEntry],
+) -> Result<Vec<u8>, NoMemory>
+    ensures { IfOk result (λ longer. longer.items ≡ text.items ++ flat_map (branch_lines server.now) branches.now) }
+{
+    let mut longer = text;
+    for branch in branches {
+        longer = with_branch(alloc, longer, server, branch)?;
+    }
+    Ok(longer)
+}
+
+/// A text with a value at its end, in the words of a reply.
+fn with_value(mut text: Vec<u8>, value: Option<Bytes>) -> Result<Vec<u8>, NoMemory>
+    ensures { IfOk result (λ longer. longer.items ≡ text.items ++ value_text value) }
+{
+    match value {
+        None => {
+            text.extend_from_slice(b" NONE")?;
+            Ok(text)
+        }
+        Some(value) => {
+            text.extend_from_slice(b" VALUE ")?;
+            with_part(text, value.as_slice())
+        }
+    }
+}
+
+/// A text with the line of a row at its end.
+fn with_row(mut text: Vec<u8>, server: &Server, key: &Key) -> Result<Vec<u8>, NoMemory>
+    ensures { IfOk result (λ longer. longer.items ≡ text.items ++ row_line server.now key.now) }
+{
+    text.extend_from_slice(b"  ROW ")?;
+    let text = with_part(text, key.as_slice())?;
+    let mut text = with_value(text, server.value_of(key))?;
+    text.extend_from_slice(b"\n")?;
+    Ok(text)
+}
+
+/// A text with the lines of rows at its end.
+fn with_rows(text: Vec<u8>, server: &Server, keys: &[Key]) -> Result<Vec<u8>, NoMemory>
+    ensures { IfOk result (λ longer. longer.items ≡ text.items ++ flat_map (row_line server.now) keys.now) }
+{
+    let mut longer = text;
+    for key in keys {
+        longer = with_row(longer, server, key)?;
+    }
+    Ok(longer)
+}
+
+/// A text with the server's listing at its end: every branch, ascending, each with the rows that it holds; then these rows, with
+/// their committed values.
+///
+/// Each line begins with two blanks. Looks at every row of the server for each branch. May answer `NoMemory`, and the text is then
+/// dropped. Doesn't wait.
+/// Own rule: docs/BEHAVIOR.md, 'Showing'.
+#[tactic(auto, unfolding(crate::specs::Listing::listing))]
+pub fn with_listing(
+    alloc: Global,
+    text: Vec<u8>,
+    server: &Server,
+    keys: &[Key],
+) -> Result<Vec<u8>, NoMemory>
+    ensures { IfOk result (λ longer. longer.items ≡ text.items ++ listing server.now keys.now) }
+{
+    let branches = server.branches(alloc)?;
+    let text = with_branches(alloc, text, server, branches.as_slice())?;
+    with_rows(text, server, keys)
+}

@@ -1,0 +1,141 @@
+//! Prints replies.
+ghost use Rattle.std.specs.Prelude.{◌≡◌, ◌≤◌, ◌++◌, OnOk, IfOk, length, decimal, codes};
+ghost use Rattle.hex.specs.Hex.{encode_lower};
+ghost use Rattle.xa_xid.specs.Limits.{text_bytes};
+ghost use Rattle.xa_xid.specs.XidText.{part_text};
+ghost use Rattle.xa_lines.specs.Printed.{row_data, row_text, rows_text, error_text, reply_text, syntax_text};
+
+use std::alloc::{AllocError, Global};
+use std::io::Write;
+use std::mem;
+use xa_server::{BranchState, Reply, XaError};
+use xa_xid::{NoMemory, Xid, with_part};
+
+/// Appends the number in decimal.
+///
+/// May answer `NoMemory`. Doesn't wait.
+/// Own rule: docs/BEHAVIOR.md, 'Scripts'.
+pub fn push_number(text: &mut Vec<u8>, number: u64) -> Result<(), NoMemory>
+    ensures { OnOk result (text.new.items ≡ text.old.items ++ decimal number) }
+{
+    write!(text, "{number}").map_err(|_| AllocError)
+}
+
+/// Appends `0x` and two digits for each byte.
+fn push_digits(alloc: Global, text: &mut Vec<u8>, bytes: &[u8]) -> Result<(), NoMemory>
+    ensures { OnOk result (text.new.items ≡ text.old.items ++ (codes "0x" ++ encode_lower bytes.now)) }
+{
+    let digits = hex::encode(alloc, bytes)?;
+    text.extend_from_slice(b"0x")?;
+    text.extend_from_slice(digits.as_bytes())
+}
+
+/// Appends the bytes of a key or a value. Without memory the text is lost.
+fn push_part(alloc: Global, text: &mut Vec<u8>, bytes: &[u8]) -> Result<(), NoMemory>
+    requires { length bytes.now ≤ text_bytes }
+    ensures { OnOk result (text.new.items ≡ text.old.items ++ part_text bytes.now) }
+{
+    let before = mem::replace(text, Vec::new(alloc));
+    *text = with_part(before, bytes)?;
+    Ok(())
+}
+
+/// Appends gtrid and bqual of an identifier, in digits where `convert`.
+fn push_row_data(
+    alloc: Global,
+    text: &mut Vec<u8>,
+    convert: bool,
+    xid: &Xid,
+) -> Result<(), NoMemory>
+    ensures { OnOk result (text.new.items ≡ text.old.items ++ row_data convert (xid.now.gtrid.items ++ xid.now.bqual.items)) }
+{
+    let mut bytes = Vec::from_slice(alloc, xid.gtrid.as_slice())?;
+    bytes.extend_from_slice(xid.bqual.as_slice())?;
+    if convert {
+        push_digits(alloc, text, bytes.as_slice())
+    } else {
+        text.extend_from_slice(bytes.as_slice())
+    }
+}
+
+/// Appends the line of a recovered identifier.
+fn push_row(alloc: Global, text: &mut Vec<u8>, convert: bool, xid: &Xid) -> Result<(), NoMemory>
+    ensures { OnOk result (text.new.items ≡ text.old.items ++ row_text convert xid.now) }
+{
+    push_number(text, xid.format_id)?;
+    text.extend_from_slice(b" ")?;
+    push_number(text, xid.gtrid.len() as u64)?;
+    text.extend_from_slice(b" ")?;
+    push_number(text, xid.bqual.len() as u64)?;
+    text.extend_from_slice(b" ")?;
+    push_row_data(alloc, text, convert, xid)
+}
+
+/// Appends the lines of recovered identifiers, each after a line feed.
+fn push_rows(alloc: Global, text: &mut Vec<u8>, convert: bool, xids: &[Xid]) -> Result<(), NoMemory>
+    ensures { OnOk result (text.new.items ≡ text.old.items ++ rows_text convert xids.now) }
+{
+    for xid in xids {
+        text.extend_from_slice(b"\n")?;
+        push_row(alloc, text, convert, xid)?;
+    }
+    Ok(())
+}
+
+/// The text of a refusal.
+fn text_of(error: &XaError) -> &'static [u8]
+    ensures { result.now ≡ error_text error.now }
+{
+    match error {
+        XaError::Nota => b"ERROR 1397 (XAE04): XAER_NOTA unknown xid",
+        XaError::Inval => b"ERROR 1398 (XAE05): XAER_INVAL clause not supported",
+        XaError::Rmfail(BranchState::NonExisting) => {
+            b"ERROR 1399 (XAE07): XAER_RMFAIL state NON-EXISTING"
+        }
+        XaError::Rmfail(BranchState::Active) => b"ERROR 1399 (XAE07): XAER_RMFAIL state ACTIVE",
+        XaError::Rmfail(BranchState::Idle) => b"ERROR 1399 (XAE07): XAER_RMFAIL state IDLE",
+        XaError::Rmfail(BranchState::Prepared) => b"ERROR 1399 (XAE07): XAER_RMFAIL state PREPARED",
+        XaError::Dupid => b"ERROR 1440 (XAE08): XAER_DUPID xid already exists",
+        XaError::RowLocked => b"ERROR 3572 (HY000): row locked by another branch",
+    }
+}
+
+/// Appends the text of a reply, recovered identifiers in digits where `convert`. It doesn't end in a line feed.
+///
+/// May answer `NoMemory`; then some of the reply may be appended, or the whole text be lost. Doesn't wait.
+/// Own rule: docs/BEHAVIOR.md, 'Scripts'.
+pub fn push_reply(
+    alloc: Global,
+    text: &mut Vec<u8>,
+    convert: bool,
+    reply: &Reply,
+) -> Result<(), NoMemory>
+    ensures { OnOk result (text.new.items ≡ text.old.items ++ reply_text convert reply.now) }
+{
+    match reply {
+        Reply::Ok => text.extend_from_slice(b"OK"),
+        Reply::Value(None) => text.extend_from_slice(b"NONE"),
+        Reply::Value(Some(value)) => {
+            text.extend_from_slice(b"VALUE ")?;
+            push_part(alloc, text, value.as_slice())
+        }
+        Reply::Recovered(xids) => {
+            let xids = xids.as_slice();
+            text.extend_from_slice(b"ROWS ")?;
+            push_number(text, xids.len() as u64)?;
+            push_rows(alloc, text, convert, xids)
+        }
+        Reply::Refused(error) => text.extend_from_slice(text_of(error)),
+    }
+}
+
+/// Appends what answers a text that isn't a statement, with the place where it goes wrong.
+///
+/// May answer `NoMemory`; then some of the text may be appended. Doesn't wait.
+/// Own rule: docs/BEHAVIOR.md, 'Scripts'.
+pub fn push_syntax_fault(text: &mut Vec<u8>, at: u64) -> Result<(), NoMemory>
+    ensures { OnOk result (text.new.items ≡ text.old.items ++ syntax_text at) }
+{
+    text.extend_from_slice(b"ERROR 1064 (42000): syntax fault at byte ")?;
+    push_number(text, at)
+}

@@ -1,0 +1,179 @@
+//! A server whose store is shown.
+ghost use Rattle.std.specs.Prelude.{◌≡◌, ◌++◌, ℕ, List, [], ◌⊎◌, Ok, Err, IfOk, IfErr, IfSome, OnOk};
+ghost use Rattle.xa_statement.specs.Reading.{read_of};
+ghost use Rattle.xa_lines.specs.Script.{Bad, Given, line_of};
+ghost use Rattle.xa_lines.specs.Answer.{bytes_of};
+ghost use Rattle.xa_lines.specs.Exchange.{IsFresh};
+ghost use Rattle.xa_lines.specs.Served.{IsServed, AfterServing};
+ghost use Rattle.xa_lines.specs.Listing.{listing};
+ghost use Rattle.xa_lines.specs.Shown.{comment_text, IsAnswerShown, BeginsEmpty, Shows};
+
+use crate::line_answer::{answer_read, answer_unread};
+use crate::short_answer::{answer_or_refusal, bad_line};
+use crate::{
+    Answer, Client, LineServer, ScriptFault, ScriptLine, is_comment, read_line, serve, with_listing,
+};
+use arrayvec::ArrayVec;
+use std::alloc::Global;
+use xa_server::Server;
+use xa_statement::read_statement;
+use xa_xid::{Key, NoMemory, SessionNo, Statement};
+
+/// A sequential server that shows what it holds behind each answer.
+#[derive(Drop)]
+pub struct Shown {
+    server: Server,
+    alloc: Global,
+}
+
+/// A comment, repeated behind two blanks.
+fn comment(alloc: Global, line: &[u8]) -> Result<Vec<u8>, NoMemory>
+    ensures { IfOk result (λ text. text.items ≡ comment_text line.now) }
+{
+    let mut text = Vec::from_slice(alloc, b"  ")?;
+    text.extend_from_slice(line)?;
+    text.extend_from_slice(b"\n")?;
+    Ok(text)
+}
+
+/// What answers a comment: nothing, where memory is refused for it.
+fn comment_answer(alloc: Global, line: &[u8]) -> Answer
+    ensures { (bytes_of result ≡ comment_text line.now) ⊎ (bytes_of result ≡ []) }
+{
+    match comment(alloc, line) {
+        Ok(text) => Answer::Text(text),
+        Err(_) => Answer::Short(ArrayVec::new()),
+    }
+}
+
+/// The answer with the listing of these rows behind it.
+fn listed(
+    alloc: Global,
+    answer: &Answer,
+    server: &Server,
+    keys: &[Key],
+) -> Result<Vec<u8>, NoMemory>
+    ensures { IfOk result (λ text. text.items ≡ bytes_of answer.now ++ listing server.now keys.now) }
+{
+    let text = Vec::from_slice(alloc, answer.as_slice())?;
+    with_listing(alloc, text, server, keys)
+}
+
+/// The answer with the listing of these rows behind it, or as it is where memory is refused for that.
+fn with_shown(alloc: Global, answer: Answer, server: &Server, keys: &[Key]) -> Answer
+    ensures { (bytes_of result ≡ bytes_of answer ++ listing server.now keys.now) ⊎ (bytes_of result ≡ bytes_of answer) }
+{
+    match listed(alloc, &answer, server, keys) {
+        Ok(text) => Answer::Text(text),
+        Err(_) => answer,
+    }
+}
+
+/// Answers a statement that was read, and shows the store behind the answer.
+fn show_read(
+    alloc: Global,
+    server: &mut Server,
+    session: SessionNo,
+    statement: &Statement,
+) -> Answer
+    ensures { (text : List ℕ)
+        → read_of text ≡ Ok statement.now
+        → IsAnswerShown server.old (Given session text) (bytes_of result) server.new }
+{
+    let keys = server.keys_about(alloc, session, statement);
+    let answer = answer_or_refusal(session, answer_read(alloc, server, session, statement));
+    match keys {
+        Ok(keys) => with_shown(alloc, answer, server, keys.as_slice()),
+        Err(_) => answer,
+    }
+}
+
+/// Answers a text that isn't a statement, and shows the store behind the answer.
+fn show_unread(alloc: Global, server: &Server, session: SessionNo, place: u64) -> Answer
+    ensures { (text : List ℕ)
+        → read_of text ≡ Err place
+        → IsAnswerShown server.now (Given session text) (bytes_of result) server.now }
+{
+    let answer = answer_or_refusal(session, answer_unread(alloc, session, place));
+    with_shown(alloc, answer, server, &[])
+}
+
+/// Answers a session's line, and shows the store behind the answer.
+fn show_given(alloc: Global, server: &mut Server, session: SessionNo, text: &[u8]) -> Answer
+    ensures { IsAnswerShown server.old (Given session text.now) (bytes_of result) server.new }
+{
+    match read_statement(text) {
+        Ok(statement) => show_read(alloc, server, session, &statement),
+        Err(fault) => show_unread(alloc, server, session, fault.at),
+    }
+}
+
+/// Answers a bad line, and shows the store behind the answer.
+fn show_bad(alloc: Global, server: &Server) -> Answer
+    ensures { IsAnswerShown server.now Bad (bytes_of result) server.now }
+{
+    with_shown(alloc, bad_line(), server, &[])
+}
+
+/// Answers a line that isn't a comment, and shows the store behind the answer.
+fn answer_shown(alloc: Global, server: &mut Server, line: &[u8]) -> Answer
+    ensures { IsAnswerShown server.old (line_of line.now) (bytes_of result) server.new }
+{
+    match read_line(line) {
+        ScriptLine::Blank => Answer::Short(ArrayVec::new()),
+        ScriptLine::Bad => show_bad(alloc, server),
+        ScriptLine::Given(session, text) => show_given(alloc, server, session, text),
+    }
+}
+
+impl Shown {
+    ghost use Rattle.xa_server.specs.State.{no_state};
+
+    /// A server with no branches and no rows.
+    ///
+    /// Takes no memory. Doesn't wait.
+    pub fn new(alloc: Global) -> Shown
+        ensures { BeginsEmpty result }
+    {
+        Shown {
+            server: Server::new(alloc),
+            alloc,
+        }
+    }
+}
+
+impl LineServer for Shown {
+    ghost begins = { BeginsEmpty };
+
+    ghost answers = { Shows };
+
+    fn answer(&mut self, alloc: Global, line: &[u8]) -> Answer {
+        if is_comment(line) {
+            return comment_answer(alloc, line);
+        }
+        answer_shown(alloc, &mut self.server, line)
+    }
+
+    fn answer_long(&mut self) -> Answer {
+        show_bad(self.alloc, &self.server)
+    }
+}
+
+/// Serves a client as `serve_statements` does, and behind each answer shows what the server then holds, until the client ends.
+///
+/// Every branch is shown, ascending, with its phase, its owner and the rows that it holds; then the committed values of the rows
+/// that the line is about. A line whose first byte that isn't a blank is `#` is a comment: it is repeated behind two blanks. All that is said beside the
+/// answers stands on lines that begin with two blanks. Where memory is refused for it, it is left out.
+/// Errors: `NoMemory` where the memory for a line was refused, before anything was received; `Read` where a read failed, or after
+/// 2 ^ 64 - 1 reads; `Write` where a write or a flush failed. After `Read` all whole lines are answered; after `Write` a prefix
+/// of the answers was given.
+/// Doesn't wait, unless the client does.
+/// Own rule: docs/BEHAVIOR.md, 'Showing'.
+pub fn show_statements<P: Client<Shown>>(alloc: Global, client: &mut P) -> Result<(), ScriptFault>
+    requires { IfSome (P.exchange client.old) IsFresh }
+    ensures told { OnOk result (IfSome (P.exchange client.new) (IsServed BeginsEmpty Shows)) }
+    ensures fault { IfErr result (λ fault. IfSome (P.exchange client.new) (AfterServing BeginsEmpty Shows fault)) }
+{
+    let mut server = Shown::new(alloc);
+    serve(alloc, &mut server, client)
+}

@@ -1,0 +1,12 @@
+//! Whether a client may still say something.
+
+/// Whether a client may still say something.
+#[derive(Clone, Copy, Debug, Drop, PartialEq, Eq)]
+pub enum Stage {
+    /// It may.
+    Open,
+    /// It has ended.
+    Ended,
+    /// A read failed.
+    Deaf,
+}

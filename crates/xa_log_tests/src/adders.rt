@@ -1,0 +1,139 @@
+//! Two threads that add to one log.
+ghost use Rattle.std.specs.Prelude.{◌≡◌, IfSome};
+
+use decision_log::{AddFault, DecisionLog};
+use std::snapshot::Snapshot;
+use std::sync::Wait;
+use std::thread;
+use std::thread::{Promise, Threads};
+use xa_words::Entry;
+use xa_xid::{Bytes, Key, SessionNo, Statement};
+
+/// How often an add is tried before it is given up.
+const TRIES: u64 = 100_000_000;
+
+/// How many entries each thread adds.
+const EACH: u64 = 8;
+
+/// The entry of a session that deletes the row of one letter.
+fn delete(session: SessionNo, letter: u8) -> Option<Entry>
+    ensures { IfSome result (λ entry. entry.session ≡ session) }
+{
+    let mut name = Bytes::new();
+    name.push(letter);
+    Entry::of(session, &Statement::Del(Key::of(name)?))
+}
+
+/// Adds an entry, trying again where others were faster or have the turn.
+fn add<L: DecisionLog>(log: &L, pass: &mut L::Pass, entry: &Entry) -> bool
+    requires belongs { L.belongs_to pass.old ≡ L.identity log.now }
+    requires own { entry.now.session ≡ (L.known pass.old).number }
+    ensures belongs { L.belongs_to pass.new ≡ L.belongs_to pass.old }
+    ensures number { (L.known pass.new).number ≡ (L.known pass.old).number }
+{
+    for _ in 0..TRIES {
+        match log.try_add(pass, entry) {
+            Ok(()) => return true,
+            Err(AddFault::Full) => return false,
+            Err(_) => {}
+        }
+    }
+    false
+}
+
+/// Adds `EACH` entries, each of its own step.
+fn add_each<L: DecisionLog>(log: &L, mut pass: L::Pass) -> (L::Pass, bool)
+    requires { L.belongs_to pass ≡ L.identity log.now }
+    ensures { L.belongs_to result.0 ≡ L.identity log.now }
+{
+    let session = log.number(&pass);
+    for step in 0..EACH {
+        let Some(entry) = delete(session, step as u8) else {
+            return (pass, false);
+        };
+        if !add(log, &mut pass, &entry) {
+            return (pass, false);
+        }
+    }
+    (pass, true)
+}
+
+/// Whether the entries of a session that the pass has seen are those that `add_each` adds, in their order.
+fn has_each<L: DecisionLog>(log: &L, pass: &mut L::Pass, session: SessionNo) -> bool
+    requires { L.belongs_to pass.old ≡ L.identity log.now }
+    ensures { L.belongs_to pass.new ≡ L.belongs_to pass.old }
+{
+    let mut step = 0_u64;
+    for at in 0..log.length(pass) {
+        let entry = log.entry(pass, at);
+        if entry.session() == session {
+            let Some(wanted) = delete(session, u64::min(step, 255) as u8) else {
+                return false;
+            };
+            if entry != wanted {
+                return false;
+            }
+            step = u64::wrapping_add(step, 1);
+        }
+    }
+    step == EACH
+}
+
+/// What a thread that adds promises of the pass it gives back: that it is of the same log.
+#[derive(Drop)]
+struct StaysHome<L: DecisionLog>(Snapshot<L::Pass>);
+
+impl<L: DecisionLog> Promise<(L::Pass, bool)> for StaysHome<L> {
+    ghost kept_by = { λ promise ended. L.belongs_to ended.0 ≡ L.belongs_to promise.0.value };
+}
+
+/// Two threads, each its own, add `EACH` entries each to a log with room for them; then the passes meet, and the second has seen each
+/// one's in its order. Not so, too, where a thread can't be started.
+///
+/// Takes what starting threads takes. Waits for its threads.
+pub fn two_threads_add<L: DecisionLog + Sync, R: Threads + Wait + Sync>(
+    rt: &R,
+    log: &L,
+    first: L::Pass,
+    second: L::Pass,
+) -> bool
+where
+    L::Pass: Send + Drop,
+    requires first { L.belongs_to first ≡ L.identity log.now }
+    requires second { L.belongs_to second ≡ L.identity log.now }
+{
+    thread::scope(
+        thread::scope_env(),
+        rt,
+        |scope|
+            requires first { L.belongs_to first ≡ L.identity log.now }
+            requires second { L.belongs_to second ≡ L.identity log.now }
+        {
+            let first = scope.spawn_with(
+                StaysHome::<L>(Snapshot::of(&first)),
+                move || add_each(log, first),
+            );
+            let second = scope.spawn_with(
+                StaysHome::<L>(Snapshot::of(&second)),
+                move || add_each(log, second),
+            );
+            let (Ok(first), Ok(second)) = (first, second) else {
+                return false;
+            };
+            let (mut first, first_added) = first.join(rt);
+            let (mut second, second_added) = second.join(rt);
+            first_added && second_added && saw_each(log, &mut first, &mut second)
+        },
+    )
+}
+
+/// Whether after a meeting the second pass has seen what both added, each one's in its order, and nothing else.
+fn saw_each<L: DecisionLog>(log: &L, first: &mut L::Pass, second: &mut L::Pass) -> bool
+    requires first { L.belongs_to first.old ≡ L.identity log.now }
+    requires second { L.belongs_to second.old ≡ L.identity log.now }
+{
+    log.meet(first, second);
+    let one = log.number(first);
+    let two = log.number(second);
+    log.length(second) == 2 * EACH && has_each(log, second, one) && has_each(log, second, two)
+}

@@ -1,0 +1,165 @@
+//! What two passes of a log show, and two sessions over it.
+ghost use Rattle.std.specs.Prelude.{◌≡◌, All};
+
+use crate::adders::two_threads_add;
+use crate::playing::plays;
+use crate::preparers::two_threads_prepare;
+use crate::sessions::{connected, disconnects, keeps_its_replica, sees, stays_open};
+use crate::trying::tries;
+use decision_log::DecisionLog;
+use std::alloc::Global;
+use std::process::Abort;
+use std::sync::Wait;
+use std::thread::Threads;
+use xa_server::Server;
+
+/// What a log's first two passes show, or sessions over them.
+#[derive(Clone, Copy)]
+pub(crate) enum Scene {
+    /// A script of passes.
+    Tries(&'static [u8]),
+    /// Two threads add.
+    Adds,
+    /// A script of sessions.
+    Plays(&'static [u8]),
+    /// What one session writes another one sees.
+    Sees,
+    /// A replica is kept between statements.
+    Keeps,
+    /// A session that owns a branch can't disconnect in a full log.
+    StaysOpen,
+    /// A session that disconnects loses its branch.
+    Disconnects,
+    /// Two threads prepare a branch each.
+    Prepares,
+}
+
+/// An add that is overtaken then stands, until the log is full.
+const IN_TURN: &[u8] = b"1 LOOK = 0
+1 XA START 'a' = OK 1
+2 XA START 'b' = OVERTAKEN 1
+2 XA START 'b' = OK 2
+1 LOOK = 2
+1@1 2 XA START 'b'
+1 XA END 'a' = FULL 2
+";
+
+/// A pass sees by looks and by meetings what the other one added.
+const MEETS: &[u8] = b"1 XA START 'a' = OK 1
+2 LOOK = 1
+1 XA END 'a' = OK 2
+1 MEET = 2
+2 LENGTH = 2
+1 LENGTH = 2
+2@0 1 XA START 'a'
+2@1 1 XA END 'a'
+2 DEL 'k' = OK 3
+1 MEET = 3
+1 LENGTH = 2
+2 LENGTH = 3
+1 LOOK = 3
+";
+
+/// What is added after a look that another add has outdated is refused once.
+const OUTDATED: &[u8] = b"1 PUT 'k','v' = OK 1
+2 LOOK = 1
+1 PUT 'k','w' = OK 2
+2 DEL 'k' = OVERTAKEN 2
+2 DEL 'k' = OK 3
+2 LOOK = 3
+";
+
+/// Nothing enters a full log, and what doesn't enter is still answered.
+pub(crate) const FULL: &[u8] = b"1 XA START 'a' = 0 OK
+1 PUT 'k','v' = 1 OK
+1 XA END 'a' = 2 OK
+1 XA PREPARE 'a' = 3 OK
+2 XA COMMIT 'a' = FULL
+2 GET 'k' = 4 NONE
+2 XA RECOVER = 4 ROWS 1|1 1 0 a
+";
+
+/// A branch reads a row twice, of which only the first enters, and then writes the row that it shares.
+const SHARED: &[u8] = b"1 XA START 'a' = 0 OK
+1 GET 'k' = 1 NONE
+1 GET 'k' = 2 NONE
+1 PUT 'k','v' = 2 OK
+1 GET 'k' = 3 VALUE 0x76
+";
+
+/// A prepared branch keeps the row that it shares.
+const PREPARED: &[u8] = b"1 XA START 'a' = 0 OK
+1 GET 'k' = 1 NONE
+1 XA END 'a' = 2 OK
+1 XA PREPARE 'a' = 3 OK
+2 XA START 'b' = 4 OK
+2 GET 'k' = 5 NONE
+2 PUT 'k','x' = 6 ERROR 3572 (HY000): row locked by another branch
+";
+
+/// Each scene, with how many entries the log has room for.
+pub(crate) const SCENES: [(u64, Scene); 12] = [
+    (2, Scene::Tries(IN_TURN)),
+    (3, Scene::Tries(MEETS)),
+    (8, Scene::Tries(OUTDATED)),
+    (16, Scene::Adds),
+    (4, Scene::Plays(FULL)),
+    (8, Scene::Plays(SHARED)),
+    (8, Scene::Plays(PREPARED)),
+    (8, Scene::Sees),
+    (8, Scene::Keeps),
+    (2, Scene::StaysOpen),
+    (8, Scene::Disconnects),
+    (8, Scene::Prepares),
+];
+
+impl Scene {
+    /// Shows the scene by the first two passes of a log.
+    pub(crate) fn show<L: DecisionLog + Sync, R: Abort + Threads + Wait + Sync>(
+        self,
+        rt: &R,
+        alloc: Global,
+        log: &L,
+        mut passes: Vec<L::Pass>,
+    )
+    where
+        L::Pass: Send + Drop,
+        requires { All (λ pass. L.belongs_to pass ≡ L.identity log.now) passes.items }
+    {
+        let (Some(mut second), Some(mut first)) = (passes.pop(), passes.pop()) else {
+            panic!(rt; "two passes")
+        };
+        match self {
+            Scene::Tries(script) => tries(rt, alloc, log, &mut first, &mut second, script),
+            Scene::Adds => assert!(rt; two_threads_add(rt, log, first, second)),
+            _ => self.show_by_sessions(rt, alloc, log, first, second),
+        }
+    }
+
+    /// Shows the scene by sessions of two passes.
+    fn show_by_sessions<L: DecisionLog + Sync, R: Abort + Threads + Wait + Sync>(
+        self,
+        rt: &R,
+        alloc: Global,
+        log: &L,
+        first: L::Pass,
+        second: L::Pass,
+    )
+    where
+        L::Pass: Send + Drop,
+        requires first { L.belongs_to first ≡ L.identity log.now }
+        requires second { L.belongs_to second ≡ L.identity log.now }
+    {
+        let base = Server::new(alloc);
+        let mut first = connected(rt, log, first, &base);
+        let mut second = connected(rt, log, second, &base);
+        match self {
+            Scene::Plays(script) => plays(rt, alloc, &mut first, &mut second, script),
+            Scene::Sees => sees(rt, alloc, &mut first, &mut second),
+            Scene::Keeps => keeps_its_replica(rt, alloc, &mut first, &mut second),
+            Scene::StaysOpen => stays_open(rt, alloc, log, &base, first, second),
+            Scene::Disconnects => disconnects(rt, first, second),
+            _ => assert!(rt; two_threads_prepare(rt, first, second)),
+        }
+    }
+}

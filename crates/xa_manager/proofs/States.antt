@@ -1,0 +1,90 @@
+-- A transaction manager, as contracts see it, in its parts.
+use Rattle.std.proofs.Common.{◌≡◌, ℕ, ◌∙◌, ◌+◌, ◌-◌, ◌++◌, ◌∷◌, [], List, length, ap, sym, subst, Result, Ok, Err, Some}
+use Rattle.std.specs.Prelude.{OnOk, OnErr}
+use Rattle.std.proofs.lemmas.List.{length-set}
+use Rattle.xa_session.specs.View.{SessionView}
+use Rattle.xa_coordinator.specs.declared.decisions.Decision.{Decision}
+use Rattle.xa_coordinator.specs.declared.decisions.Decision.TheVariants.{Decided}
+use Rattle.xa_coordinator.specs.Decisions.{with_decided}
+use Rattle.xa_coordinator.specs.Outcomes.{VotesAs}
+use Rattle.xa_coordinator.specs.Work.{KeepsOthers}
+use Rattle.xa_coordinator.specs.declared.transaction.Transaction.{Transaction}
+use Rattle.xa_coordinator.specs.declared.transaction.Prepared.{Prepared}
+use Rattle.xa_coordinator.specs.declared.transaction.VoteKind.TheVariants.{Ready as VoteKindReady}
+use Rattle.xa_coordinator.specs.declared.vote.Vote.{Vote}
+use Rattle.xa_coordinator.specs.declared.vote.Vote.TheVariants.{Ready as VoteReady, OnePhase as VoteOnePhase, No as VoteNo, Nothing as VoteNothing}
+use Rattle.xa_manager.specs.declared.stage.Stage.{Stage}
+use Rattle.xa_manager.specs.declared.stage.Stage.TheVariants.{Working, Ready, Over}
+use Rattle.xa_manager.specs.Ledger.{IsTransactionOf, transaction_in, with_stage}
+use Rattle.xa_manager.specs.Answers.{ManagerState, stage_after}
+use Rattle.xa_manager.proofs.Stages.{Kept, AllReady, with_stage-last}
+
+abbrev pub state : ℕ → List Decision → List Stage → ManagerState
+state stores decisions stages = record { stores = stores; decisions = decisions; stages = stages }
+
+pub same_desk : (n m : ℕ) (d e : List Decision) (s t : List Stage) → n ≡ m → d ≡ e → s ≡ t → state n d s ≡ state m e t
+same_desk n m d e s t stores decisions stages = ap (λ k. state k d s) stores ∙ ap (λ list. state m list s) decisions ∙ ap (λ list. state m e list) stages
+
+-- the same facts of the same stores and stages
+pub kept_as : (n m : ℕ) (s t : List Stage) → m ≡ n → t ≡ s → Kept n s → Kept m t
+kept_as n m s t stores stages kept =
+    let P : ℕ → Type 0 = λ k. Kept k t in
+    let Q : List Stage → Type 0 = λ list. Kept n list in
+    subst P (sym stores) (subst Q (sym stages) kept)
+
+pub ready_as : (s t : List Stage) → t ≡ s → AllReady s → AllReady t
+ready_as s t stages ready = let P : List Stage → Type 0 = λ list. AllReady list in subst P (sym stages) ready
+
+-- a decision changes how a number stands, not how many there are
+decided-length : (decisions : List Decision) (number : ℕ) → length (with_decided decisions number) ≡ length decisions
+unfolding with_decided
+decided-length decisions number = length-set decisions (number - 1) Decided
+
+pub after_decision : {A B : Type 0} (result : Result A B) (old new : List Decision) (number : ℕ) → OnOk result (new ≡ with_decided old number)
+    → OnErr result (new ≡ old) → length new ≡ length old
+after_decision (Ok a) old new number decided kept = ap length decided ∙ decided-length old number
+after_decision (Err b) old new number decided kept = ap length kept
+
+-- a vote keeps its transaction
+pub voted_kept : {S : Type 0} (view : S → SessionView) (transaction : Transaction) (vote : Vote) (old new : List S) (count number : ℕ)
+    → VotesAs view transaction vote old new → IsTransactionOf count number transaction
+    → (kept : Transaction) → transaction_in (stage_after vote) ≡ Some kept → IsTransactionOf count number kept
+voted_kept view transaction (VoteReady prepared) old new count number votes is kept keeps =
+    let same : kept ≡ transaction = let e = ap (λ (p : Prepared). p.transaction) votes.0 in cc in
+    let P : Transaction → Type 0 = λ t. IsTransactionOf count number t in subst P (sym same) is
+voted_kept view transaction (VoteOnePhase prepared) old new count number votes is kept keeps =
+    let same : kept ≡ transaction = let e = ap (λ (p : Prepared). p.transaction) votes.0 in cc in
+    let P : Transaction → Type 0 = λ t. IsTransactionOf count number t in subst P (sym same) is
+voted_kept view transaction (VoteNo prepared store cause) old new count number votes is kept keeps =
+    let same : kept ≡ transaction = let e = ap (λ (p : Prepared). p.transaction) votes.0 in cc in
+    let P : Transaction → Type 0 = λ t. IsTransactionOf count number t in subst P (sym same) is
+voted_kept view transaction VoteNothing old new count number votes is kept keeps = absurd (cc)
+
+-- a vote that is kept as Ready is of Ready
+pub voted_ready : {S : Type 0} (view : S → SessionView) (transaction : Transaction) (vote : Vote) (old new : List S) → VotesAs view transaction vote old new
+    → (kept : Prepared) → stage_after vote ≡ Ready kept → kept.vote_kind ≡ VoteKindReady
+voted_ready view transaction (VoteReady prepared) old new votes kept keeps =
+    let same : prepared ≡ kept = cc in ap (λ (p : Prepared). p.vote_kind) (sym same) ∙ ap (λ (p : Prepared). p.vote_kind) votes.0
+voted_ready view transaction (VoteOnePhase prepared) old new votes kept keeps = absurd (cc)
+voted_ready view transaction (VoteNo prepared store cause) old new votes kept keeps = absurd (cc)
+voted_ready view transaction VoteNothing old new votes kept keeps = absurd (cc)
+
+-- work keeps the transaction's number, name and count of stores
+pub worked_kept : (store count number : ℕ) (old new : Transaction) → KeepsOthers store old new → IsTransactionOf count number old → (kept : Transaction)
+    → transaction_in (Working new) ≡ Some kept → IsTransactionOf count number kept
+worked_kept store count number old new keeps is kept same =
+    let e : new ≡ kept = cc in
+    let P : Transaction → Type 0 = λ t. IsTransactionOf count number t in
+    subst P e (record { number = keeps.number ∙ is.number; name = (let e = keeps.name in let f = is.name in cc); stores = keeps.stores ∙ is.stores })
+
+-- the transaction that has begun
+pub working_kept : (count number : ℕ) (transaction : Transaction) → IsTransactionOf count number transaction → (kept : Transaction)
+    → transaction_in (Working transaction) ≡ Some kept → IsTransactionOf count number kept
+working_kept count number transaction is kept same =
+    let e : transaction ≡ kept = cc in
+    let P : Transaction → Type 0 = λ t. IsTransactionOf count number t in
+    subst P e is
+
+pub begun_on : (stages : List Stage) (number : ℕ) (begun : Stage) (added now : List Stage) → number ≡ length stages + 1 → added ≡ stages ++ Over ∷ []
+    → now ≡ with_stage added number begun → now ≡ stages ++ begun ∷ []
+begun_on stages number begun added now is one put = put ∙ ap (λ list. with_stage list number begun) one ∙ with_stage-last stages Over begun number is

@@ -1,0 +1,108 @@
+//! Copies of a server, what a call lists, and the codes and texts of refusals.
+use std::alloc::Global;
+use std::process::Abort;
+use std::test::Fail;
+use xa_server::{BranchState, Reply, Server, XaError};
+use xa_statement::read_statement;
+use xa_xid::{SessionNo, read_xid, with_part};
+
+/// Each refusal's number, SQLSTATE and XA code, and its text as the manual's error reference has it.
+const REFUSALS: &str = "1397 XAE04 -4 XAER_NOTA: Unknown XID
+1398 XAE05 -5 XAER_INVAL: Invalid arguments (or unsupported command)
+1399 XAE07 -7 XAER_RMFAIL: The command cannot be executed when global transaction is in the NON-EXISTING state
+1399 XAE07 -7 XAER_RMFAIL: The command cannot be executed when global transaction is in the ACTIVE state
+1399 XAE07 -7 XAER_RMFAIL: The command cannot be executed when global transaction is in the IDLE state
+1399 XAE07 -7 XAER_RMFAIL: The command cannot be executed when global transaction is in the PREPARED state
+1440 XAE08 -8 XAER_DUPID: The XID already exists
+3572 HY000 0 Statement aborted because lock(s) could not be acquired immediately and NOWAIT is set.
+";
+
+/// A reply in short, or nothing where there is no memory.
+fn short(alloc: Global, reply: &Reply) -> Option<Vec<u8>> {
+    match reply {
+        Reply::Ok => Vec::from_slice(alloc, b"OK").ok(),
+        Reply::Value(None) => Vec::from_slice(alloc, b"NONE").ok(),
+        Reply::Value(Some(value)) => with_part(Vec::new(alloc), value.as_slice()).ok(),
+        Reply::Recovered(_) => Vec::from_slice(alloc, b"ROWS").ok(),
+        Reply::Refused(error) => {
+            let number = format!(in alloc; "{}", error.number()).ok()?;
+            Vec::from_slice(alloc, number.as_bytes()).ok()
+        }
+    }
+}
+
+/// What a server replies to a line: a session number, a blank and a statement.
+fn answered(alloc: Global, server: &mut Server, line: &str) -> Option<Vec<u8>> {
+    let (number, text) = line.split_once(' ')?;
+    let session = SessionNo::of(number.parse::<u64>().ok()?)?;
+    let statement = read_statement(text.as_bytes()).ok()?;
+    let reply = server.apply(session, &statement).ok()?;
+    short(alloc, &reply)
+}
+
+/// Gives the lines in turn, and asks for these replies.
+fn replies(rt: &impl Abort, alloc: Global, server: &mut Server, script: &str) {
+    for line in script.lines() {
+        let (said, wanted) = line.split_once(" => ").unwrap_or((line, ""));
+        let told = answered(alloc, server, said).unwrap_or(Vec::new(alloc));
+        assert!(rt; told.as_slice() == wanted.as_bytes(), "{line}");
+    }
+}
+
+/// How many rows are listed of the branch of this identifier.
+fn rows(alloc: Global, server: &Server, xid: &[u8]) -> Option<usize> {
+    let (xid, _next) = read_xid(xid, 0).ok()?;
+    Some(server.rows_of(alloc, &xid).ok()?.len())
+}
+
+/// A refusal's codes and its text.
+fn told(alloc: Global, error: XaError) -> Result<String, Fail> {
+    let code = error.xa_code().unwrap_or(0);
+    Ok(format!(in alloc; "{} {} {code} {error}", error.number(), error.sqlstate())?)
+}
+
+/// What is said before the copy is made, then to the copy, and then to the server.
+const BEGUN: &str =
+    "1 PUT 'k','v' => OK\n1 XA START 'a' => OK\n1 PUT 'm','w' => OK\n1 GET 's' => NONE\n";
+
+const APART: &str =
+    "1 GET 'm' => 0x77\n2 PUT 's','x' => 3572\n1 DISCONNECT => OK\n1 PUT 'k','x' => OK\n2 PUT 's','x' => OK\n";
+
+const STAYED: &str = "2 GET 'k' => 0x76\n2 PUT 'm','y' => 3572\n2 PUT 's','x' => 3572\n";
+
+#[test]
+fn copy_goes_its_own_way(rt: HostRuntime) -> Result<(), Fail> {
+    let mut server = Server::new(rt.alloc());
+    replies(&rt, rt.alloc(), &mut server, BEGUN);
+    let mut copy = server.copy()?;
+    replies(&rt, rt.alloc(), &mut copy, APART);
+    replies(&rt, rt.alloc(), &mut server, STAYED);
+    Ok(())
+}
+
+#[test]
+fn no_rows_are_listed_of_no_branch(rt: HostRuntime) {
+    let mut server = Server::new(rt.alloc());
+    replies(&rt, rt.alloc(), &mut server, BEGUN);
+    assert!(rt; rows(rt.alloc(), &server, b"'a'") == Some(2));
+    assert!(rt; rows(rt.alloc(), &server, b"'c'") == Some(0));
+}
+
+#[test]
+fn refusals_have_the_codes_and_texts_of_the_manual(rt: HostRuntime) -> Result<(), Fail> {
+    let errors = [
+        XaError::Nota,
+        XaError::Inval,
+        XaError::Rmfail(BranchState::NonExisting),
+        XaError::Rmfail(BranchState::Active),
+        XaError::Rmfail(BranchState::Idle),
+        XaError::Rmfail(BranchState::Prepared),
+        XaError::Dupid,
+        XaError::RowLocked,
+    ];
+    for (error, wanted) in errors.iter().zip(REFUSALS.lines()) {
+        let told = told(rt.alloc(), *error)?;
+        assert_eq!(rt; told.as_str(), wanted);
+    }
+    Ok(())
+}

@@ -1,0 +1,4 @@
+pub mod Race
+pub mod RaceRuns
+pub mod ReadLines
+pub mod RaceKinds

@@ -1,0 +1,4 @@
+pub mod Race
+pub mod Outcome
+pub mod LongRace
+pub mod RaceKind

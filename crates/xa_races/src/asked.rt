@@ -1,0 +1,30 @@
+//! Which statements ask for identifiers in digits.
+ghost use Rattle.std.specs.Prelude.{◌≡◌, IfOk, map};
+ghost use Rattle.xa_lines.specs.Printed.{converts as converts_of};
+
+use std::alloc::Global;
+use xa_lines::converts;
+use xa_xid::{NoMemory, Statement};
+
+/// Which of these statements ask for identifiers in digits.
+fn asked_by(alloc: Global, statements: &[Statement]) -> Result<Vec<bool>, NoMemory>
+    ensures { IfOk result (λ asked. asked.items ≡ map converts_of statements.now) }
+{
+    let mut asked = Vec::new(alloc);
+    for statement in statements {
+        asked.push(converts(statement))?;
+    }
+    Ok(asked)
+}
+
+/// The same of each list.
+pub fn asked_of(alloc: Global, lists: &[Vec<Statement>]) -> Result<Vec<Vec<bool>>, NoMemory>
+    ensures { IfOk result (λ asked. map (λ list. list.items) asked.items ≡ map (λ list. map converts_of list.items) lists.now) }
+{
+    let mut asked = Vec::new(alloc);
+    for list in lists {
+        let one = asked_by(alloc, list.as_slice())?;
+        asked.push(one)?;
+    }
+    Ok(asked)
+}

@@ -1,0 +1,17 @@
+//! What a script gives to a race.
+ghost use Rattle.std.specs.Prelude.{◌≡◌, ◌≤◌, vec_len};
+
+use xa_xid::Statement;
+
+/// What a script gives to a race.
+#[derive(Drop)]
+pub struct RaceScript {
+    /// The list of its faulty lines; empty where there is none.
+    pub faults: Vec<u8>,
+    /// The greatest session that a line names, or 0 where none does.
+    pub greatest: u64,
+    /// The statements of each of the sessions 1 to 16, in order.
+    pub lists: Vec<Vec<Statement>>,
+    ghost within: { greatest ≤ 16 },
+    ghost all: { vec_len lists ≡ 16 },
+}

@@ -1,0 +1,54 @@
+//! Races the runs of a script in rounds: the history has any length.
+ghost use Rattle.std.specs.Prelude.{◌≡◌, ◌≤◌, length, IfErr, OnOk, IfSome, Err};
+ghost use Rattle.std.specs.Io.KnownBytes.{IsAtEnd};
+ghost use Rattle.decision_log.specs.Opens.{IsCapacity};
+ghost use Rattle.xa_lines.specs.Limits.{script_bytes};
+ghost use Rattle.xa_lines.specs.Transcript.{ConsumesMoreThan};
+ghost use Rattle.xa_races.specs.LongRace.{AppendsLongRace, AfterLongFault};
+
+use crate::holding::text_of_race;
+use crate::race_kind::RaceKind;
+use std::alloc::Global;
+use std::io::{Read, Write};
+use std::sync::Wait;
+use std::thread::Threads;
+use xa_lines::{ScriptFault, read_all, write_whole};
+use xa_store::Gate;
+
+/// Races the runs of a script as `race_script` does, but in rounds: whenever `capacity` entries stand in the store's history, in
+/// `[1, 1024]`, the store is carried over, and the runs go on. What is written has one history, and places that count over all
+/// rounds, as if the log had room for all.
+///
+/// Errors: those of `race_script`, but never `Full`; `NoMemory` also where there is none for the history of all rounds. After
+/// `Write` a prefix of the text was written, after any other nothing.
+/// May answer `NoMemory`. Waits for its threads.
+/// Own rule: docs/BEHAVIOR.md, 'A race of a script in rounds'.
+pub fn race_script_in_rounds<I: Read, O: Write, G: Gate + Sync, R: Threads + Wait + Sync>(
+    rt: &R,
+    alloc: Global,
+    reader: &mut I,
+    writer: &mut O,
+    capacity: u64,
+    gate: &G,
+) -> Result<(), ScriptFault>
+    requires { IsCapacity capacity }
+
+    // All was read, and what was written is the text of its faulty lines, or of an outcome of a race of its runs.
+    ensures read { OnOk result (IsAtEnd (I.remaining reader.new)) }
+    ensures written { OnOk result (IfSome (I.remaining reader.old) (λ script. AppendsLongRace script (O.contents writer.old) (O.contents writer.new))) }
+    ensures short { OnOk result (IfSome (I.remaining reader.old) (λ script. length script ≤ script_bytes)) }
+
+    ensures fault { IfErr result (λ fault. AfterLongFault fault (I.remaining reader.old) (O.contents writer.old) (O.contents writer.new)) }
+    ensures too_long { result ≡ Err ScriptFault.TooLong → ConsumesMoreThan script_bytes (I.remaining reader.old) (I.remaining reader.new) }
+{
+    let script = read_all(alloc, reader)?;
+    let text = text_of_race(
+        rt,
+        alloc,
+        script.as_slice(),
+        capacity,
+        RaceKind::Rounds,
+        gate,
+    )?;
+    write_whole(writer, text.as_slice())
+}

@@ -1,0 +1,18 @@
+//! How a race's fault is told.
+ghost use Rattle.std.specs.Prelude.{◌≡◌};
+ghost use Rattle.xa_races.specs.Outcome.{script_fault_of};
+
+use xa_lines::ScriptFault;
+use xa_store::RaceFault;
+
+/// The fault of a script whose race ended so.
+pub(crate) fn script_fault(raced: RaceFault) -> ScriptFault
+    ensures { result ≡ script_fault_of raced }
+{
+    match raced {
+        RaceFault::GateShut { .. } => ScriptFault::GateShut,
+        RaceFault::Full { .. } => ScriptFault::Full,
+        RaceFault::NoMemory => ScriptFault::NoMemory,
+        RaceFault::ThreadRefused => ScriptFault::ThreadRefused,
+    }
+}

@@ -1,0 +1,106 @@
+//! What a script's lines say of a race: each line is read once.
+ghost use Rattle.std.specs.Prelude.{◌≡◌, ◌≤◌, ◌==◌, ◌+◌, ◌++◌, [], ℕ, Some, None, cond, length, map, vec_len, IfOk, OnOk};
+ghost use Rattle.xa_lines.specs.Script.{Given, line_of, lines_of};
+ghost use Rattle.xa_lines.specs.Limits.{script_bytes};
+ghost use Rattle.xa_races.specs.Race.{fault_text, part_at, Gains, TakesLine, HasRead};
+
+use crate::given::RaceScript;
+use std::alloc::Global;
+use xa_lines::{ScriptLine, push_number, push_syntax_fault, read_line, split_line};
+use xa_statement::read_statement;
+use xa_xid::{NoMemory, SessionNo, Statement};
+
+/// Sixteen empty lists.
+fn empty_lists(alloc: Global) -> Result<Vec<Vec<Statement>>, NoMemory>
+    ensures count { IfOk result (λ lists. vec_len lists ≡ 16) }
+    ensures empty { IfOk result (λ lists. (index : ℕ) → part_at (map (λ list. list.items) lists.items) index ≡ []) }
+{
+    let mut lists = Vec::new(alloc);
+    while lists.len() < 16 {
+        lists.push(Vec::new(alloc))?;
+    }
+    Ok(lists)
+}
+
+/// What a script without lines gives.
+fn no_lines(alloc: Global) -> Result<RaceScript, NoMemory>
+    ensures { IfOk result (λ given. HasRead [] given) }
+{
+    let lists = empty_lists(alloc)?;
+    let faults = Vec::new(alloc);
+    Ok(RaceScript {
+        faults,
+        greatest: 0,
+        lists,
+    })
+}
+
+/// Lists a faulty line of this number.
+fn push_fault(text: &mut Vec<u8>, number: u64, place: u64) -> Result<(), NoMemory>
+    ensures { OnOk result (text.new.items ≡ text.old.items ++ fault_text number (Some place)) }
+{
+    text.extend_from_slice(b"LINE ")?;
+    push_number(text, number)?;
+    text.extend_from_slice(b" ")?;
+    push_syntax_fault(text, place)?;
+    text.extend_from_slice(b"\n")
+}
+
+/// Puts a statement behind the others of its session.
+fn push_statement(
+    lists: &mut Vec<Vec<Statement>>,
+    session: SessionNo,
+    statement: Statement,
+) -> Result<(), NoMemory>
+    requires { vec_len lists.old ≡ 16 }
+    ensures count { vec_len lists.new ≡ 16 }
+    ensures gains { OnOk result
+        (Gains (λ other. cond (session == other) (Some statement) None) (map (λ list. list.items) lists.old.items) (map (λ list. list.items) lists.new.items)) }
+{
+    lists[(session.get() - 1) as usize].push(statement)?;
+    Ok(())
+}
+
+/// Takes the line of a session.
+fn take_given(
+    given: &mut RaceScript,
+    number: u64,
+    session: SessionNo,
+    text: &[u8],
+) -> Result<(), NoMemory>
+    ensures { OnOk result (TakesLine number (Given session text.now) given.old given.new) }
+{
+    given.greatest = given.greatest.max(session.get());
+    match read_statement(text) {
+        Ok(statement) => push_statement(&mut given.lists, session, statement),
+        Err(fault) => push_fault(&mut given.faults, number, fault.at),
+    }
+}
+
+/// Takes a line.
+fn take_line(given: &mut RaceScript, number: u64, line: &[u8]) -> Result<(), NoMemory>
+    ensures { OnOk result (TakesLine number (line_of line.now) given.old given.new) }
+{
+    match read_line(line) {
+        ScriptLine::Blank => Ok(()),
+        ScriptLine::Bad => push_fault(&mut given.faults, number, 0),
+        ScriptLine::Given(session, text) => take_given(given, number, session, text),
+    }
+}
+
+/// What the script gives to a race.
+pub fn read_race(alloc: Global, script: &[u8]) -> Result<RaceScript, NoMemory>
+    requires { length script.now ≤ script_bytes }
+    ensures { IfOk result (λ given. HasRead (lines_of script.now) given) }
+{
+    let mut given = no_lines(alloc)?;
+    let mut number = 1;
+    let mut rest = script;
+    while !rest.is_empty() {
+        let (line, lines) = split_line(rest);
+        take_line(&mut given, number, line)?;
+        number += 1;
+        rest = lines;
+    }
+    Ok(given)
+}

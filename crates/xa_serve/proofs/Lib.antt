@@ -1,4 +1,0 @@
-pub mod Cut
-pub mod Under
-pub mod Peers
-pub mod Told

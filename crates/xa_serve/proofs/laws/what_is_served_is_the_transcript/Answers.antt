@@ -1,7 +1,0 @@
-use Rattle.xa_server.specs.State.{no_state}
-use Rattle.xa_transcript.specs.Script.{lines_of}
-use Rattle.xa_serve.proofs.Told.{served_text-short}
-use Rattle.xa_serve.proofs.laws.what_is_served_is_the_transcript.Goals as goal
-
-pub returns : goal.returns
-returns c heard short = served_text-short no_state (lines_of heard) short

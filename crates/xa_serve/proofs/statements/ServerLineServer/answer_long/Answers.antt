@@ -1,7 +1,0 @@
-use Rattle.std.proofs.Common.{inl, refl}
-use Rattle.xa_transcript.specs.Script.{Bad}
-use Rattle.xa_serve.proofs.Told.{bad_answered}
-use Rattle.xa_serve.proofs.statements.ServerLineServer.answer_long.Goals as goal
-
-pub returns : goal.returns
-returns c = inl (bad_answered c.args.self.now Bad _ refl c.bad_line.ensures)

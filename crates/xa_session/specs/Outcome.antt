@@ -1,0 +1,28 @@
+-- How a session's call for a statement ends.
+--     HasAnswered      the statement was answered
+--     HasFailed        it wasn't, for a cause of this fault
+--     Answers          the one after Ok, the other after Err
+use Rattle.std.specs.Prelude.{◌≤◌, Result, Ok, Err}
+use Rattle.decision_log.specs.declared.log.DecisionLog.{Ghosts as LogOf}
+use Rattle.xa_xid.specs.declared.statement.Statement.{Statement}
+use Rattle.xa_session.specs.Answer.{IsAnswered, Fails, IsKept, FullAfter, WantsMemory}
+use Rattle.xa_session.specs.declared.answer.Answer.{Answer}
+use Rattle.xa_session.specs.declared.fault.Fault.{Fault}
+use Rattle.xa_session.specs.declared.session.Session.{Session}
+
+-- the reply is the server's at the answer's place, the replica had replayed what it was found on, and has replayed all that is seen since
+pub record HasAnswered {Log Pass : Type 0} {log : LogOf Log Pass} (statement : Statement) (answer : Answer) (old new : Session Log Pass log) : Type 0 where
+  pub answered : IsAnswered old.base.now statement answer (log.known old.pass) (log.known new.pass)
+  pub replayed : answer.place ≤ new.replica.replayed
+  pub kept : IsKept old.base.now statement answer new.replica (log.known new.pass)
+
+-- the fault has its cause, the replica had replayed all that is seen at Full, and nothing but the list or the replica wants memory
+pub record HasFailed {Log Pass : Type 0} {log : LogOf Log Pass} (statement : Statement) (fault : Fault) (old new : Session Log Pass log) : Type 0 where
+  pub fails : Fails log.TURNS (log.belongs_to old.pass).capacity old.base.now statement fault (log.known old.pass) (log.known new.pass)
+  pub replayed : FullAfter fault new.replica (log.known new.pass)
+  pub memory : WantsMemory statement fault new.replica (log.known new.pass)
+
+-- the statement was answered, or it wasn't for a cause
+abbrev pub Answers : {Log Pass : Type 0} {log : LogOf Log Pass} → Statement → Result Answer Fault → Session Log Pass log → Session Log Pass log → Type 0
+Answers statement (Ok answer) old new = HasAnswered statement answer old new
+Answers statement (Err fault) old new = HasFailed statement fault old new

@@ -1,0 +1,16 @@
+-- What becomes of a replica that is to replay entries.
+--     ReplaysOne       it has replayed the next entry, or is as before
+--     CatchesUp        it has replayed all that is seen, or lacks some of it
+use Rattle.std.specs.Prelude.{◌≡◌, ◌<◌, ◌+◌, length, Result, Ok, Err}
+use Rattle.decision_log.specs.declared.known.Known.{Known}
+use Rattle.xa_session.specs.declared.replica.Replica.{Replica}
+
+-- one entry more is replayed, or the replica is as before
+abbrev pub ReplaysOne : {E : Type 0} → Result (Unit {0}) E → Replica → Replica → Type 0
+ReplaysOne (Ok _) old new = new.replayed ≡ old.replayed + 1
+ReplaysOne (Err _) old new = new ≡ old
+
+-- all that is seen is replayed, or not all of it
+abbrev pub CatchesUp : {A E : Type 0} → Result A E → Replica → Known → Type 0
+CatchesUp (Ok _) replica known = replica.replayed ≡ length known.seen
+CatchesUp (Err _) replica known = replica.replayed < length known.seen

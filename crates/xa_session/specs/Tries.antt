@@ -1,0 +1,26 @@
+-- How often a call for a statement has looked, and has tried to add.
+--     Tries            how often an attempt without an answer has tried
+--     TriesOnce        an attempt
+--     LooksLast        no try has followed the last look
+use Rattle.std.specs.Prelude.{◌≡◌, ◌<◌, ◌≤◌, ◌+◌, Result, IfErr}
+use Rattle.decision_log.specs.declared.known.Known.{Known}
+use Rattle.xa_session.specs.declared.answer.Answer.{Answer}
+use Rattle.xa_session.specs.declared.fault.Fault.{Fault}
+use Rattle.xa_session.specs.declared.fault.Fault.TheVariants.{Overtaken, Full, NoMemory, Busy}
+
+-- an attempt without an answer has lost one try to add, or else has not tried
+abbrev pub Tries : Fault → Known → Known → Type 0
+Tries (Overtaken front) old new = new.tries ≡ old.tries + 1
+Tries Full old new = new.tries ≡ old.tries
+Tries NoMemory old new = new.tries ≡ old.tries
+Tries Busy old new = new.tries ≡ old.tries + 1
+
+-- an attempt has looked, and has tried to add at most once
+pub record TriesOnce (result : Result Answer Fault) (old new : Known) : Type 0 where
+  pub looked : old.looks < new.looks
+  pub tries : new.tries ≤ old.tries + 1
+  pub tried : IfErr result (λ fault. Tries fault old new)
+
+-- where each try comes after a look of its own, more looks than tries say that the last look was followed by none
+abbrev pub LooksLast : Known → Known → Type 0
+LooksLast old new = new.tries + old.looks < new.looks + old.tries

@@ -1,0 +1,18 @@
+use Rattle.std.proofs.Common.{map, subst, rules}
+use Rattle.xa_store.specs.Rounds.{BlamesRounds}
+use Rattle.xa_store.proofs.RoundByRound.{told}
+use Rattle.xa_store.proofs.rounds.hold_all.Goals as goal
+
+pub returns-in_err-last-clause-fault : goal.returns-in_err-last-clause-fault
+returns-in_err-last-clause-fault g c =
+    let may = g.G.Gate.may_answer c.args.gate.now in
+    let fault = c.in_err-last.field-0.0 in
+    let blamed : BlamesRounds may (map (λ run. run.lines.items) c.args.runs.items) fault =
+    subst (λ lines. BlamesRounds may lines fault) c.in_ok-first.ensures.lines c.in_err-last.ensures.fault in
+    search rules
+
+pub returns-clause-ok : goal.returns-clause-ok
+returns-clause-ok g c =
+    let end = c.in_ok-told.ensures in
+    told c.args.store c.args.runs.items c.in_ok-first.first c.in_ok-last.last c.in_ok-told.told.0 c.in_ok-told.told.1 c.requires.fresh
+    c.in_ok-first.ensures.store c.in_ok-first.ensures.lines c.in_ok-last.ensures.ok end.store end.history end.passes end.answers

@@ -1,0 +1,60 @@
+//! How a race's sessions end: they meet, and leave.
+ghost use Rattle.std.specs.Prelude.{◌≡◌, map, IfOk};
+ghost use Rattle.std.specs.List.{All};
+ghost use Rattle.xa_store.specs.Closed.{HasClosed};
+ghost use Rattle.xa_store.specs.Passes.{identity_of, log_of};
+
+use crate::task::Returned;
+use crate::{Log, Pass, Store};
+use std::alloc::Global;
+use xa_session::Session;
+use xa_words::Entry;
+use xa_xid::NoMemory;
+
+/// What a race leaves: a history, and for each session its pass and what it was answered.
+#[derive(Drop)]
+pub(crate) struct Closed<D> {
+    pub(crate) history: Vec<Entry>,
+    pub(crate) passes: Vec<Pass>,
+    pub(crate) done: Vec<D>,
+}
+
+/// The sessions, and what each was answered, in the order given.
+fn part<'a, D: Drop>(
+    alloc: Global,
+    returned: Vec<Returned<'a, Log, D>>,
+) -> Result<(Vec<Session<'a, Log>>, Vec<D>), NoMemory>
+    ensures sessions { IfOk result (λ both. both.0.items ≡ map (λ one. one.session) returned.entry.items) }
+    ensures done { IfOk result (λ both. both.1.items ≡ map (λ one. one.done) returned.entry.items) }
+{
+    let mut sessions = Vec::new(alloc);
+    let mut all = Vec::new(alloc);
+    for one in returned {
+        let Returned { session, done } = one;
+        sessions.push(session)?;
+        all.push(done)?;
+    }
+    Ok((sessions, all))
+}
+
+/// All that a race leaves, once its threads have ended: the sessions meet, and leave.
+pub(crate) fn close_all<D: Drop>(
+    alloc: Global,
+    store: &Store,
+    returned: Vec<Returned<'_, Log, D>>,
+) -> Result<Closed<D>, NoMemory>
+    requires { All (λ one. log_of one.session.pass ≡ identity_of store.now.log) returned.items }
+    ensures closed { IfOk result
+        (λ closed. HasClosed (identity_of store.now.log) (map (λ one. one.session.pass) returned.entry.items) closed.history.items closed.passes.items) }
+    ensures done { IfOk result (λ closed. closed.done.items ≡ map (λ one. one.done) returned.entry.items) }
+{
+    let (sessions, done) = part(alloc, returned)?;
+    match store.close(alloc, sessions) {
+        Ok((history, passes)) => Ok(Closed {
+            history,
+            passes,
+            done,
+        }),
+        Err((_, error)) => Err(error),
+    }
+}

@@ -1,0 +1,49 @@
+//! A run on its thread.
+
+use crate::answering::answer_all;
+use crate::task::{Returned, Task};
+use crate::{Gate, RaceFault};
+use decision_log::DecisionLog;
+use std::alloc::Global;
+use std::sync::Wait;
+use xa_session::{Answer, Session};
+use xa_xid::{SessionNo, Statement};
+
+/// A run whose session is connected, and the gate that it asks.
+#[derive(Drop)]
+pub(crate) struct Started<'a, L: DecisionLog, G> {
+    pub(crate) session: Session<'a, L>,
+    pub(crate) lines: Vec<Statement>,
+    pub(crate) alloc: Global,
+    pub(crate) gate: &'a G,
+}
+
+impl<'a, L: DecisionLog, G: Gate> Task for Started<'a, L, G>
+where
+    L::Pass: Drop,
+{
+    ghost use Rattle.xa_store.specs.Legal.{Stops};
+    ghost use Rattle.xa_store.specs.Spread.{HasRun};
+
+    type Gain = Returned<'a, L, Vec<Answer>>;
+
+    ghost gains = { λ run gone. HasRun L.belongs_to L.known (G.may_answer run.gate.now) run.session.base.now run.session.pass run.lines.items
+        gone.session.base.now gone.session.pass gone.done.items };
+
+    ghost stops = { λ run fault. Stops (G.may_answer run.gate.now) run.session.base.now (L.belongs_to run.session.pass).capacity (L.known run.session.pass)
+        run.lines.items fault };
+
+    fn number(&self) -> SessionNo {
+        self.session.number()
+    }
+
+    fn work<R: Wait>(self, rt: &R) -> Result<Returned<'a, L, Vec<Answer>>, RaceFault> {
+        let Started {
+            session,
+            lines,
+            alloc,
+            gate,
+        } = self;
+        answer_all(rt, alloc, session, lines.as_slice(), gate)
+    }
+}
