@@ -4,24 +4,18 @@
 #[cfg(test)]
 mod adders;
 #[cfg(test)]
-mod cases;
-#[cfg(test)]
 mod entries;
 #[cfg(test)]
 mod logs;
 #[cfg(test)]
 mod opened;
 #[cfg(test)]
-mod playing;
-#[cfg(test)]
 mod preparers;
-#[cfg(test)]
-mod replies;
-#[cfg(test)]
-mod saying;
 #[cfg(test)]
 mod scenes;
 #[cfg(test)]
 mod sessions;
+#[cfg(test)]
+mod sweeps;
 #[cfg(test)]
 mod trying;

@@ -2,7 +2,6 @@
 ghost use Rattle.std.specs.Prelude.{◌≡◌, All};
 
 use crate::adders::two_threads_add;
-use crate::playing::plays;
 use crate::preparers::two_threads_prepare;
 use crate::sessions::{connected, disconnects, keeps_its_replica, sees, stays_open};
 use crate::trying::tries;
@@ -12,6 +11,7 @@ use std::process::Abort;
 use std::sync::Wait;
 use std::thread::Threads;
 use xa_server::Server;
+use xa_test_support::first_difference;
 
 /// What a log's first two passes show, or sessions over them.
 #[derive(Clone, Copy)]
@@ -154,7 +154,10 @@ impl Scene {
         let mut first = connected(rt, log, first, &base);
         let mut second = connected(rt, log, second, &base);
         match self {
-            Scene::Plays(script) => plays(rt, alloc, &mut first, &mut second, script),
+            Scene::Plays(script) => {
+                let found = first_difference(rt, alloc, &mut first, &mut second, script);
+                assert_eq!(rt; found, None);
+            }
             Scene::Sees => sees(rt, alloc, &mut first, &mut second),
             Scene::Keeps => keeps_its_replica(rt, alloc, &mut first, &mut second),
             Scene::StaysOpen => stays_open(rt, alloc, log, &base, first, second),

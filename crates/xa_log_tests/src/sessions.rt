@@ -3,14 +3,14 @@ ghost use Rattle.std.specs.Prelude.{◌≡◌, ◌<◌, false, length, IfErr};
 ghost use Rattle.xa_server.specs.Step.{is_recover};
 ghost use Rattle.xa_session.specs.declared.fault.Fault.TheVariants.{NoMemory};
 
-use crate::playing::{has_history, plays};
-use crate::saying::said;
 use decision_log::DecisionLog;
 use std::alloc::Global;
 use std::process::Abort;
 use std::sync::Wait;
 use xa_server::{Reply, Server};
 use xa_session::{Answer, Fault, Session};
+use xa_statement::read_statement;
+use xa_test_support::{first_difference, has_history};
 use xa_xid::{Bytes, Key, Statement};
 
 /// A session of a pass.
@@ -39,9 +39,9 @@ pub(crate) fn sees<L: DecisionLog, R: Abort + Wait>(
     second: &mut Session<'_, L>,
 ) {
     let script = b"1 PUT 'k','v' = 0 OK\n2 GET 'k' = 1 VALUE 0x76\n";
-    plays(rt, alloc, first, second, script);
+    assert_eq!(rt; first_difference(rt, alloc, first, second, script), None);
     assert!(rt; first.seen() == 1 && second.look() == 1);
-    has_history(rt, second, b"1 PUT 'k','v'\n");
+    assert!(rt; has_history(second, b"1 PUT 'k','v'\n"));
 }
 
 /// Tries once, in a session whose replica has replayed all that is seen. The statement isn't `XA RECOVER`, so memory is wanted only
@@ -81,7 +81,7 @@ pub(crate) fn keeps_its_replica<L: DecisionLog, R: Abort + Wait>(
 1 XA PREPARE 'a' = 3 OK
 2 GET 'k' = 4 NONE
 ";
-    plays(rt, alloc, first, second, script);
+    assert_eq!(rt; first_difference(rt, alloc, first, second, script), None);
     assert_eq!(rt; first.folded(), 4);
     assert!(rt; second.folded() == 4 && second.seen() == 4);
     let get = Statement::Get(key(rt, b'k'));
@@ -118,7 +118,10 @@ where
 1 GET 'k' = 2 VALUE 0x76
 1 GET 'm' = FULL
 ";
-    plays(rt, alloc, &mut first, &mut second, script);
+    assert_eq!(rt;
+        first_difference(rt, alloc, &mut first, &mut second, script),
+        None
+    );
     let Err((first, Fault::Full)) = first.disconnect(rt) else {
         panic!(rt; "disconnected in a full log")
     };
@@ -137,7 +140,10 @@ fn starts_at<L: DecisionLog, R: Abort + Wait>(
     session: &mut Session<'_, L>,
     place: u64,
 ) -> bool {
-    match session.execute(rt, &said(rt, b"XA START 'a'")) {
+    let Ok(start) = read_statement(b"XA START 'a'") else {
+        return false;
+    };
+    match session.execute(rt, &start) {
         Ok(
             Answer {
                 place: found,

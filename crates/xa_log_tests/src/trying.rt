@@ -1,14 +1,30 @@
 //! Two passes of one log that play a script.
 ghost use Rattle.std.specs.Prelude.{◌≡◌};
 
-use crate::cases::{is_answer, split_case};
-use crate::saying::{said, said_by};
 use decision_log::{AddFault, DecisionLog};
 use std::alloc::Global;
 use std::process::Abort;
-use xa_lines::{push_number, split_line};
+use xa_lines::{ScriptLine, push_number, read_line, split_line};
+use xa_statement::read_statement;
+use xa_test_support::{is_answer, split_case};
 use xa_words::Entry;
-use xa_xid::NoMemory;
+use xa_xid::{NoMemory, SessionNo, Statement};
+
+/// The statement that a text spells.
+fn said(rt: &impl Abort, text: &[u8]) -> Statement {
+    let Ok(statement) = read_statement(text) else {
+        panic!(rt; "not a statement")
+    };
+    statement
+}
+
+/// The session that a line names, and what stands behind its number.
+fn said_by<'a>(rt: &impl Abort, line: &'a [u8]) -> (SessionNo, &'a [u8]) {
+    match read_line(line) {
+        ScriptLine::Given(session, text) => (session, text),
+        ScriptLine::Blank | ScriptLine::Bad => panic!(rt; "not a line"),
+    }
+}
 
 /// What a pass is told of an add.
 fn added<L: DecisionLog>(

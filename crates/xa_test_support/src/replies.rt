@@ -2,7 +2,6 @@
 
 use crate::cases::is_answer;
 use std::alloc::Global;
-use std::process::Abort;
 use xa_lines::{converts, push_number, push_reply};
 use xa_server::Reply;
 use xa_xid::{NoMemory, Statement};
@@ -23,11 +22,11 @@ fn text_of(
     Ok(text)
 }
 
-/// Whether a reply to a statement, behind its place where there is one, is written so. It is written once more where there was no memory.
+/// Whether a reply to a statement, behind its place where there is one, is written so. It is written once more where there was no memory;
+/// not so where there is none then either.
 ///
 /// May take memory. Doesn't wait.
 pub fn is_reply(
-    rt: &impl Abort,
     alloc: Global,
     place: Option<u64>,
     statement: &Statement,
@@ -35,11 +34,11 @@ pub fn is_reply(
     wanted: &[u8],
 ) -> bool {
     let convert = converts(statement);
-    if let Ok(text) = text_of(alloc, place, convert, reply) {
-        return is_answer(text.as_slice(), wanted);
+    let written = text_of(alloc, place, convert, reply).or_else(|_| text_of(
+        alloc, place, convert, reply,
+    ));
+    match written {
+        Ok(text) => is_answer(text.as_slice(), wanted),
+        Err(_) => false,
     }
-    let Ok(text) = text_of(alloc, place, convert, reply) else {
-        panic!(rt; "refused twice")
-    };
-    is_answer(text.as_slice(), wanted)
 }

@@ -1,0 +1,74 @@
+//! Calls of a transaction manager, whose lines say what they are to be answered. What wanted memory is done once more.
+
+use std::alloc::Global;
+use std::process::Abort;
+use std::sync::Wait;
+use xa_coordinator::{Fused, Speak};
+use xa_lines::{Answer, split_line};
+use xa_manager::{Call, Manager, Response, read_call, write_response};
+use xa_test_support::{is_answer, split_case};
+
+/// What a manager answers to a call. Where a transaction couldn't be kept, the call is made again.
+fn answered<S: Speak, T: Speak, R: Abort + Wait>(
+    rt: &R,
+    alloc: Global,
+    manager: &mut Manager<Fused<S>, T>,
+    text: &[u8],
+) -> Response {
+    let call: Call = read_call(text);
+    if let Ok(response) = manager.answer(rt, alloc, &call) {
+        return response;
+    }
+    let Ok(response) = manager.answer(rt, alloc, &call) else {
+        panic!(rt; "refused twice")
+    };
+    response
+}
+
+/// What a manager answers to a call, as text.
+pub(crate) fn told<S: Speak, T: Speak, R: Abort + Wait>(
+    rt: &R,
+    alloc: Global,
+    manager: &mut Manager<Fused<S>, T>,
+    call: &[u8],
+) -> Answer {
+    let response = answered(rt, alloc, manager, call);
+    if let Ok(text) = write_response(alloc, Vec::new(alloc), manager.decisions(), &response) {
+        return text;
+    }
+    let Ok(text) = write_response(alloc, Vec::new(alloc), manager.decisions(), &response) else {
+        panic!(rt; "refused twice")
+    };
+    text
+}
+
+/// Whether a manager answers a call so, in which `|` stands for a line feed before another one.
+pub(crate) fn is_told<S: Speak, T: Speak, R: Abort + Wait>(
+    rt: &R,
+    alloc: Global,
+    manager: &mut Manager<Fused<S>, T>,
+    call: &[u8],
+    wanted: &[u8],
+) -> bool {
+    let text = told(rt, alloc, manager, call);
+    match text.as_slice() {
+        [text @ .., b'\n'] => is_answer(text, wanted),
+        text => is_answer(text, wanted),
+    }
+}
+
+/// Has a manager answer the calls of a script, each of which has its answer behind `= `.
+pub(crate) fn calls<S: Speak, T: Speak, R: Abort + Wait>(
+    rt: &R,
+    alloc: Global,
+    manager: &mut Manager<Fused<S>, T>,
+    script: &[u8],
+) {
+    let mut rest = script;
+    while !rest.is_empty() {
+        let (line, lines) = split_line(rest);
+        let (call, wanted) = split_case(line);
+        assert!(rt; is_told(rt, alloc, manager, call, wanted), "{line:?}");
+        rest = lines;
+    }
+}

@@ -1,0 +1,315 @@
+//! Coordinators that no manager has: of two names over the same stores, and over stores that are renewed between the votes and the
+//! second phase.
+ghost use Rattle.std.specs.Prelude.{◌≡◌, ◌<◌, vec_len};
+ghost use Rattle.std.specs.List.{All};
+ghost use Rattle.xa_store.specs.Passes.{identity_of, log_of};
+
+use crate::meddled::name;
+use crate::renewal::{Way, gone_on, left};
+use crate::stores::{both, joined, next_session, opened, pushed};
+use std::alloc::Global;
+use std::process::Abort;
+use std::sync::Wait;
+use xa_coordinator::{
+    BeginFault, Cause, Coordinator, Decisions, Ending, Prepared, RecoverFault, Report, Speak,
+    Transaction, Vote, WorkFault, xid_of_branch,
+};
+use xa_server::{Reply, XaError};
+use xa_session::{Fault, Session};
+use xa_statement::read_statement;
+use xa_store::{Log, Pass, Store};
+use xa_test_support::{is_answer, is_reply};
+use xa_xid::{Key, Statement, write_xid};
+
+/// A coordinator over two sessions.
+fn over<S: Speak + Drop>(
+    rt: &impl Abort,
+    alloc: Global,
+    letter: u8,
+    first: S,
+    second: S,
+) -> Coordinator<S>
+    ensures { vec_len result.stores ≡ 2 }
+{
+    let mut stores = Vec::new(alloc);
+    pushed(rt, &mut stores, first);
+    pushed(rt, &mut stores, second);
+    Coordinator::new(name(letter), stores)
+}
+
+/// Puts a row in a store.
+fn puts<S: Speak, R: Abort + Wait>(
+    rt: &R,
+    coordinator: &mut Coordinator<S>,
+    transaction: &mut Transaction,
+    store: u8,
+    row: u8,
+)
+    requires name { transaction.old.name.items ≡ coordinator.old.name.items }
+    requires stores { transaction.old.stores ≡ vec_len coordinator.old.stores }
+    requires store { store < vec_len coordinator.old.stores }
+    ensures name { transaction.new.name.items ≡ coordinator.new.name.items }
+    ensures stores { transaction.new.stores ≡ vec_len coordinator.new.stores }
+    ensures count { vec_len coordinator.new.stores ≡ vec_len coordinator.old.stores }
+{
+    let Some(key) = Key::of(name(row)) else {
+        panic!(rt; "a key")
+    };
+    let put = Statement::Put(key, name(b'v'));
+    let told = coordinator.work(rt, transaction, store, &put);
+    assert!(rt; matches!(told, Ok(Reply::Ok)) && transaction.has(store));
+}
+
+/// The vote of Ready of transaction 1, which puts a row in both stores.
+fn voted<S: Speak, R: Abort + Wait>(
+    rt: &R,
+    coordinator: &mut Coordinator<S>,
+    decisions: &mut Decisions,
+    row: u8,
+    decides: bool,
+) -> Prepared
+    requires { vec_len coordinator.old.stores ≡ 2 }
+    ensures name { result.transaction.name.items ≡ coordinator.new.name.items }
+    ensures stores { result.transaction.stores ≡ vec_len coordinator.new.stores }
+    ensures count { vec_len coordinator.new.stores ≡ 2 }
+{
+    let Ok(mut transaction) = coordinator.begin(decisions) else {
+        panic!(rt; "not begun")
+    };
+    assert!(rt; !transaction.has(0) && !transaction.has(1));
+    puts(rt, coordinator, &mut transaction, 0, row);
+    assert!(rt; transaction.has(0) && !transaction.has(1));
+    puts(rt, coordinator, &mut transaction, 1, row);
+    let Vote::Ready(prepared) = coordinator.prepare(rt, transaction) else {
+        panic!(rt; "not ready")
+    };
+    if decides {
+        assert!(rt; decisions.decide(&prepared).is_ok());
+    }
+    prepared
+}
+
+/// Whether a recovery counts so many commits and rollbacks.
+fn recovers<S: Speak, R: Abort + Wait>(
+    rt: &R,
+    alloc: Global,
+    coordinator: &mut Coordinator<S>,
+    decisions: &mut Decisions,
+    committed: u128,
+    rolled_back: u128,
+)
+    ensures { vec_len coordinator.new.stores ≡ vec_len coordinator.old.stores }
+{
+    let Ok(report) = coordinator.recover(rt, alloc, decisions) else {
+        panic!(rt; "not recovered")
+    };
+    let Report {
+        fronts,
+        committed: commits,
+        rolled_back: rollbacks,
+        missing,
+    } = report;
+    assert!(rt; fronts.len() == 2 && missing == 0);
+    assert!(rt; commits == committed && rollbacks == rolled_back);
+}
+
+/// Two coordinators leave each other's branches.
+fn names_stand_apart<S: Speak, R: Abort + Wait>(
+    rt: &R,
+    alloc: Global,
+    first: &mut Coordinator<S>,
+    second: &mut Coordinator<S>,
+)
+    requires first { vec_len first.old.stores ≡ 2 }
+    requires second { vec_len second.old.stores ≡ 2 }
+{
+    let mut of_first = Decisions::new(alloc);
+    let mut of_second = Decisions::new(alloc);
+    let _ = voted(rt, first, &mut of_first, b'k', false);
+    let _ = voted(rt, second, &mut of_second, b'm', true);
+    recovers(rt, alloc, first, &mut of_first, 0, 2);
+    recovers(rt, alloc, second, &mut of_second, 2, 0);
+    recovers(rt, alloc, first, &mut of_first, 0, 0);
+}
+
+/// Whether a session is answered so.
+fn reads(
+    rt: &impl Wait,
+    alloc: Global,
+    session: &mut Session<'_, Log>,
+    text: &[u8],
+    wanted: &[u8],
+) -> bool {
+    let Ok(get) = read_statement(text) else {
+        return false;
+    };
+    match session.execute(rt, &get) {
+        Ok(answer) => is_reply(alloc, None, &get, &answer.reply, wanted),
+        Err(_) => false,
+    }
+}
+
+/// A store of three sessions: the first two, and its reader.
+fn seated<'a>(
+    rt: &impl Abort,
+    store: &'a Store,
+    mut passes: Vec<Pass>,
+) -> (Session<'a, Log>, Session<'a, Log>, Session<'a, Log>)
+    requires { All (λ pass. log_of pass ≡ identity_of store.now.log) passes.items }
+{
+    let reader = next_session(rt, store, &mut passes);
+    let (first, second) = both(rt, store, &mut passes);
+    (first, second, reader)
+}
+
+#[test]
+fn coordinators_of_two_names_leave_each_others_branches(rt: HostRuntime) {
+    let alloc = rt.alloc();
+    let (one, passes_0) = opened(&rt, alloc, 32, 3);
+    let (two, passes_1) = opened(&rt, alloc, 32, 3);
+    let (first_0, second_0, mut reader) = seated(&rt, &one, passes_0);
+    let (first_1, second_1, _) = seated(&rt, &two, passes_1);
+    let mut first = over(&rt, alloc, b'c', first_0, first_1);
+    let mut second = over(&rt, alloc, b'd', second_0, second_1);
+    names_stand_apart(&rt, alloc, &mut first, &mut second);
+    assert!(rt; reads(&rt, alloc, &mut reader, b"GET 'k'", b"NONE"));
+    assert!(rt; reads(&rt, alloc, &mut reader, b"GET 'm'", b"VALUE 0x76"));
+}
+
+/// Both stores vote, and the transaction is decided or isn't. In full stores neither its end nor a recovery has room.
+fn votes<S: Speak, R: Abort + Wait>(
+    rt: &R,
+    alloc: Global,
+    coordinator: &mut Coordinator<S>,
+    decisions: &mut Decisions,
+    decides: bool,
+    is_full: bool,
+)
+    requires { vec_len coordinator.old.stores ≡ 2 }
+{
+    let prepared = voted(rt, coordinator, decisions, b'k', decides);
+    if !is_full {
+        return;
+    }
+    let Ending::Unfinished { store, cause } = coordinator.finish(rt, decisions, prepared) else {
+        panic!(rt; "finished")
+    };
+    assert!(rt; store == 0 && cause == Cause::Session(Fault::Full));
+    let fault = Fault::Full;
+    let found = coordinator.recover(rt, alloc, decisions).err();
+    assert!(rt; found == Some(RecoverFault::Session { store: 0, fault }));
+}
+
+/// A store once its reader has left it, and it is renewed.
+fn renewed<R: Abort + Wait>(rt: &R, alloc: Global, store: Store, reader: Pass) -> (Store, Vec<Pass>)
+    requires { log_of reader ≡ identity_of store.log }
+    ensures { All (λ pass. log_of pass ≡ identity_of result.0.log) result.1.items }
+{
+    let mut sessions = Vec::new(alloc);
+    let reader = joined(rt, &store, reader);
+    pushed(rt, &mut sessions, reader);
+    let passes = left(rt, alloc, &store, sessions);
+    gone_on(rt, alloc, Way::Renew, store, passes, b"")
+}
+
+/// A store of two sessions, and their passes.
+fn two_passes(rt: &impl Abort, alloc: Global, capacity: u64) -> (Store, Pass, Pass)
+    ensures own { log_of result.1 ≡ identity_of result.0.log }
+    ensures reader { log_of result.2 ≡ identity_of result.0.log }
+{
+    let (store, mut passes) = opened(rt, alloc, capacity, 2);
+    let (Some(reader), Some(own)) = (passes.pop(), passes.pop()) else {
+        panic!(rt; "two passes")
+    };
+    (store, own, reader)
+}
+
+/// Both stores vote, the coordinator is gone with its sessions, and the stores are renewed. Another one of the name recovers there: it
+/// commits both, or rolls them back. A branch's four statements fill a store of four.
+fn goes_on_renewed<R: Abort + Wait>(rt: &R, alloc: Global, capacity: u64, decides: bool) {
+    let mut decisions = Decisions::new(alloc);
+    let (one, own_0, reader_0) = two_passes(rt, alloc, capacity);
+    let (two, own_1, reader_1) = two_passes(rt, alloc, capacity);
+    let first = joined(rt, &one, own_0);
+    let second = joined(rt, &two, own_1);
+    let mut coordinator = over(rt, alloc, b'c', first, second);
+    votes(
+        rt,
+        alloc,
+        &mut coordinator,
+        &mut decisions,
+        decides,
+        capacity == 4,
+    );
+    drop(coordinator);
+    let (one, mut passes_0) = renewed(rt, alloc, one, reader_0);
+    let (two, mut passes_1) = renewed(rt, alloc, two, reader_1);
+    let (first, mut reader_0) = both(rt, &one, &mut passes_0);
+    let (second, mut reader_1) = both(rt, &two, &mut passes_1);
+    let mut anew = over(rt, alloc, b'c', first, second);
+    let (committed, rolled_back) = if decides { (2, 0) } else { (0, 2) };
+    recovers(rt, alloc, &mut anew, &mut decisions, committed, rolled_back);
+    recovers(rt, alloc, &mut anew, &mut decisions, 0, 0);
+    let wanted = if decides {
+        b"VALUE 0x76".as_slice()
+    } else {
+        b"NONE"
+    };
+    assert!(rt; reads(rt, alloc, &mut reader_0, b"GET 'k'", wanted));
+    assert!(rt; reads(rt, alloc, &mut reader_1, b"GET 'k'", wanted));
+}
+
+#[test]
+fn transaction_ends_as_decided_on_renewed_stores(rt: HostRuntime) {
+    for capacity in [4, 16] {
+        goes_on_renewed(&rt, rt.alloc(), capacity, true);
+        goes_on_renewed(&rt, rt.alloc(), capacity, false);
+    }
+}
+
+#[test]
+fn numbers_are_spent(rt: HostRuntime) {
+    let alloc = rt.alloc();
+    let (store, own, reader) = two_passes(&rt, alloc, 1);
+    let coordinator = over(
+        &rt,
+        alloc,
+        b'c',
+        joined(&rt, &store, own),
+        joined(&rt, &store, reader),
+    );
+    let mut decisions = Decisions::new(alloc);
+    for _ in 0..1_000_000 {
+        assert!(rt; coordinator.begin(&mut decisions).is_ok());
+    }
+    assert!(rt;
+        matches!(
+            coordinator.begin(&mut decisions),
+            Err(BeginFault::NumbersSpent)
+        )
+    );
+    assert!(rt; !decisions.is_decided(1_000_000) && !decisions.is_decided(0));
+}
+
+#[test]
+fn branches_are_named_by_coordinator_number_and_store(rt: HostRuntime) {
+    let Ok(written) = write_xid(rt.alloc(), &xid_of_branch(&name(b'c'), 1, 1)) else {
+        panic!(rt; "not written")
+    };
+    assert!(rt; is_answer(written.as_slice(), b"0x630000000000000001,0x01,22593"));
+}
+
+#[test]
+fn faults_have_their_numbers(rt: HostRuntime) {
+    assert_eq!(rt; BeginFault::NumbersSpent.number(), 1);
+    assert_eq!(rt; BeginFault::NoMemory.number(), 2);
+    assert_eq!(rt; WorkFault::Session(Fault::Full).number(), 1);
+    assert_eq!(rt; WorkFault::Refused(XaError::Nota).number(), 2);
+    assert_eq!(rt; WorkFault::Lost.number(), 3);
+    let fault = Fault::Full;
+    assert_eq!(rt; RecoverFault::Session { store: 0, fault }.number(), 1);
+    assert_eq!(rt; RecoverFault::StillPrepared { store: 0 }.number(), 2);
+    assert_eq!(rt; RecoverFault::NoMemory.number(), 3);
+    let error = XaError::Inval;
+    assert_eq!(rt; RecoverFault::Refused { store: 0, error }.number(), 4);
+}

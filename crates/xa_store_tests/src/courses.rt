@@ -1,0 +1,205 @@
+//! A coordinator of two stores, in which one growth may be refused, and a second one that recovers behind it.
+ghost use Rattle.std.specs.Prelude.{◌≡◌};
+ghost use Rattle.std.specs.List.{All};
+ghost use Rattle.xa_store.specs.Passes.{identity_of, log_of};
+
+use crate::calls::{calls, is_told, told};
+use crate::stores::{both, opened, pushed};
+use std::alloc::Global;
+use std::process::Abort;
+use std::sync::Wait;
+use xa_coordinator::{Fused, Speak};
+use xa_lines::split_line;
+use xa_manager::Manager;
+use xa_session::Session;
+use xa_store::{Log, Pass, Store};
+use xa_test_support::split_case;
+
+/// What a coordinator does with a transaction.
+#[derive(Clone, Copy, PartialEq, Eq)]
+enum Course {
+    /// It decides on it.
+    Decides,
+    /// It has the vote, and doesn't decide.
+    Hesitates,
+    /// It works in one store alone, which needs no decision.
+    WorksInOne,
+    /// It abandons it.
+    Abandons,
+}
+
+/// Has a manager answer the calls of a script. One that a session had no memory for is made again.
+fn survives<S: Speak, T: Speak, R: Abort + Wait>(
+    rt: &R,
+    alloc: Global,
+    manager: &mut Manager<Fused<S>, T>,
+    script: &[u8],
+) {
+    let mut rest = script;
+    while !rest.is_empty() {
+        let (line, lines) = split_line(rest);
+        let (call, wanted) = split_case(line);
+        let is_answered = is_told(rt, alloc, manager, call, wanted)
+            || is_told(rt, alloc, manager, call, wanted);
+        assert!(rt; is_answered, "{line:?}");
+        rest = lines;
+    }
+}
+
+/// Whether a call is answered so. Else a session had no memory for it.
+fn is_carried_out<S: Speak, T: Speak, R: Abort + Wait>(
+    rt: &R,
+    alloc: Global,
+    manager: &mut Manager<Fused<S>, T>,
+    call: &[u8],
+    wanted: &[u8],
+) -> bool {
+    let answer = told(rt, alloc, manager, call);
+    let text = answer.as_slice();
+    let is_so = text == wanted;
+    assert!(rt; is_so || text.ends_with(b": out of memory\n"), "{text:?}");
+    is_so
+}
+
+/// What a coordinator's course leaves in the two stores once it is recovered: whether the row is there.
+fn takes<S: Speak, T: Speak, R: Abort + Wait>(
+    rt: &R,
+    alloc: Global,
+    manager: &mut Manager<Fused<S>, T>,
+    course: Course,
+) -> (bool, bool) {
+    survives(
+        rt,
+        alloc,
+        manager,
+        b"BEGIN = TRANSACTION 1\nWORK 1 0 PUT 'k','v' = OK\n",
+    );
+    let is_alone = course == Course::WorksInOne;
+    if !is_alone {
+        survives(rt, alloc, manager, b"WORK 1 1 PUT 'k','v' = OK\n");
+    }
+    if course == Course::Abandons {
+        is_carried_out(rt, alloc, manager, b"ABANDON 1", b"ROLLED BACK\n");
+        return (false, false);
+    }
+    let vote = if is_alone {
+        b"ONE PHASE\n".as_slice()
+    } else {
+        b"READY\n"
+    };
+    let is_ready = is_carried_out(rt, alloc, manager, b"PREPARE 1", vote);
+    let is_decided = is_ready && course == Course::Decides;
+    if is_decided {
+        calls(rt, alloc, manager, b"DECIDE 1 = DECIDED\n");
+    }
+    let end = if is_decided || (is_ready && is_alone) {
+        b"COMMITTED\n".as_slice()
+    } else {
+        b"ROLLED BACK\n"
+    };
+    let has_ended = is_carried_out(rt, alloc, manager, b"FINISH 1", end);
+    assert!(rt; manager.decisions().is_decided(1) == is_decided);
+    (
+        is_decided || (is_alone && is_ready && has_ended),
+        is_decided,
+    )
+}
+
+/// The row is there, is held by nobody, and no branch is prepared.
+const THERE: [&[u8]; 2] = [
+    b"AT 0 XA RECOVER = ROWS 0\nAT 0 GET 'k' = VALUE 0x76\nAT 0 DEL 'k' = OK\n",
+    b"AT 1 XA RECOVER = ROWS 0\nAT 1 GET 'k' = VALUE 0x76\nAT 1 DEL 'k' = OK\n",
+];
+
+/// The same without the row.
+const GONE: [&[u8]; 2] = [
+    b"AT 0 XA RECOVER = ROWS 0\nAT 0 GET 'k' = NONE\nAT 0 DEL 'k' = OK\n",
+    b"AT 1 XA RECOVER = ROWS 0\nAT 1 GET 'k' = NONE\nAT 1 DEL 'k' = OK\n",
+];
+
+/// A second coordinator of the name ends what the first left. Where there was no memory, it recovers again.
+fn recovers<S: Speak, T: Speak, R: Abort + Wait>(
+    rt: &R,
+    alloc: Global,
+    manager: &mut Manager<Fused<S>, T>,
+    course: Course,
+) {
+    let (in_first, in_second) = takes(rt, alloc, manager, course);
+    let is_decided = manager.decisions().is_decided(1);
+    calls(rt, alloc, manager, b"STOP = STOPPED\n");
+    let answer = told(rt, alloc, manager, b"RECOVER");
+    let text = answer.as_slice();
+    if !text.starts_with(b"RECOVERED") {
+        assert!(rt; text.ends_with(b": out of memory\n"), "{text:?}");
+        let answer = told(rt, alloc, manager, b"RECOVER");
+        let text = answer.as_slice();
+        assert!(rt; text.starts_with(b"RECOVERED"), "{text:?}");
+    }
+    assert!(rt; manager.decisions().is_decided(1) == is_decided);
+    survives(
+        rt,
+        alloc,
+        manager,
+        if in_first { THERE[0] } else { GONE[0] },
+    );
+    survives(
+        rt,
+        alloc,
+        manager,
+        if in_second { THERE[1] } else { GONE[1] },
+    );
+}
+
+/// The sessions of the coordinator, and the other clients'.
+#[derive(Drop)]
+struct Seats<'a> {
+    sessions: Vec<Fused<Session<'a, Log>>>,
+    readers: Vec<Session<'a, Log>>,
+}
+
+/// Seats both sessions of a store.
+fn seat<'a>(rt: &impl Abort, seats: &mut Seats<'a>, store: &'a Store, mut passes: Vec<Pass>)
+    requires { All (λ pass. log_of pass ≡ identity_of store.now.log) passes.items }
+{
+    let (session, reader) = both(rt, store, &mut passes);
+    pushed(rt, &mut seats.sessions, Fused::new(session, u64::MAX));
+    pushed(rt, &mut seats.readers, reader);
+}
+
+/// A coordinator of two stores takes a course.
+fn swept<R: Abort + Wait>(rt: &R, alloc: Global, course: Course) {
+    let (one, passes_0) = opened(rt, alloc, 16, 2);
+    let (two, passes_1) = opened(rt, alloc, 16, 2);
+    let mut seats = Seats {
+        sessions: Vec::new(alloc),
+        readers: Vec::new(alloc),
+    };
+    seat(rt, &mut seats, &one, passes_0);
+    seat(rt, &mut seats, &two, passes_1);
+    let Seats { sessions, readers } = seats;
+    if sessions.len() != 2 || readers.len() != 2 {
+        panic!(rt; "two seats")
+    }
+    let mut manager = Manager::new(alloc, sessions, readers);
+    recovers(rt, alloc, &mut manager, course);
+}
+
+#[test]
+fn decided_transaction_survives(rt: HostRuntime) {
+    swept(&rt, rt.alloc(), Course::Decides);
+}
+
+#[test]
+fn undecided_transaction_survives(rt: HostRuntime) {
+    swept(&rt, rt.alloc(), Course::Hesitates);
+}
+
+#[test]
+fn transaction_in_one_store_survives(rt: HostRuntime) {
+    swept(&rt, rt.alloc(), Course::WorksInOne);
+}
+
+#[test]
+fn abandoned_transaction_survives(rt: HostRuntime) {
+    swept(&rt, rt.alloc(), Course::Abandons);
+}

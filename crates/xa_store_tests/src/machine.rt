@@ -1,0 +1,309 @@
+//! A coordinator that is stopped, fails or is met by another client at each of its calls, recovers, and is held to an account that
+//! the test keeps: the transaction is committed in all its stores or in none, and in all where it was decided.
+ghost use Rattle.std.specs.Prelude.{◌≡◌};
+ghost use Rattle.std.specs.List.{All};
+ghost use Rattle.xa_store.specs.Passes.{identity_of, log_of};
+
+use crate::calls::{calls, is_told, told};
+use crate::meddled::{ANOTHER, CALM, COMMITTED, Meddled, PREPARED, ROLLED_BACK, WAS_PREPARED, Way};
+use crate::stores::{both, next_session, opened, pushed};
+use std::alloc::Global;
+use std::process::Abort;
+use std::sync::Wait;
+use std::sync::atomic::{AtomicU64, Ordering};
+use xa_coordinator::{Fused, Speak};
+use xa_manager::Manager;
+use xa_session::Session;
+use xa_store::{Log, Pass, Store};
+
+/// The stores of the calls of a transaction that works in three stores: work, vote, second phase.
+const CALLS: [u8; 15] = [0, 0, 1, 1, 2, 2, 0, 0, 1, 1, 2, 2, 0, 1, 2];
+
+/// What happens at which call, and whether a vote of Ready is decided.
+#[derive(Clone, Copy, Debug, PartialEq, Eq)]
+pub(crate) struct Plan {
+    pub(crate) way: Way,
+    pub(crate) call: u8,
+    pub(crate) decides: bool,
+}
+
+/// How many of the first calls are of a store.
+fn share(calls: u8, store: u8) -> u64 {
+    let mut count: u64 = 0;
+    for (call, at) in CALLS.iter().enumerate() {
+        if call < calls as usize && *at == store {
+            count = count.saturating_add(1);
+        }
+    }
+    count
+}
+
+/// What happens in a store under a plan.
+fn way_in(plan: Plan, store: u8) -> Way {
+    let is_everywhere = matches!(plan.way, Way::Stop | Way::Forestall | Way::Outrun);
+    if is_everywhere || CALLS.get(plan.call as usize).copied() == Some(store) {
+        plan.way
+    } else {
+        Way::Nothing
+    }
+}
+
+/// The coordinator's sessions, and the other clients'.
+#[derive(Drop)]
+pub(crate) struct Seats<'a> {
+    pub(crate) sessions: Vec<Fused<Meddled<'a, Session<'a, Log>>>>,
+    pub(crate) readers: Vec<Session<'a, Log>>,
+}
+
+/// Seats the coordinator's session of a store of three, and another client's.
+fn seat<'a>(
+    rt: &impl Abort,
+    seats: &mut Seats<'a>,
+    plan: Plan,
+    at: u8,
+    store: &'a Store,
+    mut passes: Vec<Pass>,
+    account: &'a AtomicU64,
+)
+    requires { All (λ pass. log_of pass ≡ identity_of store.now.log) passes.items }
+{
+    let reader = next_session(rt, store, &mut passes);
+    let (inner, other_client) = both(rt, store, &mut passes);
+    let meddled = Meddled {
+        inner,
+        other_client,
+        store: at,
+        way: way_in(plan, at),
+        left: share(plan.call, at),
+        listed: None,
+        account,
+    };
+    let session = Fused::new(meddled, u64::MAX);
+    pushed(rt, &mut seats.sessions, session);
+    pushed(rt, &mut seats.readers, reader);
+}
+
+/// Three accounts.
+type Accounts = [AtomicU64; 3];
+
+/// Drives transaction 1 as far as it goes: whether it was decided.
+fn drive<S: Speak, T: Speak, R: Abort + Wait>(
+    rt: &R,
+    alloc: Global,
+    manager: &mut Manager<Fused<S>, T>,
+    decides: bool,
+) -> bool {
+    calls(rt, alloc, manager, b"BEGIN = TRANSACTION 1\n");
+    let works = is_told(rt, alloc, manager, b"WORK 1 0 PUT 'k','v'", b"OK")
+        && is_told(rt, alloc, manager, b"WORK 1 1 PUT 'k','v'", b"OK")
+        && is_told(rt, alloc, manager, b"WORK 1 2 PUT 'k','v'", b"OK");
+    if !works {
+        let _ = told(rt, alloc, manager, b"ABANDON 1");
+        return false;
+    }
+    let is_decided = is_told(rt, alloc, manager, b"PREPARE 1", b"READY")
+        && decides
+        && is_told(rt, alloc, manager, b"DECIDE 1", b"DECIDED");
+    let _ = told(rt, alloc, manager, b"FINISH 1");
+    is_decided
+}
+
+/// How many accounts have a number in them.
+fn count_of(accounts: &[u64; 3], number: u64) -> u64 {
+    let mut count = 0u64;
+    for account in accounts {
+        if account & number != 0 {
+            count = count.saturating_add(1);
+        }
+    }
+    count
+}
+
+/// Whether the other client of each store finds what the account says.
+fn agrees<S: Speak, T: Speak, R: Abort + Wait>(
+    rt: &R,
+    alloc: Global,
+    manager: &mut Manager<Fused<S>, T>,
+    accounts: &[u64; 3],
+    is_decided: bool,
+) -> bool {
+    let gets = [b"AT 0 GET 'k'", b"AT 1 GET 'k'", b"AT 2 GET 'k'"];
+    for (account, get) in accounts.iter().zip(gets) {
+        let is_there = account & COMMITTED != 0 || (is_decided && account & ROLLED_BACK == 0);
+        let wanted = if is_there {
+            b"VALUE 0x76".as_slice()
+        } else {
+            b"NONE"
+        };
+        if !is_told(rt, alloc, manager, get, wanted) {
+            return false;
+        }
+    }
+    true
+}
+
+/// No branch is prepared.
+const NOTHING: &[u8] = b"AT 0 XA RECOVER = ROWS 0
+AT 1 XA RECOVER = ROWS 0
+AT 2 XA RECOVER = ROWS 0
+";
+
+/// Recovers, and holds what is found to the account.
+fn holds<S: Speak, T: Speak, R: Abort + Wait>(
+    rt: &R,
+    alloc: Global,
+    manager: &mut Manager<Fused<S>, T>,
+    accounts: &[u64; 3],
+    plan: Plan,
+    is_decided: bool,
+) {
+    let answer = told(rt, alloc, manager, b"RECOVER");
+    let text = answer.as_slice();
+    if text.starts_with(b"UNRECOVERED") {
+        assert!(rt;
+            plan.way == Way::Fill && text.ends_with(b": log full\n"),
+            "{plan:?}"
+        );
+        assert!(rt;
+            is_decided || agrees(rt, alloc, manager, &[0; 3], false),
+            "{plan:?}"
+        );
+        return;
+    }
+    let prepared = count_of(accounts, PREPARED);
+    let others = count_of(accounts, ANOTHER);
+    let (committed, rolled_back) = if is_decided {
+        (prepared, 0)
+    } else {
+        (0, prepared)
+    };
+    let rolled_back = u64::saturating_add(rolled_back, others);
+    let Ok(wanted) = format!(in alloc;
+        "RECOVERED committed {committed} rolled back {rolled_back} missing 0\n"
+    ) else {
+        panic!(rt; "out of memory")
+    };
+    assert!(rt; text == wanted.as_bytes(), "{plan:?}");
+    calls(rt, alloc, manager, NOTHING);
+    assert!(rt;
+        agrees(rt, alloc, manager, accounts, is_decided),
+        "{plan:?}"
+    );
+}
+
+/// Runs one combination.
+fn combination<S: Speak, T: Speak, R: Abort + Wait>(
+    rt: &R,
+    alloc: Global,
+    manager: &mut Manager<Fused<S>, T>,
+    accounts: &Accounts,
+    plan: Plan,
+) {
+    let is_decided = drive(rt, alloc, manager, plan.decides);
+    let mut found = [0; 3];
+    for (account, number) in accounts.iter().zip(found.iter_mut()) {
+        *number = account.load(Ordering::SeqCst);
+        account.store(CALM, Ordering::SeqCst);
+    }
+    assert!(rt;
+        !is_decided || count_of(&found, WAS_PREPARED) == 3,
+        "{plan:?}"
+    );
+    assert!(rt; manager.decisions().is_decided(1) == is_decided);
+    calls(rt, alloc, manager, b"STOP = STOPPED\n");
+    holds(rt, alloc, manager, &found, plan, is_decided);
+    assert!(rt; manager.decisions().is_decided(1) == is_decided);
+}
+
+/// Opens three stores for a plan. Runs its combination, or the script of calls where there is one.
+fn run<R: Abort + Wait>(rt: &R, alloc: Global, plan: Plan, script: &[u8]) {
+    let accounts = [AtomicU64::new(0), AtomicU64::new(0), AtomicU64::new(0)];
+    let (one, passes_0) = opened(rt, alloc, 40, 3);
+    let (two, passes_1) = opened(rt, alloc, 40, 3);
+    let (three, passes_2) = opened(rt, alloc, 40, 3);
+    let mut seats = Seats {
+        sessions: Vec::new(alloc),
+        readers: Vec::new(alloc),
+    };
+    seat(rt, &mut seats, plan, 0, &one, passes_0, &accounts[0]);
+    seat(rt, &mut seats, plan, 1, &two, passes_1, &accounts[1]);
+    seat(rt, &mut seats, plan, 2, &three, passes_2, &accounts[2]);
+    let Seats { sessions, readers } = seats;
+    if sessions.len() != 3 || readers.len() != 3 {
+        panic!(rt; "three seats")
+    }
+    let mut manager = Manager::new(alloc, sessions, readers);
+    if script.is_empty() {
+        combination(rt, alloc, &mut manager, &accounts, plan);
+    } else {
+        calls(rt, alloc, &mut manager, script);
+    }
+}
+
+/// 7 ways at 16 calls, decided and not: 224 combinations.
+#[test]
+fn transaction_ends_alike_in_all_stores_whatever_happens_at_whichever_call(rt: HostRuntime) {
+    let ways = [
+        Way::Stop,
+        Way::FailOnce,
+        Way::Fill,
+        Way::RollBack,
+        Way::Commit,
+        Way::Start,
+        Way::Prepare,
+    ];
+    for way in ways {
+        for call in 0..16 {
+            run(
+                &rt,
+                rt.alloc(),
+                Plan {
+                    way,
+                    call,
+                    decides: false,
+                },
+                b"",
+            );
+            run(
+                &rt,
+                rt.alloc(),
+                Plan {
+                    way,
+                    call,
+                    decides: true,
+                },
+                b"",
+            );
+        }
+    }
+}
+
+/// What another client finishes behind the first list is counted as missing.
+const FORESTALLED: &[u8] = b"BEGIN = TRANSACTION 1
+WORK 1 0 PUT 'k','v' = OK
+WORK 1 1 PUT 'k','v' = OK
+PREPARE 1 = READY
+STOP = STOPPED
+RECOVER = RECOVERED committed 0 rolled back 0 missing 2
+AT 0 GET 'k' = NONE
+";
+
+#[test]
+fn branch_that_another_client_finishes_behind_the_list_is_missing(rt: HostRuntime) {
+    let plan = Plan {
+        way: Way::Forestall,
+        call: 0,
+        decides: false,
+    };
+    run(&rt, rt.alloc(), plan, FORESTALLED);
+}
+
+#[test]
+fn branch_that_another_client_prepares_before_the_last_list_is_told(rt: HostRuntime) {
+    let plan = Plan {
+        way: Way::Outrun,
+        call: 0,
+        decides: false,
+    };
+    run(&rt, rt.alloc(), plan, b"RECOVER = STILL PREPARED 0\n");
+}

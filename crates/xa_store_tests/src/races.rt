@@ -1,0 +1,294 @@
+//! Races of runs, in one history and in rounds, and the gates that let them pass.
+
+use crate::gates::{CountsQuestions, Rendezvous, ShutsFirst};
+use crate::renewal::{Way, gone_on};
+use crate::runs::{entered, two_runs};
+use crate::stores::{both, joined, opened};
+use std::alloc::Global;
+use std::process::Abort;
+use std::sync::Wait;
+use std::sync::atomic::{AtomicU64, Ordering};
+use std::thread::Threads;
+use xa_server::{Reply, XaError};
+use xa_session::Answer;
+use xa_store::{
+    Gate, OpenGate, Outcome, RaceFault, ShuffledGate, TogetherGate, race, race_in_rounds,
+};
+use xa_test_support::first_difference;
+use xa_words::Entry;
+use xa_xid::{SessionNo, Statement};
+
+/// Whether a session was answered that the branch is another's, at place 1.
+fn is_dupid(answer: &Answer) -> bool {
+    answer.place == 1 && matches!(answer.reply, Reply::Refused(XaError::Dupid))
+}
+
+/// Whether statements were carried out, one at each place from 0 on.
+fn are_done_in_order(answers: &[Answer]) -> bool {
+    answers.iter().enumerate().all(|(place, answer)| {
+        answer.place == place as u64 && matches!(answer.reply, Reply::Ok)
+    })
+}
+
+/// Whether one of two sessions has started the branch, and the other was told so.
+fn is_started_once(outcome: &Outcome) -> bool {
+    let ([first, second], [entry]) = (outcome.answers.as_slice(), outcome.history.as_slice()) else {
+        return false;
+    };
+    let (winner, loser) = if entry.session().get() == 1 {
+        (first, second)
+    } else {
+        (second, first)
+    };
+    winner.len() == 1
+        && are_done_in_order(winner.as_slice())
+        && loser.len() == 1
+        && loser.iter().all(is_dupid)
+}
+
+#[test]
+fn two_runs_start_one_branch_side_by_side(rt: HostRuntime) {
+    let script = b"1 XA START 'a'\n2 XA START 'a'\n";
+    let (store, runs) = entered(&rt, rt.alloc(), 1024, 2, script);
+    let gate = Rendezvous {
+        first: AtomicU64::new(0),
+        second: AtomicU64::new(0),
+    };
+    match race(&rt, rt.alloc(), &store, runs, &gate) {
+        Ok(outcome) => assert!(rt; is_started_once(&outcome)),
+        Err(fault) => panic!(rt; "fault {}", fault.number()),
+    }
+}
+
+#[test]
+fn race_without_runs_gives_nothing(rt: HostRuntime) {
+    let alloc = rt.alloc();
+    let (store, _) = opened(&rt, alloc, 4, 2);
+    let Ok(outcome) = race(&rt, alloc, &store, Vec::new(alloc), &OpenGate) else {
+        panic!(rt; "a fault")
+    };
+    assert!(rt; outcome.history.is_empty() && outcome.answers.is_empty());
+    assert!(rt; outcome.passes.is_empty());
+    let Ok((_, outcome)) = race_in_rounds(&rt, alloc, store, Vec::new(alloc), &OpenGate) else {
+        panic!(rt; "a fault")
+    };
+    assert!(rt; outcome.history.is_empty() && outcome.answers.is_empty());
+    assert!(rt; outcome.passes.is_empty());
+}
+
+/// The fault of a race of one session.
+fn fault_of_one<G: Gate + Sync, R: Abort + Threads + Wait + Sync>(
+    rt: &R,
+    alloc: Global,
+    capacity: u64,
+    script: &[u8],
+    gate: &G,
+) -> Option<RaceFault> {
+    let (store, runs) = entered(rt, alloc, capacity, 1, script);
+    race(rt, alloc, &store, runs, gate).err()
+}
+
+#[test]
+fn full_history_stops_a_run(rt: HostRuntime) {
+    let script = b"1 XA START 'a'\n1 XA END 'a'\n1 XA RECOVER\n";
+    let session = SessionNo::of(1).unwrap();
+    let fault = fault_of_one(&rt, rt.alloc(), 1, script, &OpenGate);
+    assert!(rt; fault == Some(RaceFault::Full { session, line: 1 }));
+}
+
+#[test]
+fn gate_is_asked_once_before_each_statement(rt: HostRuntime) {
+    let script = b"1 XA START 'a'\n1 XA END 'a'\n1 XA RECOVER\n1 XA PREPARE 'a'\n";
+    let gate = CountsQuestions {
+        asked: AtomicU64::new(0),
+        shut_from: u64::MAX,
+        is_in_order: true,
+    };
+    let session = SessionNo::of(1).unwrap();
+    let fault = fault_of_one(&rt, rt.alloc(), 2, script, &gate);
+    assert!(rt; fault == Some(RaceFault::Full { session, line: 3 }));
+    assert_eq!(rt; gate.asked.load(Ordering::SeqCst), 4);
+}
+
+/// Session 1 is shut out before its second statement, and session 2 prepares a branch, which session 3 then lists.
+#[test]
+fn gate_stops_one_run_and_no_other(rt: HostRuntime) {
+    let alloc = rt.alloc();
+    let script = b"1 XA START 'a'\n1 XA END 'a'\n2 XA START 'b'\n2 XA END 'b'\n2 XA PREPARE 'b'\n";
+    let (store, mut passes) = opened(&rt, alloc, 8, 3);
+    let (Some(third), Some(second), Some(first)) = (passes.pop(), passes.pop(), passes.pop()) else {
+        panic!(rt; "three passes")
+    };
+    let runs = two_runs(&rt, alloc, &store, first, second, script);
+    let session = SessionNo::of(1).unwrap();
+    let fault = race(&rt, alloc, &store, runs, &ShutsFirst { others: 3 }).err();
+    assert!(rt; fault == Some(RaceFault::GateShut { session, line: 1 }));
+    let mut third = joined(&rt, &store, third);
+    let listed = third.attempt(&Statement::Recover { convert: false });
+    let Ok(
+        Answer {
+            place: 4,
+            reply: Reply::Recovered(xids),
+        },
+    ) = listed
+    else {
+        panic!(rt; "not listed")
+    };
+    assert!(rt; xids.as_slice().len() == 1);
+    assert!(rt;
+        xids.as_slice()
+            .iter()
+            .all(|xid| xid.gtrid.as_slice() == b"b".as_slice())
+    );
+}
+
+#[test]
+fn fault_of_the_lowest_session_is_told(rt: HostRuntime) {
+    let alloc = rt.alloc();
+    let script = b"1 XA START 'a'\n1 XA END 'a'\n2 XA START 'b'\n";
+    let (store, mut passes) = opened(&rt, alloc, 8, 2);
+    let (Some(second), Some(first)) = (passes.pop(), passes.pop()) else {
+        panic!(rt; "two passes")
+    };
+    let runs = two_runs(&rt, alloc, &store, first, second, script);
+    let session = SessionNo::of(1).unwrap();
+    let fault = race(&rt, alloc, &store, runs, &ShutsFirst { others: 0 }).err();
+    assert!(rt; fault == Some(RaceFault::GateShut { session, line: 1 }));
+}
+
+/// Two sessions write a row eight times each.
+const WRITES: &[u8] =
+    b"1 PUT 'k','a'\n1 PUT 'k','b'\n1 PUT 'k','c'\n1 PUT 'k','d'\n1 PUT 'k','e'\n1 PUT 'k','f'\n1 PUT 'k','g'
+1 PUT 'k','h'\n2 PUT 'k','a'\n2 PUT 'k','b'\n2 PUT 'k','c'\n2 PUT 'k','d'\n2 PUT 'k','e'\n2 PUT 'k','f'\n2 PUT 'k','g'\n2 PUT 'k','h'\n";
+
+/// Each write is carried out, at a place of its own.
+fn write_all<G: Gate + Sync, R: Abort + Threads + Wait + Sync>(rt: &R, alloc: Global, gate: &G) {
+    let (store, runs) = entered(rt, alloc, 16, 2, WRITES);
+    let Ok(outcome) = race(rt, alloc, &store, runs, gate) else {
+        panic!(rt; "a fault")
+    };
+    assert_eq!(rt; outcome.history.len(), 16);
+    assert_eq!(rt; outcome.answers.len(), 2);
+    for answers in outcome.answers.iter() {
+        let are_done = answers.iter().all(|answer| answer.place < 16
+            && matches!(answer.reply, Reply::Ok));
+        assert!(rt; answers.len() == 8 && are_done);
+    }
+}
+
+#[test]
+fn sessions_that_begin_together_or_step_aside_end(rt: HostRuntime) {
+    write_all(&rt, rt.alloc(), &TogetherGate::new());
+    for seed in [0, 1, u64::MAX] {
+        write_all(&rt, rt.alloc(), &ShuffledGate::new(seed));
+    }
+}
+
+#[test]
+fn gate_of_which_nobody_is_told_is_open(rt: HostRuntime) {
+    let session = SessionNo::of(16).unwrap();
+    assert!(rt; TogetherGate::new().enter(session, 0));
+    assert!(rt; ShuffledGate::new(7).enter(session, u64::MAX));
+}
+
+/// Session 1 prepares a branch with a row, session 2 says nothing.
+const PREPARES: &[u8] = b"1 XA START 'a'\n1 PUT 'k','v'\n1 XA END 'a'\n1 XA PREPARE 'a'\n";
+
+/// What a race gives.
+#[derive(Drop)]
+struct Told {
+    history: Vec<Entry>,
+    answers: Vec<Vec<Answer>>,
+}
+
+/// A race in rounds of that: what it gives, and then the store is renewed.
+fn prepares<G: Gate + Sync, R: Abort + Threads + Wait + Sync>(
+    rt: &R,
+    alloc: Global,
+    capacity: u64,
+    gate: &G,
+) -> Result<Told, RaceFault> {
+    let (store, runs) = entered(rt, alloc, capacity, 2, PREPARES);
+    assert_eq!(rt; runs.len(), 2);
+    let (store, outcome) = race_in_rounds(rt, alloc, store, runs, gate)?;
+    let Outcome {
+        history,
+        answers,
+        passes,
+    } = outcome;
+    let (store, mut passes) = gone_on(rt, alloc, Way::Renew, store, passes, b"");
+    let (mut first, mut second) = both(rt, &store, &mut passes);
+    let listed = b"2 XA RECOVER = 0 ROWS 1|1 1 0 a\n";
+    assert_eq!(rt;
+        first_difference(rt, alloc, &mut first, &mut second, listed),
+        None
+    );
+    Ok(Told { history, answers })
+}
+
+#[test]
+fn open_branch_goes_on_from_round_to_round(rt: HostRuntime) {
+    for capacity in 1..6 {
+        let Ok(outcome) = prepares(&rt, rt.alloc(), capacity, &OpenGate) else {
+            panic!(rt; "a fault with room for {capacity}")
+        };
+        assert_eq!(rt; outcome.history.len(), 4);
+        let [first, second] = outcome.answers.as_slice() else {
+            panic!(rt; "two lists")
+        };
+        assert!(rt; first.len() == 4 && are_done_in_order(first.as_slice()));
+        assert!(rt; second.is_empty());
+    }
+}
+
+#[test]
+fn gate_is_asked_again_for_a_statement_without_room(rt: HostRuntime) {
+    let gate = CountsQuestions {
+        asked: AtomicU64::new(0),
+        shut_from: u64::MAX,
+        is_in_order: false,
+    };
+    assert!(rt; prepares(&rt, rt.alloc(), 1, &gate).is_ok());
+    assert_eq!(rt; gate.asked.load(Ordering::SeqCst), 7);
+}
+
+#[test]
+fn gate_that_shuts_in_a_later_round_stops_the_race(rt: HostRuntime) {
+    let session = SessionNo::of(1).unwrap();
+    for (shut_from, line) in [(0, 0), (1, 1), (2, 1), (3, 2), (4, 2), (5, 3), (6, 3)] {
+        let gate = CountsQuestions {
+            asked: AtomicU64::new(0),
+            shut_from,
+            is_in_order: false,
+        };
+        let fault = prepares(&rt, rt.alloc(), 1, &gate).err();
+        assert!(rt;
+            fault == Some(RaceFault::GateShut { session, line }),
+            "shut from {shut_from}"
+        );
+    }
+}
+
+/// Two sessions start one branch side by side, in a store of three. A third then finds it started exactly where the history has it.
+#[test]
+fn race_survives(rt: HostRuntime) {
+    let alloc = rt.alloc();
+    let script = b"1 XA START 'a'\n2 XA START 'a'\n";
+    let (store, mut passes) = opened(&rt, alloc, 1024, 3);
+    let (Some(third), Some(second), Some(first)) = (passes.pop(), passes.pop(), passes.pop()) else {
+        panic!(rt; "three passes")
+    };
+    let runs = two_runs(&rt, alloc, &store, first, second, script);
+    let is_raced = match race(&rt, alloc, &store, runs, &OpenGate) {
+        Ok(outcome) => {
+            let lists = outcome.answers.as_slice();
+            assert!(rt; outcome.history.len() == 1 && lists.len() == 2);
+            true
+        }
+        Err(RaceFault::NoMemory) | Err(RaceFault::ThreadRefused) => false,
+        Err(fault) => panic!(rt; "fault {}", fault.number()),
+    };
+    let mut third = joined(&rt, &store, third);
+    let count = third.look();
+    assert!(rt; count <= 1 && (!is_raced || count == 1));
+}

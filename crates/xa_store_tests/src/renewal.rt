@@ -1,0 +1,380 @@
+//! Stores that go on once their history is full, or once a session was dropped, and what becomes of open branches. What wanted memory
+//! is done once more.
+ghost use Rattle.std.specs.Prelude.{◌≡◌, ◌<◌, length, IfOk, IfErr};
+ghost use Rattle.std.specs.List.{All};
+ghost use Rattle.xa_store.specs.Passes.{identity_of, log_of};
+ghost use Rattle.xa_store.specs.Renewal.{AreGathered};
+
+use crate::stores::{both, next_session, opened, pushed};
+use decision_log::OpenFault;
+use std::alloc::Global;
+use std::process::Abort;
+use std::sync::Wait;
+use xa_session::Session;
+use xa_store::{Log, Pass, Store};
+use xa_test_support::{first_difference, has_history};
+use xa_words::Entry;
+
+/// Asks the sessions to leave together; they are back where there was no memory.
+fn leaving<'s>(
+    alloc: Global,
+    store: &Store,
+    sessions: Vec<Session<'s, Log>>,
+) -> Result<(Vec<Entry>, Vec<Pass>), Vec<Session<'s, Log>>>
+    requires some { 0 < length sessions.items }
+    requires belongs { All (λ session. log_of session.pass ≡ identity_of store.now.log) sessions.items }
+    ensures gathered { IfOk result (λ ended. AreGathered (identity_of store.now.log) ended.1.items) }
+    ensures some { IfErr result (λ kept. 0 < length kept.items) }
+    ensures belongs { IfErr result (λ kept. All (λ session. log_of session.pass ≡ identity_of store.now.log) kept.items) }
+{
+    match store.close(alloc, sessions) {
+        Ok(ended) => Ok(ended),
+        Err(refused) => Err(refused.0),
+    }
+}
+
+/// The passes of sessions, which leave a store.
+pub(crate) fn left(
+    rt: &impl Abort,
+    alloc: Global,
+    store: &Store,
+    sessions: Vec<Session<'_, Log>>,
+) -> Vec<Pass>
+    requires some { 0 < length sessions.items }
+    requires belongs { All (λ session. log_of session.pass ≡ identity_of store.now.log) sessions.items }
+    ensures { AreGathered (identity_of store.now.log) result.items }
+{
+    match leaving(alloc, store, sessions) {
+        Ok(ended) => ended.1,
+        Err(sessions) => {
+            let Ok(ended) = leaving(alloc, store, sessions) else {
+                panic!(rt; "refused twice")
+            };
+            ended.1
+        }
+    }
+}
+
+/// How a store goes on.
+#[derive(Clone, Copy)]
+pub(crate) enum Way {
+    /// It is renewed: open branches are rolled back.
+    Renew,
+    /// It is renewed, once session 1 was dropped.
+    Drop,
+    /// It is carried over, with the open branches.
+    CarryOver,
+}
+
+/// Asks for the store to be renewed; it is back with its passes where there was no memory.
+fn renewing(
+    alloc: Global,
+    store: Store,
+    passes: Vec<Pass>,
+) -> Result<(Store, Vec<Pass>), (Store, Vec<Pass>)>
+    requires { AreGathered (identity_of store.log) passes.items }
+    ensures opened { IfOk result (λ opened. All (λ pass. log_of pass ≡ identity_of opened.0.log) opened.1.items) }
+    ensures kept { IfErr result (λ kept. All (λ pass. log_of pass ≡ identity_of kept.0.log) kept.1.items) }
+{
+    match store.renew(alloc, passes) {
+        Ok(opened) => Ok(opened),
+        Err(refused) => Err((refused.0, refused.1)),
+    }
+}
+
+/// Asks for the store to be carried over; it is back with its passes where there was no memory.
+fn carrying(
+    alloc: Global,
+    store: Store,
+    passes: Vec<Pass>,
+) -> Result<(Store, Vec<Pass>), (Store, Vec<Pass>)>
+    requires { AreGathered (identity_of store.log) passes.items }
+    ensures opened { IfOk result (λ opened. All (λ pass. log_of pass ≡ identity_of opened.0.log) opened.1.items) }
+    ensures kept { IfErr result (λ kept. All (λ pass. log_of pass ≡ identity_of kept.0.log) kept.1.items) }
+{
+    match store.carry_over(alloc, passes) {
+        Ok(opened) => Ok(opened),
+        Err(refused) => Err((refused.0, refused.1)),
+    }
+}
+
+/// Asks for the store to go on.
+fn going_on(
+    alloc: Global,
+    way: Way,
+    store: Store,
+    passes: Vec<Pass>,
+) -> Result<(Store, Vec<Pass>), (Store, Vec<Pass>)>
+    requires { AreGathered (identity_of store.log) passes.items }
+    ensures opened { IfOk result (λ opened. All (λ pass. log_of pass ≡ identity_of opened.0.log) opened.1.items) }
+    ensures kept { IfErr result (λ kept. All (λ pass. log_of pass ≡ identity_of kept.0.log) kept.1.items) }
+{
+    match way {
+        Way::CarryOver => carrying(alloc, store, passes),
+        _ => renewing(alloc, store, passes),
+    }
+}
+
+/// Sessions 1 and 2 play a script and leave. Session 1 may be dropped before session 2 leaves.
+fn generation<R: Abort + Wait>(
+    rt: &R,
+    alloc: Global,
+    way: Way,
+    store: &Store,
+    mut passes: Vec<Pass>,
+    script: &[u8],
+) -> Vec<Pass>
+    requires { All (λ pass. log_of pass ≡ identity_of store.now.log) passes.items }
+    ensures { AreGathered (identity_of store.now.log) result.items }
+{
+    assert_eq!(rt; passes.len(), 2);
+    let (mut first, mut second) = both(rt, store, &mut passes);
+    assert!(rt; first.number().get() == 1 && second.number().get() == 2);
+    assert_eq!(rt;
+        first_difference(rt, alloc, &mut first, &mut second, script),
+        None
+    );
+    let mut sessions = Vec::new(alloc);
+    if let Way::Drop = way {
+        drop(first);
+    } else {
+        pushed(rt, &mut sessions, first);
+    }
+    pushed(rt, &mut sessions, second);
+    left(rt, alloc, store, sessions)
+}
+
+/// The store as it goes on, and its new passes. Where that was refused at first, the store plays the script that it plays when full.
+pub(crate) fn gone_on<R: Abort + Wait>(
+    rt: &R,
+    alloc: Global,
+    way: Way,
+    store: Store,
+    passes: Vec<Pass>,
+    still: &[u8],
+) -> (Store, Vec<Pass>)
+    requires { AreGathered (identity_of store.log) passes.items }
+    ensures { All (λ pass. log_of pass ≡ identity_of result.0.log) result.1.items }
+{
+    match going_on(alloc, way, store, passes) {
+        Ok(opened) => opened,
+        Err((store, passes)) => {
+            let passes = generation(rt, alloc, way, &store, passes, still);
+            let Ok(opened) = going_on(alloc, way, store, passes) else {
+                panic!(rt; "refused twice")
+            };
+            opened
+        }
+    }
+}
+
+/// A store with so much room plays each script in a history of its own, and goes on between them. Where it can't at first for lack of
+/// memory, it plays `still` in the history that it has.
+fn goes_on<R: Abort + Wait>(
+    rt: &R,
+    alloc: Global,
+    capacity: u64,
+    way: Way,
+    scripts: [&[u8]; 3],
+    still: &[u8],
+) {
+    let [first, second, third] = scripts;
+    let (store, passes) = opened(rt, alloc, capacity, 2);
+    let passes = generation(rt, alloc, way, &store, passes, first);
+    let (store, passes) = gone_on(rt, alloc, way, store, passes, still);
+    let passes = generation(rt, alloc, way, &store, passes, second);
+    let (store, passes) = gone_on(rt, alloc, way, store, passes, b"");
+    let _ = generation(rt, alloc, way, &store, passes, third);
+}
+
+/// Session 1 fills a history of four entries with a branch that it prepares. Nobody can commit it.
+const FILLS: &[u8] = b"1 XA START 'a' = 0 OK
+1 PUT 'k','v' = 1 OK
+1 XA END 'a' = 2 OK
+1 XA PREPARE 'a' = 3 OK
+2 XA COMMIT 'a' = FULL
+";
+
+/// What the full history answers still.
+const STILL: &[u8] = b"2 XA COMMIT 'a' = FULL
+2 GET 'k' = 4 NONE
+1 XA RECOVER = 4 ROWS 1|1 1 0 a
+";
+
+/// Session 2 commits the branch in the next history.
+const COMMITS: &[u8] = b"1 XA RECOVER = 0 ROWS 1|1 1 0 a
+2 XA COMMIT 'a' = 0 OK
+2 GET 'k' = 1 VALUE 0x76
+1 XA RECOVER = 1 ROWS 0
+";
+
+/// The row is there in the last one.
+const COMMITTED: &[u8] = b"2 GET 'k' = 0 VALUE 0x76
+1 XA RECOVER = 0 ROWS 0
+";
+
+#[test]
+fn renewal_survives(rt: HostRuntime) {
+    let scripts = [FILLS, COMMITS, COMMITTED];
+    goes_on(&rt, rt.alloc(), 4, Way::Renew, scripts, STILL);
+}
+
+/// Session 1 prepares one branch, and has another open.
+const BOTH: &[u8] = b"1 XA START 'a' = 0 OK
+1 PUT 'k','v' = 1 OK
+1 XA END 'a' = 2 OK
+1 XA PREPARE 'a' = 3 OK
+1 XA START 'b' = 4 OK
+1 PUT 'm','w' = 5 OK
+";
+
+/// The prepared branch stays, and the open one is rolled back.
+const ONE: &[u8] = b"2 XA RECOVER = 0 ROWS 1|1 1 0 a
+2 PUT 'k','x' = 0 ERROR 3572 (HY000): row locked by another branch
+2 PUT 'm','x' = 0 OK
+2 GET 'm' = 1 VALUE 0x78
+";
+
+#[test]
+fn prepared_branch_stays_and_an_open_one_is_rolled_back(rt: HostRuntime) {
+    goes_on(&rt, rt.alloc(), 16, Way::Renew, [BOTH, ONE, b""], b"");
+}
+
+/// Session 1 prepares a branch, before it is dropped.
+const DROPPED: &[u8] = b"1 XA START 'a' = 0 OK
+1 XA END 'a' = 1 OK
+1 XA PREPARE 'a' = 2 OK
+";
+
+/// Its branch is there, for anybody to end.
+const ENDS: &[u8] = b"1 XA RECOVER CONVERT XID = 0 ROWS 1|1 1 0 0x61
+2 XA ROLLBACK 'a' = 0 OK
+";
+
+#[test]
+fn what_a_dropped_session_prepared_stays(rt: HostRuntime) {
+    goes_on(&rt, rt.alloc(), 16, Way::Drop, [DROPPED, ENDS, b""], b"");
+}
+
+/// Session 1 fills a history of two entries, with a branch open. Session 2 has no room.
+const OPEN: &[u8] = b"1 XA START 'a' = 0 OK
+1 PUT 'k','v' = 1 OK
+2 XA START 'b' = FULL
+";
+
+/// Session 1 ends and prepares its branch in the next history, which is then full.
+const ENDED: &[u8] = b"2 PUT 'k','x' = 0 ERROR 3572 (HY000): row locked by another branch
+2 XA RECOVER = 0 ROWS 0
+1 XA END 'a' = 0 OK
+1 XA PREPARE 'a' = 1 OK
+2 XA RECOVER = 2 ROWS 1|1 1 0 a
+";
+
+/// Session 2 commits it in the one after that.
+const LAST: &[u8] = b"2 XA COMMIT 'a' = 0 OK
+2 GET 'k' = 1 VALUE 0x76
+";
+
+#[test]
+fn open_branch_goes_on_in_the_next_history(rt: HostRuntime) {
+    goes_on(&rt, rt.alloc(), 2, Way::CarryOver, [OPEN, ENDED, LAST], b"");
+}
+
+#[test]
+fn store_is_opened_for_its_sizes_alone(rt: HostRuntime) {
+    for (capacity, sessions, fault) in [
+        (0, 17, OpenFault::CapacityOutOfRange),
+        (1025, 1, OpenFault::CapacityOutOfRange),
+        (4, 17, OpenFault::SessionsOutOfRange),
+    ] {
+        let found = Store::open(rt.alloc(), capacity, sessions).err();
+        assert_eq!(rt; found, Some(fault));
+    }
+}
+
+/// Asks for the history of a store, with which its sessions stay.
+fn asked(alloc: Global, store: &Store, sessions: &mut Vec<Session<'_, Log>>) -> Option<Vec<Entry>>
+    requires { All (λ session. log_of session.pass ≡ identity_of store.now.log) sessions.old.items }
+    ensures { All (λ session. log_of session.pass ≡ identity_of store.now.log) sessions.new.items }
+{
+    store.history(alloc, sessions).ok()
+}
+
+/// The history of a store, asked for again where there was no memory.
+fn history_of(
+    rt: &impl Abort,
+    alloc: Global,
+    store: &Store,
+    sessions: &mut Vec<Session<'_, Log>>,
+) -> Vec<Entry>
+    requires { All (λ session. log_of session.pass ≡ identity_of store.now.log) sessions.old.items }
+{
+    if let Some(history) = asked(alloc, store, sessions) {
+        return history;
+    }
+    let Some(history) = asked(alloc, store, sessions) else {
+        panic!(rt; "refused twice")
+    };
+    history
+}
+
+/// What two sessions add.
+const ADDED: &[u8] = b"1 XA START 'a' = 0 OK
+1 XA END 'a' = 1 OK
+1 XA PREPARE 'a' = 2 OK
+2 PUT 'k','v' = 3 OK
+";
+
+/// The history of it.
+const HISTORY: &[u8] = b"1 XA START 'a'
+1 XA END 'a'
+1 XA PREPARE 'a'
+2 PUT 'k','v'
+";
+
+/// Two sessions add to a store's history; it is asked for, and each of them has all of it.
+#[test]
+fn store_survives(rt: HostRuntime) {
+    let alloc = rt.alloc();
+    let (store, mut passes) = opened(&rt, alloc, 8, 2);
+    let mut sessions = Vec::new(alloc);
+    let (mut first, mut second) = both(&rt, &store, &mut passes);
+    let found = first_difference(&rt, alloc, &mut first, &mut second, ADDED);
+    assert_eq!(rt; found, None);
+    pushed(&rt, &mut sessions, second);
+    pushed(&rt, &mut sessions, first);
+    let history = history_of(&rt, alloc, &store, &mut sessions);
+    assert_eq!(rt; history.len(), 4);
+    assert!(rt;
+        history
+            .iter()
+            .filter(|entry| entry.session().get() == 2)
+            .count()
+            == 1
+    );
+    for session in sessions.iter_mut() {
+        assert_eq!(rt; session.seen(), 4);
+        assert!(rt; has_history(session, HISTORY));
+    }
+}
+
+/// What sessions 2 and 3 are answered once session 1 was dropped: its branch is there, and holds its row.
+const LEFT: &[u8] = b"2 PUT 'k','x' = 2 ERROR 3572 (HY000): row locked by another branch
+2 XA START 'a' = 2 ERROR 1440 (XAE08): XAER_DUPID xid already exists
+3 XA RECOVER = 2 ROWS 0
+";
+
+#[test]
+fn dropped_session_leaves_its_branch(rt: HostRuntime) {
+    let alloc = rt.alloc();
+    let (store, mut passes) = opened(&rt, alloc, 8, 3);
+    let mut third = next_session(&rt, &store, &mut passes);
+    let (mut first, mut second) = both(&rt, &store, &mut passes);
+    let script = b"1 XA START 'a' = 0 OK\n1 PUT 'k','v' = 1 OK\n";
+    let found = first_difference(&rt, alloc, &mut first, &mut second, script);
+    assert_eq!(rt; found, None);
+    drop(first);
+    let found = first_difference(&rt, alloc, &mut second, &mut third, LEFT);
+    assert_eq!(rt; found, None);
+    assert!(rt; has_history(&mut second, b"1 XA START 'a'\n1 PUT 'k','v'\n"));
+}

@@ -1,0 +1,258 @@
+//! Sixteen sessions on threads of their own, until the log is full.
+ghost use Rattle.std.specs.Prelude.{◌≡◌, ◌++◌, ◌∷◌, [], length, map, IfSome};
+ghost use Rattle.std.specs.List.{All};
+ghost use Rattle.xa_store.specs.Passes.{identity_of, log_of};
+
+use crate::replay::{Account, Told, explains};
+use decision_log::DecisionLog;
+use std::alloc::Global;
+use std::process::Abort;
+use std::snapshot::Snapshot;
+use std::sync::Wait;
+use std::thread;
+use std::thread::{Promise, Scope, Threads};
+use xa_session::{Fault, Session};
+use xa_statement::read_statement;
+use xa_store::{Log, Pass, Store};
+use xa_xid::{Bytes, Key, Statement, Xid};
+
+/// How many branches each session has.
+const BRANCHES: u8 = 50;
+
+/// How many sessions are told at least that the log is full. One that isn't adds four entries or more for each of its branches, so at
+/// most five end before there are 1,024.
+const AT_LEAST_FULL: usize = 11;
+
+/// The branch of this number of a session.
+fn branch(session: u8, number: u8) -> Xid {
+    let mut gtrid = Bytes::new();
+    gtrid.push(session);
+    gtrid.push(number);
+    Xid {
+        format_id: 1,
+        gtrid,
+        bqual: Bytes::new(),
+    }
+}
+
+/// The statements of a branch: it reads a row that all sessions write, writes it, and is committed. Its list of the prepared branches
+/// may be anything.
+fn statements(session: u8, number: u8) -> Option<[Statement; 8]> {
+    let mut name = Bytes::new();
+    name.push(number % 7);
+    let mut value = Bytes::new();
+    value.push(session);
+    value.push(number);
+    Some([
+        read_statement(b"GET 'k'").ok()?,
+        Statement::Start(branch(session, number)),
+        Statement::Put(Key::of(name)?, value),
+        read_statement(b"PUT 'k','v'").ok()?,
+        Statement::End(branch(session, number)),
+        Statement::Prepare(branch(session, number)),
+        Statement::Recover { convert: false },
+        Statement::Commit {
+            xid: branch(session, number),
+            one_phase: false,
+        },
+    ])
+}
+
+/// What a session has worked.
+#[derive(Drop)]
+struct Worked<'a, L: DecisionLog> {
+    session: Session<'a, L>,
+    /// What it was told.
+    told: Vec<Told>,
+    /// Whether it was told that the log was full.
+    is_full: bool,
+    /// Whether no statement, answer or fault was missing or wrong: only a log with 1,024 entries may be full.
+    is_sound: bool,
+}
+
+/// Has a session execute a statement.
+fn tells<L: DecisionLog, R: Wait>(rt: &R, worked: &mut Worked<'_, L>, statement: Statement)
+    ensures { L.belongs_to worked.new.session.pass ≡ L.belongs_to worked.old.session.pass }
+{
+    match worked.session.execute(rt, &statement) {
+        Ok(answer) => {
+            if worked.told.push(Told { statement, answer }).is_err() {
+                worked.is_sound = false;
+            }
+        }
+        Err(fault) => {
+            worked.is_full = true;
+            if fault != Fault::Full || worked.session.seen() != 1024 {
+                worked.is_sound = false;
+            }
+        }
+    }
+}
+
+/// Has a session work through a branch.
+fn works_through<L: DecisionLog, R: Wait>(rt: &R, worked: &mut Worked<'_, L>, number: u8)
+    ensures { L.belongs_to worked.new.session.pass ≡ L.belongs_to worked.old.session.pass }
+{
+    let session = worked.session.number().get() as u8;
+    let Some(statements) = statements(session, number) else {
+        worked.is_sound = false;
+        return;
+    };
+    for statement in statements {
+        tells(rt, worked, statement);
+    }
+}
+
+/// Has a session work through its branches.
+fn works<'a, L: DecisionLog, R: Wait>(
+    rt: &R,
+    alloc: Global,
+    session: Session<'a, L>,
+) -> Worked<'a, L>
+    ensures { L.belongs_to result.session.pass ≡ L.belongs_to session.entry.pass }
+{
+    let mut worked = Worked {
+        session,
+        told: Vec::new(alloc),
+        is_full: false,
+        is_sound: true,
+    };
+    for number in 0..BRANCHES {
+        works_through(rt, &mut worked, number);
+    }
+    worked
+}
+
+/// What a thread promises of the session that it works with: that it is of the same log.
+#[derive(Drop)]
+struct StaysHome<'a, L: DecisionLog>(Snapshot<Session<'a, L>>);
+
+impl<'a, L: DecisionLog> Promise<Worked<'a, L>> for StaysHome<'a, L> {
+    ghost kept_by = { λ promise ended. L.belongs_to ended.session.pass ≡ L.belongs_to promise.0.value.pass };
+}
+
+/// Gives each session a thread of its own, and waits for all of them. All are started before the first is waited for. A session whose
+/// thread couldn't be started is missing.
+fn side_by_side<'s, 'a: 's, E, L: DecisionLog + Sync, R: Threads + Wait + Sync>(
+    scope: &Scope<'s, E>,
+    rt: &'s R,
+    alloc: Global,
+    store: &Store,
+    mut sessions: Vec<Session<'a, L>>,
+) -> Vec<Worked<'a, L>>
+where
+    L::Pass: Send + Drop,
+    requires { All (λ session. L.belongs_to session.pass ≡ identity_of store.now.log) sessions.items }
+    ensures { All (λ worked. L.belongs_to worked.session.pass ≡ identity_of store.now.log) result.items }
+{
+    let Some(session) = sessions.pop() else {
+        return Vec::new(alloc);
+    };
+    let thread = scope.spawn_with(
+        StaysHome(Snapshot::of(&session)),
+        move || works(rt, alloc, session),
+    );
+    let mut all = side_by_side(scope, rt, alloc, store, sessions);
+    let Ok(thread) = thread else {
+        return all;
+    };
+    let Ok(()) = all.push(thread.join(rt)) else {
+        return Vec::new(alloc);
+    };
+    all
+}
+
+/// Sessions of these passes.
+fn connected<'a>(
+    rt: &impl Abort,
+    alloc: Global,
+    store: &'a Store,
+    mut passes: Vec<Pass>,
+) -> Vec<Session<'a, Log>>
+    requires { All (λ pass. log_of pass ≡ identity_of store.now.log) passes.items }
+    ensures { All (λ session. log_of session.pass ≡ identity_of store.now.log) result.items }
+{
+    let Some(pass) = passes.pop() else {
+        return Vec::new(alloc);
+    };
+    let mut sessions = connected(rt, alloc, store, passes);
+    let Ok(session) = store.connect(pass) else {
+        panic!(rt; "not connected")
+    };
+    let Ok(()) = sessions.push(session) else {
+        panic!(rt; "no memory")
+    };
+    sessions
+}
+
+/// Each session by itself, and what it was told by itself.
+fn apart<'a>(
+    rt: &impl Abort,
+    alloc: Global,
+    store: &Store,
+    mut all: Vec<Worked<'a, Log>>,
+) -> (Vec<Session<'a, Log>>, Vec<Account>)
+    requires { All (λ worked. log_of worked.session.pass ≡ identity_of store.now.log) all.items }
+    ensures { All (λ session. log_of session.pass ≡ identity_of store.now.log) result.0.items }
+{
+    let Some(worked) = all.pop() else {
+        return (Vec::new(alloc), Vec::new(alloc));
+    };
+    let (mut sessions, mut accounts) = apart(rt, alloc, store, all);
+    let Worked {
+        session,
+        told,
+        is_full,
+        is_sound,
+    } = worked;
+    assert!(rt; is_sound);
+    let account = Account {
+        session: session.number(),
+        told,
+        is_full,
+        explained: 0,
+    };
+    let (Ok(()), Ok(())) = (sessions.push(session), accounts.push(account)) else {
+        panic!(rt; "no memory")
+    };
+    (sessions, accounts)
+}
+
+/// Sessions work side by side.
+fn worked_by<'a, L: DecisionLog + Sync, R: Threads + Wait + Sync>(
+    rt: &R,
+    alloc: Global,
+    store: &Store,
+    sessions: Vec<Session<'a, L>>,
+) -> Vec<Worked<'a, L>>
+where
+    L::Pass: Send + Drop,
+    requires { All (λ session. L.belongs_to session.pass ≡ identity_of store.now.log) sessions.items }
+    ensures { All (λ worked. L.belongs_to worked.session.pass ≡ identity_of store.now.log) result.items }
+{
+    thread::scope(
+        thread::scope_env(),
+        rt,
+        |scope| -> Vec<Worked<'_, L>>
+            requires { All (λ session. L.belongs_to session.pass ≡ identity_of store.now.log) sessions.items }
+            ensures { All (λ worked. L.belongs_to worked.session.pass ≡ identity_of store.entry.now.log) result.items }
+        { side_by_side(scope, rt, alloc, store, sessions) },
+    )
+}
+
+#[test]
+fn sixteen_sessions_fill_one_history(rt: HostRuntime) {
+    let Ok((store, passes)) = Store::open(rt.alloc(), 1024, 16) else {
+        panic!(rt; "not opened")
+    };
+    let sessions = connected(&rt, rt.alloc(), &store, passes);
+    let worked = worked_by(&rt, rt.alloc(), &store, sessions);
+    let (mut sessions, mut accounts) = apart(&rt, rt.alloc(), &store, worked);
+    assert_eq!(rt; accounts.len(), 16);
+    assert!(rt; accounts.iter().filter(|account| account.is_full).count() >= AT_LEAST_FULL);
+    let Ok(history) = store.history(rt.alloc(), &mut sessions) else {
+        panic!(rt; "no memory")
+    };
+    assert_eq!(rt; history.len(), 1024);
+    explains(&rt, rt.alloc(), history.as_slice(), &mut accounts);
+}
