@@ -13,9 +13,7 @@ use Rattle.xa_xid.specs.declared.statement.Statement.TheVariants.{Start, End, Pr
 use Rattle.xa_server.specs.declared.reply.Reply.{Reply}
 use Rattle.xa_server.specs.declared.reply.Reply.TheVariants.{Ok as Accepted, Value, Recovered, Refused}
 use Rattle.xa_server.specs.declared.xa_error.XaError.{XaError}
-use Rattle.xa_server.specs.declared.xa_error.XaError.TheVariants.{Nota, Inval, Rmfail, Dupid, RowLocked}
-use Rattle.xa_server.specs.declared.xa_error.BranchState.{BranchState}
-use Rattle.xa_server.specs.declared.xa_error.BranchState.TheVariants.{NonExisting, Active, Idle, Prepared}
+use Rattle.xa_server.specs.Errors.{number_of, sqlstate_of, message_of}
 
 -- the bytes of a recovered identifier: as they are, or with CONVERT XID as `0x` and two small digits for each
 -- (manual, XA RECOVER; `0x` alone for no byte is our own)
@@ -34,19 +32,9 @@ abbrev pub rows_text : Bool → List Xid → List ℕ
 rows_text convert [] = []
 rows_text convert (xid ∷ xids) = codes "\n" ++ row_text convert xid ++ rows_text convert xids
 
-abbrev pub state_text : BranchState → List ℕ
-state_text NonExisting = codes "NON-EXISTING"
-state_text Active = codes "ACTIVE"
-state_text Idle = codes "IDLE"
-state_text Prepared = codes "PREPARED"
-
--- one line a refusal (numbers, SQLSTATEs and names are the manual's; the words after them are our own)
+-- its number, its SQLSTATE and its text (the form is the manual's)
 abbrev pub error_text : XaError → List ℕ
-error_text Nota = codes "ERROR 1397 (XAE04): XAER_NOTA unknown xid"
-error_text Inval = codes "ERROR 1398 (XAE05): XAER_INVAL clause not supported"
-error_text (Rmfail state) = codes "ERROR 1399 (XAE07): XAER_RMFAIL state " ++ state_text state
-error_text Dupid = codes "ERROR 1440 (XAE08): XAER_DUPID xid already exists"
-error_text RowLocked = codes "ERROR 3572 (HY000): row locked by another branch"
+error_text error = codes "ERROR " ++ decimal (number_of error) ++ codes " (" ++ sqlstate_of error ++ codes "): " ++ message_of error
 
 -- one line a reply (own rule)
 abbrev pub reply_text : Bool → Reply → List ℕ

@@ -8,7 +8,7 @@ ghost use Rattle.xa_lines.specs.Printed.{row_data, row_text, rows_text, error_te
 use std::alloc::{AllocError, Global};
 use std::io::Write;
 use std::mem;
-use xa_server::{BranchState, Reply, XaError};
+use xa_server::{Reply, XaError};
 use xa_xid::{NoMemory, Xid, with_part};
 
 /// Appends the number in decimal.
@@ -82,22 +82,12 @@ fn push_rows(alloc: Global, text: &mut Vec<u8>, convert: bool, xids: &[Xid]) -> 
     Ok(())
 }
 
-/// The text of a refusal.
-fn text_of(error: &XaError) -> &'static [u8]
-    ensures { result.now ≡ error_text error.now }
+/// Appends the text of a refusal.
+fn push_error(text: &mut Vec<u8>, error: &XaError) -> Result<(), NoMemory>
+    ensures { OnOk result (text.new.items ≡ text.old.items ++ error_text error.now) }
 {
-    match error {
-        XaError::Nota => b"ERROR 1397 (XAE04): XAER_NOTA unknown xid",
-        XaError::Inval => b"ERROR 1398 (XAE05): XAER_INVAL clause not supported",
-        XaError::Rmfail(BranchState::NonExisting) => {
-            b"ERROR 1399 (XAE07): XAER_RMFAIL state NON-EXISTING"
-        }
-        XaError::Rmfail(BranchState::Active) => b"ERROR 1399 (XAE07): XAER_RMFAIL state ACTIVE",
-        XaError::Rmfail(BranchState::Idle) => b"ERROR 1399 (XAE07): XAER_RMFAIL state IDLE",
-        XaError::Rmfail(BranchState::Prepared) => b"ERROR 1399 (XAE07): XAER_RMFAIL state PREPARED",
-        XaError::Dupid => b"ERROR 1440 (XAE08): XAER_DUPID xid already exists",
-        XaError::RowLocked => b"ERROR 3572 (HY000): row locked by another branch",
-    }
+    let (number, sqlstate) = (error.number(), error.sqlstate());
+    write!(text, "ERROR {number} ({sqlstate}): {error}").map_err(|_| AllocError)
 }
 
 /// Appends the text of a reply, recovered identifiers in digits where `convert`. It doesn't end in a line feed.
@@ -125,7 +115,7 @@ pub fn push_reply(
             push_number(text, xids.len() as u64)?;
             push_rows(alloc, text, convert, xids)
         }
-        Reply::Refused(error) => text.extend_from_slice(text_of(error)),
+        Reply::Refused(error) => push_error(text, error),
     }
 }
 

@@ -1,38 +1,34 @@
 //! A client for tests.
-ghost use Rattle.std.specs.Prelude.{◌≡◌, ◌+◌, ◌<◌, ◌≤◌, [], length, Some, IfOk, IsErr, OnOk};
+ghost use Rattle.std.specs.Prelude.{◌≡◌, ◌+◌, ◌<◌, ◌≤◌, false, length, Some, IfOk, IsErr, OnOk};
 ghost use Rattle.std.specs.Io.{ReadsAtMost};
 ghost use Rattle.std.specs.Io.KnownBytes.{ReadConsumes};
+ghost use Rattle.xa_lines.specs.Cut.{left_in, piece_of, reads_left_in, goes_on_behind, taken_by, room_in, goes_on_writing};
 
-use crate::{Client, LineServer, Stage};
+use crate::{Client, CutReader, CutWriter, LineServer, Stage};
 use std::alloc::Global;
 use std::io;
-use std::io::ErrorKind;
+use std::io::{ErrorKind, Read, Write};
 
-/// Says bytes in pieces of one size, and keeps what it is told. It faults after a stated number of reads, and after it took a
+/// Says what a reader gives in pieces, and keeps what it is told. It faults after a stated number of reads, and after it took a
 /// stated number of bytes.
 #[derive(Drop)]
 pub struct Recorded<'a> {
-    /// The bytes that it has yet to say.
-    rest: &'a [u8],
-    /// The greatest number of bytes that it says at a time.
-    piece: usize,
-    /// How many reads are left before the fault.
-    reads: u64,
-    /// How many bytes it takes before the fault.
-    room: usize,
+    /// Gives what it says.
+    reader: CutReader<'a>,
+    /// Takes what it is given.
+    writer: CutWriter,
     /// What it said.
     received: Vec<u8>,
-    /// What it was given.
-    given: Vec<u8>,
-    /// What it was told.
-    told: Vec<u8>,
+    /// How many bytes it was told: those that the writer had taken at the last flush.
+    told: usize,
     /// Whether it says more.
     stage: Stage,
-    ghost some: { 0 < piece },
+    ghost within: { told ≤ length (taken_by writer) },
+    ghost each_time: { (goes_on_behind reader ≡ false) × (goes_on_writing writer ≡ false) },
 }
 
 impl<'a> Recorded<'a> {
-    ghost use Rattle.xa_lines.specs.Recorded.{exchange_of, rest_of, piece_of, reads_left_in, room_in};
+    ghost use Rattle.xa_lines.specs.Recorded.{exchange_of};
     ghost use Rattle.xa_lines.specs.Exchange.{IsFresh};
 
     /// Says these bytes, at most `piece` at a time; faults at each read after the first `reads`, and takes `room` bytes in all.
@@ -47,19 +43,16 @@ impl<'a> Recorded<'a> {
     ) -> Recorded<'a>
         requires { 0 < piece }
         ensures fresh { IsFresh (exchange_of result) }
-        ensures bytes { rest_of result ≡ bytes.now }
-        ensures piece { piece_of result ≡ piece }
-        ensures reads { reads_left_in result ≡ reads }
-        ensures room { room_in result ≡ room }
+        ensures bytes { left_in result.reader ≡ bytes.now }
+        ensures piece { piece_of result.reader ≡ piece }
+        ensures reads { reads_left_in result.reader ≡ reads }
+        ensures room { room_in result.writer ≡ room }
     {
         Recorded {
-            rest: bytes,
-            piece,
-            reads,
-            room,
+            reader: CutReader::new(bytes, piece, reads),
+            writer: CutWriter::new(alloc, usize::MAX, room),
             received: Vec::new(alloc),
-            given: Vec::new(alloc),
-            told: Vec::new(alloc),
+            told: 0,
             stage: Stage::Open,
         }
     }
@@ -70,7 +63,7 @@ impl<'a> Recorded<'a> {
     pub fn told(&self) -> &[u8]
         ensures { result.now ≡ (exchange_of self.now).told }
     {
-        self.told.as_slice()
+        &self.given()[..self.told]
     }
 
     /// What it was given.
@@ -79,50 +72,51 @@ impl<'a> Recorded<'a> {
     pub fn given(&self) -> &[u8]
         ensures { result.now ≡ (exchange_of self.now).given }
     {
-        self.given.as_slice()
+        self.writer.as_slice()
     }
 }
 
 impl<'a, S: LineServer> Client<S> for Recorded<'a> {
-    ghost use Rattle.xa_lines.specs.Recorded.{exchange_of, rest_of, piece_of, reads_left_in, room_in, MaySayMore};
+    ghost use Rattle.xa_lines.specs.Recorded.{exchange_of};
     ghost use Rattle.xa_lines.specs.Exchange.{Receives, WritesText, Flushes};
 
     ghost exchange = { λ client. Some (exchange_of client) };
 
     fn receive(&mut self, piece: &mut [u8]) -> io::Result<usize>
-        requires open { MaySayMore self.old }
+        requires open { self.old.stage ≡ Stage.Open }
         ensures bound { ReadsAtMost result piece.new }
         ensures received { Receives (Some (exchange_of self.old)) (Some (exchange_of self.new)) result piece.new }
-        ensures bytes { ReadConsumes (Some (rest_of self.old)) (Some (rest_of self.new)) result piece.new }
-        ensures piece { IfOk result (λ count. count ≤ piece_of self.old) }
-        ensures reads { OnOk result (reads_left_in self.old ≡ reads_left_in self.new + 1) }
-        ensures deaf { reads_left_in self.old ≡ 0 → IsErr result }
-        ensures kept { (piece_of self.new ≡ piece_of self.old) × (room_in self.new ≡ room_in self.old) }
+        ensures bytes { ReadConsumes (Some (left_in self.old.reader)) (Some (left_in self.new.reader)) result piece.new }
+        ensures piece { IfOk result (λ count. count ≤ piece_of self.old.reader) }
+        ensures reads { OnOk result (reads_left_in self.old.reader ≡ reads_left_in self.new.reader + 1) }
+        ensures deaf { reads_left_in self.old.reader ≡ 0 → IsErr result }
+        ensures kept { (piece_of self.new.reader ≡ piece_of self.old.reader) × (self.new.writer ≡ self.old.writer) }
     {
-        let count = self.rest.len().min(piece.len()).min(self.piece);
-        let (next, rest) = self.rest.split_at(count);
-        if self.reads == 0 || self.received.extend_from_slice(next).is_err() {
+        if self.received.reserve(piece.len()).is_err() {
             self.stage = Stage::Deaf;
-            return Err(ErrorKind::Interrupted.into());
+            return Err(ErrorKind::OutOfMemory.into());
         }
-        self.reads -= 1;
-        piece[..count].copy_from_slice(next);
-        self.rest = rest;
-        if count == 0 {
-            self.stage = Stage::Ended;
+        match self.reader.read(piece) {
+            Ok(count) => {
+                self.received.extend_from_slice(&piece[..count]).unwrap();
+                if count == 0 {
+                    self.stage = Stage::Ended;
+                }
+                Ok(count)
+            }
+            Err(fault) => {
+                self.stage = Stage::Deaf;
+                Err(fault)
+            }
         }
-        Ok(count)
     }
 
     fn tell(&mut self, text: &[u8]) -> io::Result<()>
         ensures told { WritesText (Some (exchange_of self.old)) (Some (exchange_of self.new)) result text.now }
-        ensures room { OnOk result (room_in self.old ≡ room_in self.new + length text.now) }
-        ensures kept { (rest_of self.new ≡ rest_of self.old) × (piece_of self.new ≡ piece_of self.old) × (reads_left_in self.new ≡ reads_left_in self.old) }
+        ensures room { OnOk result (room_in self.old.writer ≡ room_in self.new.writer + length text.now) }
+        ensures kept { self.new.reader ≡ self.old.reader }
     {
-        let count = text.len().min(self.room);
-        self.given.extend_from_slice(&text[..count])?;
-        self.room -= count;
-        if count < text.len() {
+        if self.writer.write(text)? < text.len() {
             return Err(ErrorKind::Interrupted.into());
         }
         Ok(())
@@ -130,13 +124,9 @@ impl<'a, S: LineServer> Client<S> for Recorded<'a> {
 
     fn flush(&mut self) -> io::Result<()>
         ensures flushed { Flushes (Some (exchange_of self.old)) (Some (exchange_of self.new)) result }
-        ensures kept { (rest_of self.new ≡ rest_of self.old)
-            × (piece_of self.new ≡ piece_of self.old)
-            × (reads_left_in self.new ≡ reads_left_in self.old)
-            × (room_in self.new ≡ room_in self.old) }
+        ensures kept { (self.new.reader ≡ self.old.reader) × (self.new.writer ≡ self.old.writer) }
     {
-        self.told.clear();
-        self.told.extend_from_slice(self.given.as_slice())?;
+        self.told = self.writer.as_slice().len();
         Ok(())
     }
 }

@@ -4,3 +4,4 @@ pub mod Printing
 pub mod Said
 pub mod Stages
 pub mod Limits
+mod Nothing

@@ -43,7 +43,7 @@ impl<C: Speak, T: Speak> Manager<C, T> {
     /// A manager over these sessions, two in each store: the coordinator's and another client's. Nothing has begun.
     ///
     /// Takes no memory. Doesn't wait.
-    #[tactic(auto, unfolding(crate::specs::Ledger::stage_of))]
+    #[tactic(auto, using(crate::proofs::Nothing::none_begun))]
     pub fn new(alloc: Global, sessions: Vec<C>, other_clients: Vec<T>) -> Manager<C, T>
         requires some { 1 ≤ vec_len sessions }
         requires most { vec_len sessions ≤ 16 }

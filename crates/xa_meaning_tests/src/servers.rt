@@ -6,15 +6,15 @@ use xa_server::{BranchState, Reply, Server, XaError};
 use xa_statement::read_statement;
 use xa_xid::{SessionNo, read_xid, with_part};
 
-/// Each refusal's number, SQLSTATE and XA code, and its text as the manual's error reference has it.
-const REFUSALS: &str = "1397 XAE04 -4 XAER_NOTA: Unknown XID
-1398 XAE05 -5 XAER_INVAL: Invalid arguments (or unsupported command)
-1399 XAE07 -7 XAER_RMFAIL: The command cannot be executed when global transaction is in the NON-EXISTING state
-1399 XAE07 -7 XAER_RMFAIL: The command cannot be executed when global transaction is in the ACTIVE state
-1399 XAE07 -7 XAER_RMFAIL: The command cannot be executed when global transaction is in the IDLE state
-1399 XAE07 -7 XAER_RMFAIL: The command cannot be executed when global transaction is in the PREPARED state
-1440 XAE08 -8 XAER_DUPID: The XID already exists
-3572 HY000 0 Statement aborted because lock(s) could not be acquired immediately and NOWAIT is set.
+/// Each refusal's number, SQLSTATE and XA code as docs/BEHAVIOR.md has them in 'Replies', and its text as in 'Scripts'.
+const REFUSALS: &str = "1397 XAE04 -4 XAER_NOTA unknown xid
+1398 XAE05 -5 XAER_INVAL clause not supported
+1399 XAE07 -7 XAER_RMFAIL state NON-EXISTING
+1399 XAE07 -7 XAER_RMFAIL state ACTIVE
+1399 XAE07 -7 XAER_RMFAIL state IDLE
+1399 XAE07 -7 XAER_RMFAIL state PREPARED
+1440 XAE08 -8 XAER_DUPID xid already exists
+3572 HY000 0 row locked by another branch
 ";
 
 /// A reply in short, or nothing where there is no memory.
@@ -89,7 +89,7 @@ fn no_rows_are_listed_of_no_branch(rt: HostRuntime) {
 }
 
 #[test]
-fn refusals_have_the_codes_and_texts_of_the_manual(rt: HostRuntime) -> Result<(), Fail> {
+fn refusals_have_their_codes_and_texts(rt: HostRuntime) -> Result<(), Fail> {
     let errors = [
         XaError::Nota,
         XaError::Inval,

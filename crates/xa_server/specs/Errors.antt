@@ -1,10 +1,15 @@
--- The numbers of refusals (MySQL 8.0 Reference Manual, 'Server Error Message Reference'; the XA codes are C193's return codes).
+-- The numbers of refusals (MySQL 8.0 Reference Manual, 'Server Error Message Reference'; the XA codes are C193's return codes), and their texts
+-- (own rule).
 --     number_of       the server's error number
 --     sqlstate_of     its five characters
 --     xa_code_of      the XA return code, where there is one
-use Rattle.std.specs.Prelude.{ℕ, ℤ, negsuc, Option, Some, None, List, codes}
+--     state_text      the name of a state
+--     message_of      its text
+use Rattle.std.specs.Prelude.{ℕ, ℤ, negsuc, Option, Some, None, List, ◌++◌, codes}
 use Rattle.xa_server.specs.declared.xa_error.XaError.{XaError}
 use Rattle.xa_server.specs.declared.xa_error.XaError.TheVariants.{Nota, Inval, Rmfail, Dupid, RowLocked}
+use Rattle.xa_server.specs.declared.xa_error.BranchState.{BranchState}
+use Rattle.xa_server.specs.declared.xa_error.BranchState.TheVariants.{NonExisting, Active, Idle, Prepared}
 
 abbrev pub number_of : XaError → ℕ
 number_of Nota = 1397
@@ -27,3 +32,17 @@ xa_code_of Inval = Some (negsuc 4)
 xa_code_of (Rmfail state) = Some (negsuc 6)
 xa_code_of Dupid = Some (negsuc 7)
 xa_code_of RowLocked = None
+
+abbrev pub state_text : BranchState → List ℕ
+state_text NonExisting = codes "NON-EXISTING"
+state_text Active = codes "ACTIVE"
+state_text Idle = codes "IDLE"
+state_text Prepared = codes "PREPARED"
+
+-- the manual's name, where there is one, and then words of our own
+abbrev pub message_of : XaError → List ℕ
+message_of Nota = codes "XAER_NOTA unknown xid"
+message_of Inval = codes "XAER_INVAL clause not supported"
+message_of (Rmfail state) = codes "XAER_RMFAIL state " ++ state_text state
+message_of Dupid = codes "XAER_DUPID xid already exists"
+message_of RowLocked = codes "row locked by another branch"

@@ -1,8 +1,8 @@
 //! Why a statement is refused.
-ghost use Rattle.std.specs.Prelude.{◌≡◌};
+ghost use Rattle.std.specs.Prelude.{◌≡◌, Some};
 
+use std::error::Error;
 use std::fmt;
-use thiserror::Error;
 
 /// What a session has open, as a refusal tells it.
 ///
@@ -20,6 +20,10 @@ pub enum BranchState {
 }
 
 impl fmt::Display for BranchState {
+    ghost use Rattle.xa_server.specs.Errors.{state_text};
+
+    ghost output = { λ state. Some (state_text state) };
+
     fn fmt<W: fmt::Write>(&self, f: &mut fmt::Formatter<W>) -> fmt::Result {
         f.write_str(match self {
             BranchState::NonExisting => "NON-EXISTING",
@@ -30,28 +34,42 @@ impl fmt::Display for BranchState {
     }
 }
 
-/// Why a statement is refused. A refused statement changes nothing.
+/// Why a statement is refused. A refused statement changes nothing. Its text is what stands behind the number and the SQLSTATE wherever a
+/// refusal is printed.
 ///
-/// Source: MySQL 8.0 Reference Manual, 'Server Error Message Reference'; X/Open C193, the return codes of `xa_start()`
-/// and its kin. When each is answered: docs/BEHAVIOR.md, 'Replies'.
-#[derive(Clone, Copy, Debug, Drop, PartialEq, Eq, Error)]
+/// Source: MySQL 8.0 Reference Manual, 'Server Error Message Reference', for numbers, SQLSTATEs and names; X/Open C193, the return codes of
+/// `xa_start()` and its kin. Own rule for the texts: docs/BEHAVIOR.md, 'Scripts'. When each is answered: docs/BEHAVIOR.md, 'Replies'.
+#[derive(Clone, Copy, Debug, PartialEq, Eq)]
 pub enum XaError {
     /// 1397 XAER_NOTA: the identifier isn't that of a branch that the statement could mean.
-    #[error("XAER_NOTA: Unknown XID")]
     Nota,
     /// 1398 XAER_INVAL: the statement is recognised and not supported.
-    #[error("XAER_INVAL: Invalid arguments (or unsupported command)")]
     Inval,
     /// 1399 XAER_RMFAIL: the statement can't be given in this state.
-    #[error("XAER_RMFAIL: The command cannot be executed when global transaction is in the {0} state")]
     Rmfail(BranchState),
     /// 1440 XAER_DUPID: the identifier is that of a branch already.
-    #[error("XAER_DUPID: The XID already exists")]
     Dupid,
     /// 3572: another branch holds the row exclusively, or at `PUT` and `DEL` in either way, and nobody waits for it.
-    #[error("Statement aborted because lock(s) could not be acquired immediately and NOWAIT is set.")]
     RowLocked,
 }
+
+impl fmt::Display for XaError {
+    ghost use Rattle.xa_server.specs.Errors.{message_of};
+
+    ghost output = { λ error. Some (message_of error) };
+
+    fn fmt<W: fmt::Write>(&self, f: &mut fmt::Formatter<W>) -> fmt::Result {
+        match self {
+            XaError::Nota => f.write_str("XAER_NOTA unknown xid"),
+            XaError::Inval => f.write_str("XAER_INVAL clause not supported"),
+            XaError::Rmfail(state) => write!(f, "XAER_RMFAIL state {state}"),
+            XaError::Dupid => f.write_str("XAER_DUPID xid already exists"),
+            XaError::RowLocked => f.write_str("row locked by another branch"),
+        }
+    }
+}
+
+impl Error for XaError {}
 
 impl XaError {
     ghost use Rattle.xa_server.specs.Errors.{number_of, sqlstate_of, xa_code_of};
