@@ -4,7 +4,7 @@ use Rattle.std.specs.List.{All, AllZip, AllWithin}
 use Rattle.std.proofs.lemmas.List.Elements.{AllWithin-more_set, AllWithin-none, All-get_or, AllZip-get_or, length_all_zip}
 use Rattle.decision_log.specs.declared.known.Known.{Known}
 use Rattle.decision_log.specs.History.{Begins, entries_of}
-use Rattle.decision_log.specs.Calls.{MeetsFirst, MeetsSecond}
+use Rattle.decision_log.specs.Calls.{Looked, MeetsFirst, MeetsSecond}
 use Rattle.decision_log.proofs.Histories.{begins_itself, begins_through, length_begins}
 use Rattle.xa_store.specs.Gathered.{AddsNothing, last_known}
 
@@ -28,6 +28,10 @@ keeps_again old now new k l =
       looks = omega (arith, k.looks, l.looks);
       tries = l.tries ∙ k.tries;
     }
+
+-- a pass that has looked keeps all that it had
+pub looks_keeps : (old new : Known) → Looked old new → AddsNothing old new
+looks_keeps old new l = record { number = l.number; seen = l.seen; mine = l.mine; looks = omega (arith, l.looks); tries = l.tries }
 
 -- the last of two that meet
 met_keeps : (first old new : Known) → MeetsSecond first old new → AddsNothing old new

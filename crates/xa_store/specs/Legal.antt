@@ -8,12 +8,15 @@
 --     IsOutcome       what a race gives
 --     LetsIn          a gate can let a session give its statements
 --     Halts           why a session's statement isn't answered
+--     fault_at        a session's fault, as a race tells it
+--     IsLetIn         a session's statement is answered
+--     EndsOne         the one or the other
 --     IsReachedInRun  the statements in front of a place were answered
 --     IsShutAt        the gate can shut a run at a statement
 --     IsFullAt        a run's statement has no room in the history
 --     Stops           why a run stops
 --     Blames          why a race gives nothing
-use Rattle.std.specs.Prelude.{◌≡◌, ◌<◌, ◌≤◌, ◌+◌, ℕ, Bool, true, false, cond, List, [], ◌∷◌, ◌++◌, length, map, take, slice_get, Some}
+use Rattle.std.specs.Prelude.{◌≡◌, ◌<◌, ◌≤◌, ◌+◌, ℕ, Bool, true, false, cond, List, [], ◌∷◌, ◌++◌, length, map, take, slice_get, Some, Result, Ok, Err}
 use Rattle.std.specs.List.{AllZip}
 use Rattle.xa_xid.specs.declared.statement.Statement.{Statement}
 use Rattle.xa_words.specs.Entry.{Entry}
@@ -22,8 +25,10 @@ use Rattle.xa_server.specs.Step.{enters}
 use Rattle.decision_log.specs.declared.known.Known.{Known}
 use Rattle.decision_log.specs.History.{Begins, entries_of}
 use Rattle.xa_session.specs.Replay.{state_after, state_at}
-use Rattle.xa_session.specs.Answer.{entry_of, AnswersAt, IsFull}
+use Rattle.xa_session.specs.Answer.{entry_of, AnswersAt, IsAnswered, IsFull}
 use Rattle.xa_session.specs.declared.answer.Answer.{Answer}
+use Rattle.xa_session.specs.declared.fault.Fault.{Fault}
+use Rattle.xa_session.specs.declared.fault.Fault.TheVariants.{Overtaken, Full as NoRoom, NoMemory as NoMoreMemory, Busy}
 use Rattle.xa_store.specs.Passes.{Pass, log_of, known_of}
 use Rattle.xa_store.specs.Gathered.{IsTakenIn, last_known}
 use Rattle.xa_store.specs.declared.run.Run.{Run}
@@ -89,6 +94,23 @@ Halts gate base capacity statement place (GateShut session line) old new = (sess
 Halts gate base capacity statement place (Full session line) old new = (session ≡ old.number) × (line ≡ place) × IsFull base capacity statement old new
 Halts gate base capacity statement place NoMemory old new = Unit {0}
 Halts gate base capacity statement place ThreadRefused old new = ⊥
+
+-- a full history is told with the statement that has no room, and every other fault as NoMemory
+abbrev pub fault_at : ℕ → ℕ → Fault → RaceFault
+fault_at session line (Overtaken front) = NoMemory
+fault_at session line NoRoom = Full session line
+fault_at session line NoMoreMemory = NoMemory
+fault_at session line Busy = NoMemory
+
+-- the gate can have let the session go on, and the statement was answered
+pub record IsLetIn (gate : ℕ → ℕ → Bool → Type 0) (base : State) (statement : Statement) (place : ℕ) (answer : Answer) (old new : Known) : Type 0 where
+  pub answered : IsAnswered base statement answer old new
+  pub opened : gate old.number place true
+
+-- the statement was answered, or the run stops at it
+abbrev pub EndsOne : (ℕ → ℕ → Bool → Type 0) → State → ℕ → Statement → ℕ → Result Answer RaceFault → Known → Known → Type 0
+EndsOne gate base capacity statement place (Ok answer) old new = IsLetIn gate base statement place answer old new
+EndsOne gate base capacity statement place (Err fault) old new = Halts gate base capacity statement place fault old new
 
 -- the run is this session's, and its statements in front of this line, but not this one, were answered as the history explains
 pub record IsReachedInRun (base : State) (history : List Entry) (before : Known) (statements : List Statement) (session line : ℕ) : Type 0 where

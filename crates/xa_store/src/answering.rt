@@ -1,16 +1,25 @@
 //! One session answers its statements, one after another.
-ghost use Rattle.std.specs.Prelude.{◌≡◌, true, IfOk, IfErr, OnOk};
-ghost use Rattle.xa_session.specs.Answer.{IsAnswered};
-ghost use Rattle.xa_store.specs.Legal.{Halts, Stops};
+ghost use Rattle.std.specs.Prelude.{◌≡◌, IfOk, IfErr};
+ghost use Rattle.xa_session.specs.Stays.{Stays};
+ghost use Rattle.xa_store.specs.Legal.{fault_at, EndsOne, Stops};
 ghost use Rattle.xa_store.specs.Spread.{HasRun};
 
-use crate::task::Returned;
 use crate::{Gate, RaceFault};
 use decision_log::DecisionLog;
 use std::alloc::Global;
 use std::sync::Wait;
 use xa_session::{Answer, Fault, Session};
-use xa_xid::Statement;
+use xa_xid::{SessionNo, Statement};
+
+/// Why a run stops at a statement of the session's that wasn't answered.
+fn unanswered(session: SessionNo, line: u64, fault: Fault) -> RaceFault
+    ensures { result ≡ fault_at session line fault }
+{
+    match fault {
+        Fault::Full => RaceFault::Full { session, line },
+        _ => RaceFault::NoMemory,
+    }
+}
 
 /// Asks the gate, and executes the session's statement at `line`.
 pub(crate) fn answer_one<L: DecisionLog, G: Gate, R: Wait>(
@@ -20,13 +29,9 @@ pub(crate) fn answer_one<L: DecisionLog, G: Gate, R: Wait>(
     statement: &Statement,
     gate: &G,
 ) -> Result<Answer, RaceFault>
-    ensures base { session.new.base.now ≡ session.old.base.now }
-    ensures belongs { L.belongs_to session.new.pass ≡ L.belongs_to session.old.pass }
-    ensures answered { IfOk result (λ answer. IsAnswered session.old.base.now statement.now answer (L.known session.old.pass) (L.known session.new.pass)) }
-    ensures opened { OnOk result (G.may_answer gate.now (L.known session.old.pass).number line true) }
-    ensures fault { IfErr result
-        (λ fault. Halts (G.may_answer gate.now) session.old.base.now (L.belongs_to session.old.pass).capacity statement.now line fault
-        (L.known session.old.pass) (L.known session.new.pass)) }
+    ensures stays { Stays session.old session.new }
+    ensures ends { EndsOne (G.may_answer gate.now) session.old.base.now (L.belongs_to session.old.pass).capacity statement.now line result
+        (L.known session.old.pass) (L.known session.new.pass) }
 {
     let number = session.number();
     if !gate.enter(number, line) {
@@ -37,41 +42,30 @@ pub(crate) fn answer_one<L: DecisionLog, G: Gate, R: Wait>(
     }
     match session.execute(rt, statement) {
         Ok(answer) => Ok(answer),
-        Err(Fault::Full) => Err(RaceFault::Full {
-            session: number,
-            line,
-        }),
-        Err(_) => Err(RaceFault::NoMemory),
+        Err(fault) => Err(unanswered(number, line, fault)),
     }
 }
 
-/// Answers all of a session's statements, in order. The session comes back with the answers.
+/// The answers to all of a session's statements, in order.
 ///
-/// Errors: at the first statement that isn't answered, where the gate shuts the run, the history is full or memory runs out;
-/// the session is then dropped.
-pub(crate) fn answer_all<'a, L: DecisionLog, G: Gate, R: Wait>(
+/// Errors: at the first statement that isn't answered, where the gate shuts the run, the history is full or memory runs out.
+pub(crate) fn answers_to<L: DecisionLog, G: Gate, R: Wait>(
     rt: &R,
     alloc: Global,
-    mut session: Session<'a, L>,
+    session: &mut Session<'_, L>,
     lines: &[Statement],
     gate: &G,
-) -> Result<Returned<'a, L, Vec<Answer>>, RaceFault>
-where
-    L::Pass: Drop,
+) -> Result<Vec<Answer>, RaceFault>
     ensures ok { IfOk result
-        (λ done. HasRun L.belongs_to L.known (G.may_answer gate.now) session.entry.base.now session.entry.pass lines.now done.session.base.now
-        done.session.pass done.done.items) }
+        (λ answers. HasRun L.belongs_to L.known (G.may_answer gate.now) session.old.base.now session.old.pass lines.now session.new.base.now
+        session.new.pass answers.items) }
     ensures fault { IfErr result
-        (λ fault. Stops (G.may_answer gate.now) session.entry.base.now (L.belongs_to session.entry.pass).capacity (L.known session.entry.pass) lines.now
-        fault) }
+        (λ fault. Stops (G.may_answer gate.now) session.old.base.now (L.belongs_to session.old.pass).capacity (L.known session.old.pass) lines.now fault) }
 {
     let mut answers = Vec::with_capacity(alloc, lines.len())?;
     for index in 0..lines.len() {
-        let answer = answer_one(rt, &mut session, index as u64, &lines[index], gate)?;
+        let answer = answer_one(rt, session, index as u64, &lines[index], gate)?;
         answers.push_reserved(answer);
     }
-    Ok(Returned {
-        session,
-        done: answers,
-    })
+    Ok(answers)
 }

@@ -4,6 +4,7 @@ ghost use Rattle.std.specs.List.{All};
 ghost use Rattle.xa_store.specs.Closed.{HasClosed};
 ghost use Rattle.xa_store.specs.Passes.{identity_of, log_of};
 
+use crate::growing::and_both;
 use crate::task::Returned;
 use crate::{Log, Pass, Store};
 use std::alloc::Global;
@@ -22,19 +23,17 @@ pub(crate) struct Closed<D> {
 /// The sessions, and what each was answered, in the order given.
 fn part<'a, D: Drop>(
     alloc: Global,
-    returned: Vec<Returned<'a, Log, D>>,
+    mut returned: Vec<Returned<'a, Log, D>>,
 ) -> Result<(Vec<Session<'a, Log>>, Vec<D>), NoMemory>
     ensures sessions { IfOk result (λ both. both.0.items ≡ map (λ one. one.session) returned.entry.items) }
     ensures done { IfOk result (λ both. both.1.items ≡ map (λ one. one.done) returned.entry.items) }
 {
-    let mut sessions = Vec::new(alloc);
-    let mut all = Vec::new(alloc);
-    for one in returned {
-        let Returned { session, done } = one;
-        sessions.push(session)?;
-        all.push(done)?;
-    }
-    Ok((sessions, all))
+    let Some(last) = returned.pop() else {
+        return Ok((Vec::new(alloc), Vec::new(alloc)));
+    };
+    let Returned { session, done } = last;
+    let others = part(alloc, returned);
+    and_both(others, session, done)
 }
 
 /// All that a race leaves, once its threads have ended: the sessions meet, and leave.

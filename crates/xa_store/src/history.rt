@@ -34,9 +34,10 @@ impl Store {
             < (last_known (map (λ session. known_of session.pass) sessions.new.items)).looks }
         ensures whole { IfOk result (λ list. All (λ session. IsTakenIn list.items (known_of session.pass)) sessions.new.items) }
     {
-        let Some(mut last) = sessions.pop() else {
+        if sessions.is_empty() {
             return Ok(Vec::new(alloc));
-        };
+        }
+        let mut last = sessions.take_last();
         meet_all(sessions, &mut last);
         let history = copy_seen(alloc, &mut last);
         sessions.push_reserved(last);

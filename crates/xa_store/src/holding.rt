@@ -7,6 +7,7 @@ ghost use Rattle.xa_store.specs.Rounds.{AreFresh, BlamesRounds};
 ghost use Rattle.xa_store.specs.Held.{IsRound};
 
 use crate::closing::{Closed, close_all};
+use crate::growing::and_last;
 use crate::progress::Progress;
 use crate::round::Resumed;
 use crate::spread::run_all;
@@ -15,6 +16,33 @@ use std::alloc::Global;
 use std::sync::Wait;
 use std::thread::Threads;
 use xa_xid::NoMemory;
+
+/// A session of the pass, with how far it has come.
+fn resumed<'a, G: Gate>(
+    store: &'a Store,
+    pass: Pass,
+    progress: Progress,
+    before: u64,
+    gate: &'a G,
+) -> Result<Resumed<'a, Log, G>, NoMemory>
+    requires { log_of pass ≡ identity_of store.now.log }
+    ensures { IfOk result
+        (λ resumed. (resumed.session.pass ≡ pass)
+        × (resumed.session.base.now ≡ store.entry.now.base)
+        × (resumed.progress ≡ progress)
+        × (resumed.before ≡ before)
+        × (resumed.gate.now ≡ gate.entry.now)) }
+{
+    match store.connect(pass) {
+        Ok(session) => Ok(Resumed {
+            session,
+            progress,
+            before,
+            gate,
+        }),
+        Err((_, error)) => Err(error),
+    }
+}
 
 /// A session of each pass, with how far it has come.
 fn connect_all<'a, G: Gate>(
@@ -40,17 +68,8 @@ fn connect_all<'a, G: Gate>(
     }
     let pass = passes.take_last();
     let one = progress.take_last();
-    let mut all = connect_all(alloc, store, passes, progress, before, gate)?;
-    match store.connect(pass) {
-        Ok(session) => all.push(Resumed {
-            session,
-            progress: one,
-            before,
-            gate,
-        })?,
-        Err((_, error)) => return Err(error),
-    }
-    Ok(all)
+    let others = connect_all(alloc, store, passes, progress, before, gate);
+    and_last(others, resumed(store, pass, one, before, gate))
 }
 
 /// Holds one round: each session goes on, on a thread of its own, until it has no more statement or the history no more room.

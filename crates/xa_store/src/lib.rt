@@ -6,6 +6,7 @@ mod carrying;
 mod closing;
 mod first_fault;
 mod gate;
+mod growing;
 mod held;
 mod history;
 mod holding;

@@ -5,6 +5,7 @@ ghost use Rattle.xa_store.specs.Passes.{identity_of, log_of, known_of};
 ghost use Rattle.xa_store.specs.Legal.{IsOutcome, LetsIn, Blames};
 
 use crate::closing::{Closed, close_all};
+use crate::growing::and_last;
 use crate::running::Started;
 use crate::spread::run_all;
 use crate::{Gate, Log, Outcome, RaceFault, Run, Store};
@@ -13,11 +14,37 @@ use std::sync::Wait;
 use std::thread::Threads;
 use xa_xid::NoMemory;
 
+/// A session for the run.
+fn start<'a, G: Gate>(
+    alloc: Global,
+    store: &'a Store,
+    run: Run,
+    gate: &'a G,
+) -> Result<Started<'a, Log, G>, NoMemory>
+    requires { log_of run.pass ≡ identity_of store.now.log }
+    ensures { IfOk result
+        (λ started. (started.session.base.now ≡ store.entry.now.base)
+        × (started.session.pass ≡ run.pass)
+        × (started.lines.items ≡ run.lines.items)
+        × (started.gate.now ≡ gate.entry.now)) }
+{
+    let Run { pass, lines } = run;
+    match store.connect(pass) {
+        Ok(session) => Ok(Started {
+            session,
+            lines,
+            alloc,
+            gate,
+        }),
+        Err((_, error)) => Err(error),
+    }
+}
+
 /// A session for each run, in the order of the runs.
 fn start_all<'a, G: Gate>(
     alloc: Global,
     store: &'a Store,
-    runs: Vec<Run>,
+    mut runs: Vec<Run>,
     gate: &'a G,
 ) -> Result<Vec<Started<'a, Log, G>>, NoMemory>
     requires { All (λ run. log_of run.pass ≡ identity_of store.now.log) runs.items }
@@ -29,20 +56,11 @@ fn start_all<'a, G: Gate>(
         × (started.gate.now ≡ gate.entry.now))
         runs.items all.items) }
 {
-    let mut all = Vec::with_capacity(alloc, runs.len())?;
-    for run in runs {
-        let Run { pass, lines } = run;
-        match store.connect(pass) {
-            Ok(session) => all.push(Started {
-                session,
-                lines,
-                alloc,
-                gate,
-            })?,
-            Err((_, error)) => return Err(error),
-        }
-    }
-    Ok(all)
+    let Some(run) = runs.pop() else {
+        return Ok(Vec::new(alloc));
+    };
+    let others = start_all(alloc, store, runs, gate);
+    and_last(others, start(alloc, store, run, gate))
 }
 
 /// How many runs have a statement.

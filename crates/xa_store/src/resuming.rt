@@ -5,6 +5,7 @@ ghost use Rattle.xa_store.specs.Passes.{identity_of};
 ghost use Rattle.xa_store.specs.Renewal.{AreGathered};
 ghost use Rattle.xa_store.specs.Held.{CarriesOver};
 
+use crate::growing::and_both;
 use crate::held::Held;
 use crate::progress::Progress;
 use crate::{Pass, RaceFault, Run};
@@ -14,30 +15,28 @@ use xa_words::Entry;
 use xa_xid::NoMemory;
 
 /// The runs' passes, and their statements with no answer yet.
-pub(crate) fn split(alloc: Global, runs: Vec<Run>) -> Result<(Vec<Pass>, Vec<Progress>), NoMemory>
+pub(crate) fn split(
+    alloc: Global,
+    mut runs: Vec<Run>,
+) -> Result<(Vec<Pass>, Vec<Progress>), NoMemory>
     ensures passes { IfOk result (λ both. both.0.items ≡ map (λ run. run.pass) runs.items) }
     ensures lines { IfOk result (λ both. map (λ one. one.lines.items) both.1.items ≡ map (λ run. run.lines.items) runs.items) }
     ensures none { IfOk result (λ both. All (λ one. one.answers.items ≡ []) both.1.items) }
 {
-    let mut passes = Vec::new(alloc);
-    let mut progress = Vec::new(alloc);
-    for run in runs {
-        let Run { pass, lines } = run;
-        passes.push(pass)?;
-        let answers = Vec::new(alloc);
-        progress.push(Progress { lines, answers })?;
-    }
-    Ok((passes, progress))
+    let Some(last) = runs.pop() else {
+        return Ok((Vec::new(alloc), Vec::new(alloc)));
+    };
+    let Run { pass, lines } = last;
+    let answers = Vec::new(alloc);
+    let others = split(alloc, runs);
+    and_both(others, pass, Progress { lines, answers })
 }
 
 /// Puts a round's history behind that of the rounds before.
-pub(crate) fn extend(history: &mut Vec<Entry>, round: Vec<Entry>) -> Result<(), NoMemory>
+pub(crate) fn extend(history: &mut Vec<Entry>, mut round: Vec<Entry>) -> Result<(), NoMemory>
     ensures { OnOk result (history.new.items ≡ history.old.items ++ round.items) }
 {
-    for entry in round {
-        history.push(entry)?;
-    }
-    Ok(())
+    history.append(&mut round)
 }
 
 /// Whether each session has been answered all its statements.

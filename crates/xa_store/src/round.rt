@@ -35,41 +35,29 @@ fn push_later(answers: &mut Vec<Answer>, answer: Answer, before: u64) -> Result<
     Ok(())
 }
 
-/// Answers a session's next statements, in order, up to the last or to one that the history has no room for. The session comes
-/// back with its answers.
+/// Answers a session's next statements, in order, up to the last or to one that the history has no room for.
 ///
-/// Errors: `GateShut` at the statement at which the gate shuts the run, `NoMemory`; the session is then dropped.
-fn answer_while_room<'a, L: DecisionLog, G: Gate, R: Wait>(
+/// Errors: `GateShut` at the statement at which the gate shuts the run, `NoMemory`.
+fn go_on<L: DecisionLog, G: Gate, R: Wait>(
     rt: &R,
-    resumed: Resumed<'a, L, G>,
-) -> Result<Returned<'a, L, Progress>, RaceFault>
-where
-    L::Pass: Drop,
-    ensures ok { IfOk result
-        (λ gone. HasGoneOn L.belongs_to L.known resumed.entry.session.base.now resumed.entry.session.pass resumed.entry.before resumed.entry.progress
-        gone.session.base.now gone.session.pass gone.done) }
+    session: &mut Session<'_, L>,
+    progress: &mut Progress,
+    before: u64,
+    gate: &G,
+) -> Result<(), RaceFault>
+    ensures ok { OnOk result
+        (HasGoneOn L.belongs_to L.known session.old.base.now session.old.pass before progress.old session.new.base.now session.new.pass progress.new) }
     ensures fault { IfErr result
-        (StopsInRound (G.may_answer resumed.entry.gate.now) (L.known resumed.entry.session.pass).number (length resumed.entry.progress.lines.items)) }
+        (StopsInRound (G.may_answer gate.now) (L.known session.old.pass).number (length progress.old.lines.items)) }
 {
-    let Resumed {
-        mut session,
-        progress,
-        before,
-        gate,
-    } = resumed;
-    let Progress { lines, mut answers } = progress;
-    for index in answers.len()..lines.len() {
-        match answer_one(rt, &mut session, index as u64, &lines[index], gate) {
-            Ok(answer) => push_later(&mut answers, answer, before)?,
-            Err(RaceFault::Full { .. }) => {
-                let done = Progress { lines, answers };
-                return Ok(Returned { session, done });
-            }
+    for index in progress.answers.len()..progress.lines.len() {
+        match answer_one(rt, session, index as u64, &progress.lines[index], gate) {
+            Ok(answer) => push_later(&mut progress.answers, answer, before)?,
+            Err(RaceFault::Full { .. }) => return Ok(()),
             Err(fault) => return Err(fault),
         }
     }
-    let done = Progress { lines, answers };
-    Ok(Returned { session, done })
+    Ok(())
 }
 
 impl<'a, L: DecisionLog, G: Gate> Task for Resumed<'a, L, G>
@@ -91,6 +79,13 @@ where
     }
 
     fn work<R: Wait>(self, rt: &R) -> Result<Returned<'a, L, Progress>, RaceFault> {
-        answer_while_room(rt, self)
+        let Resumed {
+            mut session,
+            progress: mut done,
+            before,
+            gate,
+        } = self;
+        go_on(rt, &mut session, &mut done, before, gate)?;
+        Ok(Returned { session, done })
     }
 }

@@ -1,6 +1,6 @@
 //! A run on its thread.
 
-use crate::answering::answer_all;
+use crate::answering::answers_to;
 use crate::task::{Returned, Task};
 use crate::{Gate, RaceFault};
 use decision_log::DecisionLog;
@@ -39,11 +39,12 @@ where
 
     fn work<R: Wait>(self, rt: &R) -> Result<Returned<'a, L, Vec<Answer>>, RaceFault> {
         let Started {
-            session,
+            mut session,
             lines,
             alloc,
             gate,
         } = self;
-        answer_all(rt, alloc, session, lines.as_slice(), gate)
+        let done = answers_to(rt, alloc, &mut session, lines.as_slice(), gate)?;
+        Ok(Returned { session, done })
     }
 }

@@ -1,22 +1,37 @@
-use Rattle.std.proofs.Common.{◌≡◌, [], ◌∷◌, ◌++◌, map, ap, sym, subst, ◌∙◌}
+use Rattle.std.proofs.Common.{◌≡◌, [], ◌∷◌, ◌++◌, length, map, vec_len, refl, ap, sym, subst, ◌∙◌, Some, arith}
 use Rattle.std.specs.List.{All}
+use borrow.Author.Tests.{eqb-true}
+use Rattle.std.proofs.lemmas.List.{nil_from_length}
 use Rattle.std.proofs.lemmas.Result.{IfOk-weaker}
-use Rattle.std.proofs.lemmas.List.Elements.{All-push, AllZip-push}
-use Rattle.xa_store.specs.Passes.{log_of, known_of}
+use Rattle.std.proofs.lemmas.List.Elements.{All-pop, All-push, AllZip-push, length_all_zip}
+use Rattle.xa_store.specs.Passes.{identity_of, log_of, known_of}
 use Rattle.xa_store.specs.Gathered.{IsTakenIn, AddsNothing, last_known}
-use Rattle.xa_store.proofs.Gathering.{zip_weaker, meets_keeps, last_known_of}
+use Rattle.xa_store.proofs.Gathering.{zip_itself, zip_weaker, keeps_itself, meets_keeps, last_known_of}
 use Rattle.xa_store.proofs.store.Store.history.Goals as goal
+
+pub meet_all-requires : goal.meet_all-requires
+meet_all-requires c =
+    let identity = identity_of c.args.self.now.log in
+    let both =
+    All-pop (λ session. log_of session.pass ≡ identity) c.args.sessions.now.items c.take_last-last.new.self.items (Some c.take_last-last.result)
+    c.take_last-last.ensures.items c.requires in
+    λ k d below. both.0 k d below ∙ sym both.1
+
+pub push_reserved-requires : goal.push_reserved-requires
+push_reserved-requires c =
+    let long = length_all_zip _ c.take_last-last.new.self.items c.meet_all.new.others.items c.meet_all.ensures.others in
+    omega (arith, long, c.meet_all.ensures.room, c.take_last-last.ensures.len, c.take_last-last.ensures.capacity)
 
 pub returns-clause-keeps : goal.returns-clause-keeps
 returns-clause-keeps c =
     let told = c.meet_all.ensures in
     let copied = c.copy_seen-history.ensures in
-    rw (c.in-Some.ensures.items, c.push_reserved.ensures.items)
+    rw (c.take_last-last.ensures.items, c.push_reserved.ensures.items)
     (AllZip-push (λ old new. (new.base.now ≡ old.base.now) × (log_of new.pass ≡ log_of old.pass) × AddsNothing (known_of old.pass) (known_of new.pass))
-    c.pop.new.self.items c.meet_all.new.others.items c.in-Some.last c.copy_seen-history.new.session
-    (zip_weaker _ _ (λ old new is. (is.0, is.1, meets_keeps (known_of old.pass) (known_of new.pass) is.2)) c.pop.new.self.items c.meet_all.new.others.items
+    c.take_last-last.new.self.items c.meet_all.new.others.items c.take_last-last.result c.copy_seen-history.new.session
+    (zip_weaker _ _ (λ old new is. (is.0, is.1, meets_keeps (known_of old.pass) (known_of new.pass) is.2)) c.take_last-last.new.self.items c.meet_all.new.others.items
     told.others)
-    (copied.base ∙ told.base, copied.belongs ∙ told.belongs, subst (λ known. AddsNothing (known_of c.in-Some.last.pass) known) (sym copied.same) told.last))
+    (copied.base ∙ told.base, copied.belongs ∙ told.belongs, subst (λ known. AddsNothing (known_of c.take_last-last.result.pass) known) (sym copied.same) told.last))
 
 pub returns-clause-last : goal.returns-clause-last
 returns-clause-last c =
@@ -45,10 +60,31 @@ pub returns-clause-looked : goal.returns-clause-looked
 returns-clause-looked c some =
     let copied = c.copy_seen-history.ensures in
     rw (
-      c.in-Some.ensures.items,
+      c.take_last-last.ensures.items,
       c.push_reserved.ensures.items,
-      last_known_of (λ session. known_of session.pass) c.pop.new.self.items c.in-Some.last,
+      last_known_of (λ session. known_of session.pass) c.take_last-last.new.self.items c.take_last-last.result,
       last_known_of (λ session. known_of session.pass) c.meet_all.new.others.items c.copy_seen-history.new.session,
       copied.same,
     )
     c.meet_all.ensures.looked
+
+pub returns-then-is_empty-clause-keeps : goal.returns-then-is_empty-clause-keeps
+returns-then-is_empty-clause-keeps c = zip_itself _ (λ session. (refl, refl, keeps_itself (known_of session.pass))) c.args.sessions.now.items
+
+pub returns-then-is_empty-clause-last : goal.returns-then-is_empty-clause-last
+returns-then-is_empty-clause-last c =
+    let empty : vec_len c.args.sessions.now ≡ 0 = eqb-true (vec_len c.args.sessions.now) 0 (sym c.is_empty.ensures ∙ c.if-is_empty.true) in
+    let none : length c.args.sessions.now.items ≡ 0 = omega (arith, empty, c.args.sessions.now.ok.0) in
+    c.new.ensures.items ∙ ap (λ items. (last_known (map (λ session. known_of session.pass) items)).seen) (sym (nil_from_length c.args.sessions.now.items none))
+
+pub returns-then-is_empty-clause-looked : goal.returns-then-is_empty-clause-looked
+returns-then-is_empty-clause-looked c some =
+    let empty : vec_len c.args.sessions.now ≡ 0 = eqb-true (vec_len c.args.sessions.now) 0 (sym c.is_empty.ensures ∙ c.if-is_empty.true) in
+    let none : length c.args.sessions.now.items ≡ 0 = omega (arith, empty, c.args.sessions.now.ok.0) in
+    absurd (omega (arith, some, none))
+
+pub returns-then-is_empty-clause-whole : goal.returns-then-is_empty-clause-whole
+returns-then-is_empty-clause-whole c k d below =
+    let empty : vec_len c.args.sessions.now ≡ 0 = eqb-true (vec_len c.args.sessions.now) 0 (sym c.is_empty.ensures ∙ c.if-is_empty.true) in
+    let none : length c.args.sessions.now.items ≡ 0 = omega (arith, empty, c.args.sessions.now.ok.0) in
+    absurd (omega (arith, below, none))

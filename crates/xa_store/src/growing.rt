@@ -1,0 +1,31 @@
+//! Lists that grow by one, where memory lasts.
+ghost use Rattle.std.specs.Prelude.{◌≡◌, ◌++◌, ◌∷◌, [], Ok, IfOk};
+
+use xa_xid::NoMemory;
+
+/// The list with one element more behind it, where both could be had.
+pub(crate) fn and_last<T: Drop>(
+    others: Result<Vec<T>, NoMemory>,
+    last: Result<T, NoMemory>,
+) -> Result<Vec<T>, NoMemory>
+    ensures { IfOk result (λ all. (before : _) × (one : _) × (others ≡ Ok before) × (last ≡ Ok one) × (all.items ≡ before.items ++ one ∷ [])) }
+{
+    let mut all = others?;
+    all.push(last?)?;
+    Ok(all)
+}
+
+/// Two lists, each with one element more behind it, where the lists could be had.
+pub(crate) fn and_both<A: Drop, B: Drop>(
+    others: Result<(Vec<A>, Vec<B>), NoMemory>,
+    first: A,
+    second: B,
+) -> Result<(Vec<A>, Vec<B>), NoMemory>
+    ensures { IfOk result
+        (λ both. (before : _) × (others ≡ Ok before) × (both.0.items ≡ before.0.items ++ first ∷ []) × (both.1.items ≡ before.1.items ++ second ∷ [])) }
+{
+    let (mut firsts, mut seconds) = others?;
+    firsts.push(first)?;
+    seconds.push(second)?;
+    Ok((firsts, seconds))
+}
