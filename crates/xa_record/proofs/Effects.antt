@@ -1,16 +1,26 @@
 -- The lines of an order.
-use Rattle.std.proofs.Common.{◌≡◌, ℕ, suc, ◌+◌, ◌<◌, ◌≤◌, List, [], ◌∷◌, ◌++◌, length, map, drop, get_or, refl, ap, sym, ◌∙◌, arith, add-one, append_assoc}
-use Rattle.std.proofs.Common.{append-nil}
+use Rattle.std.proofs.Common.{◌≡◌, ℕ, suc, ◌+◌, ◌<◌, ◌≤◌, Option, Some, List, [], ◌∷◌, ◌++◌, length, map, set, drop, get_or, slice_get, refl, ap, sym, ◌∙◌, arith}
+use Rattle.std.proofs.Common.{add-one, append_assoc, append-nil}
 use Rattle.std.proofs.Math.Seq.{drop-cons}
 use Rattle.std.specs.List.{drop-map}
-use Rattle.std.proofs.lemmas.List.{drop_all, length-map}
+use Rattle.std.specs.Option.{option_map}
+use Rattle.std.proofs.lemmas.List.{drop_all, length-map, map-set}
+use Rattle.std.proofs.lemmas.Option.{slice_get-map}
 use Rattle.xa_judge.specs.declared.moves.Act.{Act}
 use Rattle.xa_judge.specs.declared.moves.Move.{Move}
 use Rattle.xa_judge.specs.declared.moves.Move.TheVariants.{Event as Seeing, Effect}
 use Rattle.xa_record.specs.declared.line_event.NumberedEvent.{NumberedEvent as NumberedRead}
-use Rattle.xa_record.specs.Kept.{told_kept, numbered_kept}
+use Rattle.xa_record.specs.declared.last_calls.LastCalls.{LastCalls}
+use Rattle.xa_record.specs.Kept.{told_kept, text_told, text_at, numbered_kept, calls_kept, with_place}
+use Rattle.xa_record.specs.Lines.{Told, Calls, Returns, Leaves}
 use Rattle.xa_record.specs.Reading.{NumberedEvent}
 use Rattle.xa_record.specs.VerdictText.{with_call, effect_text, order_text}
+use Rattle.xa_record.proofs.Places.{text_at-kept}
+
+-- the text of a session's last call, by its place
+pub text_of_last : (all : List NumberedEvent) (places : List (Option ℕ)) (session : ℕ) (place : Option ℕ) → slice_get places session ≡ Some place
+    → slice_get (map (text_at all) places) session ≡ Some (text_at all place)
+text_of_last all places session place at = slice_get-map (text_at all) places session ∙ ap (option_map (text_at all)) at
 
 -- the line of an effect was written
 pub moved_effect : (out new : List ℕ) (calls : List (List ℕ)) (numbered : List NumberedEvent) (session : ℕ) (act : Act) (moves : List Move)
@@ -48,14 +58,24 @@ mapped numbered place one within at =
     drop-map numbered_kept place numbered ∙ ap (map numbered_kept) (dropped numbered place one within at)
     ∙ ap (λ l. numbered_kept one ∷ l) (sym (drop-map numbered_kept (place + 1) numbered))
 
+calls-followed : (all : List NumberedEvent) (places : List (Option ℕ)) (place : ℕ) (told : Told) → text_at all (Some place) ≡ text_told told
+    → map (text_at all) (with_place place told places) ≡ with_call told (map (text_at all) places)
+calls-followed all places place (Calls session text) at =
+    map-set (text_at all) places session (Some place) ∙ ap (set (map (text_at all) places) session) at
+calls-followed all places place (Returns session shown) at = refl
+calls-followed all places place (Leaves session) at = refl
+
 -- one thing more of the list as the program keeps it has happened
-pub moved_event_at : (out : List ℕ) (calls new : List (List ℕ)) (numbered : List NumberedRead) (place : ℕ) (one : NumberedRead) (moves : List Move)
+pub moved_event_at : (out : List ℕ) (old new : LastCalls) (numbered : List NumberedRead) (place : ℕ) (one : NumberedRead) (moves : List Move)
     → place < length numbered → one ≡ get_or numbered place one
-    → new ≡ with_call (told_kept one.line_event) calls
-    → out ++ order_text calls (drop place (map numbered_kept numbered)) (Seeing ∷ moves) ≡ out ++ order_text new (drop (place + 1) (map numbered_kept numbered)) moves
-moved_event_at out calls new numbered place one moves within at next =
-    ap (λ l. out ++ order_text calls l (Seeing ∷ moves)) (mapped numbered place one within at)
-    ∙ moved_event out calls new (numbered_kept one) (drop (place + 1) (map numbered_kept numbered)) moves next
+    → new.places ≡ with_place place (told_kept one.line_event) old.places
+    → out ++ order_text (calls_kept (map numbered_kept numbered) old) (drop place (map numbered_kept numbered)) (Seeing ∷ moves)
+    ≡ out ++ order_text (calls_kept (map numbered_kept numbered) new) (drop (place + 1) (map numbered_kept numbered)) moves
+moved_event_at out old new numbered place one moves within at next =
+    let all = map numbered_kept numbered in
+    ap (λ l. out ++ order_text (calls_kept all old) l (Seeing ∷ moves)) (mapped numbered place one within at)
+    ∙ moved_event out (calls_kept all old) (calls_kept all new) (numbered_kept one) (drop (place + 1) all) moves
+    (ap (map (text_at all)) next ∙ calls-followed all old.places place (told_kept one.line_event) (sym (text_at-kept numbered place one within at)))
 
 pub moved_over_at : (out : List ℕ) (calls : List (List ℕ)) (numbered : List NumberedRead) (place : ℕ) (moves : List Move) → length numbered ≤ place
     → out ++ order_text calls (drop place (map numbered_kept numbered)) (Seeing ∷ moves) ≡ out ++ order_text calls (drop place (map numbered_kept numbered)) moves

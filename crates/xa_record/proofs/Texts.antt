@@ -1,8 +1,6 @@
 -- The texts of answers, and the number of a line.
 use Rattle.std.proofs.Common.{◌≡◌, ℕ, ◌+◌, ◌<◌, ◌≤◌, List, [], ◌∷◌, ◌++◌, map, length, take, get_or, codes, refl, ap, sym, ◌∙◌, append_assoc, append-nil}
 use Rattle.std.proofs.lemmas.List.{take_more}
-use Rattle.std.proofs.lemmas.Option.{slice_get-map, slice_get_read, slice_get_past}
-use Rattle.std.specs.Option.{option_map}
 use Rattle.std.specs.BTreeSet.{insert_key}
 use Rattle.std.specs.declared.cmp.Ordering.{Ordering}
 use Rattle.std.specs.declared.cmp.Ordering.TheVariants.{Less, Equal, Greater}
@@ -12,6 +10,7 @@ use Rattle.xa_judge.specs.declared.answer.Answer.{Answer}
 use Rattle.xa_record.specs.declared.line_event.NumberedEvent.{NumberedEvent as NumberedRead}
 use Rattle.xa_record.specs.Kept.{numbered_kept}
 use Rattle.xa_record.specs.VerdictText.{answer_text, with_answers, texts_of, answers_text, number_of_line, line_number_at}
+use Rattle.xa_record.proofs.Places.{slice_get-kept, slice_get-kept_past}
 
 -- answers one after another
 with_answers-append : (texts : List (List ℕ)) (answers more : List Answer)
@@ -75,9 +74,8 @@ written-whole whole out texts is none = sym (is ∙ ap (λ t. out ++ answers_tex
 -- the number of the line, in the list as the program keeps it
 pub number_at-within : (numbered : List NumberedRead) (place : ℕ) (one : NumberedRead) → place < length numbered → one ≡ get_or numbered place one
     → one.number ≡ line_number_at (map numbered_kept numbered) place
-number_at-within numbered place one within at =
-    sym (ap number_of_line (slice_get-map numbered_kept numbered place ∙ ap (option_map numbered_kept) (slice_get_read numbered (length numbered) place one refl within at)))
+number_at-within numbered place one within at = sym (ap number_of_line (slice_get-kept numbered place one within at))
 
 -- there is no such line
 pub number_at-past : (numbered : List NumberedRead) (place : ℕ) → length numbered ≤ place → 0 ≡ line_number_at (map numbered_kept numbered) place
-number_at-past numbered place past = sym (ap number_of_line (slice_get-map numbered_kept numbered place ∙ ap (option_map numbered_kept) (slice_get_past numbered place past)))
+number_at-past numbered place past = sym (ap number_of_line (slice_get-kept_past numbered place past))

@@ -3,8 +3,10 @@
 --     numbered_kept                what happens, with its line's number
 --     awaited_kept              rows that are still to come
 --     notes_kept                what was read so far
+--     text_told, text_at        what is called for where this happens;  at this place of what happens
 --     calls_kept                at each session's number, the text that it called for last
-use Rattle.std.specs.Prelude.{ℕ, List, map}
+--     with_place                at each session's number, the place of its last call, once this happens there
+use Rattle.std.specs.Prelude.{ℕ, Option, Some, None, List, [], map, slice_get, slice_set}
 use Rattle.std.specs.Option.{option_map}
 use Rattle.xa_record.specs.declared.line_event.LineEvent.{LineEvent}
 use Rattle.xa_record.specs.declared.line_event.LineEvent.TheVariants.{Call, Return, Lost}
@@ -15,7 +17,7 @@ use Rattle.xa_record.specs.declared.line.RecordLine.TheVariants.{Nothing as Noth
 use Rattle.xa_record.specs.declared.line_event.NumberedEvent.{NumberedEvent as NumberedRead}
 use Rattle.xa_record.specs.declared.pending.Pending.{Pending}
 use Rattle.xa_record.specs.declared.notes.Notes.{Notes as NotesRead}
-use Rattle.xa_record.specs.declared.order.Calls.{Calls as CallsRead}
+use Rattle.xa_record.specs.declared.last_calls.LastCalls.{LastCalls}
 use Rattle.xa_record.specs.Lines.{Shown, ShowsOk, ShowsValue, ShowsRows, ShowsError, Told, Calls, Returns, Leaves, LineSaid, Nothing, Bad, Says, Awaits}
 use Rattle.xa_record.specs.Reading.{Awaited, NumberedEvent, Notes}
 
@@ -28,7 +30,7 @@ shown_kept (SeenError number) = ShowsError number
 
 -- what happens to a session
 abbrev pub told_kept : LineEvent → Told
-told_kept (Call session text) = Calls session text
+told_kept (Call session text) = Calls session text.now
 told_kept (Return session seen) = Returns session (shown_kept seen)
 told_kept (Lost session) = Leaves session
 
@@ -53,6 +55,27 @@ abbrev pub notes_kept : NotesRead → Notes
 notes_kept notes =
     record { told = map numbered_kept notes.numbered.items; faults = notes.faults.items; presence = notes.presence; awaited = option_map awaited_kept notes.pending }
 
+-- what is called for where this happens, nothing if it is no call
+abbrev pub text_told : Told → List ℕ
+text_told (Calls session text) = text
+text_told (Returns session shown) = []
+text_told (Leaves session) = []
+
+abbrev pub text_numbered : Option NumberedEvent → List ℕ
+text_numbered None = []
+text_numbered (Some numbered) = text_told numbered.told
+
+-- what is called for at this place of what happens
+abbrev pub text_at : List NumberedEvent → Option ℕ → List ℕ
+text_at numbered None = []
+text_at numbered (Some place) = text_numbered (slice_get numbered place)
+
 -- at each session's number, the text that it called for last
-abbrev pub calls_kept : CallsRead → List (List ℕ)
-calls_kept calls = map (λ text. text.now) calls.texts
+abbrev pub calls_kept : List NumberedEvent → LastCalls → List (List ℕ)
+calls_kept numbered calls = map (text_at numbered) calls.places
+
+-- at each session's number, the place of its last call, once this happens there
+abbrev pub with_place : ℕ → Told → List (Option ℕ) → List (Option ℕ)
+with_place place (Calls session text) places = slice_set places session (Some place)
+with_place place (Returns session shown) places = places
+with_place place (Leaves session) places = places

@@ -5,7 +5,7 @@
 --     is_silent        it is blank, or a comment
 --     trimmed          a text without the blanks at its end
 --     reading_of_line  what this line says
-use Rattle.std.specs.Prelude.{ℕ, ◌==◌, nat_lt, Bool, ◌||◌, bytes_eq, if◌then◌else◌, Option, Some, None, Ok, Err, List, [], ◌∷◌, codes, reverse}
+use Rattle.std.specs.Prelude.{ℕ, nat_lt, Bool, ◌||◌, bytes_eq, if◌then◌else◌, Option, Some, None, Ok, Err, List, [], ◌∷◌, codes, reverse}
 use Rattle.xa_xid.specs.Bytes.{unblank}
 use Rattle.xa_xid.specs.Literal.{Reading, literal_ahead}
 use Rattle.xa_xid.specs.Xid.{Text}

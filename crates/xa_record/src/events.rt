@@ -2,13 +2,24 @@
 ghost use Rattle.std.specs.Prelude.{◌≡◌, map, IfOk};
 ghost use Rattle.std.specs.List.Sorted.{IsPermutation, IsSorted};
 ghost use Rattle.xa_xid.specs.Xid.{xid_cmp};
-ghost use Rattle.xa_record.specs.Events.{IsSeen, IsEvent, AreEvents};
+ghost use Rattle.xa_record.specs.Events.{request_called, IsSeen, IsEvent, AreEvents};
 ghost use Rattle.xa_record.specs.Kept.{shown_kept, told_kept, numbered_kept};
 
 use crate::line_event::{LineEvent, NumberedEvent};
 use std::alloc::Global;
-use xa_judge::{Event, Seen};
+use xa_judge::{Event, Request, Seen};
+use xa_statement::read_statement;
 use xa_xid::{NoMemory, Xid, copy_of};
+
+/// What a session asks for that calls for this text.
+fn request_of(text: &[u8]) -> Request
+    ensures { result ≡ request_called text.now }
+{
+    match read_statement(text) {
+        Ok(statement) => Request::Statement(statement),
+        Err(_) => Request::Unread,
+    }
+}
 
 /// The identifiers in ascending order.
 fn ascending(rows: &Vec<Xid>) -> Result<Vec<Xid>, NoMemory>
@@ -38,7 +49,7 @@ fn event_of(line_event: &LineEvent) -> Result<Event, NoMemory>
     ensures { IfOk result (IsEvent (told_kept line_event.now)) }
 {
     match line_event {
-        LineEvent::Call(session, called) => Ok(Event::Call(*session, called.request().copy())),
+        LineEvent::Call(session, text) => Ok(Event::Call(*session, request_of(text))),
         LineEvent::Return(session, seen) => Ok(Event::Return(*session, seen_of(seen)?)),
         LineEvent::Lost(session) => Ok(Event::Lost(*session)),
     }

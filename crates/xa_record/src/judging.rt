@@ -50,6 +50,11 @@ pub fn judge_text(alloc: Global, text: &[u8], limit: usize) -> Result<Judged, No
     let verdict = judge(alloc, &base, events.as_slice(), limit)?;
     Ok(Judged {
         outcome: outcome_of(&verdict),
-        text: verdict_text(alloc, notes.numbered.as_slice(), &verdict)?,
+        text: verdict_text(
+            alloc,
+            notes.numbered.as_slice(),
+            events.as_slice(),
+            &verdict,
+        )?,
     })
 }

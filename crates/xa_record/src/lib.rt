@@ -1,9 +1,9 @@
 //! Records of what clients of a server saw: read, judged, and the verdict written.
 #![tactic(auto)]
 
-mod called;
 mod events;
 mod judging;
+mod last_calls;
 mod line;
 mod line_event;
 mod line_fault;

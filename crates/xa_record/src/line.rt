@@ -7,7 +7,6 @@ ghost use Rattle.xa_record.specs.Lines.{return_said, loss_said, session_said, re
 ghost use Rattle.xa_record.specs.Kept.{shown_kept, line_kept};
 ghost use Rattle.xa_xid.specs.Literal.{literal_ahead};
 
-use crate::called::Called;
 use crate::line_event::LineEvent;
 use crate::rows::{behind_word, leading_number};
 use xa_judge::Seen;
@@ -140,7 +139,7 @@ fn session_line<'a>(session: SessionNo, sign: &[u8], text: &'a [u8]) -> RecordLi
     ensures { line_kept result ≡ session_said session sign.now text.now }
 {
     if sign == b">".as_slice() {
-        RecordLine::Happens(LineEvent::Call(session, Called::read(trimmed(text))))
+        RecordLine::Happens(LineEvent::Call(session, trimmed(text)))
     } else if sign == b"<".as_slice() {
         let (word, rest) = split_word(text);
         returned(session, word, skip_blanks(rest))

@@ -3,7 +3,6 @@ ghost use Rattle.std.specs.Prelude.{◌≡◌, Some, option_copied};
 ghost use Rattle.xa_record.specs.Reading.{session_of, presence_after, cause_of};
 ghost use Rattle.xa_record.specs.Kept.{told_kept};
 
-use crate::called::Called;
 use crate::line_fault::LineFault;
 use crate::presence::Presence;
 use xa_judge::Seen;
@@ -13,7 +12,7 @@ use xa_xid::SessionNo;
 #[derive(Drop)]
 pub enum LineEvent<'a> {
     /// It calls for what this text asks for.
-    Call(SessionNo, Called<'a>),
+    Call(SessionNo, &'a [u8]),
     /// Its call returns so, rows in the order of their lines.
     Return(SessionNo, Seen),
     /// Its client is gone.

@@ -1,14 +1,16 @@
 //! Writes an order that explains a record, as a script.
 ghost use Rattle.std.specs.Prelude.{◌≡◌, ◌++◌, ◌∷◌, List, OnOk, IfOk, map, drop, slice_get};
 ghost use Rattle.xa_judge.specs.declared.moves.Move.{Move as MoveSeen};
-ghost use Rattle.xa_record.specs.Kept.{told_kept, numbered_kept, calls_kept};
-ghost use Rattle.xa_record.specs.VerdictText.{canonical_text, call_text, with_call, text_of_call, act_text, effect_text, order_text, no_calls};
+ghost use Rattle.xa_record.specs.Events.{request_called, IsEvent, AreEvents};
+ghost use Rattle.xa_record.specs.Kept.{told_kept, text_told, text_at, numbered_kept, calls_kept};
+ghost use Rattle.xa_record.specs.VerdictText.{canonical_text, call_text, act_text, effect_text, order_text, no_calls};
 
+use crate::last_calls::LastCalls;
 use crate::line_event::{LineEvent, NumberedEvent};
 use std::alloc::Global;
-use xa_judge::{Act, Move};
+use xa_judge::{Act, Event, Move, Request};
 use xa_lines::push_number;
-use xa_statement::{read_statement, write_statement};
+use xa_statement::write_statement;
 use xa_xid::{NoMemory, SessionNo, Statement};
 
 /// Appends the canonical form of a statement, or its text where it has none.
@@ -38,98 +40,128 @@ fn push_canonical(
     }
 }
 
-/// Appends what a session called for.
-fn push_call(alloc: Global, out: &mut Vec<u8>, text: &[u8]) -> Result<(), NoMemory>
+/// Appends what is written for a text that a session called for, which was read as this.
+fn push_call(
+    alloc: Global,
+    out: &mut Vec<u8>,
+    text: &[u8],
+    request: &Request,
+) -> Result<(), NoMemory>
+    requires { request.now ≡ request_called text.now }
     ensures { OnOk result (out.new.items ≡ out.old.items ++ call_text text.now) }
 {
-    match read_statement(text) {
-        Ok(statement) => push_canonical(alloc, out, &statement, text),
-        Err(_) => out.extend_from_slice(text),
+    match request {
+        Request::Statement(statement) => push_canonical(alloc, out, statement, text),
+        Request::Unread => out.extend_from_slice(text),
     }
 }
 
-/// At each session's number, the text that it called for last.
-#[derive(Drop)]
-struct Calls<'a> {
-    texts: [&'a [u8]; 17],
+/// Appends what is called for, where this is a call.
+fn push_called(
+    alloc: Global,
+    out: &mut Vec<u8>,
+    line_event: &LineEvent,
+    event: &Event,
+) -> Result<(), NoMemory>
+    requires { IsEvent (told_kept line_event.now) event.now }
+    ensures { OnOk result (out.new.items ≡ out.old.items ++ call_text (text_told (told_kept line_event.now))) }
+{
+    match line_event {
+        LineEvent::Call(_, text) => match event {
+            Event::Call(_, request) => push_call(alloc, out, text, request),
+            Event::Return(_, _) => unreachable!(),
+            Event::Lost(_) => unreachable!(),
+        },
+        LineEvent::Return(_, _) => Ok(()),
+        LineEvent::Lost(_) => Ok(()),
+    }
 }
 
-impl<'a> Calls<'a> {
-    /// No session has called.
-    fn none() -> Calls<'a>
-        ensures { calls_kept result ≡ no_calls }
-    {
-        Calls { texts: [&[]; 17] }
-    }
-
-    /// This happens next.
-    fn follow(&mut self, line_event: &LineEvent<'a>)
-        ensures { calls_kept self.new ≡ with_call (told_kept line_event.now) (calls_kept self.old) }
-    {
-        match line_event {
-            LineEvent::Call(session, called) => self.texts[session.get() as usize] = called.text(),
-            LineEvent::Return(_, _) => {}
-            LineEvent::Lost(_) => {}
+/// Appends what is called for at this place, where there is one.
+fn push_called_at(
+    alloc: Global,
+    out: &mut Vec<u8>,
+    numbered: &[NumberedEvent],
+    events: &[Event],
+    place: Option<usize>,
+) -> Result<(), NoMemory>
+    requires { AreEvents (map numbered_kept numbered.now) events.now }
+    ensures { OnOk result (out.new.items ≡ out.old.items ++ call_text (text_at (map numbered_kept numbered.now) place)) }
+{
+    match place {
+        None => Ok(()),
+        Some(place) => {
+            if place < events.len() {
+                push_called(alloc, out, &numbered[place].line_event, &events[place])
+            } else {
+                Ok(())
+            }
         }
     }
+}
 
-    /// Appends what of a session takes effect.
-    fn push_act(
-        &self,
-        alloc: Global,
-        out: &mut Vec<u8>,
-        session: SessionNo,
-        act: Act,
-    ) -> Result<(), NoMemory>
-        ensures { OnOk result (out.new.items ≡ out.old.items ++ act_text act (slice_get (calls_kept self.now) session)) }
-    {
-        match act {
-            Act::Statement => match self.texts.get(session.get() as usize) {
-                None => Ok(()),
-                Some(text) => push_call(alloc, out, text),
-            },
-            Act::Disconnect => out.extend_from_slice(b"DISCONNECT"),
-        }
+/// Appends what of a session takes effect.
+#[tactic(auto, using(crate::proofs::Effects::text_of_last))]
+fn push_act(
+    alloc: Global,
+    out: &mut Vec<u8>,
+    numbered: &[NumberedEvent],
+    events: &[Event],
+    calls: &LastCalls,
+    session: SessionNo,
+    act: Act,
+) -> Result<(), NoMemory>
+    requires { AreEvents (map numbered_kept numbered.now) events.now }
+    ensures { OnOk result (out.new.items ≡ out.old.items ++ act_text act (slice_get (calls_kept (map numbered_kept numbered.now) calls.now) session)) }
+{
+    match act {
+        Act::Statement => push_called_at(alloc, out, numbered, events, calls.place_of(session)),
+        Act::Disconnect => out.extend_from_slice(b"DISCONNECT"),
     }
+}
 
-    /// Appends the line of an effect.
-    fn push_effect(
-        &self,
-        alloc: Global,
-        out: &mut Vec<u8>,
-        session: SessionNo,
-        act: Act,
-    ) -> Result<(), NoMemory>
-        ensures { OnOk result (out.new.items ≡ out.old.items ++ effect_text (calls_kept self.now) session act) }
-    {
-        push_number(out, session.get())?;
-        out.extend_from_slice(b" ")?;
-        self.push_act(alloc, out, session, act)?;
-        out.extend_from_slice(b"\n")
-    }
+/// Appends the line of an effect.
+fn push_effect(
+    alloc: Global,
+    out: &mut Vec<u8>,
+    numbered: &[NumberedEvent],
+    events: &[Event],
+    calls: &LastCalls,
+    session: SessionNo,
+    act: Act,
+) -> Result<(), NoMemory>
+    requires { AreEvents (map numbered_kept numbered.now) events.now }
+    ensures { OnOk result (out.new.items ≡ out.old.items ++ effect_text (calls_kept (map numbered_kept numbered.now) calls.now) session act) }
+{
+    push_number(out, session.get())?;
+    out.extend_from_slice(b" ")?;
+    push_act(alloc, out, numbered, events, calls, session, act)?;
+    out.extend_from_slice(b"\n")
 }
 
 /// Appends the line of a move, where it has one, and gives the place of what happens next.
-fn push_move<'a>(
+fn push_move(
     alloc: Global,
     out: &mut Vec<u8>,
-    calls: &mut Calls<'a>,
-    numbered: &[NumberedEvent<'a>],
+    numbered: &[NumberedEvent],
+    events: &[Event],
+    calls: &mut LastCalls,
     place: usize,
     step: &Move,
 ) -> Result<usize, NoMemory>
-    ensures { IfOk result (λ next. (moves : List MoveSeen) →
-        out.old.items ++ order_text (calls_kept calls.old) (drop place (map numbered_kept numbered.now)) (step.now ∷ moves)
-        ≡ out.new.items ++ order_text (calls_kept calls.new) (drop next (map numbered_kept numbered.now)) moves) }
+    requires { AreEvents (map numbered_kept numbered.now) events.now }
+    ensures { let all = map numbered_kept numbered.now in IfOk result (λ next. (moves : List MoveSeen) →
+        out.old.items ++ order_text (calls_kept all calls.old) (drop place all) (step.now ∷ moves)
+        ≡ out.new.items ++ order_text (calls_kept all calls.new) (drop next all) moves) }
 {
     match step {
         Move::Effect(session, act) => {
-            calls.push_effect(alloc, out, *session, *act)?;
+            push_effect(alloc, out, numbered, events, calls, *session, *act)?;
             Ok(place)
         }
         Move::Event => {
             if place < numbered.len() {
-                calls.follow(&numbered[place].line_event);
+                calls.follow(place, &numbered[place].line_event);
                 Ok(place + 1)
             } else {
                 Ok(place)
@@ -138,19 +170,21 @@ fn push_move<'a>(
     }
 }
 
-/// Appends the effects of an order, each on a line as in a script.
+/// Appends the effects of an order, each on a line as in a script: its statement as it was read for the event of the call.
 pub fn push_order(
     alloc: Global,
     out: &mut Vec<u8>,
     numbered: &[NumberedEvent],
+    events: &[Event],
     moves: &[Move],
 ) -> Result<(), NoMemory>
+    requires { AreEvents (map numbered_kept numbered.now) events.now }
     ensures { OnOk result (out.new.items ≡ out.old.items ++ order_text no_calls (map numbered_kept numbered.now) moves.now) }
 {
-    let mut calls = Calls::none();
+    let mut calls = LastCalls::none();
     let mut place = 0;
     for step in moves {
-        place = push_move(alloc, out, &mut calls, numbered, place, step)?;
+        place = push_move(alloc, out, numbered, events, &mut calls, place, step)?;
     }
     Ok(())
 }

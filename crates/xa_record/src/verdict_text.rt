@@ -1,5 +1,6 @@
 //! Writes verdicts.
 ghost use Rattle.std.specs.Prelude.{◌≡◌, ◌++◌, [], OnOk, IfOk, map};
+ghost use Rattle.xa_record.specs.Events.{AreEvents};
 ghost use Rattle.xa_record.specs.Kept.{numbered_kept};
 ghost use Rattle.xa_record.specs.VerdictText.{answer_text as text_of_answer, texts_of, answers_text, line_text, line_number_at};
 ghost use Rattle.xa_record.specs.VerdictText.{verdict_text as text_of_verdict};
@@ -8,7 +9,7 @@ use crate::line_event::NumberedEvent;
 use crate::order::push_order;
 use std::alloc::Global;
 use std::collections::BTreeSet;
-use xa_judge::{Answer, Verdict};
+use xa_judge::{Answer, Event, Verdict};
 use xa_lines::{push_number, push_reply};
 use xa_xid::NoMemory;
 
@@ -74,19 +75,21 @@ fn push_line(
     out.extend_from_slice(b"\n")
 }
 
-/// The text of a verdict on what happens in a record.
+/// The text of a verdict on what happens in a record, which are these events.
 pub fn verdict_text(
     alloc: Global,
     numbered: &[NumberedEvent],
+    events: &[Event],
     verdict: &Verdict,
 ) -> Result<Vec<u8>, NoMemory>
+    requires { AreEvents (map numbered_kept numbered.now) events.now }
     ensures { IfOk result (λ text. text.items ≡ text_of_verdict (map numbered_kept numbered.now) verdict.now) }
 {
     let mut out = Vec::new(alloc);
     match verdict {
         Verdict::Legal(moves) => {
             out.extend_from_slice(b"LEGAL\n")?;
-            push_order(alloc, &mut out, numbered, moves.as_slice())?;
+            push_order(alloc, &mut out, numbered, events, moves.as_slice())?;
         }
         Verdict::Illegal(place, answers) => {
             push_line(&mut out, b"ILLEGAL", numbered, *place)?;

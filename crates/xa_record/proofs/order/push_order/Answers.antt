@@ -6,8 +6,9 @@ use Rattle.xa_record.proofs.order.push_order.Goals as goal
 
 pub loop-step-preserved : goal.loop-step-preserved
 loop-step-preserved c =
-    let calls = calls_kept c.loop-step.calls in
-    let left = drop c.loop-step.place (map numbered_kept c.args.numbered.now) in
+    let all = map numbered_kept c.args.numbered.now in
+    let calls = calls_kept all c.loop-step.calls in
+    let left = drop c.loop-step.place all in
     c.loop-step.invariant
     ∙ ap (λ m. c.loop-step.out.items ++ order_text calls left m)
     (dropped c.args.moves.now c.loop-step.step-index c.step-item.result c.loop-step-test.true c.step-item.is)
@@ -15,6 +16,7 @@ loop-step-preserved c =
 
 pub returns : goal.returns
 returns c =
-    moved_whole _ c.loop-step.out.items (calls_kept c.loop-step.calls)
-    (drop c.loop-step.place (map numbered_kept c.args.numbered.now)) c.args.moves.now c.loop-step.step-index
+    let all = map numbered_kept c.args.numbered.now in
+    moved_whole _ c.loop-step.out.items (calls_kept all c.loop-step.calls)
+    (drop c.loop-step.place all) c.args.moves.now c.loop-step.step-index
     (omega (arith, c.loop-step-test.false, c.loop-step.auto.step-index-end)) c.loop-step.invariant

@@ -1,0 +1,14 @@
+-- What is written where nothing is called for.
+use Rattle.std.proofs.Common.{◌≡◌, ℕ, List, [], ◌++◌, refl, ap, sym, ◌∙◌, append-nil}
+use Rattle.xa_statement.specs.Token.{pieces}
+use Rattle.xa_statement.specs.Machine.{finish}
+use Rattle.xa_statement.specs.Reading.{read_of, read_from}
+use Rattle.xa_record.specs.VerdictText.{call_text}
+
+call_text-none : call_text [] ≡ []
+unfolding read_of read_from pieces finish
+call_text-none = refl
+
+-- nothing is written where nothing is called for
+pub append-call_text-none : (out : List ℕ) → out ≡ out ++ call_text []
+append-call_text-none out = sym (ap (λ t. out ++ t) call_text-none ∙ append-nil out)

@@ -1,0 +1,40 @@
+//! Where the last call of each session stands.
+ghost use Rattle.std.specs.Prelude.{◌≡◌, Some, None, replicate, slice_get};
+ghost use Rattle.xa_record.specs.Kept.{told_kept, with_place};
+
+use crate::line_event::LineEvent;
+use xa_xid::SessionNo;
+
+/// At each session's number, the place of its last call among what happens.
+#[derive(Drop)]
+pub struct LastCalls {
+    places: [Option<usize>; 17],
+}
+
+impl LastCalls {
+    /// No session has called.
+    pub fn none() -> LastCalls
+        ensures { result.places ≡ replicate 17 None }
+    {
+        LastCalls { places: [None; 17] }
+    }
+
+    /// This happens next, at this place.
+    pub fn follow(&mut self, place: usize, line_event: &LineEvent)
+        ensures { self.new.places ≡ with_place place (told_kept line_event.now) self.old.places }
+    {
+        match line_event {
+            LineEvent::Call(session, _) => self.places[session.get() as usize] = Some(place),
+            LineEvent::Return(_, _) => {}
+            LineEvent::Lost(_) => {}
+        }
+    }
+
+    /// The place of the session's last call.
+    pub fn place_of(&self, session: SessionNo) -> Option<usize>
+        ensures { slice_get self.now.places session ≡ Some result }
+    {
+        let number = session.get() as usize;
+        self.places[number]
+    }
+}
