@@ -18,24 +18,28 @@ see_counts =
     (λ word old found new is. record {
       looks = inl (ap (λ h. h.known.looks) is.2, is.0, is.3 ∙ ap newest_for (sym is.2));
       tries = inr (ap (λ h. h.known.tries) is.2, λ never. never);
+      since = ((λ _. ap (λ h. h.known.since) is.2), (λ never. absurd never), (λ other _. absurd (other is.0)));
     })
 
 pub read_counts : IsCounted newest_for try_word (AtLoad Reads)
 read_counts =
     counts_at_load Reads
-    (λ word old found new is. leaves_counts (Load word) found old new (ap (λ h. h.known.looks) is.1) (ap (λ h. h.known.tries) is.1) is.0 (λ never. never))
+    (λ word old found new is. leaves_counts (Load word) found old new (ap (λ h. h.known.looks) is.1) (ap (λ h. h.known.tries) is.1) (ap (λ h. h.known.since) is.1) is.0
+    (λ never. never))
 
 pub find_counts : IsCounted newest_for try_word (AtLoad Finds)
 find_counts =
     counts_at_load Finds
     (λ word old found new is. dite (ℕ_discrete found 0)
-    (λ blank. let grown = is.1 blank in leaves_counts (Load word) found old new (ap (λ h. h.known.looks) grown) (ap (λ h. h.known.tries) grown) is.0
+    (λ blank. let grown = is.1 blank in leaves_counts (Load word) found old new (ap (λ h. h.known.looks) grown) (ap (λ h. h.known.tries) grown)
+    (ap (λ h. h.known.since) grown) is.0
     (λ never. never))
-    (λ other. let same = is.2 other in leaves_counts (Load word) found old new (ap (λ h. h.known.looks) same) (ap (λ h. h.known.tries) same) is.0
+    (λ other. let same = is.2 other in leaves_counts (Load word) found old new (ap (λ h. h.known.looks) same) (ap (λ h. h.known.tries) same)
+    (ap (λ h. h.known.since) same) is.0
     (λ never. never)))
 
 pub draft_counts : IsCounted newest_for try_word (AtStore Drafts)
-draft_counts = counts_at_store Drafts (λ word value old found new is. (ap (λ h. h.known.looks) is, ap (λ h. h.known.tries) is))
+draft_counts = counts_at_store Drafts (λ word value old found new is. (ap (λ h. h.known.looks) is, ap (λ h. h.known.tries) is, ap (λ h. h.known.since) is))
 
 pub exchange_counts : IsCounted newest_for try_word (AtExchange Exchanges)
 exchange_counts = counts_at_exchange Exchanges counted
@@ -47,6 +51,13 @@ exchange_counts = counts_at_exchange Exchanges counted
         dite (ℕ_discrete found from)
         (λ same.
         let added = is.3 same in
-        record { looks = inr (ap (λ h. h.known.looks) added, λ never. never); tries = inl (ap (λ h. h.known.tries) added, is.0) })
-        (λ other. let seen = (is.4 other).1 in record
-        { looks = inr (ap (λ h. h.known.looks) seen, λ never. never); tries = inl (ap (λ h. h.known.tries) seen, is.0) })
+        record {
+          looks = inr (ap (λ h. h.known.looks) added, λ never. never);
+          tries = inl (ap (λ h. h.known.tries) added, is.0);
+          since = ((λ never. absurd never), (λ _. ap (λ h. h.known.since) added), (λ _ other. absurd (other is.0)));
+        })
+        (λ other. let seen = (is.4 other).1 in record {
+          looks = inr (ap (λ h. h.known.looks) seen, λ never. never);
+          tries = inl (ap (λ h. h.known.tries) seen, is.0);
+          since = ((λ never. absurd never), (λ _. ap (λ h. h.known.since) seen), (λ _ still. absurd (still is.0)));
+        })

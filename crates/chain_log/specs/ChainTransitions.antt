@@ -14,7 +14,8 @@ use Rattle.chain_log.specs.ChainRule.{own_cell, try_word, newest_for}
 -- after a look that saw this history: the own cell is another now, and its draft is empty
 abbrev pub with_look : PassView → List Entry → PassView
 with_look h seen = record {
-  known = record { number = h.known.number; seen = seen; mine = h.known.mine; looks = h.known.looks + 1; tries = h.known.tries };
+  known =
+      record { number = h.known.number; seen = seen; mine = h.known.mine; looks = h.known.looks + 1; tries = h.known.tries; since = h.known.since + 1 };
   sessions = h.sessions;
   capacity = h.capacity;
   draft = [];
@@ -31,6 +32,7 @@ won h entry = record {
         mine = h.known.mine ++ entry ∷ [];
         looks = h.known.looks;
         tries = h.known.tries + 1;
+        since = 0;
       };
   sessions = h.sessions;
   capacity = h.capacity;
@@ -41,7 +43,7 @@ won h entry = record {
 -- after an exchange that lost: this history was seen
 abbrev pub lost : PassView → List Entry → PassView
 lost h seen = record {
-  known = record { number = h.known.number; seen = seen; mine = h.known.mine; looks = h.known.looks; tries = h.known.tries + 1 };
+  known = record { number = h.known.number; seen = seen; mine = h.known.mine; looks = h.known.looks; tries = h.known.tries + 1; since = 0 };
   sessions = h.sessions;
   capacity = h.capacity;
   draft = [];

@@ -5,9 +5,9 @@ use Rattle.decision_log.specs.declared.known.Known.{Known}
 use Rattle.decision_log.specs.declared.fault.AddFault.{AddFault}
 use Rattle.decision_log.specs.declared.fault.AddFault.TheVariants.{Overtaken, Full, Busy}
 
--- one exchange and no look; overtaken only by a longer history, full without an exchange, busy never
+-- one exchange and no look, not even behind it; overtaken only by a longer history, full without an exchange, busy never
 abbrev pub TriesOnce : Result (Unit {0}) AddFault → Known → Known → Type 0
-TriesOnce (Ok _) old new = (new.tries ≡ old.tries + 1) × (new.looks ≡ old.looks)
-TriesOnce (Err (Overtaken front)) old new = (new.tries ≡ old.tries + 1) × (new.looks ≡ old.looks) × (length old.seen < length new.seen)
+TriesOnce (Ok _) old new = (new.tries ≡ old.tries + 1) × (new.looks ≡ old.looks) × (new.since ≡ 0)
+TriesOnce (Err (Overtaken front)) old new = (new.tries ≡ old.tries + 1) × (new.looks ≡ old.looks) × (new.since ≡ 0) × (length old.seen < length new.seen)
 TriesOnce (Err Full) old new = (new.tries ≡ old.tries) × (new.looks ≡ old.looks)
 TriesOnce (Err Busy) old new = ⊥

@@ -4,7 +4,8 @@
 --     Does            what the step finds, and the words after it
 --     IsLoad          the step loads this word
 --     IsTry           the step exchanges this word
---     Counts          `looks` rises by the load of word 0 that sees the history, `tries` by each exchange of one word, and neither by anything else
+--     Counts          `looks` rises by the load of word 0 that sees the history, `tries` by each exchange of one word, and neither by anything else;
+--                     `since` counts the looks from the last try on
 --     Tells           what a transition says of a seat that knows one pass
 --     Meets           what the load of word 0 says at a seat that knows two
 use Rattle.std.specs.Prelude.{◌≡◌, ◌≢◌, ◌⊎◌, ◌<◌, ◌+◌, ℕ, List, length, set, slice_index}
@@ -63,6 +64,8 @@ IsTry at (Exchange word from to said) = word ≡ at
 pub record Counts (newest : PassView → ℕ) (tried : ℕ) (step : Atomic) (found : ℕ) (old new : PassView) : Type 0 where
   pub looks : ((new.known.looks ≡ old.known.looks + 1) × IsLoad 0 step × (found ≡ newest new)) ⊎ ((new.known.looks ≡ old.known.looks) × (IsLoad 0 step → ⊥))
   pub tries : ((new.known.tries ≡ old.known.tries + 1) × IsTry tried step) ⊎ ((new.known.tries ≡ old.known.tries) × (IsTry tried step → ⊥))
+  pub since : (IsLoad 0 step → new.known.since ≡ old.known.since + 1) × (IsTry tried step → new.known.since ≡ 0)
+      × ((IsLoad 0 step → ⊥) → (IsTry tried step → ⊥) → new.known.since ≡ old.known.since)
 
 -- the seat knows one pass after the step too, and of that the transition holds
 abbrev pub Tells : (ℕ → PassView → Type 0) → ℕ → Me Entry SeatView → Type 0

@@ -17,6 +17,7 @@ pub record Looked (old new : Known) : Type 0 where
   pub mine : new.mine ≡ old.mine
   pub looks : new.looks ≡ old.looks + 1
   pub tries : new.tries ≡ old.tries
+  pub since : new.since ≡ old.since + 1
 
 -- the entry stands behind all that was seen, and nothing else was added
 pub record IsAdded (entry : Entry) (old new : Known) : Type 0 where
@@ -36,12 +37,12 @@ pub record IsOvertaken (count : ℕ) (old new : Known) : Type 0 where
   pub looks : old.looks ≤ new.looks
   pub tries : new.tries ≡ old.tries + 1
 
--- another has the turn: the lists stay
+-- another has the turn: the lists stay, and the pass hasn't looked, as it would have to before it gave a turn of its own back
 pub record IsBusy (old new : Known) : Type 0 where
   pub number : new.number ≡ old.number
   pub seen : new.seen ≡ old.seen
   pub mine : new.mine ≡ old.mine
-  pub looks : old.looks ≤ new.looks
+  pub looks : new.looks ≡ old.looks
   pub tries : new.tries ≡ old.tries + 1
 
 -- an add in a log of a capacity, with a turn or without; at Full nothing changes

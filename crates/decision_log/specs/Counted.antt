@@ -15,9 +15,13 @@ IsCounted newest tried then = (step : Atomic) (old : PassView) (found : ℕ) (ne
 
 module _ {newest : PassView → ℕ} {tried : ℕ} where
   pub leaves_counts : (step : Atomic) (found : ℕ) (old new : PassView) → new.known.looks ≡ old.known.looks → new.known.tries ≡ old.known.tries
-      → (IsLoad 0 step → ⊥) → (IsTry tried step → ⊥)
+      → new.known.since ≡ old.known.since → (IsLoad 0 step → ⊥) → (IsTry tried step → ⊥)
       → Counts newest tried step found old new
-  leaves_counts step found old new looks tries no_look no_try = record { looks = inr (looks, no_look); tries = inr (tries, no_try) }
+  leaves_counts step found old new looks tries since no_look no_try = record {
+    looks = inr (looks, no_look);
+    tries = inr (tries, no_try);
+    since = ((λ look. absurd (no_look look)), (λ try. absurd (no_try try)), (λ a b. since));
+  }
 
   pub counts_at_load : (tells : ℕ → PassView → ℕ → PassView → Type 0)
       → ((word : ℕ) (old : PassView) (found : ℕ) (new : PassView) → tells word old found new → Counts newest tried (Load word) found old new)
@@ -29,12 +33,12 @@ module _ {newest : PassView → ℕ} {tried : ℕ} where
   -- a store neither looks nor tries
   pub counts_at_store : (tells : ℕ → ℕ → PassView → ℕ → PassView → Type 0)
       → ((word value : ℕ) (old : PassView) (found : ℕ) (new : PassView) → tells word value old found new
-      → (new.known.looks ≡ old.known.looks) × (new.known.tries ≡ old.known.tries))
+      → (new.known.looks ≡ old.known.looks) × (new.known.tries ≡ old.known.tries) × (new.known.since ≡ old.known.since))
       → IsCounted newest tried (AtStore tells)
   counts_at_store tells each (Load word) old found new is = absurd is
   counts_at_store tells each (Store word value) old found new is =
       let same = each word value old found new is in
-      leaves_counts (Store word value) found old new same.0 same.1 (λ never. never) (λ never. never)
+      leaves_counts (Store word value) found old new same.0 same.1 same.2 (λ never. never) (λ never. never)
   counts_at_store tells each (Exchange word from to said) old found new is = absurd is
 
   pub counts_at_exchange : (tells : ℕ → ℕ → ℕ → Option Entry → PassView → ℕ → PassView → Type 0)

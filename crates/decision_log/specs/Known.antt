@@ -1,5 +1,5 @@
 -- What a contract sees of a log and of a pass.
---     Known           number, seen, mine, looks, tries
+--     Known           number, seen, mine, looks, tries, since
 --     LogIdentity     which log it is, how many sessions it has, and how many entries it can have
 --     newcomer        what a pass knows before its first call
 --     AllOf           each entry is of a session from 1 to a number
@@ -16,7 +16,7 @@ pub record LogIdentity : Type 0 where
 
 -- a pass before its first call
 abbrev pub newcomer : ℕ → Known
-newcomer number = record { number = number; seen = []; mine = []; looks = 0; tries = 0 }
+newcomer number = record { number = number; seen = []; mine = []; looks = 0; tries = 0; since = 0 }
 
 -- the entries are of sessions 1 to a number
 abbrev pub AllOf : ℕ → List Entry → Type 0

@@ -30,7 +30,7 @@ pub record MetAt (g h : PassView) (seen : List Entry) : Type 0 where
 -- after a meeting
 abbrev pub met : PassView → List Entry → PassView
 met h seen = record {
-  known = record { number = h.known.number; seen = seen; mine = h.known.mine; looks = h.known.looks; tries = h.known.tries };
+  known = record { number = h.known.number; seen = seen; mine = h.known.mine; looks = h.known.looks; tries = h.known.tries; since = h.known.since };
   sessions = h.sessions;
   capacity = h.capacity;
   draft = [];

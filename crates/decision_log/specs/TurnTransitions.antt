@@ -21,7 +21,8 @@ looked_turn Fresh = Fresh
 -- after a look that saw this history
 abbrev pub with_look : PassView → List Entry → PassView
 with_look h seen = record {
-  known = record { number = h.known.number; seen = seen; mine = h.known.mine; looks = h.known.looks + 1; tries = h.known.tries };
+  known =
+      record { number = h.known.number; seen = seen; mine = h.known.mine; looks = h.known.looks + 1; tries = h.known.tries; since = h.known.since + 1 };
   sessions = h.sessions;
   capacity = h.capacity;
   draft = h.draft;
@@ -31,7 +32,8 @@ with_look h seen = record {
 -- after a try
 abbrev pub tried : PassView → Turn → PassView
 tried h turn = record {
-  known = record { number = h.known.number; seen = h.known.seen; mine = h.known.mine; looks = h.known.looks; tries = h.known.tries + 1 };
+  known =
+      record { number = h.known.number; seen = h.known.seen; mine = h.known.mine; looks = h.known.looks; tries = h.known.tries + 1; since = 0 };
   sessions = h.sessions;
   capacity = h.capacity;
   draft = [];
@@ -42,7 +44,14 @@ tried h turn = record {
 abbrev pub published : PassView → Entry → PassView
 published h entry = record {
   known =
-      record { number = h.known.number; seen = h.known.seen ++ entry ∷ []; mine = h.known.mine ++ entry ∷ []; looks = h.known.looks; tries = h.known.tries };
+      record {
+        number = h.known.number;
+        seen = h.known.seen ++ entry ∷ [];
+        mine = h.known.mine ++ entry ∷ [];
+        looks = h.known.looks;
+        tries = h.known.tries;
+        since = h.known.since;
+      };
   sessions = h.sessions;
   capacity = h.capacity;
   draft = [];

@@ -15,4 +15,6 @@ pub struct Known {
     pub looks: u64,
     /// How often the pass has tried to add. It has no greatest value and isn't kept at run time.
     pub tries: u64,
+    /// How often the pass has looked since it last tried to add. It has no greatest value and isn't kept at run time.
+    pub since: u64,
 }

@@ -15,12 +15,14 @@ use Rattle.xa_coordinator.specs.declared.fault.RecoverFault.TheVariants.{Session
 use Rattle.xa_coordinator.specs.declared.report.Report.{Report}
 use Rattle.xa_coordinator.specs.declared.decisions.Decision.{Decision}
 use Rattle.xa_coordinator.specs.declared.report.Tally.{Tally}
+use Rattle.xa_xid.specs.declared.statement.Statement.TheVariants.{Disconnect}
+use Rattle.xa_coordinator.specs.Told.{IsUndone}
 use Rattle.xa_coordinator.specs.Agreement.{Agrees}
 use Rattle.xa_coordinator.specs.Stores.{AtStore, EachStore, ChangesAt, Reached, EndsAt}
-use Rattle.xa_coordinator.specs.Recovery.{IsRecovered, RecoveredBy, Recovers, BreaksHere, BreaksAt, BreaksOff, fault_by, IsBroken, IsStillPrepared}
-use Rattle.xa_coordinator.specs.Recovery.{asked_by_fault}
-use Rattle.xa_coordinator.proofs.Walk.{reached_none, reached_next, reached_weaker, reached_all, ended_at, from_ends, at_then, at_weaker, at_same}
-use Rattle.xa_coordinator.proofs.Settling.{recovered_agrees, broken_agrees, broken_later, still_later}
+use Rattle.xa_coordinator.specs.Recovery.{IsRecovered, RecoveredBy, Recovers, BreaksBy, BreaksHere, BreaksAt, BreaksOff, fault_by, asked_by_fault, IsBroken}
+use Rattle.xa_coordinator.specs.Recovery.{IsCutOff, IsStillPrepared}
+use Rattle.xa_coordinator.proofs.Walk.{reached_none, reached_next, reached_weaker, reached_all, ended_at, from_ends, at_weaker, at_same}
+use Rattle.xa_coordinator.proofs.Settling.{recovered_agrees, broken_agrees, still_agrees}
 use Rattle.xa_coordinator.proofs.Agreeing.{nothing_agrees}
 
 -- the places below a number are free, and those from it on are as they were
@@ -41,6 +43,10 @@ frees_next place old now next frees changes free = record {
       ];
   behind = λ store from. changes.others store (omega arith) ∙ frees.behind store (omega arith);
 }
+
+pub frees_below : (place : ℕ) (old now next : List (Option OpenBranch)) → FreesOpen place old now → ChangesAt place now next → (store : ℕ) → store < place
+    → slice_get next store ≡ Some None
+frees_below place old now next frees changes store less = changes.others store (omega arith) ∙ frees.below store less
 
 pub frees_behind : (place : ℕ) (old now next : List (Option OpenBranch)) → FreesOpen place old now → ChangesAt place now next → (store : ℕ) → place + 1 ≤ store
     → slice_get next store ≡ slice_get old store
@@ -126,54 +132,93 @@ module _ {S : Type 0} (view : S → SessionView) (decisions : List Decision) (na
         (reached_weaker view (RecoveredBy decisions name so_far.found) _ place old now (λ store less a b by. (by.0, by.2)) so_far.reached) changes is,
   )
 
-  -- the recovery of a store came to no end behind what agrees with the decisions
-  pub breaks_later : (place : ℕ) (fault : RecoverFault) (old mid next : List S) → length mid ≡ length old
-      → AtStore view place (Agrees decisions name place) old mid → BreaksHere view decisions name place fault mid next →
-      BreaksHere view decisions name place fault old next
-  breaks_later place (Session at fault) old mid next count before is = (
-    is.0,
-    at_then view place (Agrees decisions name place) (IsBroken decisions name place (CauseSession fault))
-        (IsBroken decisions name place (CauseSession fault)) (broken_later decisions name place (CauseSession fault)) old mid next count before is.1,
-  )
-  breaks_later place (StillPrepared at) old mid next count before is = (
-    is.0,
-    at_then view place (Agrees decisions name place) (IsStillPrepared decisions name place) (IsStillPrepared decisions name place)
-        (still_later decisions name place) old mid next count before is.1,
-  )
-  breaks_later place NoMemory old mid next count before is = absurd is
-  breaks_later place (Refused at error) old mid next count before is = (
-    is.0,
-    at_then view place (Agrees decisions name place) (IsBroken decisions name place (CauseRefused error))
-        (IsBroken decisions name place (CauseRefused error)) (broken_later decisions name place (CauseRefused error)) old mid next count before is.1,
-  )
-
-  -- a cause is told as the fault of the store
-  pub breaks_by : (place : ℕ) (cause : Cause) (old next : List S) → AtStore view place (IsBroken decisions name place cause) old next
-      → BreaksHere view decisions name place (fault_by place cause) old next
-  breaks_by place (CauseSession fault) old next is = (refl, is)
-  breaks_by place (CauseRefused error) old next is = (refl, is)
+  -- what was broken, whatever the coordinator has open
+  broken_at : (place : ℕ) (cause : Cause) (marks marks' : List (Option OpenBranch)) (old new : List S)
+      → BreaksBy view decisions name place cause marks marks' old new → AtStore view place (IsBroken decisions name place cause) old new
+  broken_at place (CauseSession fault) marks marks' old new (inl is) = λ a b is_a is_b. inl (is.1 a b is_a is_b)
+  broken_at place (CauseSession fault) marks marks' old new (inr is) = λ a b is_a is_b. inr (is.1 a b is_a is_b)
+  broken_at place (CauseRefused error) marks marks' old new is = is.1
 
   -- the store at which it came to no end
-  pub breaks_at : (place : ℕ) (report : Report) (fault : RecoverFault) (old now next : List S) → place < length old → RecoversBelow place report old now
-      → ChangesAt place now next → BreaksHere view decisions name place fault now next →
+  pub breaks_at : (place : ℕ) (report : Report) (fault : RecoverFault) (marks marks' : List (Option OpenBranch)) (old now next : List S) → place < length old
+      → RecoversBelow place report old now → ChangesAt place now next → asked_by_fault fault ≡ place + 1
+      → BreaksHere view decisions name fault marks marks' now next →
       BreaksOff view decisions name fault old next
-  breaks_at place report (Session at fault) old now next within so_far changes is =
-      subst (λ n. BreaksAt view decisions name n (IsBroken decisions name n (CauseSession fault)) old next) (sym is.0)
-      (broke place report (IsBroken decisions name place (CauseSession fault)) old now next within so_far changes is.1)
-  breaks_at place report (StillPrepared at) old now next within so_far changes is =
-      subst (λ n. BreaksAt view decisions name n (IsStillPrepared decisions name n) old next) (sym is.0)
-      (broke place report (IsStillPrepared decisions name place) old now next within so_far changes is.1)
-  breaks_at place report NoMemory old now next within so_far changes is = absurd is
-  breaks_at place report (Refused at error) old now next within so_far changes is =
-      subst (λ n. BreaksAt view decisions name n (IsBroken decisions name n (CauseRefused error)) old next) (sym is.0)
-      (broke place report (IsBroken decisions name place (CauseRefused error)) old now next within so_far changes is.1)
+  breaks_at place report (Session at fault) marks marks' old now next within so_far changes asked is =
+      let there : at + 1 ≡ place + 1 = asked in
+      let here : place ≡ at = omega (arith, there) in
+      subst (λ n. BreaksAt view decisions name n (IsBroken decisions name n (CauseSession fault)) old next) here
+      (broke place report (IsBroken decisions name place (CauseSession fault)) old now next within so_far changes
+      (broken_at place (CauseSession fault) marks marks' now next
+      (subst (λ n. BreaksBy view decisions name n (CauseSession fault) marks marks' now next) (sym here) is)))
+  breaks_at place report (StillPrepared at) marks marks' old now next within so_far changes asked is =
+      let there : at + 1 ≡ place + 1 = asked in
+      let here : place ≡ at = omega (arith, there) in
+      subst (λ n. BreaksAt view decisions name n (IsStillPrepared decisions name n) old next) here
+      (broke place report (IsStillPrepared decisions name place) old now next within so_far changes
+      (subst (λ n. AtStore view n (IsStillPrepared decisions name n) now next) (sym here) is.1))
+  breaks_at place report NoMemory marks marks' old now next within so_far changes asked is =
+      let none : 0 ≡ place + 1 = asked in absurd (omega (arith, none))
+  breaks_at place report (Refused at error) marks marks' old now next within so_far changes asked is =
+      let there : at + 1 ≡ place + 1 = asked in
+      let here : place ≡ at = omega (arith, there) in
+      subst (λ n. BreaksAt view decisions name n (IsBroken decisions name n (CauseRefused error)) old next) here
+      (broke place report (IsBroken decisions name place (CauseRefused error)) old now next within so_far changes
+      (broken_at place (CauseRefused error) marks marks' now next
+      (subst (λ n. BreaksBy view decisions name n (CauseRefused error) marks marks' now next) (sym here) is)))
 
-  -- and how far it came
-  pub asked_at : (place : ℕ) (fault : RecoverFault) (now next : List S) → BreaksHere view decisions name place fault now next → asked_by_fault fault ≡ place + 1
-  asked_at place (Session at fault) now next is = ap (λ n. n + 1) is.0
-  asked_at place (StillPrepared at) now next is = ap (λ n. n + 1) is.0
-  asked_at place NoMemory now next is = absurd is
-  asked_at place (Refused at error) now next is = ap (λ n. n + 1) is.0
+  -- the store behind those that were recovered was as at first
+  here_at : (place : ℕ) (report : Report) (last : SessionView → SessionView → Type 0) (old now next : List S) → RecoversBelow place report old now
+      → AtStore view place last now next → AtStore view place last old next
+  here_at place report last old now next so_far is = λ a b is_a is_b. is a b (so_far.reached.behind place (omega arith) ∙ is_a) is_b
+
+  broke_by : (place : ℕ) (report : Report) (cause : Cause) (marks now_marks marks' : List (Option OpenBranch)) (old now next : List S)
+      → RecoversBelow place report old now → slice_get now_marks place ≡ slice_get marks place →
+      BreaksBy view decisions name place cause now_marks marks' now next → BreaksBy view decisions name place cause marks marks' old next
+  broke_by place report (CauseSession fault) marks now_marks marks' old now next so_far same (inl is) =
+      inl (is.0 ∙ same, here_at place report (IsUndone Disconnect (CauseSession fault)) old now next so_far is.1)
+  broke_by place report (CauseSession fault) marks now_marks marks' old now next so_far same (inr is) =
+      inr (is.0, here_at place report (λ before after. IsCutOff decisions name place before (CauseSession fault) after) old now next so_far is.1)
+  broke_by place report (CauseRefused error) marks now_marks marks' old now next so_far same is =
+      (is.0, here_at place report (λ before after. IsCutOff decisions name place before (CauseRefused error) after) old now next so_far is.1)
+
+  -- and what the coordinator has open there
+  pub breaks_there : (place : ℕ) (report : Report) (fault : RecoverFault) (marks now_marks marks' : List (Option OpenBranch)) (old now next : List S)
+      → RecoversBelow place report old now → slice_get now_marks place ≡ slice_get marks place → asked_by_fault fault ≡ place + 1
+      → BreaksHere view decisions name fault now_marks marks' now next →
+      BreaksHere view decisions name fault marks marks' old next
+  breaks_there place report (Session at fault) marks now_marks marks' old now next so_far same asked is =
+      let there : at + 1 ≡ place + 1 = asked in
+      let here : place ≡ at = omega (arith, there) in
+      subst (λ n. BreaksBy view decisions name n (CauseSession fault) marks marks' old next) here
+      (broke_by place report (CauseSession fault) marks now_marks marks' old now next so_far same
+      (subst (λ n. BreaksBy view decisions name n (CauseSession fault) now_marks marks' now next) (sym here) is))
+  breaks_there place report (StillPrepared at) marks now_marks marks' old now next so_far same asked is =
+      let there : at + 1 ≡ place + 1 = asked in
+      let here : place ≡ at = omega (arith, there) in (
+        is.0,
+        subst (λ n. AtStore view n (IsStillPrepared decisions name n) old next) here
+            (here_at place report (IsStillPrepared decisions name place) old now next so_far (subst (λ n. AtStore view n (IsStillPrepared decisions name n) now next) (sym here) is.1)),
+      )
+  breaks_there place report NoMemory marks now_marks marks' old now next so_far same asked is =
+      let none : 0 ≡ place + 1 = asked in absurd (omega (arith, none))
+  breaks_there place report (Refused at error) marks now_marks marks' old now next so_far same asked is =
+      let there : at + 1 ≡ place + 1 = asked in
+      let here : place ≡ at = omega (arith, there) in
+      subst (λ n. BreaksBy view decisions name n (CauseRefused error) marks marks' old next) here
+      (broke_by place report (CauseRefused error) marks now_marks marks' old now next so_far same
+      (subst (λ n. BreaksBy view decisions name n (CauseRefused error) now_marks marks' now next) (sym here) is))
+
+  -- a cause is told as the fault of the store
+  pub breaks_by : (place : ℕ) (cause : Cause) (marks marks' : List (Option OpenBranch)) (old next : List S)
+      → BreaksBy view decisions name place cause marks marks' old next
+      → BreaksHere view decisions name (fault_by place cause) marks marks' old next
+  breaks_by place (CauseSession fault) marks marks' old next is = is
+  breaks_by place (CauseRefused error) marks marks' old next is = is
+
+  pub asked_for : (place : ℕ) (cause : Cause) → asked_by_fault (fault_by place cause) ≡ place + 1
+  asked_for place (CauseSession fault) = refl
+  asked_for place (CauseRefused error) = refl
 
   -- whatever it came to agrees with the decisions
   pub recovers_agree : (report : Report) (old now : List S) → Recovers view decisions name report old now → EachStore view (Agrees decisions name) old now
@@ -189,12 +234,14 @@ module _ {S : Type 0} (view : S → SessionView) (decisions : List Decision) (na
       (λ other a. nothing_agrees decisions name other a)
 
   pub breaks_agree : (fault : RecoverFault) (old new : List S) → BreaksOff view decisions name fault old new → EachStore view (Agrees decisions name) old new
-  breaks_agree (Session store fault) old new is = ends_agree store _ old new (λ a b broken. broken_agrees decisions name store _ a b broken) is.1
-  breaks_agree (StillPrepared store) old new is = ends_agree store _ old new (λ a b still. still.before) is.1
+  breaks_agree (Session store fault) old new is =
+      ends_agree store _ old new (λ a b broken. broken_agrees decisions name store (CauseSession fault) a b broken) is.1
+  breaks_agree (StillPrepared store) old new is = ends_agree store _ old new (λ a b still. still_agrees decisions name store a b still) is.1
   breaks_agree NoMemory old new is =
       λ store. at_same view store (Agrees decisions name store) (λ a. nothing_agrees decisions name store a) old new
       (ap (λ (list : List S). slice_get list store) is)
-  breaks_agree (Refused store error) old new is = ends_agree store _ old new (λ a b broken. broken_agrees decisions name store _ a b broken) is.1
+  breaks_agree (Refused store error) old new is =
+      ends_agree store _ old new (λ a b broken. broken_agrees decisions name store (CauseRefused error) a b broken) is.1
 
   -- whatever it answers
   pub ends_as : (result : Result Report RecoverFault) (old new : List S) → IfOk result (λ report. Recovers view decisions name report old new)

@@ -7,6 +7,8 @@ use Rattle.xa_xid.specs.declared.statement.Statement.{Statement}
 use Rattle.xa_xid.specs.declared.statement.Statement.TheVariants.{Start, End, Prepare, Commit, Rollback, Recover, Unsupported, Get, Put, Del, Disconnect}
 use Rattle.xa_server.specs.State.{State, association_of}
 use Rattle.xa_server.specs.Locks.{LockLaw}
+use Rattle.xa_server.specs.declared.association.Association.TheVariants.{Free}
+use Rattle.xa_server.proofs.Accepted.{accepted_start}
 use Rattle.xa_server.specs.Replies.{reply_to}
 use Rattle.xa_server.specs.Step.{enters, may_enter, is_refused, after}
 use Rattle.xa_server.specs.declared.reply.Reply.TheVariants.{Refused}
@@ -20,7 +22,7 @@ use Rattle.xa_session.proofs.Answering.{accepted_there, refused_unanswered, adva
 use Rattle.xa_session.proofs.Views.{stays_itself, stays_through}
 use Rattle.xa_session.specs.View.{SessionView, StaysOfLog}
 use Rattle.xa_session.proofs.OwnAssociations.{started, ended}
-use Rattle.xa_session.proofs.Associations.{law_seen, association_unanswered, state_entered}
+use Rattle.xa_session.proofs.Associations.{law_seen, association_at, association_unanswered, state_entered}
 use Rattle.xa_coordinator.specs.Agreement.{AddsStatements}
 use Rattle.xa_coordinator.specs.Told.{IsOfBranch, IsDone, IsUndone, HasCause}
 use Rattle.xa_coordinator.specs.OpenBranches.{association_seen, association_in, statement_into}
@@ -91,6 +93,26 @@ association_done old new phase xid law own_old own_new is =
         → association_of (after state session (statement_into phase xid)) session ≡ association_in phase xid
     opened Active state law session accepted = started state law session xid accepted
     opened Idle state law session accepted = ended state law session xid accepted
+
+-- XA START isn't carried out where the session has a branch open
+pub open_unstarted : (xid : Xid) (phase : Phase) (other : Xid) (old new : SessionView) → LockLaw new.base
+    → entries_of old.known.number old.known.seen ≡ old.known.mine → entries_of new.known.number new.known.seen ≡ new.known.mine →
+    association_seen old ≡ association_in phase other → IsDone (Start xid) old new → ⊥
+unfolding reply_to
+open_unstarted xid phase other old new law own_old own_new open_one is =
+    let base : State = old.base in
+    let there : State = state_at base new.known.seen is.answer.place in
+    let free : association_of there old.known.number ≡ Free =
+    (accepted_start there (association_of there old.known.number) xid
+    (accepted_there base (Start xid) is.answer old.known new.known is.answered is.accepted)).0 in
+    apart phase
+    (sym free
+    ∙ association_at base (subst LockLaw is.adds.log.base law) (Start xid) is.answer old.known new.known is.answered own_old own_new
+    ∙ open_one)
+  where
+    apart : (phase : Phase) → Free ≡ association_in phase other → ⊥
+    apart Active e = cc
+    apart Idle e = cc
 
 -- nothing is added by a statement that is refused, or that a session couldn't answer
 cause_unanswered : (statement : Statement) (cause : Cause) (old new : SessionView) → HasCause statement cause old new → IsUnanswered old.known new.known

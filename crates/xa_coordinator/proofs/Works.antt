@@ -1,15 +1,18 @@
 -- What work in a store comes to, from its statements.
-use Rattle.std.proofs.Common.{◌≡◌, inl, inr, ℕ, Bool, true, false, List, [], ◌∷◌, ◌++◌, length, refl, ap, sym, ◌∙◌, subst, append-nil}
+use Rattle.std.proofs.Common.{◌≡◌, inl, inr, ℕ, Bool, true, false, List, [], ◌∷◌, ◌++◌, length, get_or, refl, ap, sym, ◌∙◌, subst, append-nil, arith}
 use Rattle.std.specs.Prelude.{slice_get, Option, Some, Result, Ok, Err, All}
 use Rattle.xa_session.specs.View.{SessionView}
 use Rattle.xa_coordinator.specs.declared.branches.OpenBranch.{OpenBranch}
 use Rattle.std.proofs.lemmas.List.Elements.{All-nil, All-cons, All-append}
+use Rattle.std.proofs.lemmas.Option.{slice_get_within, slice_get-get_or}
 use Rattle.xa_xid.specs.declared.xid.Xid.{Xid}
 use Rattle.xa_xid.specs.declared.statement.Statement.{Statement}
 use Rattle.xa_xid.specs.declared.statement.Statement.TheVariants.{Start, End, Prepare, Commit, Rollback, Recover, Unsupported, Get, Put, Del, Disconnect}
 use Rattle.xa_server.specs.declared.association.Association.TheVariants.{Active}
 use Rattle.xa_server.specs.declared.reply.Reply.{Reply}
 use Rattle.xa_server.specs.Step.{enters}
+use Rattle.xa_server.specs.Locks.{LockLaw}
+use Rattle.decision_log.specs.History.{entries_of}
 use Rattle.xa_session.specs.Replay.{state_at}
 use Rattle.xa_coordinator.specs.declared.fault.Cause.{Cause}
 use Rattle.xa_coordinator.specs.declared.fault.Cause.TheVariants.{Session as CauseSession, Refused as CauseRefused}
@@ -18,46 +21,48 @@ use Rattle.xa_coordinator.specs.declared.fault.WorkFault.TheVariants.{Session, R
 use Rattle.xa_coordinator.specs.declared.decisions.Decision.{Decision}
 use Rattle.xa_coordinator.specs.declared.transaction.Transaction.{Transaction}
 use Rattle.xa_coordinator.specs.Agreement.{AddsStatements, AgreesWith, Agrees}
-use Rattle.xa_coordinator.specs.OpenBranches.{association_seen, IsWorking}
+use Rattle.xa_coordinator.specs.Branch.{branch_xid}
+use Rattle.xa_coordinator.specs.OpenBranches.{association_seen, association_in, IsWorking}
 use Rattle.xa_coordinator.specs.Outcomes.{branch_of}
 use Rattle.xa_coordinator.specs.Participants.{takes_part}
 use Rattle.xa_coordinator.specs.Stores.{AtStore, EachStore, ChangesAt}
 use Rattle.xa_coordinator.specs.Told.{IsDone, IsUndone}
-use Rattle.xa_coordinator.specs.Work.{IsRow, MayBe, AddsWork, MayStart, was_open, was_started, IsReplied, IsWorked, IsCut, WorksWithin, WorksAs}
-use Rattle.xa_coordinator.proofs.Telling.{adds_then, adds_nothing}
+use Rattle.xa_coordinator.specs.Work.{IsRow, MayBe, AddsAtMost, AddsWork, MayStart, was_open, was_started, IsReplied, IsWorked, IsCut, WorksWithin, WorksAs}
+use Rattle.xa_coordinator.proofs.Telling.{adds_then, adds_nothing, open_unstarted}
 use Rattle.xa_coordinator.proofs.Agreeing.{nothing_agrees}
 use Rattle.xa_coordinator.proofs.Walk.{at_then, at_weaker, at_same, only_at}
 
 -- ---- at most two statements
 
-record AddsMaybe (statement : Statement) (old new : SessionView) : Type 0 where
-  added : List Statement
-  is : MayBe statement added
-  adds : AddsStatements added old new
+may_start_adds : (xid : Xid) (old mid : SessionView) → MayStart xid old mid → AddsAtMost (Start xid) old mid
+may_start_adds xid old there (was_open association) = record { statements = []; is = inl refl; adds = adds_nothing old }
+may_start_adds xid old there (was_started mid done) = record { statements = Start xid ∷ []; is = inr refl; adds = done.adds }
 
-may_start_adds : (xid : Xid) (old mid : SessionView) → MayStart xid old mid → AddsMaybe (Start xid) old mid
-may_start_adds xid old there (was_open association) = record { added = []; is = inl refl; adds = adds_nothing old }
-may_start_adds xid old there (was_started mid done) = record { added = Start xid ∷ []; is = inr refl; adds = done.adds }
-
-replied_adds : (row : Statement) (reply : Reply) (xid : Xid) (old new : SessionView) → IsReplied row reply xid old new → AddsMaybe row old new
+replied_adds : (row : Statement) (reply : Reply) (xid : Xid) (old new : SessionView) → IsReplied row reply xid old new → AddsAtMost row old new
 replied_adds row reply xid old new is = by (enters (state_at old.base new.known.seen is.place) old.known.number row) refl
   where
-    by : (b : Bool) → enters (state_at old.base new.known.seen is.place) old.known.number row ≡ b → AddsMaybe row old new
+    by : (b : Bool) → enters (state_at old.base new.known.seen is.place) old.known.number row ≡ b → AddsAtMost row old new
     by true entering =
-        record { added = row ∷ []; is = inr refl; adds = record { log = is.log; advances = is.answered.advances; mine = (is.answered.entered entering).mine } }
+        record { statements = row ∷ []; is = inr refl; adds = record { log = is.log; advances = is.answered.advances; mine = (is.answered.entered entering).mine } }
     by false outside =
         record {
-          added = [];
+          statements = [];
           is = inl refl;
           adds = record { log = is.log; advances = is.answered.advances; mine = (is.answered.outside outside).mine ∙ sym (append-nil old.known.mine) };
         }
 
-both : (xid : Xid) (row : Statement) (old mid new : SessionView) → AddsMaybe (Start xid) old mid → AddsMaybe row mid new → AddsWork xid row old new
+both : (xid : Xid) (row : Statement) (old mid new : SessionView) → AddsAtMost (Start xid) old mid → AddsAtMost row mid new → AddsWork xid row old new
 both xid row old mid new one two =
-    record { started = one.added; is_start = one.is; worked = two.added; is_row = two.is; adds = adds_then one.added two.added old mid new one.adds two.adds }
+    record {
+      started = one.statements;
+      is_start = one.is;
+      worked = two.statements;
+      is_row = two.is;
+      adds = adds_then one.statements two.statements old mid new one.adds two.adds;
+    }
 
-none : (statement : Statement) (old new : SessionView) → AddsStatements [] old new → AddsMaybe statement old new
-none statement old new adds = record { added = []; is = inl refl; adds = adds }
+none : (statement : Statement) (old new : SessionView) → AddsStatements [] old new → AddsAtMost statement old new
+none statement old new adds = record { statements = []; is = inl refl; adds = adds }
 
 worked_adds : (row : Statement) (reply : Reply) (xid : Xid) (old new : SessionView) → IsWorked row reply xid old new → AddsWork xid row old new
 worked_adds row reply xid old new is = both xid row old is.mid new (may_start_adds xid old is.mid is.opened) (replied_adds row reply xid is.mid new is.replied)
@@ -160,3 +165,32 @@ module _ {S : Type 0} (view : S → SessionView) where
         at_same view store (AddsWork (branch_of old store) row)
         (λ a. both (branch_of old store) row a a a (none (Start (branch_of old store)) a a (adds_nothing a)) (none row a a (adds_nothing a)))
         before after (ap (λ (list : List S). slice_get list store) is.4)
+
+  -- ---- a store that takes part
+
+  -- at most the row statement was added to a branch that was open
+  pub within_adds : (store : ℕ) (xid : Xid) (row : Statement) (result : Result Reply WorkFault) (before after : List S)
+      → WorksWithin view xid store row result before after → AtStore view store (AddsAtMost row) before after
+  within_adds store xid row (Ok reply) before after is = at_weaker view store (IsReplied row reply xid) (AddsAtMost row) (replied_adds row reply xid) before after is
+  within_adds store xid row (Err (Session fault)) before after is =
+      at_weaker view store (IsUndone row (CauseSession fault)) (AddsAtMost row) (λ a b undone. none row a b undone.adds) before after is
+  within_adds store xid row (Err (Refused error)) before after is = absurd is
+  within_adds store xid row (Err Lost) before after is = absurd is
+
+  -- nothing was added
+  pub unsaid_adds : (store : ℕ) (row statement : Statement) (cause : Cause) (before after : List S)
+      → AtStore view store (IsUndone statement cause) before after → AtStore view store (AddsAtMost row) before after
+  unsaid_adds store row statement cause before after is =
+      at_weaker view store (IsUndone statement cause) (AddsAtMost row) (λ a b undone. none row a b undone.adds) before after is
+
+  -- XA START isn't carried out where the session has a branch open
+  pub never_started : ((s : S) → LockLaw (view s).base) → ((s : S) → entries_of (view s).known.number (view s).known.seen ≡ (view s).known.mine)
+      → (store : ℕ) (xid : Xid) (branch : OpenBranch) (name : List ℕ) (row : Statement) (before mid after : List S) → length mid ≡ length before →
+      ((s : S) → slice_get before store ≡ Some s → association_seen (view s) ≡ association_in branch.phase (branch_xid name branch.number store)) →
+      AtStore view store (IsDone (Start xid)) before mid → AtStore view store (AddsAtMost row) before after
+  never_started lawful own store xid branch name row before mid after count is_open started = λ a b is_a is_b.
+      let between : S = get_or mid store a in
+      let is_between : slice_get mid store ≡ Some between =
+      slice_get-get_or mid store a (omega (arith, count, slice_get_within before store a is_a)) in
+      absurd (open_unstarted xid branch.phase (branch_xid name branch.number store) (view a) (view between) (lawful between) (own a) (own between) (is_open a is_a)
+      (started a between is_a is_between))

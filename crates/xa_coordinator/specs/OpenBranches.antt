@@ -7,8 +7,9 @@
 --     HasOpen          the coordinator has a transaction's branch open
 --     has_working_branch  whether it has it open and ACTIVE
 --     IsWorking        it has it open and ACTIVE
+--     IsAsBeforeOrEnded  what is open in a store is as before, or the branch is IDLE
 --     KeepsOpen        a call left what is open in the stores that it didn't speak to
-use Rattle.std.specs.Prelude.{◌≡◌, ◌≤◌, ◌==◌, ◌&&◌, ℕ, Bool, true, false, List, Option, Some, None, slice_get}
+use Rattle.std.specs.Prelude.{◌≡◌, ◌≤◌, ◌==◌, ◌&&◌, ◌⊎◌, ℕ, Bool, true, false, List, Option, Some, None, slice_get}
 use Rattle.xa_xid.specs.declared.xid.Xid.{Xid}
 use Rattle.xa_xid.specs.declared.statement.Statement.{Statement}
 use Rattle.xa_xid.specs.declared.statement.Statement.TheVariants.{Start, End}
@@ -77,3 +78,8 @@ IsWorking branches store number = slice_get branches store ≡ Some (Some (recor
 pub record KeepsOpen (participants : Participants) (place : ℕ) (old new : List (Option OpenBranch)) : Type 0 where
   pub apart : (store : ℕ) → takes_part participants store ≡ false → slice_get new store ≡ slice_get old store
   pub behind : (store : ℕ) → place ≤ store → slice_get new store ≡ slice_get old store
+
+-- what the coordinator has open in a store is as before, or the transaction's branch is IDLE there
+abbrev pub IsAsBeforeOrEnded : ℕ → ℕ → List (Option OpenBranch) → List (Option OpenBranch) → Type 0
+IsAsBeforeOrEnded store number old new =
+    (slice_get new store ≡ slice_get old store) ⊎ (slice_get new store ≡ Some (Some (record { number = number; phase = Idle })))

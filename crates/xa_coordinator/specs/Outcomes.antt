@@ -13,11 +13,12 @@
 --     EndsAs           what the finishing of a transaction came to
 --     asked_by_ending, asked_by_vote      how far a call came
 --     VotesAs          what the stores voted
+--     KeepsMark, KeepsUnfinished      what is open in the store that a vote names;  and in the one that an Unfinished names
 --     ClosesNext       what became of one participant that was to be finished
 --     PollsAs          what became of the participants that were to be prepared
 --     Allows           the decisions allow that a transaction is finished so
 --     finish_for       how a transaction that was voted on is finished
-use Rattle.std.specs.Prelude.{◌≡◌, ◌≢◌, ◌<◌, ◌+◌, ◌⊎◌, ℕ, Bool, true, false, nat_eq, List, [], ◌∷◌, ◌++◌, length, All, Option, Result, Ok, Err}
+use Rattle.std.specs.Prelude.{◌≡◌, ◌≢◌, ◌<◌, ◌+◌, ◌⊎◌, ℕ, Bool, true, false, nat_eq, List, [], ◌∷◌, ◌++◌, length, All, Option, Some, Result, Ok, Err, slice_get}
 use Rattle.std.specs.List.{list_any}
 use Rattle.xa_xid.specs.declared.xid.Xid.{Xid}
 use Rattle.xa_xid.specs.declared.statement.Statement.{Statement}
@@ -44,8 +45,9 @@ use Rattle.xa_coordinator.specs.declared.ending.Ending.TheVariants.{Committed, R
 use Rattle.xa_coordinator.specs.declared.vote.Vote.{Vote}
 use Rattle.xa_coordinator.specs.declared.vote.Vote.TheVariants.{Ready, OnePhase, No, Nothing}
 use Rattle.xa_coordinator.specs.declared.participants.Participants.{Participants}
-use Rattle.xa_coordinator.specs.OpenBranches.{has_working_branch}
+use Rattle.xa_coordinator.specs.OpenBranches.{has_working_branch, IsAsBeforeOrEnded}
 use Rattle.xa_coordinator.specs.declared.branches.OpenBranch.{OpenBranch}
+use Rattle.xa_coordinator.specs.declared.branches.Phase.TheVariants.{Idle}
 use Rattle.xa_coordinator.specs.Told.{IsUndone, IsStopped, IsMissing, IsUnfinished}
 
 -- the statement that finishes a branch
@@ -180,6 +182,22 @@ VotesAs view transaction (No prepared store cause) old new =
     store (IsStopped true (Prepare (branch_of transaction store)) (branch_of transaction store) cause) old new
 VotesAs view transaction Nothing old new =
     ((store : ℕ) → takes_part transaction.participants store ≡ false) × (new ≡ old)
+
+-- after OnePhase the only participant's branch is IDLE; in the store that a No names, what is open is as before, or the transaction's branch is IDLE
+abbrev pub KeepsMark : Transaction → Vote → List (Option OpenBranch) → List (Option OpenBranch) → Type 0
+KeepsMark transaction (Ready prepared) old new = Unit {0}
+KeepsMark transaction (OnePhase prepared) old new =
+    (store : ℕ) → takes_part transaction.participants store ≡ true
+    → slice_get new store ≡ Some (Some (record { number = transaction.number; phase = Idle }))
+KeepsMark transaction (No prepared store cause) old new = IsAsBeforeOrEnded store transaction.number old new
+KeepsMark transaction Nothing old new = Unit {0}
+
+-- and so in the store that an Unfinished names
+abbrev pub KeepsUnfinished : (number : ℕ) → Ending → List (Option OpenBranch) → List (Option OpenBranch) → Type 0
+KeepsUnfinished number Committed old new = Unit {0}
+KeepsUnfinished number RolledBack old new = Unit {0}
+KeepsUnfinished number (Hazard stores) old new = Unit {0}
+KeepsUnfinished number (Unfinished store cause) old new = IsAsBeforeOrEnded store number old new
 
 -- the branch of a store was finished, or wasn't known there and the store was listed
 abbrev pub ClosesNext : {S : Type 0} → (S → SessionView) → (ends : Bool) → Statement → Xid → ℕ → (listed listed' : List ℕ) → List S → List S → Type 0

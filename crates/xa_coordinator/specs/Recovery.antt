@@ -2,27 +2,29 @@
 --     IsDisconnected   a session let go of what it had open
 --     ListsPrepared    XA RECOVER answered this list
 --     IsNamed          a branch is of the coordinator's naming
---     NamedIn          how many branches of a list are
 --     SettlesOne, Settled      what became of one listed branch;  of all
 --     IsFinished, IsSettled       what became of a store's prepared branches;  once the session had let go
 --     IsClear          none of the coordinator's naming is prepared afterwards
 --     IsRecovered      what the recovery of a store came to
---     IsBroken         a statement of the recovery wasn't carried out
+--     IsUnsettled, StopsAmong      a listed branch wasn't finished;  those before it were settled
+--     IsCutOff         once the session had let go, a statement of the recovery wasn't carried out
+--     IsBroken         that, or DISCONNECT wasn't
 --     IsStillPrepared  a branch of the coordinator's naming is prepared afterwards
---     BreaksHere       the recovery of a store came to no end
+--     BreaksBy, BreaksHere      the recovery of a store came to no end, and what the coordinator has open there
 --     Recovers         what the recovery of all stores came to
 --     BreaksOff        it came to no end
 --     asked_by_fault   how far it came
-use Rattle.std.specs.Prelude.{◌≡◌, ◌≢◌, ◌<◌, ◌≤◌, ◌+◌, ◌^◌, ℕ, Bool, true, false, List, [], ◌∷◌, ◌++◌, length, map, filter, slice_get, Some, All}
+use Rattle.std.specs.Prelude.{◌≡◌, ◌≢◌, ◌<◌, ◌+◌, ◌^◌, ◌⊎◌, ℕ, Bool, true, false, List, [], ◌∷◌, ◌++◌, length, take, map, slice_get, Option, Some, None}
 use Rattle.std.specs.List.{sum_by}
 use Rattle.xa_xid.specs.declared.xid.Xid.{Xid}
 use Rattle.xa_xid.specs.declared.statement.Statement.{Statement}
-use Rattle.xa_xid.specs.declared.statement.Statement.TheVariants.{Start, End, Prepare, Commit, Rollback, Recover, Unsupported, Get, Put, Del, Disconnect}
+use Rattle.xa_xid.specs.declared.statement.Statement.TheVariants.{Commit, Rollback, Recover, Disconnect}
 use Rattle.xa_server.specs.State.{is_prepared, prepared_xids}
 use Rattle.xa_server.specs.declared.association.Association.TheVariants.{Free}
 use Rattle.xa_server.specs.declared.xa_error.XaError.TheVariants.{Nota}
-use Rattle.xa_session.specs.Replay.{state_after, state_at}
+use Rattle.xa_session.specs.Replay.{state_after}
 use Rattle.xa_session.specs.View.{SessionView}
+use Rattle.xa_session.specs.declared.fault.Fault.{Fault}
 use Rattle.xa_coordinator.specs.declared.fault.Cause.{Cause}
 use Rattle.xa_coordinator.specs.declared.fault.Cause.TheVariants.{Session as CauseSession, Refused as CauseRefused}
 use Rattle.xa_coordinator.specs.declared.closing.Closing.{Closing}
@@ -34,10 +36,11 @@ use Rattle.xa_coordinator.specs.declared.report.Tally.{Tally}
 use Rattle.xa_coordinator.specs.declared.report.Report.{Report}
 use Rattle.xa_coordinator.specs.declared.fault.RecoverFault.{RecoverFault}
 use Rattle.xa_coordinator.specs.declared.fault.RecoverFault.TheVariants.{Session, StillPrepared, NoMemory, Refused}
-use Rattle.xa_coordinator.specs.Agreement.{AddsStatements, AgreesWith, Agrees}
+use Rattle.xa_coordinator.specs.Agreement.{AddsStatements}
 use Rattle.xa_coordinator.specs.Branch.{branch_xid, IsBranchOf}
 use Rattle.xa_coordinator.specs.Decisions.{is_decided}
 use Rattle.xa_coordinator.specs.OpenBranches.{association_seen}
+use Rattle.xa_coordinator.specs.declared.branches.OpenBranch.{OpenBranch}
 use Rattle.xa_coordinator.specs.Outcomes.{finish_statement}
 use Rattle.xa_coordinator.specs.Stores.{AtStore, EachStore, EndsAt}
 use Rattle.xa_coordinator.specs.Told.{IsUndone}
@@ -60,14 +63,6 @@ pub record ListsPrepared (xids : List Xid) (place : ℕ) (old new : SessionView)
 -- the branch is of a coordinator of this name, in this store
 abbrev pub IsNamed : List ℕ → ℕ → Xid → Type 0
 IsNamed name store xid = (number : ℕ) × IsBranchOf name number store xid
-
--- so many branches of the list are of a coordinator of this name, in this store
-pub data NamedIn (name : List ℕ) (store : ℕ) : List Xid → ℕ → Type 0 where
-  none_named : NamedIn name store [] 0
-  one_named : (xids : List Xid) (xid : Xid) (count : ℕ) → NamedIn name store xids count → IsNamed name store xid
-      → NamedIn name store (xids ++ xid ∷ []) (count + 1)
-  one_foreign : (xids : List Xid) (xid : Xid) (count : ℕ) → NamedIn name store xids count → (IsNamed name store xid → ⊥)
-      → NamedIn name store (xids ++ xid ∷ []) count
 
 -- a decided branch is committed, another one is rolled back (presumed abort)
 abbrev pub finish_decided : Bool → Closing
@@ -119,47 +114,6 @@ pub record IsSettled (decisions : List Decision) (name : List ℕ) (store : ℕ)
   pub disconnected : IsDisconnected old freed
   pub rest : IsFinished decisions name store tally freed new
 
--- an XA COMMIT of a prepared branch
-abbrev pub is_commit : Statement → Bool
-is_commit (Start xid) = false
-is_commit (End xid) = false
-is_commit (Prepare xid) = false
-is_commit (Commit xid false) = true
-is_commit (Commit xid true) = false
-is_commit (Rollback xid) = false
-is_commit (Recover convert) = false
-is_commit Unsupported = false
-is_commit (Get key) = false
-is_commit (Put key value) = false
-is_commit (Del key) = false
-is_commit Disconnect = false
-
--- an XA ROLLBACK
-abbrev pub is_rollback : Statement → Bool
-is_rollback (Start xid) = false
-is_rollback (End xid) = false
-is_rollback (Prepare xid) = false
-is_rollback (Commit xid one_phase) = false
-is_rollback (Rollback xid) = true
-is_rollback (Recover convert) = false
-is_rollback Unsupported = false
-is_rollback (Get key) = false
-is_rollback (Put key value) = false
-is_rollback (Del key) = false
-is_rollback Disconnect = false
-
--- what a recovery added is counted, and with the missing branches that is what was prepared at one place, not before what had been seen
-pub record IsCounted (decisions : List Decision) (name : List ℕ) (store : ℕ) (tally : Tally) (old new : SessionView) : Type 0 where
-  pub statements : List Statement
-  pub adds : AddsStatements statements old new
-  pub each : All (AgreesWith decisions name store) statements
-  pub committed : tally.committed ≡ length (filter is_commit statements)
-  pub rolled_back : tally.rolled_back ≡ length (filter is_rollback statements)
-  pub place : ℕ
-  pub not_before : length old.known.seen ≤ place
-  pub within : place ≤ length new.known.seen
-  pub found : NamedIn name store (prepared_xids (state_at new.base new.known.seen place)) (total tally)
-
 -- no branch of this coordinator's naming is prepared, as far as the session has seen
 abbrev pub NoneLeft : List ℕ → ℕ → SessionView → Type 0
 NoneLeft name store session = (number : ℕ) → number < 2 ^ 64 → is_prepared (state_after session.base session.known.seen) (branch_xid name number store) ≡ false
@@ -174,24 +128,48 @@ pub record IsClear (name : List ℕ) (store front : ℕ) (old new : SessionView)
 pub record IsRecovered (decisions : List Decision) (name : List ℕ) (store : ℕ) (tally : Tally) (front : ℕ) (old new : SessionView) : Type 0 where
   pub finished : SessionView
   pub settled : IsSettled decisions name store tally old finished
-  pub counted : IsCounted decisions name store tally old new
-  pub looked : old.known.looks < new.known.looks
-  pub at_end : front ≡ length new.known.seen
-  pub none_left : NoneLeft name store new
+  pub clear : IsClear name store front finished new
 
--- a statement of the recovery of a store wasn't carried out for this cause, which isn't that the branch wasn't known
-pub record IsBroken (decisions : List Decision) (name : List ℕ) (store : ℕ) (cause : Cause) (old new : SessionView) : Type 0 where
-  pub mid : SessionView
-  pub before : Agrees decisions name store old mid
-  pub statement : Statement
-  pub agrees : AgreesWith decisions name store statement
-  pub undone : IsUndone statement cause mid new
+-- a listed branch wasn't finished, for this cause, which isn't that it wasn't known
+pub record IsUnsettled (decisions : List Decision) (name : List ℕ) (store : ℕ) (xid : Xid) (cause : Cause) (old new : SessionView) : Type 0 where
+  pub number : ℕ
+  pub named : IsBranchOf name number store xid
+  pub undone : IsUndone (finish_statement (finish_decided (is_decided decisions number)) xid) cause old new
   pub known : cause ≢ CauseRefused Nota
 
--- the prepared branches were settled, and one of this coordinator's naming is prepared, as far as the session has seen
+-- the branches of a list were settled up to this place, and the branch there wasn't finished
+pub record StopsAmong (decisions : List Decision) (name : List ℕ) (store : ℕ) (xids : List Xid) (cause : Cause) (old new : SessionView) : Type 0 where
+  pub place : ℕ
+  pub xid : Xid
+  pub there : slice_get xids place ≡ Some xid
+  pub tally : Tally
+  pub mid : SessionView
+  pub settled : Settled decisions name store old (take place xids) tally mid
+  pub unsettled : IsUnsettled decisions name store xid cause mid new
+
+-- the session had let go, and then the first list, the ending of a listed branch, or the last list wasn't carried out; everything before it was
+pub data IsCutOff (decisions : List Decision) (name : List ℕ) (store : ℕ) (old : SessionView) : Cause → SessionView → Type 0 where
+  unlisted : (freed : SessionView) → IsDisconnected old freed → (fault : Fault) (new : SessionView) → IsUndone (Recover false) (CauseSession fault) freed new
+      → IsCutOff decisions name store old (CauseSession fault) new
+  unsettled : (freed : SessionView) → IsDisconnected old freed → (listing : SessionView) (xids : List Xid) (place : ℕ) → ListsPrepared xids place freed listing
+      → (cause : Cause) (new : SessionView) → StopsAmong decisions name store xids cause listing new → IsCutOff decisions name store old cause new
+  unlisted_again : (tally : Tally) (finished : SessionView) → IsSettled decisions name store tally old finished → (fault : Fault) (new : SessionView)
+      → IsUndone (Recover false) (CauseSession fault) finished new → IsCutOff decisions name store old (CauseSession fault) new
+
+-- a statement of the recovery of a store wasn't carried out for this cause: DISCONNECT, or one behind it
+abbrev pub IsBroken : List Decision → List ℕ → ℕ → Cause → SessionView → SessionView → Type 0
+IsBroken decisions name store (CauseSession fault) old new =
+    IsUndone Disconnect (CauseSession fault) old new ⊎ IsCutOff decisions name store old (CauseSession fault) new
+IsBroken decisions name store (CauseRefused error) old new = IsCutOff decisions name store old (CauseRefused error) new
+
+-- the prepared branches were settled, and of the last list one is of this coordinator's naming
 pub record IsStillPrepared (decisions : List Decision) (name : List ℕ) (store : ℕ) (old new : SessionView) : Type 0 where
-  pub before : Agrees decisions name store old new
-  pub looked : old.known.looks < new.known.looks
+  pub tally : Tally
+  pub finished : SessionView
+  pub settled : IsSettled decisions name store tally old finished
+  pub xids : List Xid
+  pub place : ℕ
+  pub listed : ListsPrepared xids place finished new
   pub number : ℕ
   pub fits : number < 2 ^ 64
   pub prepared : is_prepared (state_after new.base new.known.seen) (branch_xid name number store) ≡ true
@@ -215,12 +193,23 @@ abbrev pub fault_by : ℕ → Cause → RecoverFault
 fault_by store (CauseSession fault) = Session store fault
 fault_by store (CauseRefused error) = Refused store error
 
--- the recovery of a store came to no end
-abbrev pub BreaksHere : {S : Type 0} → (S → SessionView) → List Decision → List ℕ → ℕ → RecoverFault → List S → List S → Type 0
-BreaksHere view decisions name store (Session at fault) old new = (at ≡ store) × AtStore view store (IsBroken decisions name store (CauseSession fault)) old new
-BreaksHere view decisions name store (StillPrepared at) old new = (at ≡ store) × AtStore view store (IsStillPrepared decisions name store) old new
-BreaksHere view decisions name store NoMemory old new = ⊥
-BreaksHere view decisions name store (Refused at error) old new = (at ≡ store) × AtStore view store (IsBroken decisions name store (CauseRefused error)) old new
+-- a statement of the recovery of a store wasn't carried out for this cause: DISCONNECT, and the coordinator has open there what it had, or one behind it, and it
+-- has nothing open there
+abbrev pub BreaksBy : {S : Type 0} → (S → SessionView) → List Decision → List ℕ → ℕ → Cause → (marks marks' : List (Option OpenBranch)) → List S → List S → Type 0
+BreaksBy view decisions name store (CauseSession fault) marks marks' old new =
+    ((slice_get marks' store ≡ slice_get marks store) × AtStore view store (IsUndone Disconnect (CauseSession fault)) old new)
+    ⊎ ((slice_get marks' store ≡ Some None) × AtStore view store (λ before after. IsCutOff decisions name store before (CauseSession fault) after) old new)
+BreaksBy view decisions name store (CauseRefused error) marks marks' old new =
+    (slice_get marks' store ≡ Some None) × AtStore view store (λ before after. IsCutOff decisions name store before (CauseRefused error) after) old new
+
+-- the recovery of the store that a fault names came to no end, by what the coordinator has open there
+abbrev pub BreaksHere : {S : Type 0} → (S → SessionView) → List Decision → List ℕ → RecoverFault → (marks marks' : List (Option OpenBranch)) → List S → List S
+    → Type 0
+BreaksHere view decisions name (Session store fault) marks marks' old new = BreaksBy view decisions name store (CauseSession fault) marks marks' old new
+BreaksHere view decisions name (StillPrepared store) marks marks' old new =
+    (slice_get marks' store ≡ Some None) × AtStore view store (IsStillPrepared decisions name store) old new
+BreaksHere view decisions name NoMemory marks marks' old new = (marks' ≡ marks) × (new ≡ old)
+BreaksHere view decisions name (Refused store error) marks marks' old new = BreaksBy view decisions name store (CauseRefused error) marks marks' old new
 
 -- the recovery came to an end at a store: those below are recovered, and this one fared so
 abbrev pub BreaksAt : {S : Type 0} → (S → SessionView) → List Decision → List ℕ → ℕ → (SessionView → SessionView → Type 0) → List S → List S → Type 0

@@ -1,6 +1,7 @@
 -- What work in a store came to.
 --     IsRow            a row statement
 --     MayBe            one statement, or none
+--     AddsAtMost       at most this statement was added
 --     AddsWork         at most XA START and a row statement were added
 --     MayStart         the branch was open, or was started
 --     IsReplied        a row statement was answered within the branch
@@ -49,6 +50,12 @@ IsRow Disconnect = ⊥
 -- this statement, or none
 abbrev pub MayBe : Statement → List Statement → Type 0
 MayBe statement statements = (statements ≡ []) ⊎ (statements ≡ statement ∷ [])
+
+-- this statement was added, or nothing
+pub record AddsAtMost (statement : Statement) (old new : SessionView) : Type 0 where
+  pub statements : List Statement
+  pub is : MayBe statement statements
+  pub adds : AddsStatements statements old new
 
 -- XA START or nothing was added, and then the row statement or nothing
 pub record AddsWork (xid : Xid) (row : Statement) (old new : SessionView) : Type 0 where

@@ -1,8 +1,8 @@
 //! The branch of a transaction in one store, from its start to its end.
-ghost use Rattle.std.specs.Prelude.{◌≡◌, ◌<◌, Some, None, true, false, OnOk, OnErr, slice_get, vec_len};
+ghost use Rattle.std.specs.Prelude.{◌≡◌, ◌<◌, Some, None, Err, true, false, IfErr, OnOk, OnErr, slice_get, vec_len};
 ghost use Rattle.xa_session.specs.View.{SessionView};
 ghost use Rattle.xa_coordinator.specs.Branch.{branch_xid};
-ghost use Rattle.xa_coordinator.specs.OpenBranches.{HasOpen, has_working_branch as is_working_in};
+ghost use Rattle.xa_coordinator.specs.OpenBranches.{HasOpen, IsAsBeforeOrEnded, has_working_branch as is_working_in};
 ghost use Rattle.xa_coordinator.specs.Outcomes.{finish_statement, ends_first, SaysAs, ClosesAs, PreparesAs};
 ghost use Rattle.xa_coordinator.specs.Stores.{AtStore, ChangesAt};
 ghost use Rattle.xa_coordinator.specs.Told.{IsToldAs};
@@ -17,7 +17,8 @@ use xa_xid::Statement;
 
 /// Whether the branch was found that a statement was to finish.
 fn found(said: Result<(), Cause>) -> Result<Found, Cause>
-    ensures { (statement : Statement) (old new : SessionView) → IsToldAs statement said old new → SaysAs statement result old new }
+    ensures says { (statement : Statement) (old new : SessionView) → IsToldAs statement said old new → SaysAs statement result old new }
+    ensures fault { IfErr result (λ cause. said ≡ Err cause) }
 {
     match said {
         Ok(()) => Ok(Found::Closed),
@@ -63,6 +64,8 @@ impl<S: Speak> Coordinator<S> {
         ensures name { self.new.name ≡ self.old.name }
         ensures frame { ChangesAt store self.old.stores.items self.new.stores.items }
         ensures marks { ChangesAt store self.old.branches self.new.branches }
+        ensures unsaid { OnErr result (self.new.branches ≡ self.old.branches) }
+        ensures mark { OnOk result (slice_get self.new.branches store ≡ Some (Some (record { number = number; phase = Phase.Idle }))) }
         ensures says { AtStore S.view store (IsToldAs (End (branch_xid self.old.name.items number store)) result) self.old.stores.items self.new.stores.items }
     {
         let statement = Statement::End(self.branch(number, store));
@@ -79,6 +82,7 @@ impl<S: Speak> Coordinator<S> {
         ensures name { self.new.name ≡ self.old.name }
         ensures frame { ChangesAt store self.old.stores.items self.new.stores.items }
         ensures marks { ChangesAt store self.old.branches self.new.branches }
+        ensures unsaid { OnErr result (self.new.branches ≡ self.old.branches) }
         ensures says { AtStore S.view store (IsToldAs (Prepare (branch_xid self.old.name.items number store)) result) self.old.stores.items
             self.new.stores.items }
     {
@@ -97,6 +101,7 @@ impl<S: Speak> Coordinator<S> {
         ensures name { self.new.name ≡ self.old.name }
         ensures frame { ChangesAt store self.old.stores.items self.new.stores.items }
         ensures marks { ChangesAt store self.old.branches self.new.branches }
+        ensures unsaid { OnErr result (IsAsBeforeOrEnded store number self.old.branches self.new.branches) }
         ensures prepares { AtStore S.view store (PreparesAs (branch_xid self.old.name.items number store) result) self.old.stores.items self.new.stores.items }
     {
         self.end_branch(rt, store, number)?;
@@ -115,6 +120,7 @@ impl<S: Speak> Coordinator<S> {
         ensures name { self.new.name ≡ self.old.name }
         ensures frame { ChangesAt store self.old.stores.items self.new.stores.items }
         ensures marks { ChangesAt store self.old.branches self.new.branches }
+        ensures unsaid { OnErr result (self.new.branches ≡ self.old.branches) }
         ensures free { slice_get self.old.branches store ≡ Some None → slice_get self.new.branches store ≡ Some None }
         ensures finishes { AtStore S.view store (SaysAs (finish_statement closing (branch_xid self.old.name.items number store)) result) self.old.stores.items
             self.new.stores.items }
@@ -129,6 +135,7 @@ impl<S: Speak> Coordinator<S> {
         ensures name { self.new.name ≡ self.old.name }
         ensures frame { ChangesAt store self.old.stores.items self.new.stores.items }
         ensures marks { ChangesAt store self.old.branches self.new.branches }
+        ensures unsaid { OnErr result (IsAsBeforeOrEnded store number self.old.branches self.new.branches) }
         ensures closes { AtStore S.view store
             (ClosesAs true (Rollback (branch_xid self.old.name.items number store)) (branch_xid self.old.name.items number store) result) self.old.stores.items
             self.new.stores.items }
@@ -140,7 +147,8 @@ impl<S: Speak> Coordinator<S> {
     /// Whether the coordinator has the transaction's branch open in a store.
     pub(crate) fn has_open(&self, store: u8, number: u64) -> bool
         requires { store < 16 }
-        ensures { result ≡ false → HasOpen self.now.branches store number → ⊥ }
+        ensures has { result ≡ true → HasOpen self.now.branches store number }
+        ensures none { result ≡ false → HasOpen self.now.branches store number → ⊥ }
     {
         match self.branches[store as usize] {
             Some(branch) => branch.number == number,
@@ -172,6 +180,7 @@ impl<S: Speak> Coordinator<S> {
         ensures name { self.new.name ≡ self.old.name }
         ensures frame { ChangesAt store self.old.stores.items self.new.stores.items }
         ensures marks { ChangesAt store self.old.branches self.new.branches }
+        ensures unsaid { OnErr result (IsAsBeforeOrEnded store number self.old.branches self.new.branches) }
         ensures closes { AtStore S.view store
             (ClosesAs (ends_first closing (is_working_in self.old.branches store number))
             (finish_statement closing (branch_xid self.old.name.items number store)) (branch_xid self.old.name.items number store) result)

@@ -1,13 +1,13 @@
 //! The second phase: the branches of a transaction are finished.
-ghost use Rattle.std.specs.Prelude.{◌≡◌, ◌<◌, List, false, OnOk, IfErr, vec_len};
+ghost use Rattle.std.specs.Prelude.{◌≡◌, ◌<◌, List, false, OnOk, OnErr, IfErr, vec_len};
 ghost use Rattle.xa_coordinator.specs.Agreement.{Agrees};
 ghost use Rattle.xa_coordinator.specs.Decisions.{is_decided};
 ghost use Rattle.xa_coordinator.specs.Stores.{AtStore, EachStore, ChangesAt};
 ghost use Rattle.xa_coordinator.specs.Told.{IsUnfinished};
 ghost use Rattle.xa_coordinator.specs.Branch.{branch_xid};
 ghost use Rattle.arrayvec.specs.ArrayVec.{array_vec_len};
-ghost use Rattle.xa_coordinator.specs.OpenBranches.{has_working_branch, KeepsOpen};
-ghost use Rattle.xa_coordinator.specs.Outcomes.{EndsAs, ClosesNext, finish_statement, ends_first, asked_by_ending, finish_for as finish_of_vote};
+ghost use Rattle.xa_coordinator.specs.OpenBranches.{has_working_branch, IsAsBeforeOrEnded, KeepsOpen};
+ghost use Rattle.xa_coordinator.specs.Outcomes.{EndsAs, KeepsUnfinished, ClosesNext, finish_statement, ends_first, asked_by_ending, finish_for as finish_of_vote};
 ghost use Rattle.xa_coordinator.specs.declared.decisions.Decision.{Decision};
 
 use crate::closing::{Closing, Found};
@@ -45,6 +45,7 @@ impl<S: Speak> Coordinator<S> {
         ensures name { self.new.name ≡ self.old.name }
         ensures frame { ChangesAt store self.old.stores.items self.new.stores.items }
         ensures marks { ChangesAt store self.old.branches self.new.branches }
+        ensures unsaid { OnErr result (IsAsBeforeOrEnded store number self.old.branches self.new.branches) }
         ensures closed { OnOk result
             (ClosesNext S.view (ends_first closing (has_working_branch self.old.branches store number))
             (finish_statement closing (branch_xid self.old.name.items number store)) (branch_xid self.old.name.items number store) store missing.old.items
@@ -76,6 +77,7 @@ impl<S: Speak> Coordinator<S> {
         ensures name { self.new.name ≡ self.old.name }
         ensures count { vec_len self.new.stores ≡ vec_len self.old.stores }
         ensures elsewhere { KeepsOpen transaction.now.participants (asked_by_ending result) self.old.branches self.new.branches }
+        ensures cut { KeepsUnfinished transaction.now.number result self.old.branches self.new.branches }
         ensures ends { EndsAs S.view self.old.branches transaction.now closing result self.old.stores.items self.new.stores.items }
     {
         let mut missing = ArrayVec::<u8, 16>::new();
@@ -113,6 +115,7 @@ impl<S: Speak> Coordinator<S> {
         ensures name { self.new.name ≡ self.old.name }
         ensures count { vec_len self.new.stores ≡ vec_len self.old.stores }
         ensures elsewhere { KeepsOpen prepared.transaction.participants (asked_by_ending result) self.old.branches self.new.branches }
+        ensures cut { KeepsUnfinished prepared.transaction.number result self.old.branches self.new.branches }
         ensures ends { EndsAs S.view self.old.branches prepared.transaction
             (finish_of_vote (is_decided decisions.now prepared.transaction.number) prepared.vote_kind) result self.old.stores.items self.new.stores.items }
         ensures agrees { EachStore S.view (Agrees decisions.now self.old.name.items) self.old.stores.items self.new.stores.items }
@@ -140,6 +143,7 @@ impl<S: Speak> Coordinator<S> {
         ensures name { self.new.name ≡ self.old.name }
         ensures count { vec_len self.new.stores ≡ vec_len self.old.stores }
         ensures elsewhere { KeepsOpen transaction.participants (asked_by_ending result) self.old.branches self.new.branches }
+        ensures cut { KeepsUnfinished transaction.number result self.old.branches self.new.branches }
         ensures ends { EndsAs S.view self.old.branches transaction Closing.RollBack result self.old.stores.items self.new.stores.items }
         ensures agrees { (decisions : List Decision)
             → is_decided decisions transaction.number ≡ false

@@ -41,6 +41,7 @@ impl<S: Speak> Coordinator<S> {
         ensures name { self.new.name ≡ self.old.name }
         ensures frame { ChangesAt store self.old.stores.items self.new.stores.items }
         ensures marks { ChangesAt store self.old.branches self.new.branches }
+        ensures unsaid { OnErr result (self.new.branches ≡ self.old.branches) }
         ensures mark { OnOk result (slice_get self.new.branches store ≡ Some None) }
         ensures done { OnOk result (AtStore S.view store IsDisconnected self.old.stores.items self.new.stores.items) }
         ensures undone { IfErr result

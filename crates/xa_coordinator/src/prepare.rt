@@ -1,9 +1,9 @@
 //! The first phase: the stores vote.
-ghost use Rattle.std.specs.Prelude.{◌≡◌, List, vec_len};
+ghost use Rattle.std.specs.Prelude.{◌≡◌, List, IfErr, vec_len};
 ghost use Rattle.xa_coordinator.specs.Agreement.{Agrees};
 ghost use Rattle.xa_coordinator.specs.Stores.{EachStore};
-ghost use Rattle.xa_coordinator.specs.OpenBranches.{KeepsOpen};
-ghost use Rattle.xa_coordinator.specs.Outcomes.{VotesAs, PollsAs, asked_by_vote, asked_by_poll};
+ghost use Rattle.xa_coordinator.specs.OpenBranches.{IsAsBeforeOrEnded, KeepsOpen};
+ghost use Rattle.xa_coordinator.specs.Outcomes.{VotesAs, PollsAs, KeepsMark, asked_by_vote, asked_by_poll};
 ghost use Rattle.xa_coordinator.specs.Participants.{TwoTakePart, OnlyTakesPart};
 ghost use Rattle.xa_coordinator.specs.declared.decisions.Decision.{Decision};
 
@@ -35,6 +35,7 @@ impl<S: Speak> Coordinator<S> {
         ensures name { self.new.name ≡ self.old.name }
         ensures count { vec_len self.new.stores ≡ vec_len self.old.stores }
         ensures elsewhere { KeepsOpen transaction.now.participants (asked_by_poll result) self.old.branches self.new.branches }
+        ensures cut { IfErr result (λ refused. IsAsBeforeOrEnded refused.0 transaction.now.number self.old.branches self.new.branches) }
         ensures polls { PollsAs S.view transaction.now result self.old.stores.items self.new.stores.items }
     {
         for store in 0..transaction.stores {
@@ -56,6 +57,7 @@ impl<S: Speak> Coordinator<S> {
         ensures name { self.new.name ≡ self.old.name }
         ensures count { vec_len self.new.stores ≡ vec_len self.old.stores }
         ensures elsewhere { KeepsOpen transaction.participants (asked_by_vote result) self.old.branches self.new.branches }
+        ensures cut { KeepsMark transaction result self.old.branches self.new.branches }
         ensures vote { VotesAs S.view transaction result self.old.stores.items self.new.stores.items }
     {
         match self.end_branch(rt, store, transaction.number) {
@@ -78,6 +80,7 @@ impl<S: Speak> Coordinator<S> {
         ensures name { self.new.name ≡ self.old.name }
         ensures count { vec_len self.new.stores ≡ vec_len self.old.stores }
         ensures elsewhere { KeepsOpen transaction.participants (asked_by_vote result) self.old.branches self.new.branches }
+        ensures cut { KeepsMark transaction result self.old.branches self.new.branches }
         ensures vote { VotesAs S.view transaction result self.old.stores.items self.new.stores.items }
     {
         match self.poll(rt, &transaction) {
@@ -106,6 +109,7 @@ impl<S: Speak> Coordinator<S> {
         ensures name { self.new.name ≡ self.old.name }
         ensures count { vec_len self.new.stores ≡ vec_len self.old.stores }
         ensures elsewhere { KeepsOpen transaction.participants (asked_by_vote result) self.old.branches self.new.branches }
+        ensures cut { KeepsMark transaction result self.old.branches self.new.branches }
         ensures vote { VotesAs S.view transaction result self.old.stores.items self.new.stores.items }
         ensures agrees { (decisions : List Decision) → EachStore S.view (Agrees decisions self.old.name.items) self.old.stores.items self.new.stores.items }
     {

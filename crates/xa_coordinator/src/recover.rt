@@ -1,9 +1,12 @@
 //! Recovery: what a coordinator that was stopped left behind is finished as the decisions say.
-ghost use Rattle.std.specs.Prelude.{◌≡◌, ◌≢◌, ◌<◌, ◌≤◌, ℕ, List, [], Some, None, IfOk, IfErr, OnOk, slice_get, map, vec_len, vec_capacity};
+ghost use Rattle.std.specs.Prelude.{◌≡◌, ◌≢◌, ◌<◌, ◌≤◌, ◌+◌, ℕ, List, [], Option, Some, None, IfOk, IfErr, OnOk, length, slice_get, map, vec_len, vec_capacity};
 ghost use Rattle.xa_coordinator.specs.Agreement.{Agrees};
 ghost use Rattle.xa_coordinator.specs.Decisions.{closed_of, is_decided, decision_of};
-ghost use Rattle.xa_coordinator.specs.Recovery.{IsFinished, IsSettled, IsClear, IsRecovered, IsBroken, BreaksHere, Recovers, BreaksOff, asked_by_fault};
-ghost use Rattle.xa_coordinator.specs.Recovery.{fault_by};
+ghost use Rattle.xa_session.specs.View.{SessionView};
+ghost use Rattle.xa_coordinator.specs.Recovery.{IsDisconnected, IsFinished, IsSettled, IsClear, IsRecovered, IsCutOff, BreaksBy, BreaksHere, Recovers, BreaksOff};
+ghost use Rattle.xa_coordinator.specs.Recovery.{asked_by_fault, fault_by};
+ghost use Rattle.xa_coordinator.specs.declared.branches.OpenBranch.{OpenBranch as OpenBranchOf};
+ghost use Rattle.xa_coordinator.specs.declared.report.Tally.{Tally as TallyOf};
 ghost use Rattle.xa_coordinator.specs.Stores.{AtStore, EachStore, ChangesAt};
 ghost use Rattle.xa_coordinator.specs.declared.decisions.Decision.{Decision};
 
@@ -39,7 +42,9 @@ impl<S: Speak> Coordinator<S> {
         ensures finished { IfOk result
             (λ tally. AtStore S.view store (IsFinished decisions.now self.old.name.items store tally) self.old.stores.items self.new.stores.items) }
         ensures broken { IfErr result
-            (λ cause. AtStore S.view store (IsBroken decisions.now self.old.name.items store cause) self.old.stores.items self.new.stores.items) }
+            (λ cause. AtStore S.view store
+            (λ freed new. (old : SessionView) → IsDisconnected old freed → IsCutOff decisions.now self.old.name.items store old cause new) self.old.stores.items
+            self.new.stores.items) }
     {
         match self.prepared_in(rt, store) {
             Ok(found) => self.settle_each(rt, decisions, store, found.0.as_slice()),
@@ -62,7 +67,8 @@ impl<S: Speak> Coordinator<S> {
         ensures settled { IfOk result
             (λ tally. AtStore S.view store (IsSettled decisions.now self.old.name.items store tally) self.old.stores.items self.new.stores.items) }
         ensures broken { IfErr result
-            (λ cause. AtStore S.view store (IsBroken decisions.now self.old.name.items store cause) self.old.stores.items self.new.stores.items) }
+            (λ cause. BreaksBy S.view decisions.now self.old.name.items store cause self.old.branches self.new.branches self.old.stores.items
+            self.new.stores.items) }
     {
         match self.disconnect(rt, store) {
             Ok(()) => self.list_and_finish(rt, decisions, store),
@@ -73,12 +79,17 @@ impl<S: Speak> Coordinator<S> {
     /// The place at which no branch of this coordinator's naming is prepared in a store.
     fn look_again<R: Wait>(&mut self, rt: &R, store: u8) -> Result<u64, RecoverFault>
         requires store { store < vec_len self.old.stores }
+        requires free { slice_get self.old.branches store ≡ Some None }
         ensures name { self.new.name ≡ self.old.name }
         ensures frame { ChangesAt store self.old.stores.items self.new.stores.items }
         ensures marks { self.new.branches ≡ self.old.branches }
         ensures clear { IfOk result (λ front. AtStore S.view store (IsClear self.old.name.items store front) self.old.stores.items self.new.stores.items) }
+        ensures place { IfErr result (λ fault. asked_by_fault fault ≡ store + 1) }
         ensures fails { IfErr result
-            (λ fault. (decisions : List Decision) → BreaksHere S.view decisions self.old.name.items store fault self.old.stores.items self.new.stores.items) }
+            (λ fault. (decisions : List Decision) (tally : TallyOf) (marks : List (Option OpenBranchOf)) (before : List S)
+            → length self.old.stores.items ≡ length before
+            → AtStore S.view store (IsSettled decisions self.old.name.items store tally) before self.old.stores.items
+            → BreaksHere S.view decisions self.old.name.items fault marks self.new.branches before self.new.stores.items) }
     {
         match self.prepared_in(rt, store) {
             Ok(found) => match self.own_number(store, found.0.as_slice()) {
@@ -103,7 +114,9 @@ impl<S: Speak> Coordinator<S> {
         ensures free { OnOk result (slice_get self.new.branches store ≡ Some None) }
         ensures recovered { IfOk result
             (λ one. AtStore S.view store (IsRecovered decisions.now self.old.name.items store one.0 one.1) self.old.stores.items self.new.stores.items) }
-        ensures fails { IfErr result (λ fault. BreaksHere S.view decisions.now self.old.name.items store fault self.old.stores.items self.new.stores.items) }
+        ensures place { IfErr result (λ fault. asked_by_fault fault ≡ store + 1) }
+        ensures fails { IfErr result
+            (λ fault. BreaksHere S.view decisions.now self.old.name.items fault self.old.branches self.new.branches self.old.stores.items self.new.stores.items) }
     {
         match self.finish_prepared(rt, decisions, store) {
             Ok(tally) => {
@@ -129,6 +142,9 @@ impl<S: Speak> Coordinator<S> {
         ensures free { OnOk result ((store : ℕ) → store < vec_len self.new.stores → slice_get self.new.branches store ≡ Some None) }
         ensures marks { IfErr result
             (λ fault. (store : ℕ) → asked_by_fault fault ≤ store → slice_get self.new.branches store ≡ slice_get self.old.branches store) }
+        ensures below { IfErr result (λ fault. (store : ℕ) → store + 1 < asked_by_fault fault → slice_get self.new.branches store ≡ Some None) }
+        ensures here { IfErr result
+            (λ fault. BreaksHere S.view decisions.now self.old.name.items fault self.old.branches self.new.branches self.old.stores.items self.new.stores.items) }
         ensures recovers { IfOk result (λ report. Recovers S.view decisions.now self.old.name.items report self.old.stores.items self.new.stores.items) }
         ensures breaks { IfErr result (λ fault. BreaksOff S.view decisions.now self.old.name.items fault self.old.stores.items self.new.stores.items) }
     {
@@ -171,6 +187,9 @@ impl<S: Speak> Coordinator<S> {
         ensures free { OnOk result ((store : ℕ) → store < vec_len self.new.stores → slice_get self.new.branches store ≡ Some None) }
         ensures marks { IfErr result
             (λ fault. (store : ℕ) → asked_by_fault fault ≤ store → slice_get self.new.branches store ≡ slice_get self.old.branches store) }
+        ensures below { IfErr result (λ fault. (store : ℕ) → store + 1 < asked_by_fault fault → slice_get self.new.branches store ≡ Some None) }
+        ensures here { IfErr result
+            (λ fault. BreaksHere S.view decisions.new self.old.name.items fault self.old.branches self.new.branches self.old.stores.items self.new.stores.items) }
         ensures recovers { IfOk result (λ report. Recovers S.view decisions.new self.old.name.items report self.old.stores.items self.new.stores.items) }
         ensures breaks { IfErr result (λ fault. BreaksOff S.view decisions.new self.old.name.items fault self.old.stores.items self.new.stores.items) }
         ensures agrees { EachStore S.view (Agrees decisions.new self.old.name.items) self.old.stores.items self.new.stores.items }

@@ -3,7 +3,7 @@ ghost use Rattle.std.specs.Prelude.{◌≡◌, ◌<◌, ◌≤◌, ◌+◌, ◌^
 ghost use Rattle.std.specs.List.{list_any};
 ghost use Rattle.xa_xid.specs.Xid.{same_xid};
 ghost use Rattle.xa_coordinator.specs.Branch.{branch_xid};
-ghost use Rattle.xa_coordinator.specs.Recovery.{finish_decided as finish_by_decision, counted, total, SettlesOne, Settled, IsBroken};
+ghost use Rattle.xa_coordinator.specs.Recovery.{finish_decided as finish_by_decision, counted, total, SettlesOne, Settled, IsUnsettled, StopsAmong};
 ghost use Rattle.xa_coordinator.specs.Stores.{AtStore, ChangesAt};
 
 use crate::branch_name::number_of_branch;
@@ -68,7 +68,7 @@ impl<S: Speak> Coordinator<S> {
             (λ after. AtStore S.view store (λ old new. SettlesOne decisions.now self.old.name.items store xid.now tally old after new) self.old.stores.items
             self.new.stores.items) }
         ensures broken { IfErr result
-            (λ cause. AtStore S.view store (IsBroken decisions.now self.old.name.items store cause) self.old.stores.items self.new.stores.items) }
+            (λ cause. AtStore S.view store (IsUnsettled decisions.now self.old.name.items store xid.now cause) self.old.stores.items self.new.stores.items) }
     {
         let Some(number) = number_of_branch(&self.name, store, xid) else {
             return Ok(tally);
@@ -96,7 +96,7 @@ impl<S: Speak> Coordinator<S> {
             (λ tally. AtStore S.view store (λ old new. Settled decisions.now self.old.name.items store old xids.now tally new) self.old.stores.items
             self.new.stores.items) }
         ensures broken { IfErr result
-            (λ cause. AtStore S.view store (IsBroken decisions.now self.old.name.items store cause) self.old.stores.items self.new.stores.items) }
+            (λ cause. AtStore S.view store (StopsAmong decisions.now self.old.name.items store xids.now cause) self.old.stores.items self.new.stores.items) }
     {
         let mut tally = Tally {
             committed: 0,

@@ -1,13 +1,13 @@
 //! Work of a transaction in a store.
-ghost use Rattle.std.specs.Prelude.{◌≡◌, ◌≢◌, ◌<◌, ℕ, List, Some, true, false, IfOk, IfErr, slice_get, vec_len};
+ghost use Rattle.std.specs.Prelude.{◌≡◌, ◌≢◌, ◌<◌, ℕ, List, Some, Err, true, false, IfOk, IfErr, slice_get, vec_len};
 ghost use Rattle.xa_coordinator.specs.Agreement.{Agrees};
 ghost use Rattle.xa_coordinator.specs.Branch.{branch_xid};
-ghost use Rattle.xa_coordinator.specs.OpenBranches.{has_working_branch};
+ghost use Rattle.xa_coordinator.specs.OpenBranches.{HasOpen, has_working_branch};
 ghost use Rattle.xa_coordinator.specs.Outcomes.{branch_of};
 ghost use Rattle.xa_coordinator.specs.Participants.{takes_part};
 ghost use Rattle.xa_coordinator.specs.Stores.{AtStore, EachStore, ChangesAt};
 ghost use Rattle.xa_coordinator.specs.Told.{IsUndone};
-ghost use Rattle.xa_coordinator.specs.Work.{IsRow, IsReplied, AddsWork, KeepsOthers, WorksWithin, WorksAs};
+ghost use Rattle.xa_coordinator.specs.Work.{IsRow, IsReplied, AddsAtMost, AddsWork, KeepsOthers, WorksWithin, WorksAs};
 ghost use Rattle.xa_coordinator.specs.declared.decisions.Decision.{Decision};
 ghost use Rattle.xa_coordinator.specs.declared.branches.Phase.TheVariants.{Active as PhaseActive};
 
@@ -86,6 +86,8 @@ impl<S: Speak> Coordinator<S> {
         ensures frame { ChangesAt store self.old.stores.items self.new.stores.items }
         ensures marks { ChangesAt store self.old.branches self.new.branches }
         ensures keeps { KeepsOthers store transaction.old transaction.new }
+        ensures again { HasOpen self.old.branches store transaction.old.number
+            → AtStore S.view store (AddsAtMost statement.now) self.old.stores.items self.new.stores.items }
         ensures works { WorksAs S.view self.old.branches self.new.branches transaction.old transaction.new store statement.now result self.old.stores.items
             self.new.stores.items }
     {
@@ -112,6 +114,10 @@ impl<S: Speak> Coordinator<S> {
         ensures frame { ChangesAt store self.old.stores.items self.new.stores.items }
         ensures marks { ChangesAt store self.old.branches self.new.branches }
         ensures keeps { KeepsOthers store transaction.old transaction.new }
+        ensures lost { takes_part transaction.old.participants store ≡ true → (HasOpen self.old.branches store transaction.old.number → ⊥)
+            → result ≡ Err WorkFault.Lost }
+        ensures again { takes_part transaction.old.participants store ≡ true
+            → AtStore S.view store (AddsAtMost statement.now) self.old.stores.items self.new.stores.items }
         ensures works { WorksAs S.view self.old.branches self.new.branches transaction.old transaction.new store statement.now result self.old.stores.items
             self.new.stores.items }
     {
@@ -128,9 +134,10 @@ impl<S: Speak> Coordinator<S> {
     /// branch is started by `XA START`. A row statement that is refused is a reply.
     ///
     /// The condition is that the transaction was begun under this name, over as many stores. Errors: `Session`, where the
-    /// session couldn't answer `XA START`, or the row statement; `Refused`, where `XA START` was refused; after these the store
-    /// takes part exactly where its `XA START` stands. `Lost`, where the store takes part and this coordinator has no open
-    /// branch of the transaction there; nothing is said to the store then.
+    /// session couldn't answer `XA START`, or the row statement: then the store takes part where it did before, or where the
+    /// coordinator has its branch open and ACTIVE now. `Refused`, where `XA START` was refused: then it takes part where it did
+    /// before. `Lost`, where the store takes part and this coordinator has no open branch of the transaction there; nothing is
+    /// said to the store then. Of a store that takes part the branch is never started again.
     ///
     /// May answer a fault of a session. May wait: no number of tries is promised.
     /// Own rule: docs/COORDINATOR.md, 'Work'.
@@ -151,6 +158,10 @@ impl<S: Speak> Coordinator<S> {
         ensures keeps { KeepsOthers store transaction.old transaction.new }
         ensures works { WorksAs S.view self.old.branches self.new.branches transaction.old transaction.new store statement.now result self.old.stores.items
             self.new.stores.items }
+        ensures lost { takes_part transaction.old.participants store ≡ true → (HasOpen self.old.branches store transaction.old.number → ⊥)
+            → result ≡ Err WorkFault.Lost }
+        ensures again { takes_part transaction.old.participants store ≡ true
+            → AtStore S.view store (AddsAtMost statement.now) self.old.stores.items self.new.stores.items }
         ensures adds { AtStore S.view store (AddsWork (branch_of transaction.old store) statement.now) self.old.stores.items self.new.stores.items }
         ensures agrees { (decisions : List Decision) → EachStore S.view (Agrees decisions self.old.name.items) self.old.stores.items self.new.stores.items }
     {

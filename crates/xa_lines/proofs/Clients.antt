@@ -4,22 +4,30 @@ use Rattle.std.proofs.Common.{drop, get_or, refl, sym, subst, ◌∙◌, inl, in
 use Rattle.std.specs.Prelude.{OnOk, OnErr, IfErr, IfSome}
 use Rattle.std.proofs.Math.Seq.{drop-cons}
 use Rattle.xa_lines.specs.Received.{Received, Whole, longer, is_nothing}
-use Rattle.xa_lines.specs.Exchange.{Exchange, IsFresh, WritesText, Flushes, Receives}
-use Rattle.xa_lines.specs.Served.{AwaitsMore, IsServed, IsBegunAnswer, AfterServing}
+use Rattle.xa_lines.specs.Exchange.{Exchange, IsFresh, CanBeTold, WritesText, Flushes, Receives}
+use Rattle.xa_lines.specs.Served.{AwaitsMore, IsServed, IsCutOff, AfterServing}
 use Rattle.xa_lines.specs.UnderWay.{IsUnderWay, UnderWay, IsReady, IsAllAnswered}
 use Rattle.xa_lines.specs.declared.stage.Stage.TheVariants.{Open, Ended}
 use Rattle.xa_lines.specs.declared.script_fault.ScriptFault.{ScriptFault}
 use Rattle.xa_lines.specs.declared.script_fault.ScriptFault.TheVariants.{Read, Write}
 use Rattle.xa_lines.proofs.Under as under
 
+-- a text that was given leaves a client that more may be said to
+pub told_on : {A : Type 0} (E : Type 0) (x : A) (old new : Option Exchange) (text : List ℕ) → WritesText {E = E} old new (Ok x) text → IfSome old CanBeTold
+    → IfSome new CanBeTold
+told_on E x None None text written can = tt
+told_on E x (Some old) None text written can = tt
+told_on E x None (Some new) text written can = absurd written
+told_on E x (Some old) (Some new) text written can = let P : Exchange → Type 0 = λ e. CanBeTold e in subst P (sym written) can
+
 module _ {S : Type 0} (Begins : S → Type 0) (Answers : S → Received → List ℕ → S → Type 0) where
   -- a line is answered, with what became of telling so
   abbrev pub Answered : {A E : Type 0} → Option Exchange → Option Exchange → Result A E → Received → S → S → Type 0
   Answered old new result line server after = (answer : List ℕ) × Answers server line answer after × WritesText old new result answer
 
-  -- what was given begins the answers
+  -- what was given begins the answers, and saying it failed
   abbrev pub IsBegunAt : Option Exchange → Type 0
-  IsBegunAt o = IfSome o (λ exchange. IsBegunAnswer Begins Answers exchange.received exchange.given)
+  IsBegunAt o = IfSome o (IsCutOff Begins Answers)
 
   pub feed_ok : {A E : Type 0} (old new : Option Exchange) (result : Result A E) (byte : ℕ) (line next : Received) (server after : S) → byte ≡ 10 → next ≡ Whole []
       → Answered old new result line server after
@@ -51,14 +59,6 @@ module _ {S : Type 0} (Begins : S → Type 0) (Answers : S → Received → List
   put_ok None byte line next server other is reads waiting u = tt
   put_ok (Some e) byte line next server other is reads waiting u = under.put Begins Answers Open reads e byte waiting line next server other is u
 
-  -- the next byte of a piece
-  pub next_byte : (o : Option Exchange) (reads i : ℕ) (piece : List ℕ) (byte : ℕ) (line : Received) (server : S) → i < length piece → byte ≡ get_or piece i 0
-      → UnderWay Begins Answers Open reads o (drop i piece) line server → UnderWay Begins Answers Open reads o (byte ∷ drop (i + 1) piece) line server
-  next_byte o reads i piece byte line server within is u =
-      let P : List ℕ → Type 0 = λ xs. UnderWay Begins Answers Open reads o xs line server in
-      let e : drop i piece ≡ byte ∷ drop (i + 1) piece = rw (add-one, drop-cons piece i 0, is) refl in
-      subst P e u
-
   pub last_ok : {A E : Type 0} (old new : Option Exchange) (result : Result A E) (line : Received) (server after : S) → is_nothing line ≡ false
       → Answered old new result line server after
       → OnOk result ((reads : ℕ) → UnderWay Begins Answers Ended reads old [] line server → IfSome new (IsAllAnswered Begins Answers))
@@ -83,6 +83,17 @@ module _ {S : Type 0} (Begins : S → Type 0) (Answers : S → Received → List
       → UnderWay Begins Answers Ended reads o [] line server → IfSome o (IsAllAnswered Begins Answers)
   last_nothing None line server none reads u = tt
   last_nothing (Some e) line server none reads u = under.end_nothing Begins Answers reads e line server none u
+
+  -- more may be said in a conversation that is under way
+  pub open_told : (reads : ℕ) (o : Option Exchange) (waiting : List ℕ) (line : Received) (server : S) → UnderWay Begins Answers Open reads o waiting line server
+      → IfSome o CanBeTold
+  open_told reads None waiting line server u = tt
+  open_told reads (Some e) waiting line server u = inl u.stage_is
+
+  pub ended_told : (reads : ℕ) (o : Option Exchange) (waiting : List ℕ) (line : Received) (server : S) → UnderWay Begins Answers Ended reads o waiting line server
+      → IfSome o CanBeTold
+  ended_told reads None waiting line server u = tt
+  ended_told reads (Some e) waiting line server u = inr u.stage_is
 
   -- a conversation that is ready for more
   abbrev pub Ready : ℕ → Option Exchange → Received → S → Type 0

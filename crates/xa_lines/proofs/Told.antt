@@ -22,10 +22,10 @@ record IsMarked (mark : Bool) (old : State) (line : Line) (text : List ℕ) (new
   text_is : text ≡ text_of mark old line
   state_is : new ≡ state_of mark old line
 
-refusal_marked : (line : Line) (old new : State) (text : List ℕ) → IsRefusal line text → new ≡ old → IsMarked true old line text new
+refusal_marked : (line : Line) (old new : State) (text : List ℕ) → IsRefusal old line text → new ≡ old → IsMarked true old line text new
 refusal_marked Blank old new text r same = absurd r
 refusal_marked Bad old new text r same = absurd r
-refusal_marked (Given session statement) old new text r same = record { text_is = r; state_is = same }
+refusal_marked (Given session statement) old new text r same = record { text_is = r.0; state_is = same }
 
 mark_of : (old new : State) (line : Received) (text : List ℕ) → IsLineAnswer old line text new → (mark : Bool) × IsMarked mark old (said line) text new
 mark_of old new line text (inl a) = (false, record { text_is = a.0; state_is = a.1 })
@@ -81,8 +81,10 @@ after_fault Read exchange a =
     (record { lines = a.0.lines; begun = a.0.begun; marks = t.0; cut = a.0.cut; told = t.1 }, a.1)
 after_fault ScriptTooLong exchange a = a
 after_fault Write exchange a =
-    let t = part_told a.lines a.later (exchange.given ++ a.unsaid) a.answers in
-    record { marks = t.0; unsaid = a.unsaid ++ t.1; whole = ap (served_text t.0 no_state) a.parts ∙ t.2 ∙ append_assoc exchange.given a.unsaid t.1 }
+    let t = part_told a.0.lines a.0.later (exchange.given ++ a.0.unsaid) a.0.answers in (
+      record { marks = t.0; unsaid = a.0.unsaid ++ t.1; whole = ap (served_text t.0 no_state) a.0.parts ∙ t.2 ∙ append_assoc exchange.given a.0.unsaid t.1 },
+      a.1,
+    )
 after_fault NoMemory exchange a = a
 after_fault Full exchange a = a
 after_fault GateShut exchange a = a

@@ -7,10 +7,10 @@ use Rattle.std.proofs.lemmas.List.{take-append-drop}
 use Rattle.xa_lines.specs.Script.{lines_of}
 use Rattle.xa_lines.specs.Received.{Received, Whole, received_line, longer, is_nothing, IsCutIntoLines}
 use Rattle.xa_lines.specs.Exchange.{Exchange, IsFresh, with_received}
-use Rattle.xa_lines.specs.Served.{AnswersAll, AreAnswers, IsAnswerSoFar, AwaitsMore, IsServed, IsBegunAnswer}
+use Rattle.xa_lines.specs.Served.{AnswersAll, AreAnswers, IsAnswerSoFar, AwaitsMore, IsServed, IsCutOff}
 use Rattle.xa_lines.specs.UnderWay.{IsUnderWay, IsReady, IsAllAnswered}
 use Rattle.xa_lines.specs.declared.stage.Stage.{Stage}
-use Rattle.xa_lines.specs.declared.stage.Stage.TheVariants.{Open, Ended, Deaf}
+use Rattle.xa_lines.specs.declared.stage.Stage.TheVariants.{Open, Ended, Deaf, Mute}
 use Rattle.xa_lines.proofs.Cut.{cut_none, cut_more, cut_feed, lines_of-cut, lines_of-cut_feed, lines_of-some, lines_of-nothing, nothing_begun}
 use Rattle.xa_lines.proofs.Cut.{received_line-nothing, received_line-longer}
 
@@ -97,27 +97,30 @@ module _ {S : Type 0} (Begins : S → Type 0) (Answers : S → Received → List
 
   -- the answer to the line is given in part
   pub begun_answer : (stage : Stage) (reads : ℕ) (exchange new : Exchange) (waiting answer : List ℕ) (n : ℕ) (line : Received) (server after : S)
-      → new ≡ record exchange { given = exchange.given ++ take n answer } → Answers server line answer after
-      → IsUnderWay Begins Answers stage reads exchange (10 ∷ waiting) line server → IsBegunAnswer Begins Answers new.received new.given
+      → new ≡ record exchange { given = exchange.given ++ take n answer; stage = Mute } → Answers server line answer after
+      → IsUnderWay Begins Answers stage reads exchange (10 ∷ waiting) line server → IsCutOff Begins Answers new
   begun_answer stage reads exchange new waiting answer n line server after is now u =
-      let P : Exchange → Type 0 = λ e. IsBegunAnswer Begins Answers e.received e.given in
+      let P : Exchange → Type 0 = λ e. IsCutOff Begins Answers e in
       let Q : Received → Type 0 = λ l. Answers server l answer after in
       let R : List ℕ → Type 0 = λ text. AreAnswers Begins Answers (u.lines ++ u.begun ∷ []) text in
       let whole : exchange.given ++ answer ≡ (exchange.given ++ take n answer) ++ drop n answer =
       ap (λ xs. exchange.given ++ xs) (sym (take-append-drop n answer)) ∙ sym (append_assoc exchange.given (take n answer) (drop n answer)) in
-      subst P (sym is) (record {
-        lines = u.lines ++ u.begun ∷ [];
-        later = lines_of waiting;
-        unsaid = drop n answer;
-        parts = ap lines_of u.parts ∙ lines_of-cut_feed u.done u.lines u.begun waiting u.cut;
-        answers =
-            subst R whole (record {
-              first = u.first;
-              last = after;
-              begins = u.begins;
-              answers = answers_more u.lines u.first server after exchange.given u.begun answer u.answers (subst Q u.held now);
-            });
-      })
+      subst P (sym is) (
+        record {
+          lines = u.lines ++ u.begun ∷ [];
+          later = lines_of waiting;
+          unsaid = drop n answer;
+          parts = ap lines_of u.parts ∙ lines_of-cut_feed u.done u.lines u.begun waiting u.cut;
+          answers =
+              subst R whole (record {
+                first = u.first;
+                last = after;
+                begins = u.begins;
+                answers = answers_more u.lines u.first server after exchange.given u.begun answer u.answers (subst Q u.held now);
+              });
+        },
+        refl,
+      )
 
   -- what was received waits
   pub received : (reads : ℕ) (exchange new : Exchange) (n : ℕ) (piece : List ℕ) (line : Received) (server : S) → (n == 0) ≡ false → n ≤ length piece
@@ -209,18 +212,21 @@ module _ {S : Type 0} (Begins : S → Type 0) (Answers : S → Received → List
       )
 
   -- the whole lines are answered, and the line that has begun may be unanswered
-  pub unflushed : (stage : Stage) (reads : ℕ) (exchange new : Exchange) (told : List ℕ) (line : Received) (server : S) → new ≡ record exchange { told = told }
-      → IsUnderWay Begins Answers stage reads exchange [] line server → IsBegunAnswer Begins Answers new.received new.given
+  pub unflushed : (stage : Stage) (reads : ℕ) (exchange new : Exchange) (told : List ℕ) (line : Received) (server : S) → new ≡ record exchange { told = told; stage = Mute }
+      → IsUnderWay Begins Answers stage reads exchange [] line server → IsCutOff Begins Answers new
   unflushed stage reads exchange new told line server is u =
-      let P : Exchange → Type 0 = λ e. IsBegunAnswer Begins Answers e.received e.given in
+      let P : Exchange → Type 0 = λ e. IsCutOff Begins Answers e in
       let Q : List ℕ → Type 0 = λ xs. AreAnswers Begins Answers u.lines xs in
-      subst P (sym is) (record {
-        lines = u.lines;
-        later = lines_of (u.begun ++ []);
-        unsaid = [];
-        parts = ap lines_of u.parts ∙ lines_of-cut u.done u.lines u.begun [] u.cut;
-        answers = subst Q (sym (append-nil exchange.given)) (record { first = u.first; last = server; begins = u.begins; answers = u.answers });
-      })
+      subst P (sym is) (
+        record {
+          lines = u.lines;
+          later = lines_of (u.begun ++ []);
+          unsaid = [];
+          parts = ap lines_of u.parts ∙ lines_of-cut u.done u.lines u.begun [] u.cut;
+          answers = subst Q (sym (append-nil exchange.given)) (record { first = u.first; last = server; begins = u.begins; answers = u.answers });
+        },
+        refl,
+      )
 
   -- nothing of a last line has come
   pub end_nothing : (reads : ℕ) (exchange : Exchange) (line : Received) (server : S) → is_nothing line ≡ true
@@ -256,27 +262,30 @@ module _ {S : Type 0} (Begins : S → Type 0) (Answers : S → Received → List
 
   -- or in part
   pub end_begun : (reads : ℕ) (exchange new : Exchange) (answer : List ℕ) (n : ℕ) (line : Received) (server after : S) → is_nothing line ≡ false
-      → new ≡ record exchange { given = exchange.given ++ take n answer }
-      → Answers server line answer after → IsUnderWay Begins Answers Ended reads exchange [] line server → IsBegunAnswer Begins Answers new.received new.given
+      → new ≡ record exchange { given = exchange.given ++ take n answer; stage = Mute }
+      → Answers server line answer after → IsUnderWay Begins Answers Ended reads exchange [] line server → IsCutOff Begins Answers new
   end_begun reads exchange new answer n line server after some is now u =
-      let P : Exchange → Type 0 = λ e. IsBegunAnswer Begins Answers e.received e.given in
+      let P : Exchange → Type 0 = λ e. IsCutOff Begins Answers e in
       let Q : Received → Type 0 = λ l. Answers server l answer after in
       let R : List ℕ → Type 0 = λ text. AreAnswers Begins Answers (u.lines ++ u.begun ∷ []) text in
       let whole : exchange.given ++ answer ≡ (exchange.given ++ take n answer) ++ drop n answer =
       ap (λ xs. exchange.given ++ xs) (sym (take-append-drop n answer)) ∙ sym (append_assoc exchange.given (take n answer) (drop n answer)) in
-      subst P (sym is) (record {
-        lines = u.lines ++ u.begun ∷ [];
-        later = [];
-        unsaid = drop n answer;
-        parts = all_lines reads exchange line server some u ∙ sym (append-nil (u.lines ++ u.begun ∷ []));
-        answers =
-            subst R whole (record {
-              first = u.first;
-              last = after;
-              begins = u.begins;
-              answers = answers_more u.lines u.first server after exchange.given u.begun answer u.answers (subst Q u.held now);
-            });
-      })
+      subst P (sym is) (
+        record {
+          lines = u.lines ++ u.begun ∷ [];
+          later = [];
+          unsaid = drop n answer;
+          parts = all_lines reads exchange line server some u ∙ sym (append-nil (u.lines ++ u.begun ∷ []));
+          answers =
+              subst R whole (record {
+                first = u.first;
+                last = after;
+                begins = u.begins;
+                answers = answers_more u.lines u.first server after exchange.given u.begun answer u.answers (subst Q u.held now);
+              });
+        },
+        refl,
+      )
 
   -- all that was given was said
   pub served : (exchange new : Exchange) → new ≡ record exchange { told = exchange.given } → IsAllAnswered Begins Answers exchange → IsServed Begins Answers new
@@ -284,15 +293,18 @@ module _ {S : Type 0} (Begins : S → Type 0) (Answers : S → Received → List
       let P : Exchange → Type 0 = λ e. IsServed Begins Answers e in
       subst P (sym is) (all.0, refl, all.1)
 
-  pub unserved : (exchange new : Exchange) (told : List ℕ) → new ≡ record exchange { told = told } → IsAllAnswered Begins Answers exchange
-      → IsBegunAnswer Begins Answers new.received new.given
+  pub unserved : (exchange new : Exchange) (told : List ℕ) → new ≡ record exchange { told = told; stage = Mute } → IsAllAnswered Begins Answers exchange
+      → IsCutOff Begins Answers new
   unserved exchange new told is all =
-      let P : Exchange → Type 0 = λ e. IsBegunAnswer Begins Answers e.received e.given in
+      let P : Exchange → Type 0 = λ e. IsCutOff Begins Answers e in
       let Q : List ℕ → Type 0 = λ xs. AreAnswers Begins Answers (lines_of exchange.received) xs in
-      subst P (sym is) (record {
-        lines = lines_of exchange.received;
-        later = [];
-        unsaid = [];
-        parts = sym (append-nil (lines_of exchange.received));
-        answers = subst Q (sym (append-nil exchange.given)) all.1;
-      })
+      subst P (sym is) (
+        record {
+          lines = lines_of exchange.received;
+          later = [];
+          unsaid = [];
+          parts = sym (append-nil (lines_of exchange.received));
+          answers = subst Q (sym (append-nil exchange.given)) all.1;
+        },
+        refl,
+      )

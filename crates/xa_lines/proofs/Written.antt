@@ -1,13 +1,14 @@
 -- What was read, and what was written.
-use Rattle.std.proofs.Common.{ℕ, ◌+◌, ◌-◌, ◌<◌, ◌≤◌, Option, List, ◌++◌, length, take, drop, arith, length-append, sym, subst}
+use Rattle.std.proofs.Common.{◌≡◌, ℕ, ◌+◌, ◌-◌, ◌<◌, ◌≤◌, ◌∙◌, Option, Some, None, List, [], ◌++◌, append-nil, length, take, drop, arith, length-append, sym, subst}
 use Rattle.std.proofs.lemmas.List.{length-take, take_rest}
 use Rattle.std.proofs.Math.Seq.{take-add}
-use Rattle.std.specs.Io.KnownBytes.{Appends}
+use Rattle.std.specs.Io.KnownBytes.{Appends, Keeps}
 use Rattle.std.proofs.KnownBytes.{Appends-trans}
 
 -- one piece more is too much
-pub length-piece : (script piece : List ℕ) (count : ℕ) → 1048576 < length script + count → count ≤ length piece → 1048576 < length (script ++ take count piece)
-length-piece script piece count long within = omega (arith, length-append script (take count piece), length-take count piece)
+pub length-piece : (most : ℕ) (script piece : List ℕ) (count : ℕ) → most < length script + count → count ≤ length piece
+    → most < length (script ++ take count piece)
+length-piece most script piece count long within = omega (arith, length-append script (take count piece), length-take count piece)
 
 -- more of the same bytes
 pub Appends-more : (first second third : Option (List ℕ)) (bytes : List ℕ) (written count : ℕ) → Appends first second (take written bytes)
@@ -17,3 +18,18 @@ Appends-more first second third bytes written count before now =
     let rest = subst P (take_rest bytes written) now in
     let Q : List ℕ → Type 0 = λ piece. Appends first third piece in
     subst Q (sym (take-add written count bytes)) (Appends-trans first second third (take written bytes) (take count (drop written bytes)) before rest)
+
+kept_by_nothing : (old new : Option (List ℕ)) → Appends old new [] → Keeps old new
+kept_by_nothing None new taken = tt
+kept_by_nothing (Some old) None taken = absurd taken
+kept_by_nothing (Some old) (Some new) taken = taken ∙ append-nil old
+
+-- what takes nothing leaves the bytes as they are
+pub Keeps-nothing : (old new : Option (List ℕ)) (count : ℕ) (bytes : List ℕ) → count ≡ 0 → Appends old new (take count bytes) → Keeps old new
+Keeps-nothing old new count bytes none taken =
+    let P : ℕ → Type 0 = λ n. Appends old new (take n bytes) in kept_by_nothing old new (subst P none taken)
+
+pub Appends-nothing : (old new : Option (List ℕ)) → Keeps old new → Appends old new []
+Appends-nothing None new kept = tt
+Appends-nothing (Some old) None kept = absurd kept
+Appends-nothing (Some old) (Some new) kept = kept ∙ sym (append-nil old)

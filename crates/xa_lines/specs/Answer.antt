@@ -1,6 +1,8 @@
 -- What a line is answered.
 --     bytes_of        the bytes of an answer
-use Rattle.std.specs.Prelude.{ℕ, List}
+--     HasRoom         an answer has room for more of them
+use Rattle.std.specs.Prelude.{ℕ, ◌+◌, ◌≤◌, List, vec_len, vec_capacity}
+use Rattle.arrayvec.specs.ArrayVec.{array_vec_len}
 use Rattle.xa_lines.specs.declared.answer.Answer.{Answer}
 use Rattle.xa_lines.specs.declared.answer.Answer.TheVariants.{Text, Short}
 
@@ -8,3 +10,8 @@ use Rattle.xa_lines.specs.declared.answer.Answer.TheVariants.{Text, Short}
 abbrev pub bytes_of : Answer → List ℕ
 bytes_of (Text text) = text.items
 bytes_of (Short text) = text.items
+
+-- so many bytes more can be appended without memory
+abbrev pub HasRoom : ℕ → Answer → Type 0
+HasRoom spare (Text text) = vec_len text + spare ≤ vec_capacity text
+HasRoom spare (Short text) = array_vec_len text + spare ≤ 64

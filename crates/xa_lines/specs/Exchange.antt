@@ -3,11 +3,11 @@
 --     IsFresh         nothing has passed yet
 --     Receives           what a read does to it
 --     WritesText, Flushes  what a write and a flush do to it
---     PassesNothing   nothing passes
+--     CanBeTold          nothing has failed, so more may be said
 -- A client that doesn't say what has passed is promised nothing; one that doesn't say it now won't say it later.
-use Rattle.std.specs.Prelude.{◌≡◌, ℕ, ◌==◌, cond, Option, Some, None, Result, MatchResult, List, [], ◌++◌, take, ⊤}
+use Rattle.std.specs.Prelude.{◌≡◌, ◌⊎◌, ℕ, ◌==◌, cond, Option, Some, None, Result, MatchResult, List, [], ◌++◌, take, ⊤}
 use Rattle.xa_lines.specs.declared.stage.Stage.{Stage}
-use Rattle.xa_lines.specs.declared.stage.Stage.TheVariants.{Open, Ended, Deaf}
+use Rattle.xa_lines.specs.declared.stage.Stage.TheVariants.{Open, Ended, Deaf, Mute}
 
 -- what has passed
 pub record Exchange : Type 0 where
@@ -34,25 +34,22 @@ Receives None (Some new) result piece = ⊥
 Receives (Some old) None result piece = ⊥
 Receives (Some old) (Some new) result piece = MatchResult result (λ n. new ≡ with_received old n piece) (λ _. new ≡ record old { stage = Deaf })
 
--- a write adds all of the text to what is given, or at a fault a prefix of it
+-- a write adds all of the text to what is given, or at a fault a prefix of it, and the server is mute from then on
 abbrev pub WritesText : {A E : Type 0} → Option Exchange → Option Exchange → Result A E → List ℕ → Type 0
 WritesText None None result text = ⊤
 WritesText None (Some new) result text = ⊥
 WritesText (Some old) None result text = ⊥
 WritesText (Some old) (Some new) result text =
-    MatchResult result (λ _. new ≡ record old { given = old.given ++ text }) (λ _. (n : ℕ) × (new ≡ record old { given = old.given ++ take n text }))
+    MatchResult result (λ _. new ≡ record old { given = old.given ++ text }) (λ _. (n : ℕ) × (new ≡ record old { given = old.given ++ take n text; stage = Mute }))
 
--- a flush says all that was given; at a fault it isn't known how much
+-- a flush says all that was given; at a fault it isn't known how much, and the server is mute from then on
 abbrev pub Flushes : {A E : Type 0} → Option Exchange → Option Exchange → Result A E → Type 0
 Flushes None None result = ⊤
 Flushes None (Some new) result = ⊥
 Flushes (Some old) None result = ⊥
 Flushes (Some old) (Some new) result =
-    MatchResult result (λ _. new ≡ record old { told = old.given }) (λ _. (told : List ℕ) × (new ≡ record old { told = told }))
+    MatchResult result (λ _. new ≡ record old { told = old.given }) (λ _. (told : List ℕ) × (new ≡ record old { told = told; stage = Mute }))
 
--- nothing passes
-abbrev pub PassesNothing : Option Exchange → Option Exchange → Type 0
-PassesNothing None None = ⊤
-PassesNothing None (Some new) = ⊥
-PassesNothing (Some old) None = ⊥
-PassesNothing (Some old) (Some new) = new ≡ old
+-- neither a read nor a write has failed, so more may be said
+abbrev pub CanBeTold : Exchange → Type 0
+CanBeTold exchange = (exchange.stage ≡ Open) ⊎ (exchange.stage ≡ Ended)

@@ -3,6 +3,7 @@ pub mod Printed
 pub mod Transcript
 pub mod Cut
 pub mod Limits
+pub mod Calls
 pub mod Faults
 pub mod Received
 pub mod Answer

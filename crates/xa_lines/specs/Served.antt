@@ -3,6 +3,7 @@
 --     AnswersAll      the texts of lines, one after another
 --     AwaitsMore      all whole lines are answered, and the client was told so
 --     IsServed        all lines are, and nothing more is to be received
+--     IsCutOff        the answers are begun, and saying them failed
 --     AfterServing    what a fault leaves
 use Rattle.std.specs.Prelude.{◌≡◌, ◌⊎◌, ◌≤◌, ℕ, ◌-◌, ◌^◌, List, [], ◌∷◌, ◌++◌, length}
 use Rattle.xa_lines.specs.Script.{lines_of}
@@ -10,7 +11,7 @@ use Rattle.xa_lines.specs.declared.script_fault.ScriptFault.{ScriptFault}
 use Rattle.xa_lines.specs.declared.script_fault.ScriptFault.TheVariants.{Read, TooLong as ScriptTooLong, Write, NoMemory, Full, GateShut, ThreadRefused}
 use Rattle.xa_lines.specs.Received.{Received, received_line, IsCutIntoLines}
 use Rattle.xa_lines.specs.Exchange.{Exchange, IsFresh}
-use Rattle.xa_lines.specs.declared.stage.Stage.TheVariants.{Open, Ended, Deaf}
+use Rattle.xa_lines.specs.declared.stage.Stage.TheVariants.{Open, Ended, Deaf, Mute}
 
 -- from old on, the server may answer these lines with this text, one after another, and is then new
 unfoldable pub AnswersAll : {S : Type 0} → (S → Received → List ℕ → S → Type 0) → S → List (List ℕ) → List ℕ → S → Type 0
@@ -49,12 +50,16 @@ pub record IsBegunAnswer {S : Type 0} (Begins : S → Type 0) (Answers : S → R
   pub parts : lines_of received ≡ lines ++ later
   pub answers : AreAnswers Begins Answers lines (given ++ unsaid)
 
+-- the answers are begun, and a write or a flush failed
+abbrev pub IsCutOff : {S : Type 0} → (S → Type 0) → (S → Received → List ℕ → S → Type 0) → Exchange → Type 0
+IsCutOff Begins Answers exchange = IsBegunAnswer Begins Answers exchange.received exchange.given × (exchange.stage ≡ Mute)
+
 -- what a fault leaves. After a read fault all whole lines are answered, and the client is deaf, or gave more reads than are
--- counted; after a write fault the answers are begun; without memory nothing has passed
+-- counted; a write fault comes only where a write or a flush failed, and the answers are begun; without memory nothing has passed
 abbrev pub AfterServing : {S : Type 0} → (S → Type 0) → (S → Received → List ℕ → S → Type 0) → ScriptFault → Exchange → Type 0
 AfterServing Begins Answers Read exchange =
     IsAnswerSoFar Begins Answers exchange.received exchange.told × ((exchange.stage ≡ Deaf) ⊎ (2 ^ 64 - 1 ≤ length exchange.received))
-AfterServing Begins Answers Write exchange = IsBegunAnswer Begins Answers exchange.received exchange.given
+AfterServing Begins Answers Write exchange = IsCutOff Begins Answers exchange
 AfterServing Begins Answers NoMemory exchange = IsFresh exchange
 AfterServing Begins Answers ScriptTooLong exchange = ⊥
 AfterServing Begins Answers Full exchange = ⊥

@@ -1,5 +1,6 @@
 -- What answers a line of which the store is shown behind the answer.
 --     comment_text               how a comment is repeated
+--     unshown_text               what is said where memory is refused for a listing or a comment
 --     keys_asked                 the rows that a line is about
 --     listing_after              what stands behind the answer to a line
 --     BeginsEmpty, IsShown       how it begins, and how it may answer a line
@@ -18,6 +19,10 @@ use Rattle.xa_lines.specs.declared.shown.Shown.{Shown}
 abbrev pub comment_text : List ℕ → List ℕ
 comment_text line = codes "  " ++ line ++ codes "\n"
 
+-- where memory is refused for a listing or a comment, this stands in its place (own rule)
+abbrev pub unshown_text : List ℕ
+unshown_text = codes "  OUT OF MEMORY\n"
+
 abbrev pub keys_of_read : State → ℕ → Result Statement ℕ → List (List ℕ)
 keys_of_read state session (Ok statement) = keys_about state session statement
 keys_of_read state session (Err place) = []
@@ -35,15 +40,21 @@ listing_after old Blank new = []
 listing_after old Bad new = listing new []
 listing_after old (Given session text) new = listing new (keys_asked old (Given session text))
 
--- the answer that serving gives, and behind it the listing, or nothing where memory is refused for that
+-- behind the answer it is said that memory was refused; a line of blanks has no answer, and nothing is said
+abbrev pub IsUnshown : Line → List ℕ → List ℕ → Type 0
+IsUnshown Blank answer text = ⊥
+IsUnshown Bad answer text = text ≡ answer ++ unshown_text
+IsUnshown (Given session statement) answer text = text ≡ answer ++ unshown_text
+
+-- the answer that serving gives, and behind it the listing, or that memory is refused for that
 pub record IsAnswerShown (old : State) (line : Line) (text : List ℕ) (new : State) : Type 0 where
   pub answer : List ℕ
   pub is : IsAnswerTo old line answer new
-  pub shown : (text ≡ answer ++ listing_after old line new) ⊎ (text ≡ answer)
+  pub shown : (text ≡ answer ++ listing_after old line new) ⊎ IsUnshown line answer text
 
--- a comment is repeated, or nothing is where memory is refused for that; it changes nothing
+-- a comment is repeated, or it is said that memory is refused for that; it changes nothing
 abbrev pub IsCommentShown : State → List ℕ → List ℕ → State → Type 0
-IsCommentShown old line text new = ((text ≡ comment_text line) ⊎ (text ≡ [])) × (new ≡ old)
+IsCommentShown old line text new = ((text ≡ comment_text line) ⊎ (text ≡ unshown_text)) × (new ≡ old)
 
 -- how a line may be answered, which is a comment or isn't
 abbrev pub IsLineShown : Bool → State → List ℕ → List ℕ → State → Type 0

@@ -1,20 +1,27 @@
 -- What the sequential server answers to lines of statements.
 --     said            what a line says
 --     refused_text    the answer where memory is refused for a statement
+--     MayBeRefused    for which statements it may be
 --     HoldsNothing                how it begins
 --     IsAnswerTo, IsLineAnswer    how it may answer what is said, and a line
 --     IsToldAll, AfterFaultOfStatements   what is told to a client that ends, and what a fault leaves
 --     served_text     the answers to lines, where it is known for which memory was refused
-use Rattle.std.specs.Prelude.{◌≡◌, ◌⊎◌, ◌≤◌, ℕ, ◌-◌, ◌^◌, Bool, true, false, List, [], ◌∷◌, ◌++◌, length, codes, decimal}
+use Rattle.std.specs.Prelude.{◌≡◌, ◌⊎◌, ◌≤◌, ℕ, ◌-◌, ◌^◌, ⊤, Bool, true, false, Some, None, Result, Ok, Err, List, [], ◌∷◌, ◌++◌, length, codes, decimal}
+use Rattle.xa_xid.specs.declared.statement.Statement.{Statement}
+use Rattle.xa_statement.specs.Reading.{read_of}
 use Rattle.xa_server.specs.State.{State, no_state}
+use Rattle.xa_server.specs.Replies.{reply_to}
+use Rattle.xa_server.specs.Step.{may_take_memory}
+use Rattle.xa_server.specs.declared.reply.Reply.{Reply}
+use Rattle.xa_server.specs.declared.reply.Reply.TheVariants.{Ok as Accepted, Value, Recovered, Refused}
 use Rattle.xa_lines.specs.Script.{Line, Blank, Bad, Given, line_of, lines_of}
 use Rattle.xa_lines.specs.Printed.{answer_text}
-use Rattle.xa_lines.specs.Transcript.{answer_of, state_after_line}
+use Rattle.xa_lines.specs.Transcript.{answer_of, answer_to, state_after_line, state_then}
 use Rattle.xa_lines.specs.declared.script_fault.ScriptFault.{ScriptFault}
 use Rattle.xa_lines.specs.declared.script_fault.ScriptFault.TheVariants.{Read, TooLong as ScriptTooLong, Write, NoMemory, Full, GateShut, ThreadRefused}
 use Rattle.xa_lines.specs.Received.{Received, Whole, TooLong, received_line, IsCutIntoLines}
 use Rattle.xa_lines.specs.Exchange.{Exchange, IsFresh}
-use Rattle.xa_lines.specs.declared.stage.Stage.TheVariants.{Ended, Deaf}
+use Rattle.xa_lines.specs.declared.stage.Stage.TheVariants.{Ended, Deaf, Mute}
 use Rattle.xa_lines.specs.declared.TheConstants.{LINE_BYTES}
 
 -- what a line says; one that is too long is a bad one (own rule)
@@ -30,15 +37,36 @@ refused_text session = answer_text (decimal session) (codes "ERROR 1037 (HY001):
 abbrev pub HoldsNothing : State → Type 0
 HoldsNothing state = state ≡ no_state
 
--- only for a statement memory may be refused
-abbrev pub IsRefusal : Line → List ℕ → Type 0
-IsRefusal Blank text = ⊥
-IsRefusal Bad text = ⊥
-IsRefusal (Given session statement) text = text ≡ refused_text session
+-- the reply is OK or NONE
+abbrev pub is_word : Reply → Bool
+is_word Accepted = true
+is_word (Value None) = true
+is_word (Value (Some value)) = false
+is_word (Recovered xids) = false
+is_word (Refused error) = false
+
+-- memory may be refused for a statement that makes a record or a list, or whose answer has more than a word, as one that isn't read has;
+-- so an `XA END`, `XA PREPARE`, `XA COMMIT`, `XA ROLLBACK` or `DISCONNECT` that is accepted is answered so (own rule)
+abbrev pub MayBeRefused : State → ℕ → Result Statement ℕ → Type 0
+MayBeRefused state session (Ok statement) =
+    (may_take_memory state session statement ≡ true) ⊎ (is_word (reply_to state session statement) ≡ false)
+MayBeRefused state session (Err place) = ⊤
+
+-- only for such a statement memory may be refused
+abbrev pub IsRefusal : State → Line → List ℕ → Type 0
+IsRefusal state Blank text = ⊥
+IsRefusal state Bad text = ⊥
+IsRefusal state (Given session statement) text = (text ≡ refused_text session) × MayBeRefused state session (read_of statement)
+
+-- a session's statement, read or not, is answered as in a script; or memory is refused for it, and nothing changes
+abbrev pub IsStatementAnswer : State → ℕ → Result Statement ℕ → List ℕ → State → Type 0
+IsStatementAnswer old session read text new =
+    ((text ≡ answer_to old session read) × (new ≡ state_then old session read))
+    ⊎ ((text ≡ refused_text session) × (new ≡ old) × MayBeRefused old session read)
 
 -- what is said is answered as a script's line is; or memory is refused for its statement, and nothing changes
 abbrev pub IsAnswerTo : State → Line → List ℕ → State → Type 0
-IsAnswerTo old line text new = ((text ≡ answer_of old line) × (new ≡ state_after_line old line)) ⊎ (IsRefusal line text × (new ≡ old))
+IsAnswerTo old line text new = ((text ≡ answer_of old line) × (new ≡ state_after_line old line)) ⊎ (IsRefusal old line text × (new ≡ old))
 
 -- so is a line
 abbrev pub IsLineAnswer : State → Received → List ℕ → State → Type 0
@@ -93,10 +121,10 @@ pub record IsToldInPart (received text : List ℕ) : Type 0 where
   pub whole : served_text marks no_state (lines_of received) ≡ text ++ unsaid
 
 -- what a fault leaves: after a read fault all whole lines are answered, and the client is deaf, or gave more reads than are
--- counted; after a write fault the answers are begun; without memory nothing has passed
+-- counted; a write fault comes only where a write or a flush failed, and the answers are begun; without memory nothing has passed
 abbrev pub AfterFaultOfStatements : ScriptFault → Exchange → Type 0
 AfterFaultOfStatements Read exchange = IsToldSoFar exchange.received exchange.told × ((exchange.stage ≡ Deaf) ⊎ (2 ^ 64 - 1 ≤ length exchange.received))
-AfterFaultOfStatements Write exchange = IsToldInPart exchange.received exchange.given
+AfterFaultOfStatements Write exchange = IsToldInPart exchange.received exchange.given × (exchange.stage ≡ Mute)
 AfterFaultOfStatements NoMemory exchange = IsFresh exchange
 AfterFaultOfStatements ScriptTooLong exchange = ⊥
 AfterFaultOfStatements Full exchange = ⊥

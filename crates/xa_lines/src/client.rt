@@ -9,7 +9,7 @@ use std::io;
 ///
 /// Own rule: docs/BEHAVIOR.md, 'Serving'.
 pub trait Client<S: LineServer> {
-    ghost use Rattle.xa_lines.specs.Exchange.{Exchange, Receives, WritesText, Flushes};
+    ghost use Rattle.xa_lines.specs.Exchange.{Exchange, Receives, WritesText, Flushes, CanBeTold};
     ghost use Rattle.xa_lines.specs.Served.{AwaitsMore};
 
     // What has passed so far, where it is known.
@@ -25,10 +25,16 @@ pub trait Client<S: LineServer> {
         ensures received { Receives (exchange self.old) (exchange self.new) result piece.new };
 
     /// Gives all of the text to be said to the client.
+    ///
+    /// After a fault of the client nothing more is said to it.
     fn tell(&mut self, text: &[u8]) -> io::Result<()>
+        requires { IfSome (exchange self.old) CanBeTold }
         ensures { WritesText (exchange self.old) (exchange self.new) result text.now };
 
     /// Says all that was given. May wait for the client.
+    ///
+    /// After a fault of the client nothing more is said to it.
     fn flush(&mut self) -> io::Result<()>
+        requires { IfSome (exchange self.old) CanBeTold }
         ensures { Flushes (exchange self.old) (exchange self.new) result };
 }

@@ -2,8 +2,8 @@
 ghost use Rattle.std.specs.Prelude.{◌≡◌, ◌≤◌, ◌∷◌, [], ℕ, List, IfErr, IfSome, OnOk, OnErr};
 ghost use Rattle.xa_lines.specs.Answer.{bytes_of};
 ghost use Rattle.xa_lines.specs.Received.{held_by, Whole};
-ghost use Rattle.xa_lines.specs.Exchange.{Exchange, IsFresh, WritesText, Flushes};
-ghost use Rattle.xa_lines.specs.Served.{IsServed, IsBegunAnswer, AfterServing};
+ghost use Rattle.xa_lines.specs.Exchange.{Exchange, IsFresh, CanBeTold, WritesText, Flushes};
+ghost use Rattle.xa_lines.specs.Served.{IsServed, IsCutOff, AfterServing};
 ghost use Rattle.xa_lines.specs.declared.stage.Stage.{Stage};
 ghost use Rattle.xa_lines.specs.UnderWay.{UnderWay, IsAllAnswered};
 
@@ -13,6 +13,7 @@ use std::alloc::Global;
 
 /// Says all that was given to the client.
 fn flush<S: LineServer, P: Client<S>>(client: &mut P) -> Result<(), ScriptFault>
+    requires { IfSome (P.exchange client.old) CanBeTold }
     ensures flushed { Flushes (P.exchange client.old) (P.exchange client.new) result }
     ensures fault { IfErr result (λ fault. fault ≡ ScriptFault.Write) }
 {
@@ -29,10 +30,12 @@ fn answer_begun<S: LineServer, P: Client<S>>(
     client: &mut P,
     line: &mut BegunLine,
 ) -> Result<(), ScriptFault>
+    requires { IfSome (P.exchange client.old) CanBeTold }
     ensures answer { (answer : List ℕ)
         × S.answers server.old (held_by line.old) answer server.new
         × WritesText (P.exchange client.old) (P.exchange client.new) result answer }
     ensures next { held_by line.new ≡ Whole [] }
+    ensures more { OnOk result (IfSome (P.exchange client.new) CanBeTold) }
     ensures fault { IfErr result (λ fault. fault ≡ ScriptFault.Write) }
 {
     let answer = line.answer(alloc, server);
@@ -51,6 +54,8 @@ fn take_byte<S: LineServer, P: Client<S>>(
     line: &mut BegunLine,
     byte: u8,
 ) -> Result<(), ScriptFault>
+    requires { IfSome (P.exchange client.old) CanBeTold }
+    ensures more { OnOk result (IfSome (P.exchange client.new) CanBeTold) }
     ensures ok { OnOk result
         ((reads : ℕ) (waiting : List ℕ)
         → UnderWay S.begins S.answers Stage.Open reads (P.exchange client.old) (byte ∷ waiting) (held_by line.old) server.old
@@ -58,7 +63,7 @@ fn take_byte<S: LineServer, P: Client<S>>(
     ensures err { OnErr result
         ((reads : ℕ) (waiting : List ℕ)
         → UnderWay S.begins S.answers Stage.Open reads (P.exchange client.old) (byte ∷ waiting) (held_by line.old) server.old
-        → IfSome (P.exchange client.new) (λ exchange. IsBegunAnswer S.begins S.answers exchange.received exchange.given)) }
+        → IfSome (P.exchange client.new) (IsCutOff S.begins S.answers)) }
     ensures fault { IfErr result (λ fault. fault ≡ ScriptFault.Write) }
 {
     if byte == b'\n' {
@@ -77,6 +82,8 @@ fn take_piece<S: LineServer, P: Client<S>>(
     line: &mut BegunLine,
     piece: &[u8],
 ) -> Result<(), ScriptFault>
+    requires { IfSome (P.exchange client.old) CanBeTold }
+    ensures more { OnOk result (IfSome (P.exchange client.new) CanBeTold) }
     ensures ok { OnOk result
         ((reads : ℕ)
         → UnderWay S.begins S.answers Stage.Open reads (P.exchange client.old) piece.now (held_by line.old) server.old
@@ -84,7 +91,7 @@ fn take_piece<S: LineServer, P: Client<S>>(
     ensures err { OnErr result
         ((reads : ℕ)
         → UnderWay S.begins S.answers Stage.Open reads (P.exchange client.old) piece.now (held_by line.old) server.old
-        → IfSome (P.exchange client.new) (λ exchange. IsBegunAnswer S.begins S.answers exchange.received exchange.given)) }
+        → IfSome (P.exchange client.new) (IsCutOff S.begins S.answers)) }
     ensures fault { IfErr result (λ fault. fault ≡ ScriptFault.Write) }
 {
     for byte in piece {
@@ -100,6 +107,8 @@ fn answer_last<S: LineServer, P: Client<S>>(
     client: &mut P,
     line: &mut BegunLine,
 ) -> Result<(), ScriptFault>
+    requires { IfSome (P.exchange client.old) CanBeTold }
+    ensures more { OnOk result (IfSome (P.exchange client.new) CanBeTold) }
     ensures ok { OnOk result
         ((reads : ℕ)
         → UnderWay S.begins S.answers Stage.Ended reads (P.exchange client.old) [] (held_by line.old) server.old
@@ -107,7 +116,7 @@ fn answer_last<S: LineServer, P: Client<S>>(
     ensures err { OnErr result
         ((reads : ℕ)
         → UnderWay S.begins S.answers Stage.Ended reads (P.exchange client.old) [] (held_by line.old) server.old
-        → IfSome (P.exchange client.new) (λ exchange. IsBegunAnswer S.begins S.answers exchange.received exchange.given)) }
+        → IfSome (P.exchange client.new) (IsCutOff S.begins S.answers)) }
     ensures fault { IfErr result (λ fault. fault ≡ ScriptFault.Write) }
 {
     if line.is_empty() {
@@ -122,7 +131,7 @@ fn answer_last<S: LineServer, P: Client<S>>(
 /// one no more is kept. Any fault of a read or a write, whatever its kind, ends it at once.
 /// Errors: `NoMemory` where the memory for a line was refused, before anything was received; `Read` where a read failed, or after
 /// 2 ^ 64 - 1 reads; `Write` where a write or a flush failed. After `Read` all whole lines are answered; after `Write` a prefix
-/// of the answers was given.
+/// of the answers was given, and nothing more is said to the client.
 /// Takes memory for a line, once, and what the server's answers take. Doesn't wait, unless the client does.
 /// Own rule: docs/BEHAVIOR.md, 'Serving'.
 pub fn serve<S: LineServer, P: Client<S>>(

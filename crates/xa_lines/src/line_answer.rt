@@ -1,8 +1,8 @@
 //! Answers the lines of a script.
-ghost use Rattle.std.specs.Prelude.{◌≡◌, ◌++◌, codes, decimal, Ok, IfOk, OnOk, OnErr};
+ghost use Rattle.std.specs.Prelude.{◌≡◌, ◌≤◌, ◌+◌, ◌++◌, codes, decimal, vec_len, vec_capacity, true, Ok, IfOk, OnOk, OnErr};
 ghost use Rattle.xa_statement.specs.Reading.{read_of};
 ghost use Rattle.xa_server.specs.Replies.{reply_to};
-ghost use Rattle.xa_server.specs.Step.{after, enters as enters_at};
+ghost use Rattle.xa_server.specs.Step.{after, enters as enters_at, may_take_memory};
 ghost use Rattle.xa_lines.specs.Printed.{answer_text, reply_text, syntax_text, converts as converts_of};
 ghost use Rattle.xa_lines.specs.Script.{line_of};
 ghost use Rattle.xa_lines.specs.Transcript.{answer_of, answer_to, state_after_line, state_then};
@@ -11,8 +11,8 @@ use crate::lines::{ScriptLine, read_line};
 use crate::print::{push_number, push_reply, push_syntax_fault};
 use crate::short_answer::bad_line;
 use std::alloc::Global;
-use xa_server::Server;
 use xa_server::laws::statement_outside_history_changes_nothing;
+use xa_server::{Reply, Server};
 use xa_statement::read_statement;
 use xa_xid::{NoMemory, SessionNo, Statement};
 
@@ -41,7 +41,7 @@ fn begin_answer(alloc: Global, session: SessionNo) -> Result<Vec<u8>, NoMemory>
 
 /// Carries out a statement of which the reply is known, where it enters the history; else it changes nothing.
 #[tactic(auto, unfolding(xa_server::specs::Step::enters))]
-fn carry_out(
+pub(crate) fn carry_out(
     server: &mut Server,
     session: SessionNo,
     statement: &Statement,
@@ -50,6 +50,7 @@ fn carry_out(
     requires { enters ≡ enters_at server.old session statement.now }
     ensures after { OnOk result (server.new ≡ after server.old session statement.now) }
     ensures unchanged { OnErr result (server.new ≡ server.old) }
+    ensures memory { OnErr result (may_take_memory server.old session statement.now ≡ true) }
 {
     if !enters {
         statement_outside_history_changes_nothing();
@@ -58,8 +59,34 @@ fn carry_out(
     server.accept(session, statement)
 }
 
+/// Answers a statement of which the reply is known, and carries it out. So many bytes more can be appended to the answer without
+/// memory.
+pub(crate) fn answer_reply(
+    alloc: Global,
+    server: &mut Server,
+    session: SessionNo,
+    statement: &Statement,
+    reply: &Reply,
+    enters: bool,
+    spare: usize,
+) -> Result<Vec<u8>, NoMemory>
+    requires reply { reply.now ≡ reply_to server.old session statement.now }
+    requires enters { enters ≡ enters_at server.old session statement.now }
+    ensures answer { IfOk result (λ answer. answer.items ≡ answer_to server.old session (Ok statement.now)) }
+    ensures after { OnOk result (server.new ≡ state_then server.old session (Ok statement.now)) }
+    ensures unchanged { OnErr result (server.new ≡ server.old) }
+    ensures room { IfOk result (λ answer. vec_len answer + spare ≤ vec_capacity answer) }
+{
+    let mut answer = begin_answer(alloc, session)?;
+    push_reply(alloc, &mut answer, converts(statement), reply)?;
+    answer.extend_from_slice(b"\n")?;
+    answer.reserve(spare)?;
+    carry_out(server, session, statement, enters)?;
+    Ok(answer)
+}
+
 /// Answers a statement that was read, and carries it out.
-pub(crate) fn answer_read(
+fn answer_read(
     alloc: Global,
     server: &mut Server,
     session: SessionNo,
@@ -69,25 +96,24 @@ pub(crate) fn answer_read(
     ensures after { OnOk result (server.new ≡ state_then server.old session (Ok statement.now)) }
     ensures unchanged { OnErr result (server.new ≡ server.old) }
 {
-    let mut answer = begin_answer(alloc, session)?;
     let (reply, enters) = server.reply(session, statement)?;
-    push_reply(alloc, &mut answer, converts(statement), &reply)?;
-    answer.extend_from_slice(b"\n")?;
-    carry_out(server, session, statement, enters)?;
-    Ok(answer)
+    answer_reply(alloc, server, session, statement, &reply, enters, 0)
 }
 
-/// Answers a text that isn't a statement, with the place where it goes wrong.
+/// Answers a text that isn't a statement, with the place where it goes wrong. So many bytes more can be appended without memory.
 pub(crate) fn answer_unread(
     alloc: Global,
     session: SessionNo,
     place: u64,
+    spare: usize,
 ) -> Result<Vec<u8>, NoMemory>
-    ensures { IfOk result (λ answer. answer.items ≡ answer_text (decimal session) (syntax_text place)) }
+    ensures answer { IfOk result (λ answer. answer.items ≡ answer_text (decimal session) (syntax_text place)) }
+    ensures room { IfOk result (λ answer. vec_len answer + spare ≤ vec_capacity answer) }
 {
     let mut answer = begin_answer(alloc, session)?;
     push_syntax_fault(&mut answer, place)?;
     answer.extend_from_slice(b"\n")?;
+    answer.reserve(spare)?;
     Ok(answer)
 }
 
@@ -109,7 +135,7 @@ pub fn answer_statement(
 {
     match read_statement(text) {
         Ok(statement) => answer_read(alloc, server, session, &statement),
-        Err(fault) => answer_unread(alloc, session, fault.at),
+        Err(fault) => answer_unread(alloc, session, fault.at, 0),
     }
 }
 

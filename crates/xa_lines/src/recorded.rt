@@ -116,10 +116,20 @@ impl<'a, S: LineServer> Client<S> for Recorded<'a> {
         ensures room { OnOk result (room_in self.old.writer ≡ room_in self.new.writer + length text.now) }
         ensures kept { self.new.reader ≡ self.old.reader }
     {
-        if self.writer.write(text)? < text.len() {
-            return Err(ErrorKind::Interrupted.into());
+        if text.is_empty() {
+            return Ok(());
         }
-        Ok(())
+        match self.writer.write(text) {
+            Ok(count) if count >= text.len() => Ok(()),
+            Ok(_) => {
+                self.stage = Stage::Mute;
+                Err(ErrorKind::Interrupted.into())
+            }
+            Err(fault) => {
+                self.stage = Stage::Mute;
+                Err(fault)
+            }
+        }
     }
 
     fn flush(&mut self) -> io::Result<()>

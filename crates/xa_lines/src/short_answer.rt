@@ -1,8 +1,9 @@
 //! Answers that take no memory.
-ghost use Rattle.std.specs.Prelude.{◌≡◌, ◌≤◌, ◌+◌, ◌++◌, length, codes, MatchResult};
-ghost use Rattle.xa_lines.specs.Answer.{bytes_of};
+ghost use Rattle.std.specs.Prelude.{◌≡◌, ◌≤◌, ◌+◌, ◌++◌, ℕ, length, codes, vec_len, vec_capacity, IfOk, MatchResult};
+ghost use Rattle.xa_lines.specs.Answer.{bytes_of, HasRoom};
 ghost use Rattle.xa_lines.specs.Printed.{answer_text, syntax_text};
 ghost use Rattle.xa_lines.specs.Statements.{refused_text};
+ghost use Rattle.xa_lines.specs.Shown.{unshown_text};
 
 use crate::Answer;
 use arrayvec::ArrayVec;
@@ -12,7 +13,8 @@ use xa_xid::{NoMemory, SessionNo};
 /// An answer of at most 64 bytes: to whom, and what.
 fn short_answer(who: &[u8], what: &[u8]) -> Answer
     requires { length who.now + length what.now ≤ 64 }
-    ensures { bytes_of result ≡ who.now ++ what.now }
+    ensures bytes { bytes_of result ≡ who.now ++ what.now }
+    ensures room { (spare : ℕ) → length who.now + length what.now + spare ≤ 64 → HasRoom spare result }
 {
     let mut text = ArrayVec::new();
     let _ = text.try_extend_from_slice(who);
@@ -22,14 +24,16 @@ fn short_answer(who: &[u8], what: &[u8]) -> Answer
 
 /// The answer to a bad line.
 pub(crate) fn bad_line() -> Answer
-    ensures { bytes_of result ≡ answer_text (codes "-") (syntax_text 0) }
+    ensures bytes { bytes_of result ≡ answer_text (codes "-") (syntax_text 0) }
+    ensures room { HasRoom 16 result }
 {
     short_answer(b"-", b" ERROR 1064 (42000): syntax fault at byte 0\n")
 }
 
 /// The answer to a statement for which memory was refused.
-fn refusal(session: SessionNo) -> Answer
-    ensures { bytes_of result ≡ refused_text session }
+pub(crate) fn refusal(session: SessionNo) -> Answer
+    ensures bytes { bytes_of result ≡ refused_text session }
+    ensures room { HasRoom 16 result }
 {
     let mut buffer = Buffer::new();
     let who = buffer.format(session.get());
@@ -38,10 +42,35 @@ fn refusal(session: SessionNo) -> Answer
 
 /// The answer to a session's statement, or else that memory was refused for it.
 pub(crate) fn answer_or_refusal(session: SessionNo, answer: Result<Vec<u8>, NoMemory>) -> Answer
-    ensures { MatchResult answer (λ text. bytes_of result ≡ text.items) (λ _. bytes_of result ≡ refused_text session) }
+    ensures bytes { MatchResult answer (λ text. bytes_of result ≡ text.items) (λ _. bytes_of result ≡ refused_text session) }
+    ensures room { IfOk answer (λ text. vec_len text + 16 ≤ vec_capacity text) → HasRoom 16 result }
 {
     match answer {
         Ok(text) => Answer::Text(text),
         Err(_) => refusal(session),
     }
+}
+
+/// The answer, and behind it that memory was refused for what is to stand there.
+pub(crate) fn with_unshown(answer: Answer) -> Answer
+    requires { HasRoom 16 answer }
+    ensures { bytes_of result ≡ bytes_of answer ++ unshown_text }
+{
+    match answer {
+        Answer::Text(mut text) => {
+            let _ = text.extend_from_slice(b"  OUT OF MEMORY\n");
+            Answer::Text(text)
+        }
+        Answer::Short(mut text) => {
+            let _ = text.try_extend_from_slice(b"  OUT OF MEMORY\n");
+            Answer::Short(text)
+        }
+    }
+}
+
+/// That memory was refused for what is to stand there.
+pub(crate) fn unshown() -> Answer
+    ensures { bytes_of result ≡ unshown_text }
+{
+    short_answer(b"", b"  OUT OF MEMORY\n")
 }

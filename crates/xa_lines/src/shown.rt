@@ -1,15 +1,15 @@
 //! A server whose store is shown.
-ghost use Rattle.std.specs.Prelude.{◌≡◌, ◌++◌, ℕ, List, [], ◌⊎◌, Ok, Err, IfOk, IfErr, IfSome, OnOk};
+ghost use Rattle.std.specs.Prelude.{◌≡◌, ◌++◌, ℕ, List, ◌⊎◌, Ok, Err, IfOk, IfErr, IfSome, OnOk};
 ghost use Rattle.xa_statement.specs.Reading.{read_of};
 ghost use Rattle.xa_lines.specs.Script.{Bad, Given, line_of};
-ghost use Rattle.xa_lines.specs.Answer.{bytes_of};
+ghost use Rattle.xa_lines.specs.Answer.{bytes_of, HasRoom};
 ghost use Rattle.xa_lines.specs.Exchange.{IsFresh};
 ghost use Rattle.xa_lines.specs.Served.{IsServed, AfterServing};
 ghost use Rattle.xa_lines.specs.Listing.{listing};
-ghost use Rattle.xa_lines.specs.Shown.{comment_text, IsAnswerShown, BeginsEmpty, Shows};
+ghost use Rattle.xa_lines.specs.Shown.{comment_text, unshown_text, IsAnswerShown, BeginsEmpty, Shows};
 
-use crate::line_answer::{answer_read, answer_unread};
-use crate::short_answer::{answer_or_refusal, bad_line};
+use crate::served_answer::{serve_read, serve_unread};
+use crate::short_answer::{bad_line, unshown, with_unshown};
 use crate::{
     Answer, Client, LineServer, ScriptFault, ScriptLine, is_comment, read_line, serve, with_listing,
 };
@@ -36,13 +36,13 @@ fn comment(alloc: Global, line: &[u8]) -> Result<Vec<u8>, NoMemory>
     Ok(text)
 }
 
-/// What answers a comment: nothing, where memory is refused for it.
+/// What answers a comment: the comment, or that memory was refused for it.
 fn comment_answer(alloc: Global, line: &[u8]) -> Answer
-    ensures { (bytes_of result ≡ comment_text line.now) ⊎ (bytes_of result ≡ []) }
+    ensures { (bytes_of result ≡ comment_text line.now) ⊎ (bytes_of result ≡ unshown_text) }
 {
     match comment(alloc, line) {
         Ok(text) => Answer::Text(text),
-        Err(_) => Answer::Short(ArrayVec::new()),
+        Err(_) => unshown(),
     }
 }
 
@@ -59,13 +59,14 @@ fn listed(
     with_listing(alloc, text, server, keys)
 }
 
-/// The answer with the listing of these rows behind it, or as it is where memory is refused for that.
+/// The answer with the listing of these rows behind it, or with that memory was refused for it.
 fn with_shown(alloc: Global, answer: Answer, server: &Server, keys: &[Key]) -> Answer
-    ensures { (bytes_of result ≡ bytes_of answer ++ listing server.now keys.now) ⊎ (bytes_of result ≡ bytes_of answer) }
+    requires { HasRoom 16 answer }
+    ensures { (bytes_of result ≡ bytes_of answer ++ listing server.now keys.now) ⊎ (bytes_of result ≡ bytes_of answer ++ unshown_text) }
 {
     match listed(alloc, &answer, server, keys) {
         Ok(text) => Answer::Text(text),
-        Err(_) => answer,
+        Err(_) => with_unshown(answer),
     }
 }
 
@@ -81,10 +82,10 @@ fn show_read(
         → IsAnswerShown server.old (Given session text) (bytes_of result) server.new }
 {
     let keys = server.keys_about(alloc, session, statement);
-    let answer = answer_or_refusal(session, answer_read(alloc, server, session, statement));
+    let answer = serve_read(alloc, server, session, statement);
     match keys {
         Ok(keys) => with_shown(alloc, answer, server, keys.as_slice()),
-        Err(_) => answer,
+        Err(_) => with_unshown(answer),
     }
 }
 
@@ -94,7 +95,7 @@ fn show_unread(alloc: Global, server: &Server, session: SessionNo, place: u64) -
         → read_of text ≡ Err place
         → IsAnswerShown server.now (Given session text) (bytes_of result) server.now }
 {
-    let answer = answer_or_refusal(session, answer_unread(alloc, session, place));
+    let answer = serve_unread(alloc, server, session, place);
     with_shown(alloc, answer, server, &[])
 }
 
@@ -163,7 +164,7 @@ impl LineServer for Shown {
 ///
 /// Every branch is shown, ascending, with its phase, its owner and the rows that it holds; then the committed values of the rows
 /// that the line is about. A line whose first byte that isn't a blank is `#` is a comment: it is repeated behind two blanks. All that is said beside the
-/// answers stands on lines that begin with two blanks. Where memory is refused for it, it is left out.
+/// answers stands on lines that begin with two blanks. Where memory is refused for a listing or a comment, a line says so in its place.
 /// Errors: `NoMemory` where the memory for a line was refused, before anything was received; `Read` where a read failed, or after
 /// 2 ^ 64 - 1 reads; `Write` where a write or a flush failed. After `Read` all whole lines are answered; after `Write` a prefix
 /// of the answers was given.

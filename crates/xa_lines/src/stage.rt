@@ -9,4 +9,6 @@ pub enum Stage {
     Ended,
     /// A read failed.
     Deaf,
+    /// A write or a flush failed.
+    Mute,
 }

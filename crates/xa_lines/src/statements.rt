@@ -4,10 +4,9 @@ ghost use Rattle.xa_lines.specs.Answer.{bytes_of};
 ghost use Rattle.xa_lines.specs.Exchange.{IsFresh};
 ghost use Rattle.xa_lines.specs.Statements.{IsToldAll, AfterFaultOfStatements};
 
-use crate::short_answer::{answer_or_refusal, bad_line};
-use crate::{
-    Answer, Client, LineServer, ScriptFault, ScriptLine, answer_statement, read_line, serve,
-};
+use crate::served_answer::serve_given;
+use crate::short_answer::bad_line;
+use crate::{Answer, Client, LineServer, ScriptFault, ScriptLine, read_line, serve};
 use arrayvec::ArrayVec;
 use std::alloc::Global;
 use xa_server::Server;
@@ -23,9 +22,7 @@ impl LineServer for Server {
         match read_line(line) {
             ScriptLine::Blank => Answer::Short(ArrayVec::new()),
             ScriptLine::Bad => bad_line(),
-            ScriptLine::Given(session, text) => {
-                answer_or_refusal(session, answer_statement(alloc, self, session, text))
-            }
+            ScriptLine::Given(session, text) => serve_given(alloc, self, session, text),
         }
     }
 
@@ -38,7 +35,8 @@ impl LineServer for Server {
 ///
 /// Each line is answered as a script's is, and the answers to all whole lines are flushed before more is received. A line of more
 /// than 65,536 bytes without its line feed is answered as a bad one. A statement for which memory is refused is answered
-/// `ERROR 1037 (HY001): out of memory`; the server is then as before, and goes on.
+/// `ERROR 1037 (HY001): out of memory`; the server is then as before, and goes on. No statement is answered so
+/// that is accepted, makes no record, and whose reply is neither a list nor a value.
 /// Errors: `NoMemory` where the memory for a line was refused, before anything was received; `Read` where a read failed, or after
 /// 2 ^ 64 - 1 reads; `Write` where a write or a flush failed. After `Read` all whole lines are answered; after `Write` a prefix
 /// of the answers was given.

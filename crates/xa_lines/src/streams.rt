@@ -1,12 +1,13 @@
 //! Reads a script whole, and writes a text whole.
-ghost use Rattle.std.specs.Prelude.{◌≡◌, ◌≤◌, vec_len, IfOk, IfErr, OnOk, OnErr, Err};
-ghost use Rattle.std.specs.Io.KnownBytes.{Appends, Consumes, IsAtEnd};
+ghost use Rattle.std.specs.Prelude.{◌≡◌, ◌≤◌, ◌<◌, ◌⊎◌, [], take, vec_len, IfOk, IfErr, OnOk, OnErr, MatchResult, Err};
+ghost use Rattle.std.specs.Io.{ReadsAtMost, WritesAtMost};
+ghost use Rattle.std.specs.Io.KnownBytes.{Appends, Consumes, IsAtEnd, ReadConsumes, WriteAppends};
+ghost use Rattle.xa_lines.specs.Calls.{HasReadAll, StopsReading, HasWritten, StopsWriting};
 ghost use Rattle.xa_lines.specs.Limits.{script_bytes, script_reads};
 ghost use Rattle.xa_lines.specs.Transcript.{AppendsPrefix, ConsumesMoreThan, IsOfReading};
 
-use crate::ScriptFault;
+use crate::{PieceReader, PieceWriter, ScriptFault};
 use std::alloc::Global;
-use std::io::{Read, Write};
 
 /// The greatest length of a script, in bytes.
 const SCRIPT_BYTES: usize = 1_048_576;
@@ -25,51 +26,106 @@ pub fn script_limits() -> (usize, u64)
     (SCRIPT_BYTES, SCRIPT_READS)
 }
 
-/// Reads all that the reader gives: at most 1,048,576 bytes, in at most 2,097,152 reads.
+/// Reads once.
+fn read_once<R: PieceReader>(reader: &mut R, piece: &mut [u8]) -> Result<usize, ScriptFault>
+    ensures bound { ReadsAtMost result piece.new }
+    ensures bytes { ReadConsumes (R.remaining reader.old) (R.remaining reader.new) result piece.new }
+    ensures given { IfOk result (λ count. R.gives reader.old (take count piece.new) reader.new) }
+    ensures fault { IfErr result (λ fault. fault ≡ ScriptFault.Read) }
+    ensures failed { OnErr result (R.fails reader.old reader.new) }
+{
+    match reader.read_piece(piece) {
+        Ok(count) => Ok(count),
+        Err(_) => Err(ScriptFault::Read),
+    }
+}
+
+/// Writes once: at least one byte.
+fn write_once<W: PieceWriter>(writer: &mut W, bytes: &[u8]) -> Result<usize, ScriptFault>
+    ensures bound { WritesAtMost result bytes.now }
+    ensures bytes { WriteAppends (W.contents writer.old) (W.contents writer.new) result bytes.now }
+    ensures some { IfOk result (λ count. 0 < count) }
+    ensures taken { IfOk result (λ count. W.takes writer.old (take count bytes.now) writer.new) }
+    ensures fault { IfErr result (λ fault. fault ≡ ScriptFault.Write) }
+    ensures refused { OnErr result (W.refuses writer.old writer.new ⊎ W.takes writer.old [] writer.new) }
+{
+    match writer.write_piece(bytes) {
+        Ok(0) => Err(ScriptFault::Write),
+        Ok(count) => Ok(count),
+        Err(_) => Err(ScriptFault::Write),
+    }
+}
+
+/// Reads all that the reader gives: at most so many bytes, in at most so many reads.
 ///
-/// Errors: `Read` where a read failed, or too many were needed; `TooLong` where the reader gives more; `NoMemory`.
+/// Errors: `Read` where a read failed, or too many were needed; `TooLong` where the reader gives more; `NoMemory`. A reader that
+/// failed isn't read again.
 /// May answer `NoMemory`. Doesn't wait, unless the reader does.
 /// Own rule: docs/BEHAVIOR.md, 'Scripts'.
-pub fn read_all<R: Read>(alloc: Global, reader: &mut R) -> Result<Vec<u8>, ScriptFault>
+pub fn read_within<R: PieceReader>(
+    alloc: Global,
+    reader: &mut R,
+    most: usize,
+    reads: u64,
+) -> Result<Vec<u8>, ScriptFault>
+    ensures all { IfOk result (λ text. Consumes (R.remaining reader.old) (R.remaining reader.new) text.items) }
+    ensures end { OnOk result (IsAtEnd (R.remaining reader.new)) }
+    ensures short { IfOk result (λ text. vec_len text ≤ most) }
+    ensures fault { IfErr result IsOfReading }
+    ensures too_long { result ≡ Err ScriptFault.TooLong → ConsumesMoreThan most (R.remaining reader.old) (R.remaining reader.new) }
+    ensures calls { IfOk result (λ text. HasReadAll R.gives reads reader.old text.items reader.new) }
+    ensures cause { IfErr result (λ fault. StopsReading R.gives R.fails reads most fault reader.old reader.new) }
+{
+    let mut text = Vec::new(alloc);
+    let mut piece = [0u8; 4096];
+    for _read in 0..reads {
+        let count = read_once(reader, &mut piece)?;
+        if count == 0 {
+            return Ok(text);
+        }
+        if count > most - text.len() {
+            return Err(ScriptFault::TooLong);
+        }
+        text.extend_from_slice(&piece[..count])?;
+    }
+    Err(ScriptFault::Read)
+}
+
+/// Reads all that the reader gives: at most 1,048,576 bytes, in at most 2,097,152 reads.
+///
+/// Errors: `Read` where a read failed, or too many were needed; `TooLong` where the reader gives more; `NoMemory`. A reader that
+/// failed isn't read again.
+/// May answer `NoMemory`. Doesn't wait, unless the reader does.
+/// Own rule: docs/BEHAVIOR.md, 'Scripts'.
+pub fn read_all<R: PieceReader>(alloc: Global, reader: &mut R) -> Result<Vec<u8>, ScriptFault>
     ensures all { IfOk result (λ script. Consumes (R.remaining reader.old) (R.remaining reader.new) script.items) }
     ensures end { OnOk result (IsAtEnd (R.remaining reader.new)) }
     ensures short { IfOk result (λ script. vec_len script ≤ script_bytes) }
     ensures fault { IfErr result IsOfReading }
     ensures too_long { result ≡ Err ScriptFault.TooLong → ConsumesMoreThan script_bytes (R.remaining reader.old) (R.remaining reader.new) }
+    ensures calls { IfOk result (λ script. HasReadAll R.gives script_reads reader.old script.items reader.new) }
+    ensures cause { IfErr result (λ fault. StopsReading R.gives R.fails script_reads script_bytes fault reader.old reader.new) }
 {
-    let mut script = Vec::new(alloc);
-    let mut piece = [0u8; 4096];
-    for _ in 0..SCRIPT_READS {
-        let Ok(count) = reader.read(&mut piece) else {
-            return Err(ScriptFault::Read);
-        };
-        if count == 0 {
-            return Ok(script);
-        }
-        if count > SCRIPT_BYTES - script.len() {
-            return Err(ScriptFault::TooLong);
-        }
-        script.extend_from_slice(&piece[..count])?;
-    }
-    Err(ScriptFault::Read)
+    read_within(alloc, reader, SCRIPT_BYTES, SCRIPT_READS)
 }
 
 /// Writes all of the bytes, or as many as the writer takes until a write fails.
 ///
-/// Error: `Write` where a write failed or took nothing.
+/// Error: `Write` where a write failed or took nothing. The writer is then called no more: neither written to nor flushed.
 /// Takes no memory. Doesn't wait, unless the writer does.
 /// Own rule: docs/BEHAVIOR.md, 'Scripts'.
-pub fn write_whole<W: Write>(writer: &mut W, bytes: &[u8]) -> Result<(), ScriptFault>
+pub fn write_whole<W: PieceWriter>(writer: &mut W, bytes: &[u8]) -> Result<(), ScriptFault>
     ensures all { OnOk result (Appends (W.contents writer.old) (W.contents writer.new) bytes.now) }
     ensures fault { IfErr result (λ fault. fault ≡ ScriptFault.Write) }
     ensures prefix { OnErr result (AppendsPrefix (W.contents writer.old) (W.contents writer.new) bytes.now) }
+    ensures calls { MatchResult result
+        (λ _. HasWritten W.takes writer.old bytes.now writer.new)
+        (λ _. StopsWriting W.takes W.refuses writer.old bytes.now writer.new) }
 {
     let mut written = 0;
     while written < bytes.len() {
-        match writer.write(&bytes[written..]) {
-            Ok(count) if count > 0 => written += count,
-            _ => return Err(ScriptFault::Write),
-        }
+        let count = write_once(writer, &bytes[written..])?;
+        written += count;
     }
     Ok(())
 }

@@ -1,16 +1,55 @@
 //! A client over streams.
-ghost use Rattle.std.specs.Prelude.{◌≡◌, [], OnOk};
-ghost use Rattle.std.specs.Io.{ReadsAtMost};
-ghost use Rattle.std.specs.Io.KnownBytes.{Appends, Keeps, ReadConsumes};
+ghost use Rattle.std.specs.Prelude.{◌≡◌, [], OnOk, OnErr};
+ghost use Rattle.std.specs.Io.{ReadsAtMost, WritesAtMost};
+ghost use Rattle.std.specs.Io.KnownBytes.{Appends, Keeps, ReadConsumes, WriteAppends};
 ghost use Rattle.std.specs.Io.Buffered.{writer_buffer, writer_contents};
+ghost use Rattle.xa_lines.specs.Transcript.{AppendsPrefix};
 
 use crate::{Client, LineServer};
 use std::io;
-use std::io::{BufWriter, Read, Write};
+use std::io::{BufWriter, ErrorKind, Read, Write};
+
+/// Writes once. An interrupted write takes nothing.
+///
+/// Errors: those of a write, and that it took nothing.
+fn give_once<W: Write>(writer: &mut W, text: &[u8]) -> io::Result<usize>
+    ensures bound { WritesAtMost result text.now }
+    ensures taken { WriteAppends (W.contents writer.old) (W.contents writer.new) result text.now }
+{
+    match writer.write(text) {
+        Ok(0) => Err(ErrorKind::WriteZero.into()),
+        Ok(count) => Ok(count),
+        Err(fault) => {
+            if fault.kind() == ErrorKind::Interrupted {
+                return Ok(0);
+            }
+            Err(fault)
+        }
+    }
+}
+
+/// Gives all of the text to a writer, and tries again where a write is interrupted.
+///
+/// Errors: those of a write, and that one took nothing. A prefix of the text was taken then, and nothing more.
+fn give<W: Write>(writer: &mut W, text: &[u8]) -> io::Result<()>
+    ensures all { OnOk result (Appends (W.contents writer.old) (W.contents writer.new) text.now) }
+    ensures prefix { OnErr result (AppendsPrefix (W.contents writer.old) (W.contents writer.new) text.now) }
+{
+    let mut written = 0;
+    for _try in 0..u64::MAX {
+        if written >= text.len() {
+            return Ok(());
+        }
+        let count = give_once(writer, &text[written..])?;
+        written += count;
+    }
+    Err(ErrorKind::Interrupted.into())
+}
 
 /// A client that says what a reader gives, and is told what a writer takes.
 ///
-/// A read that is interrupted is a fault; a write that is interrupted is tried again, as std's buffer does.
+/// A read that is interrupted is a fault; a write that is interrupted is tried again, as std's buffer does. After a fault of a write
+/// or a flush nothing was given but a prefix of the text.
 #[derive(Drop)]
 pub struct Transport<R: Read + Drop, W: Write + Drop> {
     reader: R,
@@ -40,9 +79,11 @@ impl<S: LineServer, R: Read + Drop, W: Write + Drop> Client<S> for Transport<R, 
 
     fn tell(&mut self, text: &[u8]) -> io::Result<()>
         ensures bytes { OnOk result (Appends (writer_contents W.contents self.old.writer) (writer_contents W.contents self.new.writer) text.now) }
+        ensures prefix { OnErr result
+            (AppendsPrefix (writer_contents W.contents self.old.writer) (writer_contents W.contents self.new.writer) text.now) }
         ensures reader { self.new.reader ≡ self.old.reader }
     {
-        self.writer.write_all(text)
+        give(&mut self.writer, text)
     }
 
     fn flush(&mut self) -> io::Result<()>

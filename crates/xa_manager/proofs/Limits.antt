@@ -1,5 +1,5 @@
--- How many calls the sessions have left, once each of the first was limited.
-use Rattle.std.proofs.Common.{◌≡◌, ◌<◌, ◌+◌, ℕ, List, sym, ◌∙◌, ap, subst, inl, inr, arith}
+-- How many calls the sessions have left, once each of the first was limited, and once each was made.
+use Rattle.std.proofs.Common.{◌≡◌, ◌<◌, ◌+◌, ℕ, zero, suc, List, [], ◌∷◌, ◌++◌, length, Some, sym, ◌∙◌, ap, subst, inl, inr, arith}
 use Rattle.std.specs.Prelude.{slice_get}
 use Rattle.std.specs.Option.{option_map}
 use Rattle.std.proofs.lemmas.Bool.{cases_lt}
@@ -23,3 +23,13 @@ passes_grown {S} store calls old new so_far there changes = λ other below.
           let here : store ≡ other = omega arith in
           subst (λ s. Passes s calls new) here there
     ]
+
+-- one session more that passes so many calls on
+pub passes_more : {S : Type 0} (calls : ℕ) (sessions : List (Fused S)) (session : Fused S)
+    → ((store : ℕ) → store < length sessions → Passes store calls sessions) → session.left ≡ calls
+    → (store : ℕ) → store < length (sessions ++ session ∷ []) → Passes store calls (sessions ++ session ∷ [])
+passes_more calls [] session each is zero below = ap Some is
+passes_more calls [] session each is (suc store) below = absurd (omega arith)
+passes_more calls (s ∷ ss) session each is zero below = each zero (omega arith)
+passes_more calls (s ∷ ss) session each is (suc store) below =
+    passes_more calls ss session (λ other less. each (suc other) (omega arith)) is store (omega arith)

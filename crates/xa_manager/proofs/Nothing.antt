@@ -1,5 +1,7 @@
 -- Before anything has begun.
 use Rattle.std.proofs.Common.{◌≡◌, ℕ, [], Bool, true, false, cond, refl, Option, None}
+use Rattle.xa_coordinator.specs.Decisions.{decides, decision_of, is_decided}
+use Rattle.xa_coordinator.specs.declared.decisions.Decision.{Decision}
 use Rattle.std.specs.Prelude.{◌==◌}
 use Rattle.xa_manager.specs.Ledger.{stage_of}
 use Rattle.xa_manager.specs.declared.stage.Stage.{Stage}
@@ -10,5 +12,14 @@ unfolding stage_of
 none_begun number = by (number == 0)
   where
     by : (b : Bool) → cond {A = Option Stage} b None None ≡ None
+    by true = refl
+    by false = refl
+
+-- no number is decided
+pub none_decided : (number : ℕ) → is_decided [] number ≡ false
+unfolding decision_of
+none_decided number = by (number == 0)
+  where
+    by : (b : Bool) → decides (cond {A = Option Decision} b None None) ≡ false
     by true = refl
     by false = refl

@@ -1,14 +1,24 @@
--- What was said to sessions: nothing, and another client's answer.
-use Rattle.std.proofs.Common.{◌≡◌, ◌∙◌, List, [], ◌∷◌, length, map, ap, refl, sym, Result, Ok, Err}
+-- What was said to sessions: nothing, another client's answer, and what each other client answered.
+use Rattle.std.proofs.Common.{◌≡◌, ◌∙◌, ◌+◌, ℕ, zero, suc, true, List, [], ◌∷◌, ◌++◌, length, get_or, map, ap, refl, sym, subst, Result, Ok, Err, Some, arith}
 use Rattle.std.proofs.lemmas.List.{length-map}
-use Rattle.std.specs.Prelude.{IfOk, IfErr}
+use Rattle.std.specs.Prelude.{IfOk, IfErr, slice_get, slice_set}
+use Rattle.xa_xid.specs.declared.statement.Statement.TheVariants.{Recover}
+use Rattle.xa_server.specs.declared.reply.Reply.{Reply}
+use Rattle.xa_coordinator.specs.declared.decisions.Decision.{Decision}
+use Rattle.xa_coordinator.specs.Agreement.{Agrees}
+use Rattle.xa_coordinator.specs.Stores.{EachStore, Reached}
+use Rattle.xa_coordinator.proofs.Keeping.{at_place, changes_at}
+use Rattle.xa_coordinator.proofs.Walk.{reached_next, reached_weaker}
 use Rattle.xa_xid.specs.declared.statement.Statement.{Statement}
 use Rattle.xa_session.specs.declared.answer.Answer.{Answer}
 use Rattle.xa_session.specs.declared.fault.Fault.{Fault}
 use Rattle.xa_session.specs.Answer.{IsAnswered, Fails}
 use Rattle.xa_session.specs.View.{SessionView}
 use Rattle.xa_coordinator.specs.declared.fused.Fused.{Fused}
-use Rattle.xa_manager.specs.Said.{IsQuiet, RepliesAs, reply_of}
+use Rattle.xa_manager.specs.declared.call.Call.{Call}
+use Rattle.xa_manager.specs.declared.response.Response.{Response}
+use Rattle.xa_manager.specs.Whole.{Performs}
+use Rattle.xa_manager.specs.Said.{WholeManager, IsQuiet, StayOfLogs, RepliesAs, IsGiven, IsListed, reply_of}
 
 map-inner : {S : Type 0} (view : S → SessionView) (sessions : List (Fused S))
     → map (λ (session : Fused S). view session.inner) sessions ≡ map view (map (λ (session : Fused S). session.inner) sessions)
@@ -32,3 +42,41 @@ pub replied_as : (statement : Statement) (answered : Result Answer Fault) (old n
     → RepliesAs statement (reply_of answered) old new
 replied_as statement (Ok answer) old new answers fails = (answer.place, answers)
 replied_as statement (Err fault) old new answers fails = fails
+
+-- where a call added only what agrees with decisions, each session is of the log that it was of
+pub agreed_logs : {S : Type 0} (view : S → SessionView) (decisions : List Decision) (name : List ℕ) (old new : List S)
+    → EachStore view (Agrees decisions name) old new → StayOfLogs view old new
+agreed_logs view decisions name old new agrees = λ store before after is_before is_after. (agrees store before after is_before is_after).adds.log
+
+get_before : {A : Type 0} (xs : List A) (y : A) (place : ℕ) (x : A) → slice_get xs place ≡ Some x → slice_get (xs ++ y ∷ []) place ≡ Some x
+get_before [] y place x is = absurd (cc)
+get_before (z ∷ zs) y zero x is = is
+get_before (z ∷ zs) y (suc place) x is = get_before zs y place x is
+
+get_last : {A : Type 0} (xs : List A) (y : A) (place : ℕ) → length xs ≡ place → slice_get (xs ++ y ∷ []) place ≡ Some y
+get_last [] y zero is = refl
+get_last [] y (suc place) is = absurd (cc)
+get_last (z ∷ zs) y zero is = absurd (omega arith)
+get_last (z ∷ zs) y (suc place) is = get_last zs y place (omega arith)
+
+-- one store's client more has listed what is prepared there
+pub listed_more : {T : Type 0} (view : T → SessionView) (answers : List (Result Reply Fault)) (answer : Result Reply Fault) (place : ℕ) (old now : List T)
+    (before after : T)
+    → length answers ≡ place → Reached view (IsListed answers) place old now → before ≡ get_or now place before
+    → IsGiven (Recover true) answer (view (get_or now place before)) (view after)
+    → Reached view (IsListed (answers ++ answer ∷ [])) (place + 1) old (slice_set now place after)
+listed_more {T} view answers answer place old now before after count so_far was given =
+    let more = answers ++ answer ∷ [] in
+    let here : IsGiven (Recover true) answer (view before) (view after) = subst (λ (t : T). IsGiven (Recover true) answer (view t) (view after)) (sym was) given in
+    reached_next view (IsListed more) place old now (slice_set now place after)
+    (reached_weaker view (IsListed answers) (IsListed more) place old now
+    (λ store less a b is. record { answer = is.answer; there = get_before answers answer store is.answer is.there; given = is.given }) so_far)
+    (changes_at now place after)
+    (at_place view [] (IsListed more place) now place before after was (record { answer = answer; there = get_last answers answer place count; given = here }))
+
+-- a call that was read from a line is what the line says
+pub performed : {S T : Type 0} (view : S → SessionView) (view' : T → SessionView) (old new : WholeManager (Fused S) T) (call said : Call) (response : Response)
+    → call ≡ said → Performs view view' old call response new → Performs view view' old said response new
+performed view view' old new call said response same performs =
+    let P : Call → Type 0 = λ c. Performs view view' old c response new in
+    subst P same performs

@@ -5,5 +5,6 @@ pub mod Answers
 pub mod Passes
 pub mod Said
 pub mod Managed
+pub mod Whole
 pub mod Served
 pub mod Limits

@@ -1,10 +1,19 @@
 -- The passes of stores.
 --     AreOf            passes of stores, one of each
-use Rattle.std.specs.Prelude.{◌≡◌, List}
+--     AreNew           stores that hold nothing, and passes that have seen nothing
+use Rattle.std.specs.Prelude.{◌≡◌, List, All}
 use Rattle.std.specs.List.{AllZip}
-use Rattle.xa_store.specs.Passes.{Pass, identity_of, log_of}
+use Rattle.decision_log.specs.Known.{newcomer}
+use Rattle.xa_server.specs.State.{no_state}
+use Rattle.xa_store.specs.Passes.{Pass, identity_of, log_of, known_of}
 use Rattle.xa_store.specs.declared.store.Store.{Store}
 
 -- each pass is of the store in its place
 abbrev pub AreOf : List Store → List Pass → Type 0
 AreOf stores passes = AllZip (λ store pass. log_of pass ≡ identity_of store.log) stores passes
+
+-- no store holds anything, and the passes are of sessions 1 and of sessions 2, none of which has seen anything
+pub record AreNew (stores : List Store) (firsts seconds : List Pass) : Type 0 where
+  pub empty : All (λ store. store.base ≡ no_state) stores
+  pub first : All (λ pass. known_of pass ≡ newcomer 1) firsts
+  pub second : All (λ pass. known_of pass ≡ newcomer 2) seconds

@@ -1,6 +1,8 @@
 -- What was said to the sessions of a transaction manager, by what a call was answered.
 --     WholeManager            the sessions of a transaction manager, as contracts see them, beside its state
 --     IsQuiet          nothing was said to these sessions
+--     StayOfLogs       these sessions are of the logs that they were of
+--     IsStill          nothing was said to any session, and nothing else changed of them
 --     SaysWork         the coordinator worked in a store, and this is what the work came to
 --     SaysVote         the coordinator had the stores vote, and this is the vote
 --     SaysFinish       the coordinator finished a transaction that was voted on, and it ended so
@@ -8,20 +10,23 @@
 --     SaysRecovery     the coordinator recovered, and this is what recovery came to
 --     reply_of         the reply of an answer
 --     RepliesAs        a session answered a statement so, or didn't for a fault
+--     IsGiven          a session was given a statement, and answered so
 --     SaysReply        another client's session was given a statement, and answered so
---     SaysNothing      nothing was said to any session
+--     IsListed, SaysShow      another client's session was given XA RECOVER, and answered so;  each of them was
 --     SaidFor          what was said, by the response
-use Rattle.std.specs.Prelude.{◌≡◌, ◌⊎◌, ℕ, Some, Option, Result, Ok, Err, List, map, codes, IfOk, IfErr}
+use Rattle.std.specs.Prelude.{◌≡◌, ◌⊎◌, ◌<◌, ◌≤◌, ℕ, true, Some, None, Option, Result, Ok, Err, List, map, slice_get, codes, IfOk, IfErr, OnOk}
 use Rattle.xa_xid.specs.declared.statement.Statement.{Statement}
+use Rattle.xa_xid.specs.declared.statement.Statement.TheVariants.{Recover as RecoverStatement}
 use Rattle.xa_server.specs.declared.reply.Reply.{Reply}
 use Rattle.xa_session.specs.declared.fault.Fault.{Fault}
 use Rattle.xa_session.specs.declared.answer.Answer.{Answer}
 use Rattle.xa_session.specs.Answer.{IsAnswered, Fails}
-use Rattle.xa_session.specs.View.{SessionView}
-use Rattle.xa_coordinator.specs.Stores.{AtStore, ChangesAt}
+use Rattle.xa_session.specs.View.{SessionView, StaysOfLog}
+use Rattle.xa_coordinator.specs.Stores.{AtStore, EachStore, ChangesAt}
 use Rattle.xa_coordinator.specs.Work.{WorksAs}
-use Rattle.xa_coordinator.specs.Outcomes.{EndsAs, VotesAs, finish_for}
-use Rattle.xa_coordinator.specs.Recovery.{Recovers, BreaksOff}
+use Rattle.xa_coordinator.specs.OpenBranches.{KeepsOpen}
+use Rattle.xa_coordinator.specs.Outcomes.{EndsAs, VotesAs, KeepsMark, finish_for, asked_by_vote, asked_by_ending}
+use Rattle.xa_coordinator.specs.Recovery.{Recovers, BreaksOff, asked_by_fault}
 use Rattle.xa_coordinator.specs.Decisions.{is_decided}
 use Rattle.xa_coordinator.specs.declared.branches.OpenBranch.{OpenBranch}
 use Rattle.xa_coordinator.specs.declared.closing.Closing.TheVariants.{RollBack}
@@ -33,7 +38,8 @@ use Rattle.xa_coordinator.specs.declared.report.Report.{Report}
 use Rattle.xa_coordinator.specs.declared.fault.WorkFault.{WorkFault}
 use Rattle.xa_coordinator.specs.declared.vote.Vote.{Vote}
 use Rattle.xa_manager.specs.declared.call.Call.{Call}
-use Rattle.xa_manager.specs.declared.call.Call.TheVariants.{Work, Prepare, Finish, Abandon, Recover, At}
+use Rattle.xa_manager.specs.declared.call.Call.TheVariants.{Work, Prepare, Finish, Abandon, Recover, At, Show}
+use Rattle.xa_manager.specs.declared.listing.Listing.{Listing}
 use Rattle.xa_manager.specs.declared.vote_answer.VoteAnswer.{VoteAnswer}
 use Rattle.xa_manager.specs.declared.stage.Stage.TheVariants.{Working, Ready, Voted as VotedStage}
 use Rattle.xa_manager.specs.declared.response.Response.{Response}
@@ -53,7 +59,15 @@ pub record WholeManager (C T : Type 0) : Type 0 where
 abbrev pub IsQuiet : {S : Type 0} → (S → SessionView) → List S → List S → Type 0
 IsQuiet view old new = map view new ≡ map view old
 
--- a transaction that takes work worked in a store, and the coordinator's work came to this
+-- each session is of the log that it was of, whose history begins in the same state
+abbrev pub StayOfLogs : {S : Type 0} → (S → SessionView) → List S → List S → Type 0
+StayOfLogs view old new = EachStore view (λ store. StaysOfLog) old new
+
+-- nothing was said to any session, no session passes more calls on or fewer, and the coordinator has open what it had
+abbrev pub IsStill : {C T : Type 0} → WholeManager C T → WholeManager C T → Type 0
+IsStill old new = (new.branches ≡ old.branches) × (new.sessions ≡ old.sessions) × (new.other_clients ≡ old.other_clients)
+
+-- a transaction that takes work worked in a store, and the coordinator's work came to this; in the other stores nothing changed
 pub record SaysWork {C T : Type 0} (view : C → SessionView) (call : Call) (answer : Result Reply WorkFault) (old new : WholeManager C T) : Type 0 where
   pub number : ℕ
   pub store : ℕ
@@ -64,9 +78,11 @@ pub record SaysWork {C T : Type 0} (view : C → SessionView) (call : Call) (ans
   pub working : stage_of old.state.stages number ≡ Some (Working before)
   pub works : WorksAs view old.branches new.branches before after store statement answer old.sessions new.sessions
   pub others : ChangesAt store old.sessions new.sessions
+  pub logs : StayOfLogs view old.sessions new.sessions
+  pub marks : ChangesAt store old.branches new.branches
   pub stages : new.state.stages ≡ with_stage old.state.stages number (Working after)
 
--- the coordinator had the stores of a transaction that takes work vote, and the vote is kept
+-- the coordinator had the stores of a transaction that takes work vote, and the vote is kept; what it has open in the other stores stays so
 pub record SaysVote {C T : Type 0} (view : C → SessionView) (call : Call) (answer : VoteAnswer) (old new : WholeManager C T) : Type 0 where
   pub number : ℕ
   pub asked : call ≡ Prepare number
@@ -75,9 +91,12 @@ pub record SaysVote {C T : Type 0} (view : C → SessionView) (call : Call) (ans
   pub working : stage_of old.state.stages number ≡ Some (Working before)
   pub told : answer ≡ vote_answer_of vote
   pub votes : VotesAs view before vote old.sessions new.sessions
+  pub logs : StayOfLogs view old.sessions new.sessions
+  pub marks : KeepsOpen before.participants (asked_by_vote vote) old.branches new.branches
+  pub marked_there : KeepsMark before vote old.branches new.branches
   pub stages : new.state.stages ≡ with_stage old.state.stages number (stage_after vote)
 
--- the coordinator finished a transaction that was voted on, as the decisions say
+-- the coordinator finished a transaction that was voted on, as the decisions say; what it has open in the other stores stays so
 pub record SaysFinish {C T : Type 0} (view : C → SessionView) (call : Call) (ending : Ending) (old new : WholeManager C T) : Type 0 where
   pub number : ℕ
   pub asked : call ≡ Finish number
@@ -85,20 +104,27 @@ pub record SaysFinish {C T : Type 0} (view : C → SessionView) (call : Call) (e
   pub voted : (stage_of old.state.stages number ≡ Some (Ready prepared)) ⊎ (stage_of old.state.stages number ≡ Some (VotedStage prepared))
   pub of_number : prepared.transaction.number ≡ number
   pub ends : EndsAs view old.branches prepared.transaction (finish_for (is_decided old.state.decisions number) prepared.vote_kind) ending old.sessions new.sessions
+  pub logs : StayOfLogs view old.sessions new.sessions
+  pub marks : KeepsOpen prepared.transaction.participants (asked_by_ending ending) old.branches new.branches
 
--- the coordinator rolled back a transaction that takes work
+-- the coordinator rolled back a transaction that takes work; what it has open in the other stores stays so
 pub record SaysAbandon {C T : Type 0} (view : C → SessionView) (call : Call) (ending : Ending) (old new : WholeManager C T) : Type 0 where
   pub number : ℕ
   pub asked : call ≡ Abandon number
   pub before : Transaction
   pub working : stage_of old.state.stages number ≡ Some (Working before)
   pub ends : EndsAs view old.branches before RollBack ending old.sessions new.sessions
+  pub logs : StayOfLogs view old.sessions new.sessions
+  pub marks : KeepsOpen before.participants (asked_by_ending ending) old.branches new.branches
 
--- the coordinator recovered, by the decisions as they are then
+-- the coordinator recovered, by the decisions as they are then; it has nothing open then, or after a fault, in the stores that it didn't come to, what it had
 pub record SaysRecovery {C T : Type 0} (view : C → SessionView) (call : Call) (outcome : Result Report RecoverFault) (old new : WholeManager C T) : Type 0 where
   pub asked : call ≡ Recover
   pub done : IfOk outcome (λ report. Recovers view new.state.decisions (codes "c") report old.sessions new.sessions)
   pub broken : IfErr outcome (λ fault. BreaksOff view new.state.decisions (codes "c") fault old.sessions new.sessions)
+  pub logs : StayOfLogs view old.sessions new.sessions
+  pub free : OnOk outcome ((store : ℕ) → store < new.state.stores → slice_get new.branches store ≡ Some None)
+  pub marks : IfErr outcome (λ fault. (store : ℕ) → asked_by_fault fault ≤ store → slice_get new.branches store ≡ slice_get old.branches store)
 
 -- the reply of an answer
 abbrev pub reply_of : Result Answer Fault → Result Reply Fault
@@ -110,35 +136,49 @@ abbrev pub RepliesAs : Statement → Result Reply Fault → SessionView → Sess
 RepliesAs statement (Ok reply) old new = (place : ℕ) × IsAnswered old.base statement (record { place = place; reply = reply }) old.known new.known
 RepliesAs statement (Err fault) old new = Fails old.turns old.identity.capacity old.base statement fault old.known new.known
 
+-- a session was given the statement, in the log that it was of, and answered so, or didn't for this fault
+pub record IsGiven (statement : Statement) (answer : Result Reply Fault) (old new : SessionView) : Type 0 where
+  pub log : StaysOfLog old new
+  pub replies : RepliesAs statement answer old new
+
 -- the other client's session in a store was given the statement, and answered so
 pub record SaysReply {C T : Type 0} (view : T → SessionView) (call : Call) (answer : Result Reply Fault) (old new : WholeManager C T) : Type 0 where
   pub store : ℕ
   pub statement : Statement
   pub asked : call ≡ At store statement
-  pub replies : AtStore view store (RepliesAs statement answer) old.other_clients new.other_clients
+  pub replies : AtStore view store (IsGiven statement answer) old.other_clients new.other_clients
   pub others : ChangesAt store old.other_clients new.other_clients
 
--- nothing was said to any session
-abbrev pub SaysNothing : {C T : Type 0} → (C → SessionView) → (T → SessionView) → WholeManager C T → WholeManager C T → Type 0
-SaysNothing view view' old new = IsQuiet view old.sessions new.sessions × IsQuiet view' old.other_clients new.other_clients
+-- the other client's session in a store was given XA RECOVER CONVERT XID, and its answer is the one at this place of the list
+pub record IsListed (answers : List (Result Reply Fault)) (store : ℕ) (old new : SessionView) : Type 0 where
+  pub answer : Result Reply Fault
+  pub there : slice_get answers store ≡ Some answer
+  pub given : IsGiven (RecoverStatement true) answer old new
 
--- what was said for a call that was answered so
+-- each other client's session was given XA RECOVER CONVERT XID, and answered so
+pub record SaysShow {C T : Type 0} (view : T → SessionView) (call : Call) (listing : Listing) (old new : WholeManager C T) : Type 0 where
+  pub asked : call ≡ Show
+  pub each : EachStore view (IsListed listing.answers.items) old.other_clients new.other_clients
+
+-- what was said for a call that was answered so, and to no other session anything
 abbrev pub SaidFor : {C T : Type 0} → (C → SessionView) → (T → SessionView) → Call → Response → WholeManager C T → WholeManager C T → Type 0
-SaidFor view view' call Silent old new = SaysNothing view view' old new
-SaidFor view view' call (Unread place) old new = SaysNothing view view' old new
-SaidFor view view' call (UnknownStore store) old new = SaysNothing view view' old new
-SaidFor view view' call (UnknownTransaction number) old new = SaysNothing view view' old new
-SaidFor view view' call (WrongStage number) old new = SaysNothing view view' old new
-SaidFor view view' call (Begun number) old new = SaysNothing view view' old new
-SaidFor view view' call NumbersSpent old new = SaysNothing view view' old new
-SaidFor view view' call (Worked answer) old new = SaysWork view call answer old new × IsQuiet view' old.other_clients new.other_clients
-SaidFor view view' call (Voted answer) old new = SaysVote view call answer old new × IsQuiet view' old.other_clients new.other_clients
-SaidFor view view' call Decided old new = SaysNothing view view' old new
-SaidFor view view' call Closed old new = SaysNothing view view' old new
+SaidFor view view' call Silent old new = IsStill old new
+SaidFor view view' call (Unread place) old new = IsStill old new
+SaidFor view view' call (UnknownStore store) old new = IsStill old new
+SaidFor view view' call (UnknownTransaction number) old new = IsStill old new
+SaidFor view view' call (WrongStage number) old new = IsStill old new
+SaidFor view view' call (Begun number) old new = IsStill old new
+SaidFor view view' call NumbersSpent old new = IsStill old new
+SaidFor view view' call (Worked answer) old new = SaysWork view call answer old new × (new.other_clients ≡ old.other_clients)
+SaidFor view view' call (Voted answer) old new = SaysVote view call answer old new × (new.other_clients ≡ old.other_clients)
+SaidFor view view' call Decided old new = IsStill old new
+SaidFor view view' call Closed old new = IsStill old new
 SaidFor view view' call (Ended ending) old new =
-    (SaysFinish view call ending old new ⊎ SaysAbandon view call ending old new) × IsQuiet view' old.other_clients new.other_clients
-SaidFor view view' call Limited old new = SaysNothing view view' old new
-SaidFor view view' call Stopped old new = SaysNothing view view' old new
-SaidFor view view' call (Recovered outcome) old new = SaysRecovery view call outcome old new × IsQuiet view' old.other_clients new.other_clients
-SaidFor view view' call (Replied convert answer) old new = SaysReply view' call answer old new × IsQuiet view old.sessions new.sessions
-SaidFor view view' call (Shown answers) old new = IsQuiet view old.sessions new.sessions
+    (SaysFinish view call ending old new ⊎ SaysAbandon view call ending old new) × (new.other_clients ≡ old.other_clients)
+SaidFor view view' call Limited old new =
+    (new.branches ≡ old.branches) × IsQuiet view old.sessions new.sessions × (new.other_clients ≡ old.other_clients)
+SaidFor view view' call Stopped old new = IsQuiet view old.sessions new.sessions × (new.other_clients ≡ old.other_clients)
+SaidFor view view' call (Recovered outcome) old new = SaysRecovery view call outcome old new × (new.other_clients ≡ old.other_clients)
+SaidFor view view' call (Replied convert answer) old new =
+    SaysReply view' call answer old new × (new.branches ≡ old.branches) × (new.sessions ≡ old.sessions)
+SaidFor view view' call (Shown listing) old new = SaysShow view' call listing old new × (new.branches ≡ old.branches) × (new.sessions ≡ old.sessions)

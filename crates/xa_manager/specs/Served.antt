@@ -1,15 +1,15 @@
 -- What a transaction manager answers to lines that come one after another.
---     state_of         how the manager of a server stands
---     ManagerBegins      nothing has begun
 --     call_said       the call that a line is
 --     refused_text    what is told where memory is refused
 --     has_few_words   a response whose words take no memory
 --     IsRefusedCall   memory was refused for a call or for its answer
 --     IsCallAnswer    how a line may be answered
-use Rattle.std.specs.Prelude.{◌≡◌, ◌⊎◌, ℕ, Bool, true, false, Some, None, Result, Ok, Err, List, [], codes}
+use Rattle.std.specs.Prelude.{◌≡◌, ◌⊎◌, ℕ, Bool, true, false, Some, None, Result, Ok, Err, List, codes}
 use Rattle.xa_server.specs.declared.reply.Reply.{Reply}
 use Rattle.xa_server.specs.declared.reply.Reply.TheVariants.{Ok as Done, Value, Recovered as Listed, Refused}
 use Rattle.xa_session.specs.declared.fault.Fault.{Fault}
+use Rattle.xa_session.specs.View.{SessionView}
+use Rattle.xa_coordinator.specs.declared.fused.Fused.{Fused}
 use Rattle.xa_coordinator.specs.declared.ending.Ending.{Ending}
 use Rattle.xa_coordinator.specs.declared.ending.Ending.TheVariants.{Committed, RolledBack, Hazard, Unfinished}
 use Rattle.xa_coordinator.specs.declared.fault.WorkFault.{WorkFault}
@@ -25,11 +25,8 @@ use Rattle.xa_manager.specs.declared.response.Response.TheVariants.{NumbersSpent
 use Rattle.xa_manager.specs.declared.response.Response.TheVariants.{Shown}
 use Rattle.xa_manager.specs.Calls.{call_of}
 use Rattle.xa_manager.specs.Texts.{answer_text}
-use Rattle.xa_manager.specs.Answers.{ManagerState, Answers}
-
--- nothing has begun
-abbrev pub ManagerBegins : ManagerState → Type 0
-ManagerBegins state = (state.decisions ≡ []) × (state.stages ≡ [])
+use Rattle.xa_manager.specs.Said.{WholeManager}
+use Rattle.xa_manager.specs.Whole.{IsUnchanged, Performs}
 
 -- the call that a line is; one that is too long isn't read
 abbrev pub call_said : Received → Call
@@ -94,15 +91,17 @@ has_few_words (Recovered outcome) = false
 has_few_words (Replied convert answer) = is_plain_reply answer
 has_few_words (Shown listing) = false
 
--- memory was refused for a call, and the transactions and decisions are as before; or it was carried out, and memory was refused for what is
+-- memory was refused for a call, and nothing was said and nothing changed; or it was carried out, and memory was refused for what is
 -- told of it, which is then a response of many words: so a transaction that begins, a decision, a limit and a stop aren't carried out
-pub record IsRefusedCall (old : ManagerState) (call : Call) (text : List ℕ) (new : ManagerState) : Type 0 where
+pub record IsRefusedCall {S T : Type 0} (view : S → SessionView) (view' : T → SessionView) (old : WholeManager (Fused S) T) (call : Call) (text : List ℕ)
+    (new : WholeManager (Fused S) T) : Type 0 where
   pub speaks : call ≡ Silent → ⊥
   pub told : text ≡ refused_text
-  pub stands : (new ≡ old) ⊎ ((response : Response) × (has_few_words response ≡ false) × Answers old call response new)
+  pub stands : IsUnchanged old new ⊎ ((response : Response) × (has_few_words response ≡ false) × Performs view view' old call response new)
 
 -- a call was refused or carried out, and what it came to is told; or memory was refused
-abbrev pub IsCallAnswer : ManagerState → Received → List ℕ → ManagerState → Type 0
-IsCallAnswer old line text new =
-    ((response : Response) × Answers old (call_said line) response new × (text ≡ answer_text new.decisions response))
-    ⊎ IsRefusedCall old (call_said line) text new
+abbrev pub IsCallAnswer : {S T : Type 0} → (S → SessionView) → (T → SessionView) → WholeManager (Fused S) T → Received → List ℕ → WholeManager (Fused S) T
+    → Type 0
+IsCallAnswer view view' old line text new =
+    ((response : Response) × Performs view view' old (call_said line) response new × (text ≡ answer_text new.state.decisions response))
+    ⊎ IsRefusedCall view view' old (call_said line) text new

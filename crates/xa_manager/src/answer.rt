@@ -2,9 +2,10 @@
 ghost use Rattle.std.specs.Prelude.{◌≡◌, ◌≤◌, ◌<◌, ◌-◌, ◌^◌, ℕ, Ok, true, nat_lt, IfOk, OnErr, vec_len, length, map};
 ghost use Rattle.xa_manager.specs.Answers.{Answers, vote_answer_of, stage_after as stage_with};
 ghost use Rattle.xa_manager.specs.Calls.{takes_rows, IsWritten};
-ghost use Rattle.xa_manager.specs.Limits.{Passes, StartsAnew};
+ghost use Rattle.xa_manager.specs.Limits.{Passes, LimitsAlone, StartsAnew};
 ghost use Rattle.xa_manager.specs.Managed.{state_of, whole_of};
-ghost use Rattle.xa_manager.specs.Said.{SaidFor, reply_of};
+ghost use Rattle.xa_manager.specs.Said.{SaidFor, IsStill, IsGiven, IsListed, reply_of};
+ghost use Rattle.xa_coordinator.specs.Stores.{EachStore};
 
 use crate::{Call, Listing, Manager, Response, Stage, VoteAnswer};
 use std::alloc::{AllocError, Global};
@@ -50,7 +51,18 @@ fn told_of(vote: Vote) -> (VoteAnswer, Stage)
     }
 }
 
-/// What each other client is answered to `XA RECOVER CONVERT XID`.
+/// What a client's session answers to a statement.
+fn reply_from<T: Speak, R: Wait>(
+    rt: &R,
+    session: &mut T,
+    statement: &Statement,
+) -> Result<Reply, Fault>
+    ensures { IsGiven statement.now result (T.view session.old) (T.view session.new) }
+{
+    reply_in(session.execute(rt, statement))
+}
+
+/// What each other client is answered to `XA RECOVER CONVERT XID`. Room for the answers is taken before any is asked.
 fn listed_by_each<T: Speak, R: Wait>(
     rt: &R,
     alloc: Global,
@@ -58,11 +70,13 @@ fn listed_by_each<T: Speak, R: Wait>(
 ) -> Result<Vec<Result<Reply, Fault>>, NoMemory>
     ensures each { IfOk result (λ answers. vec_len answers ≡ length other_clients.old) }
     ensures count { length other_clients.new ≡ length other_clients.old }
+    ensures listed { IfOk result (λ answers. EachStore T.view (IsListed answers.items) other_clients.old other_clients.new) }
+    ensures nothing { OnErr result (other_clients.new ≡ other_clients.old) }
 {
-    let mut answers = Vec::new(alloc);
+    let mut answers = Vec::with_capacity(alloc, other_clients.len())?;
     let listing = Statement::Recover { convert: true };
-    for other_client in other_clients.iter_mut() {
-        answers.push(reply_in(other_client.execute(rt, &listing)))?;
+    for store in 0..other_clients.len() {
+        answers.push_reserved(reply_from(rt, &mut other_clients[store], &listing));
     }
     Ok(answers)
 }
@@ -95,6 +109,7 @@ impl<C: Speak, T: Speak> Manager<C, T> {
             ((vec_len self.new.coordinator.stores ≡ vec_len self.old.coordinator.stores)
             × (self.new.decisions ≡ self.old.decisions)
             × (self.new.ledger ≡ self.old.ledger)) }
+        ensures nothing { OnErr result (IsStill (whole_of self.old) (whole_of self.new)) }
     {
         self.ledger.add(Stage::Over)?;
         match self.coordinator.begin(&mut self.decisions) {
@@ -207,7 +222,7 @@ impl<C: Speak, T: Speak> Manager<C, T> {
         }
         Response::Replied {
             convert: converts(statement),
-            answer: reply_in(self.other_clients[store as usize].execute(rt, statement)),
+            answer: reply_from(rt, &mut self.other_clients[store as usize], statement),
         }
     }
 
@@ -219,6 +234,7 @@ impl<C: Speak, T: Speak> Manager<C, T> {
             ((vec_len self.new.coordinator.stores ≡ vec_len self.old.coordinator.stores)
             × (self.new.decisions ≡ self.old.decisions)
             × (self.new.ledger ≡ self.old.ledger)) }
+        ensures nothing { OnErr result (IsStill (whole_of self.old) (whole_of self.new)) }
     {
         let answers = listed_by_each(rt, alloc, self.other_clients.as_mut_slice())?;
         Ok(Response::Shown(Listing { answers }))
@@ -230,7 +246,7 @@ impl<S: Speak, T: Speak> Manager<Fused<S>, T> {
     fn fail(&mut self, store: u64, calls: u64) -> Response
         ensures answers { Answers (state_of self.old) (Call.Fail store calls) result (state_of self.new) }
         ensures says { SaidFor (λ session. S.view session.inner) T.view (Call.Fail store calls) result (whole_of self.old) (whole_of self.new) }
-        ensures limited { result ≡ Response.Limited → Passes store calls self.new.coordinator.stores.items }
+        ensures limited { result ≡ Response.Limited → LimitsAlone store calls self.old.coordinator.stores.items self.new.coordinator.stores.items }
     {
         if !self.has_store(store) {
             return Response::UnknownStore(store);
@@ -252,8 +268,9 @@ impl<S: Speak, T: Speak> Manager<Fused<S>, T> {
 
     /// Carries a call out, and gives what it is answered.
     ///
-    /// After `FAIL` the coordinator's session in that store passes so many calls on; after `STOP` each passes 2 ^ 64 - 1, and nothing is open in any store.
-    /// Error: `NoMemory`, where a transaction can't be kept or a list of answers can't grow; the transactions and the decisions are as before.
+    /// After `FAIL` the coordinator's session in that store passes so many calls on, and those of the other stores as many as before; after `STOP` each passes 2 ^ 64 - 1,
+    /// and nothing is open in any store.
+    /// Error: `NoMemory`, where a transaction can't be kept or a list of answers has no room; nothing was said to any session then, and nothing changed.
     /// May wait: no number of tries is promised.
     /// Own rule: docs/COORDINATOR.md, 'At the command line'.
     pub fn answer<R: Wait>(
@@ -268,12 +285,13 @@ impl<S: Speak, T: Speak> Manager<Fused<S>, T> {
         ensures limited { (store calls : ℕ)
             → call.now ≡ Call.Fail store calls
             → result ≡ Ok Response.Limited
-            → Passes store calls self.new.coordinator.stores.items }
+            → LimitsAlone store calls self.old.coordinator.stores.items self.new.coordinator.stores.items }
         ensures anew { call.now ≡ Call.Stop → StartsAnew self.new.coordinator.branches self.new.coordinator.stores.items }
         ensures kept { OnErr result
             ((vec_len self.new.coordinator.stores ≡ vec_len self.old.coordinator.stores)
             × (self.new.decisions ≡ self.old.decisions)
             × (self.new.ledger ≡ self.old.ledger)) }
+        ensures nothing { OnErr result (IsStill (whole_of self.old) (whole_of self.new)) }
     {
         match call {
             Call::Silent => Ok(Response::Silent),

@@ -48,12 +48,13 @@ impl<'r, C: Speak, T: Speak, R: Wait> CallServer<'r, C, T, R> {
 }
 
 impl<'r, S: Speak, T: Speak, R: Wait> LineServer for CallServer<'r, Fused<S>, T, R> {
-    ghost use Rattle.xa_manager.specs.Managed.{state_of};
-    ghost use Rattle.xa_manager.specs.Served.{ManagerBegins, IsCallAnswer};
+    ghost use Rattle.xa_manager.specs.Managed.{whole_of};
+    ghost use Rattle.xa_manager.specs.Served.{IsCallAnswer};
+    ghost use Rattle.xa_manager.specs.Whole.{ManagerBegins};
 
-    ghost begins = { λ server. ManagerBegins (state_of server.manager) };
+    ghost begins = { λ server. ManagerBegins S.view T.view (whole_of server.manager) };
 
-    ghost answers = { λ old line text new. IsCallAnswer (state_of old.manager) line text (state_of new.manager) };
+    ghost answers = { λ old line text new. IsCallAnswer S.view T.view (whole_of old.manager) line text (whole_of new.manager) };
 
     fn answer(&mut self, alloc: Global, line: &[u8]) -> Answer {
         let call = read_call(line);

@@ -1,5 +1,5 @@
 //! A transaction manager.
-ghost use Rattle.std.specs.Prelude.{◌≡◌, ◌≤◌, ℕ, Some, [], vec_len, length, codes};
+ghost use Rattle.std.specs.Prelude.{◌≡◌, ◌≤◌, ◌<◌, ℕ, Some, None, [], vec_len, length, slice_get, codes};
 ghost use Rattle.xa_manager.specs.Ledger.{stage_of, transaction_in, IsTransactionOf};
 ghost use Rattle.xa_coordinator.specs.declared.transaction.VoteKind.TheVariants.{Ready as VoteKindReady};
 ghost use Rattle.xa_coordinator.specs.declared.transaction.Prepared.{Prepared};
@@ -51,6 +51,9 @@ impl<C: Speak, T: Speak> Manager<C, T> {
         ensures stores { vec_len result.coordinator.stores ≡ vec_len sessions }
         ensures decisions { result.decisions ≡ [] }
         ensures ledger { result.ledger ≡ [] }
+        ensures sessions { result.coordinator.stores ≡ sessions }
+        ensures other_clients { result.other_clients ≡ other_clients }
+        ensures free { (store : ℕ) → store < vec_len sessions → slice_get result.coordinator.branches store ≡ Some None }
     {
         Manager {
             coordinator: Coordinator::new(name(), sessions),

@@ -1,22 +1,31 @@
 //! Calls of a coordinator over stores of its own, line by line.
-ghost use Rattle.std.specs.Prelude.{◌≡◌, ◌≤◌, [], length, vec_len, IfOk};
-ghost use Rattle.decision_log.specs.Opens.{IsCapacity};
-ghost use Rattle.xa_store.specs.Passes.{log_of, identity_of};
-ghost use Rattle.xa_manager.specs.Passes.{AreOf};
+ghost use Rattle.std.specs.Prelude.{◌≡◌, ◌≤◌, ◌<◌, ◌-◌, ◌^◌, [], ℕ, All, length, map, vec_len, IfOk, IfErr, IfSome, OnOk};
+ghost use Rattle.std.specs.List.{AllZip};
+ghost use Rattle.decision_log.specs.Known.{newcomer};
+ghost use Rattle.xa_server.specs.State.{no_state};
+ghost use Rattle.xa_store.specs.Passes.{log_of, identity_of, known_of};
+ghost use Rattle.xa_lines.specs.Exchange.{IsFresh};
+ghost use Rattle.xa_lines.specs.Served.{IsServed, AfterServing};
+ghost use Rattle.xa_manager.specs.Limits.{Passes, StartsAnew};
+ghost use Rattle.xa_manager.specs.Managed.{whole_of};
+ghost use Rattle.xa_manager.specs.Passes.{AreOf, AreNew};
+ghost use Rattle.xa_manager.specs.Whole.{ManagerBegins};
 
 use crate::{CallServer, Manager};
 use std::alloc::{AllocError, Global};
-use std::io::{Read, Write};
 use std::sync::Wait;
 use xa_coordinator::{Fused, Speak};
-use xa_lines::{ScriptFault, Transport, serve};
+use xa_lines::{Client, LineServer, ScriptFault, serve};
 use xa_session::Session;
 use xa_store::{Log, Pass, Store};
 use xa_xid::NoMemory;
 
 /// Opens a store, and gives the passes of its two sessions.
 fn open_store(alloc: Global, capacity: u64) -> Result<(Store, Pass, Pass), NoMemory>
-    ensures { IfOk result (λ opened. (log_of opened.1 ≡ identity_of opened.0.log) × (log_of opened.2 ≡ identity_of opened.0.log)) }
+    ensures logs { IfOk result (λ opened. (log_of opened.1 ≡ identity_of opened.0.log) × (log_of opened.2 ≡ identity_of opened.0.log)) }
+    ensures capacity { IfOk result (λ opened. (identity_of opened.0.log).capacity ≡ capacity) }
+    ensures empty { IfOk result (λ opened. opened.0.base ≡ no_state) }
+    ensures known { IfOk result (λ opened. (known_of opened.1 ≡ newcomer 1) × (known_of opened.2 ≡ newcomer 2)) }
 {
     let Ok((store, mut passes)) = Store::open(alloc, capacity, 2) else {
         return Err(AllocError);
@@ -27,8 +36,8 @@ fn open_store(alloc: Global, capacity: u64) -> Result<(Store, Pass, Pass), NoMem
     Ok((store, first, second))
 }
 
-/// Opens so many stores, each with room for `capacity` entries and two sessions, and returns them with the passes of their first sessions, the
-/// coordinator's, and of their second ones, the other clients'.
+/// Opens so many stores, each of which holds nothing and has room for `capacity` entries and two sessions, and returns them with the passes of their
+/// sessions 1, the coordinator's, and of their sessions 2, the other clients'.
 ///
 /// Errors: `NoMemory` where memory can't be had, or where `capacity` isn't in `[1, 1024]`; nothing is kept then.
 /// May return `NoMemory`. Never waits.
@@ -41,6 +50,8 @@ pub fn open_stores(
     ensures count { IfOk result (λ opened. vec_len opened.0 ≡ count) }
     ensures first { IfOk result (λ opened. AreOf opened.0.items opened.1.items) }
     ensures second { IfOk result (λ opened. AreOf opened.0.items opened.2.items) }
+    ensures capacity { IfOk result (λ opened. All (λ store. (identity_of store.log).capacity ≡ capacity) opened.0.items) }
+    ensures new { IfOk result (λ opened. AreNew opened.0.items opened.1.items opened.2.items) }
 {
     let mut stores = Vec::new(alloc);
     let mut firsts = Vec::new(alloc);
@@ -61,7 +72,9 @@ fn connect_each<'a>(
     passes: Vec<Pass>,
 ) -> Result<Vec<Session<'a, Log>>, NoMemory>
     requires { AreOf stores.now passes.items }
-    ensures { IfOk result (λ sessions. vec_len sessions ≡ length stores.now) }
+    ensures count { IfOk result (λ sessions. vec_len sessions ≡ length stores.now) }
+    ensures passes { IfOk result (λ sessions. map (λ session. session.pass) sessions.items ≡ passes.items) }
+    ensures bases { IfOk result (λ sessions. AllZip (λ store session. session.base.now ≡ store.base) stores.now sessions.items) }
 {
     let mut sessions = Vec::new(alloc);
     for pass in passes {
@@ -76,7 +89,9 @@ fn connect_each<'a>(
 
 /// The sessions, each of which can be made to fail.
 fn fuse_each<S: Speak + Drop>(alloc: Global, sessions: Vec<S>) -> Result<Vec<Fused<S>>, NoMemory>
-    ensures { IfOk result (λ fused. vec_len fused ≡ vec_len sessions) }
+    ensures count { IfOk result (λ fused. vec_len fused ≡ vec_len sessions) }
+    ensures within { IfOk result (λ fused. map (λ session. session.inner) fused.items ≡ sessions.items) }
+    ensures passes { IfOk result (λ fused. (store : ℕ) → store < length fused.items → Passes store (2 ^ 64 - 1) fused.items) }
 {
     let mut fused = Vec::new(alloc);
     for session in sessions {
@@ -85,7 +100,7 @@ fn fuse_each<S: Speak + Drop>(alloc: Global, sessions: Vec<S>) -> Result<Vec<Fus
     Ok(fused)
 }
 
-/// A manager over 1 to 16 stores, by the passes of their two sessions as `open_stores` returns them: nothing has begun, and no session fails.
+/// A manager over 1 to 16 stores, by the passes of their two sessions as `open_stores` returns them: nothing has begun, nothing is open, and no session fails.
 ///
 /// Errors: `NoMemory`; the passes are gone then.
 /// May return `NoMemory`. Never waits.
@@ -103,6 +118,11 @@ pub fn manager_over<'a>(
     ensures stores { IfOk result (λ manager. vec_len manager.coordinator.stores ≡ length stores.now) }
     ensures decisions { IfOk result (λ manager. manager.decisions ≡ []) }
     ensures ledger { IfOk result (λ manager. manager.ledger ≡ []) }
+    ensures anew { IfOk result (λ manager. StartsAnew manager.coordinator.branches manager.coordinator.stores.items) }
+    ensures sessions { IfOk result (λ manager. map (λ session. session.inner.pass) manager.coordinator.stores.items ≡ firsts.items) }
+    ensures other_clients { IfOk result (λ manager. map (λ session. session.pass) manager.other_clients.items ≡ seconds.items) }
+    ensures begins { AreNew stores.now firsts.items seconds.items
+        → IfOk result (λ manager. ManagerBegins ⟦<Session<'a, Log> as Speak>⟧.view ⟦<Session<'a, Log> as Speak>⟧.view (whole_of manager)) }
 {
     let sessions = connect_each(alloc, stores, firsts)?;
     let other_clients = connect_each(alloc, stores, seconds)?;
@@ -110,26 +130,40 @@ pub fn manager_over<'a>(
     Ok(Manager::new(alloc, sessions, other_clients))
 }
 
-/// Carries calls out over stores of its own, line by line: each line is answered, and the answer written and flushed, before more is read.
+/// Carries a client's calls out over 1 to 16 stores, line by line, until the client ends: each line is answered, and the answer told, before more is received.
 ///
-/// `stores` is the number of stores, in `[1, 16]`; each has room for `capacity` entries, in `[1, 1024]`, and two sessions, the
-/// coordinator's and another client's. The input is of any length, a line of at most 65,536 bytes; a longer one isn't read as a call.
-/// Errors: `Read`, `Write`, and `NoMemory` where the stores or the room for a line can't be had, before anything was read. Where memory
-/// is refused for a call, that is its answer, and the next is received. What is promised of such a conversation is `xa_lines::serve`'s
-/// contract, by what `CallServer` answers; streams don't say what passed.
+/// The stores, which hold nothing, and the passes of their two sessions, the coordinator's and another client's, are as `open_stores` returns them. The
+/// input is of any length, a line of at most 65,536 bytes; a longer one isn't read as a call.
+/// Errors: `NoMemory`, where the sessions or the room for a line can't be had, before anything was received; `Read` where a read failed, or after
+/// 2 ^ 64 - 1 reads; `Write` where a write or a flush failed. After `Read` all whole lines are answered; after `Write` a prefix of the answers
+/// was given. Where memory is refused for a call, that is its answer, and the next is received.
 /// May wait, for the client too.
 /// Own rule: docs/COORDINATOR.md, 'At the command line'.
-pub fn converse<R: Wait, I: Read + Drop, W: Write + Drop>(
-    rt: &R,
+pub fn converse<
+    'a,
+    R: Wait,
+    P: Client<CallServer<'a, Fused<Session<'a, Log>>, Session<'a, Log>, R>>,
+>(
+    rt: &'a R,
     alloc: Global,
-    transport: &mut Transport<I, W>,
-    stores: u64,
-    capacity: u64,
+    client: &mut P,
+    stores: &'a [Store],
+    firsts: Vec<Pass>,
+    seconds: Vec<Pass>,
 ) -> Result<(), ScriptFault>
-    requires stores { (1 ≤ stores) × (stores ≤ 16) }
-    requires capacity { IsCapacity capacity }
+    requires some { 1 ≤ length stores.now }
+    requires most { length stores.now ≤ 16 }
+    requires first { AreOf stores.now firsts.items }
+    requires second { AreOf stores.now seconds.items }
+    requires new { AreNew stores.now firsts.items seconds.items }
+    requires fresh { IfSome (P.exchange client.old) IsFresh }
+    ensures told { OnOk result (IfSome (P.exchange client.new)
+        (IsServed ⟦<CallServer<'a, Fused<Session<'a, Log>>, Session<'a, Log>, R> as LineServer>⟧.begins
+        ⟦<CallServer<'a, Fused<Session<'a, Log>>, Session<'a, Log>, R> as LineServer>⟧.answers)) }
+    ensures fault { IfErr result (λ fault. IfSome (P.exchange client.new)
+        (AfterServing ⟦<CallServer<'a, Fused<Session<'a, Log>>, Session<'a, Log>, R> as LineServer>⟧.begins
+        ⟦<CallServer<'a, Fused<Session<'a, Log>>, Session<'a, Log>, R> as LineServer>⟧.answers fault)) }
 {
-    let (stores, firsts, seconds) = open_stores(alloc, stores, capacity)?;
-    let manager = manager_over(alloc, stores.as_slice(), firsts, seconds)?;
-    serve(alloc, &mut CallServer::new(rt, manager), transport)
+    let manager = manager_over(alloc, stores, firsts, seconds)?;
+    serve(alloc, &mut CallServer::new(rt, manager), client)
 }

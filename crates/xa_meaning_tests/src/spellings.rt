@@ -1,9 +1,9 @@
-//! Literals, identifiers and statements, each with what is read of it.
+//! Literals, numbers, identifiers and statements, each with what is read of it.
 use std::alloc::Global;
 use std::process::Abort;
 use std::test::Fail;
 use xa_statement::{read_statement, write_statement};
-use xa_xid::{Statement, read_literal, read_xid, with_part, with_xid};
+use xa_xid::{Statement, read_literal, read_number, read_xid, with_part, with_xid};
 
 /// A literal, and the place after it with its bytes, or the number of its fault.
 const LITERALS: &str = r#"'a' => 3 0x61
@@ -46,6 +46,24 @@ X'000000000000000000000000000000000000000000000000000000000000000000000000000000
 'aaaaaaaaaaaaaaaaaaaaaaaaaaaaaaaaaaaaaaaaaaaaaaaaaaaaaaaaaaaaaaaaa => fault 2
 'aaaaaaaaaaaaaaaaaaaaaaaaaaaaaaaaaaaaaaaaaaaaaaaaaaaaaaaaaaaaaaaaa' => fault 4
 "#;
+
+/// A formatID's number, and the place after it with its value, or the number of its fault.
+const NUMBERS: &str = "7 => 1 7
+007,'a' => 3 7
+0x1F; => 4 31
+18446744073709551615 => 20 18446744073709551615
+18446744073709551616 => fault 5
+0xffffffffffffffff => 18 18446744073709551615
+0x10000000000000000 => fault 5
+0x => fault 1
+0X1F => fault 1
+7a => fault 1
+-7 => fault 1
+'7' => fault 1
+X'07' => fault 1
+ 7 => fault 1
+ => fault 1
+";
 
 /// An identifier, and the place after it with its canonical text, or the number of the fault and the place of its token.
 const XIDS: &str = r#"'a' , 0x4 => 9 0x61,0x04,1
@@ -106,6 +124,15 @@ fn literal_told(alloc: Global, text: &[u8]) -> Result<Vec<u8>, Fail> {
     }
 }
 
+/// What is read of a number.
+fn number_told(alloc: Global, text: &[u8]) -> Result<Vec<u8>, Fail> {
+    let told = match read_number(text, 0) {
+        Ok((number, next)) => format!(in alloc; "{next} {number}")?,
+        Err(fault) => format!(in alloc; "fault {}", fault.number())?,
+    };
+    Ok(Vec::from_slice(alloc, told.as_bytes())?)
+}
+
 /// What is read of an identifier.
 fn xid_told(alloc: Global, text: &[u8]) -> Result<Vec<u8>, Fail> {
     match read_xid(text, 0) {
@@ -145,6 +172,7 @@ fn statement_told(alloc: Global, text: &[u8]) -> Result<Vec<u8>, Fail> {
 #[derive(Clone, Copy)]
 enum Kind {
     Literals,
+    Numbers,
     Xids,
     Statements,
 }
@@ -155,6 +183,7 @@ fn all_are_told(rt: &impl Abort, alloc: Global, kind: Kind, table: &str) -> Resu
         let (text, wanted) = line.split_once(" => ").ok_or("two parts")?;
         let told = match kind {
             Kind::Literals => literal_told(alloc, text.as_bytes())?,
+            Kind::Numbers => number_told(alloc, text.as_bytes())?,
             Kind::Xids => xid_told(alloc, text.as_bytes())?,
             Kind::Statements => statement_told(alloc, text.as_bytes())?,
         };
@@ -166,6 +195,11 @@ fn all_are_told(rt: &impl Abort, alloc: Global, kind: Kind, table: &str) -> Resu
 #[test]
 fn literals_are_read_to_their_end(rt: HostRuntime) -> Result<(), Fail> {
     all_are_told(&rt, rt.alloc(), Kind::Literals, LITERALS)
+}
+
+#[test]
+fn numbers_are_read_to_their_end(rt: HostRuntime) -> Result<(), Fail> {
+    all_are_told(&rt, rt.alloc(), Kind::Numbers, NUMBERS)
 }
 
 #[test]

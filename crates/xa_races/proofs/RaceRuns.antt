@@ -36,6 +36,15 @@ runs_belong identity n passes taken runs belong cut are =
     let AllBelong : List Pass → Type 0 = λ list. All Belongs list in
     all_of_mapped Belongs (λ run. run.pass) runs (subst AllBelong (sym (are ∙ cut)) (All-take Belongs n passes belong))
 
+-- their log has the room that it was opened with
+pub have_room : (identity : LogIdentity) (capacity : ℕ) (runs : List Run) → All (λ run. log_of run.pass ≡ identity) runs → identity.capacity ≡ capacity
+    → All (λ run. (log_of run.pass).capacity ≡ capacity) runs
+have_room identity capacity [] belong room = All-nil (λ run. (log_of run.pass).capacity ≡ capacity)
+have_room identity capacity (run ∷ runs) belong room =
+    let Belongs : Run → Type 0 = λ r. log_of r.pass ≡ identity in
+    All-cons (λ r. (log_of r.pass).capacity ≡ capacity) run runs (ap (λ i. i.capacity) (All-head Belongs run runs belong) ∙ room)
+    (have_room identity capacity runs (All-tail Belongs run runs belong) room)
+
 abbrev head_or : {A : Type 0} → List A → A → A
 head_or [] d = d
 head_or (x ∷ xs) d = x
@@ -156,13 +165,3 @@ pub own_room : (identity : LogIdentity) (history : List Entry) (runs : List Run)
 own_room identity history runs passes belong zip is =
     let P : List Entry → Type 0 = λ list. length list ≤ identity.capacity in
     subst P (sym is) (last_keeps (λ p k. length k.seen ≤ p.capacity) (λ pass. pass.state.within) identity history runs passes (omega arith) belong zip)
-
--- the same of a history of several rounds, which is empty where there is no run
-pub own_in_rounds : (sessions : ℕ) (history : List Entry) (runs : List Run) → sessions ≡ max (length runs) 1 → AllOf sessions history
-    → (length runs ≡ 0 → history ≡ []) → AllOf (length runs) history
-own_in_rounds sessions history [] count own none =
-    let P : List Entry → Type 0 = λ list. AllOf 0 list in subst P (sym (none refl)) (All-nil (λ entry. (1 ≤ entry.session) × (entry.session ≤ 0)))
-own_in_rounds sessions history (run ∷ runs) count own none =
-    let same : sessions ≡ length (run ∷ runs) = omega (arith, count) in
-    let P : ℕ → Type 0 = λ n. AllOf n history in
-    subst P same own

@@ -55,9 +55,6 @@ gains items lists new session place list d statement some at below now is index 
     ∙ ap (λ b. part_at (map items lists) index ++ option_to_list (cond b (Some statement) None))
     (ap (λ n. n == index) at ∙ same_place session index some)
 
-pub gains_nothing : (lists : List (List Statement)) → Gains (λ other. None) lists lists
-gains_nothing lists index = sym (append-nil (part_at lists index))
-
 pub unread_at : (read : Result Statement ℕ) (fault : SyntaxFault) → Err fault ≡ seen_of read → read ≡ Err fault.at
 unread_at (Ok statement) fault is = cc
 unread_at (Err place) fault is = cc

@@ -1,15 +1,18 @@
 //! Holds a race of a script's runs.
-ghost use Rattle.std.specs.Prelude.{◌≡◌, ◌≤◌, ◌+◌, ℕ, List, length, map, max, slice_get, vec_len, Some, IfOk, IfErr};
+ghost use Rattle.std.specs.Prelude.{◌≡◌, ◌≤◌, ◌+◌, ℕ, List, length, map, max, slice_get, vec_len, Some, IfOk, IfErr, OnOk};
 ghost use Rattle.std.specs.List.{All, zip};
 ghost use Rattle.decision_log.specs.Opens.{IsCapacity};
 ghost use Rattle.xa_server.specs.State.{no_state};
-ghost use Rattle.xa_store.specs.Passes.{identity_of, log_of};
+ghost use Rattle.xa_store.specs.Passes.{identity_of, log_of, known_of};
+ghost use Rattle.xa_store.specs.Legal.{LetsIn};
 ghost use Rattle.xa_store.specs.Rounds.{AreFresh};
+ghost use Rattle.xa_store.specs.declared.race_fault.RaceFault.{RaceFault};
 ghost use Rattle.xa_lines.specs.Script.{lines_of};
 ghost use Rattle.xa_lines.specs.Limits.{script_bytes};
-ghost use Rattle.xa_races.specs.Race.{IsGiven, last_session};
-ghost use Rattle.xa_races.specs.Outcome.{IsOfRace};
+ghost use Rattle.xa_races.specs.Race.{AreRuns, IsGiven, IsReadable, last_session};
+ghost use Rattle.xa_races.specs.Outcome.{IsOfRace, script_fault_of};
 ghost use Rattle.xa_races.specs.LongRace.{IsOfRounds};
+ghost use Rattle.xa_races.specs.HeldOn.{Blamed, IsHeldOn, IsCaused};
 ghost use Rattle.xa_races.specs.RaceKind.{HeldInOneLog, HeldInRounds, IsHeld, IsRacedAs, IsOfRaceAs, IsTextAs, IsOfTextAs};
 
 use crate::asked::asked_of;
@@ -18,7 +21,7 @@ use crate::race_fault::script_fault;
 use crate::race_kind::RaceKind;
 use crate::race_lines::read_race;
 use crate::race_text::print_outcome;
-use std::alloc::Global;
+use std::alloc::{AllocError, Global};
 use std::sync::Wait;
 use std::thread::Threads;
 use xa_lines::ScriptFault;
@@ -52,7 +55,10 @@ fn hold_in_one_log<G: Gate + Sync, R: Threads + Wait + Sync>(
     requires sessions { (identity_of store.log).sessions ≡ max (length runs.items) 1 }
     requires empty { store.base ≡ no_state }
     ensures held { IfOk result (λ outcome. HeldInOneLog (identity_of store.log).capacity runs.items outcome) }
+    ensures opened { OnOk result (All (λ run. LetsIn (G.may_answer gate.now) (known_of run.pass).number (length run.lines.items)) runs.items) }
     ensures fault { IfErr result IsOfRace }
+    ensures blamed { IfErr result
+        (λ fault. (raced : RaceFault) × (fault ≡ script_fault_of raced) × Blamed RaceKind.OneLog (G.may_answer gate.now) runs.items raced) }
 {
     match race(rt, alloc, &store, runs, gate) {
         Ok(outcome) => Ok(outcome),
@@ -73,7 +79,10 @@ fn hold_in_rounds<G: Gate + Sync, R: Threads + Wait + Sync>(
     requires sessions { (identity_of store.log).sessions ≡ max (length runs.items) 1 }
     requires empty { store.base ≡ no_state }
     ensures held { IfOk result (λ outcome. HeldInRounds runs.items outcome) }
+    ensures opened { OnOk result (All (λ run. LetsIn (G.may_answer gate.now) (known_of run.pass).number (length run.lines.items)) runs.items) }
     ensures fault { IfErr result IsOfRounds }
+    ensures blamed { IfErr result
+        (λ fault. (raced : RaceFault) × (fault ≡ script_fault_of raced) × Blamed RaceKind.Rounds (G.may_answer gate.now) runs.items raced) }
 {
     match race_in_rounds(rt, alloc, store, runs, gate) {
         Ok((_, outcome)) => Ok(outcome),
@@ -95,12 +104,41 @@ fn hold_runs<G: Gate + Sync, R: Threads + Wait + Sync>(
     requires sessions { (identity_of store.log).sessions ≡ max (length runs.items) 1 }
     requires empty { store.base ≡ no_state }
     ensures held { IfOk result (λ outcome. IsHeld race_kind (identity_of store.log).capacity runs.items outcome) }
+    ensures opened { OnOk result (All (λ run. LetsIn (G.may_answer gate.now) (known_of run.pass).number (length run.lines.items)) runs.items) }
     ensures fault { IfErr result (IsOfRaceAs race_kind) }
+    ensures blamed { IfErr result
+        (λ fault. (raced : RaceFault) × (fault ≡ script_fault_of raced) × Blamed race_kind (G.may_answer gate.now) runs.items raced) }
 {
     match race_kind {
         RaceKind::OneLog => hold_in_one_log(rt, alloc, store, runs, gate),
         RaceKind::Rounds => hold_in_rounds(rt, alloc, store, runs, gate),
     }
+}
+
+/// A store with room for so many entries, and the runs of the sessions 1 to the greatest.
+fn entered(
+    alloc: Global,
+    greatest: u64,
+    lists: Vec<Vec<Statement>>,
+    capacity: u64,
+) -> Result<(Store, Vec<Run>), NoMemory>
+    requires capacity { IsCapacity capacity }
+    requires within { greatest ≤ 16 }
+    requires all { vec_len lists ≡ 16 }
+    ensures belongs { IfOk result (λ both. All (λ run. log_of run.pass ≡ identity_of both.0.log) both.1.items) }
+    ensures fresh { IfOk result (λ both. AreFresh (map (λ run. run.pass) both.1.items)) }
+    ensures sessions { IfOk result (λ both. (identity_of both.0.log).sessions ≡ max (length both.1.items) 1) }
+    ensures room { IfOk result (λ both. (identity_of both.0.log).capacity ≡ capacity) }
+    ensures empty { IfOk result (λ both. both.0.base ≡ no_state) }
+    ensures runs { IfOk result
+        (λ both. (lines : List (List ℕ)) → greatest ≡ last_session lines → IsGiven lines (map (λ list. list.items) lists.items) → AreRuns lines both.1.items) }
+{
+    let Ok((store, mut passes)) = Store::open(alloc, capacity, greatest.max(1)) else {
+        return Err(AllocError);
+    };
+    passes.truncate(greatest as usize);
+    let runs = runs_of(alloc, passes, lists)?;
+    Ok((store, runs))
 }
 
 /// Holds a race of the sessions 1 to the greatest in a store of their own, and gives the text of its outcome.
@@ -120,14 +158,19 @@ fn hold<G: Gate + Sync, R: Threads + Wait + Sync>(
         → greatest ≡ last_session lines
         → IsGiven lines (map (λ list. list.items) lists.items)
         → IfOk result (λ text. IsRacedAs race_kind capacity lines text.items) }
+    ensures on { (lines : List (List ℕ))
+        → greatest ≡ last_session lines
+        → IsGiven lines (map (λ list. list.items) lists.items)
+        → IfOk result (λ text. IsHeldOn race_kind (G.may_answer gate.now) capacity lines text.items) }
     ensures fault { IfErr result (IsOfRaceAs race_kind) }
+    ensures cause { (lines : List (List ℕ))
+        → greatest ≡ last_session lines
+        → IsGiven lines (map (λ list. list.items) lists.items)
+        → IfErr result (IsCaused race_kind (G.may_answer gate.now) capacity lines) }
 {
     let asked = asked_of(alloc, lists.as_slice())?;
-    let Ok((store, mut passes)) = Store::open(alloc, capacity, greatest.max(1)) else {
-        return Err(ScriptFault::NoMemory);
-    };
-    passes.truncate(greatest as usize);
-    let runs = runs_of(alloc, passes, lists)?;
+    let both = entered(alloc, greatest, lists, capacity)?;
+    let (store, runs) = both;
     let outcome = hold_runs(rt, alloc, store, runs, race_kind, gate)?;
     let text = print_outcome(alloc, asked.as_slice(), &outcome)?;
     Ok(text)
@@ -145,7 +188,10 @@ pub fn text_of_race<G: Gate + Sync, R: Threads + Wait + Sync>(
     requires capacity { IsCapacity capacity }
     requires short { length script.now ≤ script_bytes }
     ensures text { IfOk result (λ text. IsTextAs race_kind capacity script.now text.items) }
+    ensures on { IsReadable script.now → IfOk result
+        (λ text. IsHeldOn race_kind (G.may_answer gate.now) capacity (lines_of script.now) text.items) }
     ensures fault { IfErr result (IsOfTextAs race_kind script.now) }
+    ensures cause { IfErr result (IsCaused race_kind (G.may_answer gate.now) capacity (lines_of script.now)) }
 {
     let given = read_race(alloc, script)?;
     let RaceScript {

@@ -2,17 +2,17 @@
 ghost use Rattle.std.specs.Prelude.{◌≡◌, ◌≤◌, length, IfErr, OnOk, IfSome, Err};
 ghost use Rattle.std.specs.Io.KnownBytes.{IsAtEnd};
 ghost use Rattle.decision_log.specs.Opens.{IsCapacity};
-ghost use Rattle.xa_lines.specs.Limits.{script_bytes};
+ghost use Rattle.xa_lines.specs.Calls.{Completes, Stops};
+ghost use Rattle.xa_lines.specs.Limits.{script_bytes, script_reads};
 ghost use Rattle.xa_lines.specs.Transcript.{ConsumesMoreThan};
-ghost use Rattle.xa_races.specs.LongRace.{AppendsLongRace, AfterLongFault};
+ghost use Rattle.xa_races.specs.LongRace.{AppendsLongRace, AfterLongFault, IsLongText, IsOfLongText};
 
 use crate::holding::text_of_race;
 use crate::race_kind::RaceKind;
 use std::alloc::Global;
-use std::io::{Read, Write};
 use std::sync::Wait;
 use std::thread::Threads;
-use xa_lines::{ScriptFault, read_all, write_whole};
+use xa_lines::{PieceReader, PieceWriter, ScriptFault, read_all, write_whole};
 use xa_store::Gate;
 
 /// Races the runs of a script as `race_script` does, but in rounds: whenever `capacity` entries stand in the store's history, in
@@ -23,7 +23,12 @@ use xa_store::Gate;
 /// `Write` a prefix of the text was written, after any other nothing.
 /// May answer `NoMemory`. Waits for its threads.
 /// Own rule: docs/BEHAVIOR.md, 'A race of a script in rounds'.
-pub fn race_script_in_rounds<I: Read, O: Write, G: Gate + Sync, R: Threads + Wait + Sync>(
+pub fn race_script_in_rounds<
+    I: PieceReader,
+    O: PieceWriter,
+    G: Gate + Sync,
+    R: Threads + Wait + Sync,
+>(
     rt: &R,
     alloc: Global,
     reader: &mut I,
@@ -40,6 +45,12 @@ pub fn race_script_in_rounds<I: Read, O: Write, G: Gate + Sync, R: Threads + Wai
 
     ensures fault { IfErr result (λ fault. AfterLongFault fault (I.remaining reader.old) (O.contents writer.old) (O.contents writer.new)) }
     ensures too_long { result ≡ Err ScriptFault.TooLong → ConsumesMoreThan script_bytes (I.remaining reader.old) (I.remaining reader.new) }
+
+    // Of any reader and writer: all calls on them succeeded; or the last call on one of them failed, and that is the fault; or the
+    // fault is the race's.
+    ensures calls { OnOk result (Completes I.gives O.takes script_reads IsLongText reader.old reader.new writer.old writer.new) }
+    ensures cause { IfErr result
+        (λ fault. Stops I.gives I.fails O.takes O.refuses script_reads script_bytes IsLongText IsOfLongText fault reader.old reader.new writer.old writer.new) }
 {
     let script = read_all(alloc, reader)?;
     let text = text_of_race(

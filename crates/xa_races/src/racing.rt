@@ -2,17 +2,17 @@
 ghost use Rattle.std.specs.Prelude.{◌≡◌, ◌≤◌, length, IfErr, OnOk, IfSome, Err};
 ghost use Rattle.std.specs.Io.KnownBytes.{IsAtEnd};
 ghost use Rattle.decision_log.specs.Opens.{IsCapacity};
-ghost use Rattle.xa_lines.specs.Limits.{script_bytes};
+ghost use Rattle.xa_lines.specs.Calls.{Completes, Stops};
+ghost use Rattle.xa_lines.specs.Limits.{script_bytes, script_reads};
 ghost use Rattle.xa_lines.specs.Transcript.{ConsumesMoreThan};
-ghost use Rattle.xa_races.specs.Outcome.{AppendsRace, AfterRaceFault};
+ghost use Rattle.xa_races.specs.Outcome.{AppendsRace, AfterRaceFault, IsRaceText, IsOfText};
 
 use crate::holding::text_of_race;
 use crate::race_kind::RaceKind;
 use std::alloc::Global;
-use std::io::{Read, Write};
 use std::sync::Wait;
 use std::thread::Threads;
-use xa_lines::{ScriptFault, read_all, write_whole};
+use xa_lines::{PieceReader, PieceWriter, ScriptFault, read_all, write_whole};
 use xa_store::Gate;
 
 /// Races the runs of a script: reads all of it, gives the statements of each session to a thread of its own, and writes the one
@@ -27,7 +27,7 @@ use xa_store::Gate;
 /// After `Write` a prefix of the text was written, after any other nothing.
 /// May answer `NoMemory`. Waits for its threads.
 /// Own rule: docs/BEHAVIOR.md, 'A race of a script'.
-pub fn race_script<I: Read, O: Write, G: Gate + Sync, R: Threads + Wait + Sync>(
+pub fn race_script<I: PieceReader, O: PieceWriter, G: Gate + Sync, R: Threads + Wait + Sync>(
     rt: &R,
     alloc: Global,
     reader: &mut I,
@@ -44,6 +44,12 @@ pub fn race_script<I: Read, O: Write, G: Gate + Sync, R: Threads + Wait + Sync>(
 
     ensures fault { IfErr result (λ fault. AfterRaceFault capacity fault (I.remaining reader.old) (O.contents writer.old) (O.contents writer.new)) }
     ensures too_long { result ≡ Err ScriptFault.TooLong → ConsumesMoreThan script_bytes (I.remaining reader.old) (I.remaining reader.new) }
+
+    // Of any reader and writer: all calls on them succeeded; or the last call on one of them failed, and that is the fault; or the
+    // fault is the race's.
+    ensures calls { OnOk result (Completes I.gives O.takes script_reads (IsRaceText capacity) reader.old reader.new writer.old writer.new) }
+    ensures cause { IfErr result
+        (λ fault. Stops I.gives I.fails O.takes O.refuses script_reads script_bytes (IsRaceText capacity) IsOfText fault reader.old reader.new writer.old writer.new) }
 {
     let script = read_all(alloc, reader)?;
     let text = text_of_race(

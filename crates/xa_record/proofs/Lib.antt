@@ -5,5 +5,4 @@ pub mod CallTexts
 pub mod Effects
 pub mod Texts
 pub mod Pairs
-pub mod Written
 pub mod JudgedTexts

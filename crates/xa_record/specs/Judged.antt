@@ -4,7 +4,7 @@
 --     IsJudged               a record of this text ends so, and this is written for it
 --     AppendsJudged          the writer got that
 --     AfterJudgeFault        what a fault leaves in the writer
-use Rattle.std.specs.Prelude.{◌≡◌, ◌⊎◌, ℕ, Option, List, [], ◌∷◌, IfSome}
+use Rattle.std.specs.Prelude.{◌≡◌, ℕ, Option, List, [], ◌∷◌, IfSome}
 use Rattle.std.specs.Io.KnownBytes.{Keeps, Appends}
 use Rattle.xa_server.specs.State.{no_state}
 use Rattle.xa_lines.specs.declared.script_fault.ScriptFault.{ScriptFault}
@@ -52,9 +52,13 @@ AppendsJudged limit outcome written old new = (text : List ℕ) × IsJudged writ
 abbrev pub AppendsJudgedPrefix : ℕ → List ℕ → Option (List ℕ) → Option (List ℕ) → Type 0
 AppendsJudgedPrefix limit written old new = (outcome : Outcome) × (text : List ℕ) × IsJudged written limit outcome text × AppendsPrefix old new text
 
--- a fault by which a record isn't read
-abbrev pub IsFaultOfReading : ScriptFault → Type 0
-IsFaultOfReading fault = (fault ≡ Read) ⊎ (fault ≡ TooLong) ⊎ (fault ≡ NoMemory)
+-- what may be written for a record, however judging it ends
+abbrev pub IsJudgedText : ℕ → List ℕ → List ℕ → Type 0
+IsJudgedText limit written text = (outcome : Outcome) × IsJudged written limit outcome text
+
+-- a fault of judging a record that was read
+abbrev pub IsFaultOfJudging : List ℕ → ScriptFault → Type 0
+IsFaultOfJudging written fault = fault ≡ NoMemory
 
 -- what a fault leaves in the writer: a prefix where a write failed, else nothing; judging has no fault of a race
 abbrev pub AfterJudgeFault : ℕ → ScriptFault → Option (List ℕ) → Option (List ℕ) → Option (List ℕ) → Type 0

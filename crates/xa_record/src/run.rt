@@ -1,14 +1,14 @@
 //! Judges a record that is read, and writes the verdict.
-ghost use Rattle.std.specs.Prelude.{◌≡◌, ◌≤◌, length, vec_len, IfOk, IfErr, OnOk, OnErr, IfSome, Err};
-ghost use Rattle.std.specs.Io.KnownBytes.{Appends, Consumes, IsAtEnd};
+ghost use Rattle.std.specs.Prelude.{◌≡◌, ◌≤◌, length, IfOk, IfErr, OnOk, OnErr, MatchResult, IfSome, Err};
+ghost use Rattle.std.specs.Io.KnownBytes.{Appends, IsAtEnd};
+ghost use Rattle.xa_lines.specs.Calls.{HasWritten, StopsWriting, Completes, Stops};
 ghost use Rattle.xa_lines.specs.Transcript.{AppendsPrefix, ConsumesMoreThan};
-ghost use Rattle.xa_record.specs.Judged.{record_bytes, AppendsJudged, AfterJudgeFault, IsFaultOfReading};
+ghost use Rattle.xa_record.specs.Judged.{record_bytes, record_reads, AppendsJudged, AfterJudgeFault, IsJudgedText, IsFaultOfJudging};
 
 use crate::judging::{Judged, judge_text};
 use crate::outcome::Outcome;
 use std::alloc::Global;
-use std::io::{Read, Write};
-use xa_lines::{ScriptFault, write_whole};
+use xa_lines::{PieceReader, PieceWriter, ScriptFault, read_within, write_whole};
 
 /// The greatest length of a record, in bytes.
 const RECORD_BYTES: usize = 16_777_216;
@@ -16,37 +16,15 @@ const RECORD_BYTES: usize = 16_777_216;
 /// The greatest number of reads that a record takes.
 const RECORD_READS: u64 = 33_554_432;
 
-/// Reads all that the reader gives: at most 16,777,216 bytes, in at most 33,554,432 reads.
-fn read_record<R: Read>(alloc: Global, reader: &mut R) -> Result<Vec<u8>, ScriptFault>
-    ensures all { IfOk result (λ text. Consumes (R.remaining reader.old) (R.remaining reader.new) text.items) }
-    ensures end { OnOk result (IsAtEnd (R.remaining reader.new)) }
-    ensures short { IfOk result (λ text. vec_len text ≤ record_bytes) }
-    ensures fault { IfErr result IsFaultOfReading }
-    ensures too_long { result ≡ Err ScriptFault.TooLong → ConsumesMoreThan record_bytes (R.remaining reader.old) (R.remaining reader.new) }
-{
-    let mut text = Vec::new(alloc);
-    let mut piece = [0u8; 4096];
-    for _ in 0..RECORD_READS {
-        let Ok(count) = reader.read(&mut piece) else {
-            return Err(ScriptFault::Read);
-        };
-        if count == 0 {
-            return Ok(text);
-        }
-        if count > RECORD_BYTES - text.len() {
-            return Err(ScriptFault::TooLong);
-        }
-        text.extend_from_slice(&piece[..count])?;
-    }
-    Err(ScriptFault::Read)
-}
-
 /// Writes what is written for a record, and gives how judging it ended.
-fn write_judged<W: Write>(writer: &mut W, judged: &Judged) -> Result<Outcome, ScriptFault>
+fn write_judged<W: PieceWriter>(writer: &mut W, judged: &Judged) -> Result<Outcome, ScriptFault>
     ensures outcome { IfOk result (λ outcome. outcome ≡ judged.now.outcome) }
     ensures all { OnOk result (Appends (W.contents writer.old) (W.contents writer.new) judged.now.text.items) }
     ensures fault { IfErr result (λ fault. fault ≡ ScriptFault.Write) }
     ensures prefix { OnErr result (AppendsPrefix (W.contents writer.old) (W.contents writer.new) judged.now.text.items) }
+    ensures calls { MatchResult result
+        (λ _. HasWritten W.takes writer.old judged.now.text.items writer.new)
+        (λ _. StopsWriting W.takes W.refuses writer.old judged.now.text.items writer.new) }
 {
     write_whole(writer, judged.text.as_slice())?;
     Ok(judged.outcome)
@@ -57,10 +35,11 @@ fn write_judged<W: Write>(writer: &mut W, judged: &Judged) -> Result<Outcome, Sc
 /// A record is at most 16,777,216 bytes, and takes at most 33,554,432 reads. The server holds nothing at first. At most `limit`
 /// configurations are kept before a return. What is written isn't flushed.
 /// Errors: `Read` where a read failed, or too many reads were needed; `TooLong` where the record is longer; `NoMemory`; `Write`
-/// where a write failed or took nothing. After `Write` a prefix of the text was written, after any other nothing.
+/// where a write failed or took nothing. After `Write` a prefix of the text was written, after any other nothing. A reader or a
+/// writer that failed isn't called again.
 /// May answer `NoMemory`. Doesn't wait, unless the reader or the writer does.
 /// Own rule: docs/JUDGE.md.
-pub fn judge_record<R: Read, W: Write>(
+pub fn judge_record<R: PieceReader, W: PieceWriter>(
     alloc: Global,
     reader: &mut R,
     writer: &mut W,
@@ -74,8 +53,14 @@ pub fn judge_record<R: Read, W: Write>(
 
     ensures fault { IfErr result (λ fault. AfterJudgeFault limit fault (R.remaining reader.old) (W.contents writer.old) (W.contents writer.new)) }
     ensures too_long { result ≡ Err ScriptFault.TooLong → ConsumesMoreThan record_bytes (R.remaining reader.old) (R.remaining reader.new) }
+
+    // Of any reader and writer: all calls on them succeeded; or the last call on one of them failed, and that is the fault.
+    ensures calls { OnOk result (Completes R.gives W.takes record_reads (IsJudgedText limit) reader.old reader.new writer.old writer.new) }
+    ensures cause { IfErr result
+        (λ fault. Stops R.gives R.fails W.takes W.refuses record_reads record_bytes (IsJudgedText limit) IsFaultOfJudging fault reader.old reader.new writer.old
+        writer.new) }
 {
-    let text = read_record(alloc, reader)?;
+    let text = read_within(alloc, reader, RECORD_BYTES, RECORD_READS)?;
     let judged = judge_text(alloc, text.as_slice(), limit)?;
     write_judged(writer, &judged)
 }

@@ -2,7 +2,10 @@
 --     status_after     the exit status after a fault
 --     status_for       the exit status for how judging a record ended
 --     AppendsVerdict   the writer got what is written for a record, and the status is for how judging it ended
-use Rattle.std.specs.Prelude.{◌≡◌, ℕ, Option, List, IfSome}
+--     AppendsRaceBy    the writer got what is written for a race
+use Rattle.std.specs.Prelude.{◌≡◌, ℕ, Bool, true, false, Option, List, IfSome}
+use Rattle.xa_races.specs.Outcome.{AppendsRace}
+use Rattle.xa_races.specs.LongRace.{AppendsLongRace}
 use Rattle.xa_lines.specs.declared.script_fault.ScriptFault.{ScriptFault}
 use Rattle.xa_lines.specs.declared.script_fault.ScriptFault.TheVariants.{Read, TooLong, Write, NoMemory, Full, GateShut, ThreadRefused}
 use Rattle.xa_record.specs.Judged.{AppendsJudged}
@@ -30,3 +33,8 @@ status_for Faulty = 6
 abbrev pub AppendsVerdict : (limit status : ℕ) → Option (List ℕ) → Option (List ℕ) → Option (List ℕ) → Type 0
 AppendsVerdict limit status input old new =
     (outcome : Outcome) × (status ≡ status_for outcome) × IfSome input (λ text. AppendsJudged limit outcome text old new)
+
+-- the writer got what a race of the script writes: in rounds where it renews, else in one history of at most this capacity
+abbrev pub AppendsRaceBy : Bool → (capacity : ℕ) → List ℕ → Option (List ℕ) → Option (List ℕ) → Type 0
+AppendsRaceBy true capacity script old new = AppendsLongRace script old new
+AppendsRaceBy false capacity script old new = AppendsRace capacity script old new

@@ -11,7 +11,7 @@ use std::io::{BufWriter, Printer, Write};
 use std::sync::Wait;
 use std::thread::Threads;
 use xa_lines::{ScriptFault, Transport, run_script, serve_statements, show_statements};
-use xa_manager::converse;
+use xa_manager::{converse, open_stores};
 
 /// The standard output, which gathers what is written.
 fn output<R: Print + Alloc<A = Global>>(rt: &R) -> Result<BufWriter<Printer<'_, R>>, ScriptFault> {
@@ -79,7 +79,9 @@ pub fn coordinate<R: Input + Print + Alloc<A = Global> + Wait>(
     requires capacity { IsCapacity capacity }
 {
     let mut transport = Transport::new(rt.reader(), output(rt)?);
-    converse(rt, rt.alloc(), &mut transport, stores, capacity).and(Ok(DONE))
+    let (stores, firsts, seconds) = open_stores(rt.alloc(), stores, capacity)?;
+    let stores = stores.as_slice();
+    converse(rt, rt.alloc(), &mut transport, stores, firsts, seconds).and(Ok(DONE))
 }
 
 /// Answers each line of the standard input before it reads more.

@@ -1,5 +1,7 @@
 //! Races of the script of the standard input.
+ghost use Rattle.std.specs.Prelude.{OnOk, IfSome};
 ghost use Rattle.decision_log.specs.Opens.{IsCapacity};
+ghost use Rattle.xa_script.specs.Status.{AppendsRaceBy};
 
 use crate::Schedule;
 use std::alloc::{Alloc, Global};
@@ -20,6 +22,7 @@ fn race_behind<I: Read, O: Write, G: Gate + Sync, R: Alloc<A = Global> + Threads
     renews: bool,
 ) -> Result<(), ScriptFault>
     requires { IsCapacity capacity }
+    ensures { OnOk result (IfSome (I.remaining input.old) (λ script. AppendsRaceBy renews capacity script (O.contents output.old) (O.contents output.new))) }
 {
     if renews {
         race_script_in_rounds(rt, rt.alloc(), input, output, capacity, gate)
@@ -38,6 +41,7 @@ pub fn race_by<I: Read, O: Write, R: Alloc<A = Global> + Threads + Wait + Sync>(
     renews: bool,
 ) -> Result<(), ScriptFault>
     requires { IsCapacity capacity }
+    ensures { OnOk result (IfSome (I.remaining input.old) (λ script. AppendsRaceBy renews capacity script (O.contents output.old) (O.contents output.new))) }
 {
     match schedule {
         Schedule::Freely => race_behind(rt, input, output, capacity, &OpenGate, renews),

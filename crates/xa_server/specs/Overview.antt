@@ -9,7 +9,7 @@ use Rattle.std.specs.Option.{option_map_or}
 use Rattle.std.specs.FinMap as fin
 use Rattle.xa_xid.specs.declared.xid.Xid.{Xid}
 use Rattle.xa_xid.specs.declared.statement.Statement.{Statement}
-use Rattle.xa_xid.specs.declared.statement.Statement.TheVariants.{Start, End, Prepare, Commit, Rollback, Recover, Unsupported, Get, Put, Del, Disconnect}
+use Rattle.xa_xid.specs.declared.statement.Statement.TheVariants.{Commit, Rollback, Get, Put, Del, Disconnect}
 use Rattle.xa_server.specs.declared.hold.Hold.{Hold}
 use Rattle.xa_server.specs.declared.hold.Hold.TheVariants.{Shared as Shares, Put as Puts, Delete as Deletes}
 use Rattle.xa_server.specs.declared.hold.HeldRow.{HeldRow}
@@ -55,14 +55,10 @@ keys_open state (Idle own) = keys_of (rows_of state own)
 
 -- the rows that a statement is about: the one that it names, or those of the branch that it is to end (own rule)
 unfoldable pub keys_about : State → ℕ → Statement → List (List ℕ)
-keys_about state session (Start xid) = []
-keys_about state session (End xid) = []
-keys_about state session (Prepare xid) = []
 keys_about state session (Commit xid one_phase) = keys_of (rows_of state xid)
 keys_about state session (Rollback xid) = keys_of (rows_of state xid)
-keys_about state session (Recover convert) = []
-keys_about state session Unsupported = []
 keys_about state session (Get key) = key ∷ []
 keys_about state session (Put key value) = key ∷ []
 keys_about state session (Del key) = key ∷ []
 keys_about state session Disconnect = keys_open state (association_of state session)
+keys_about state session statement = []

@@ -110,6 +110,11 @@ is_refused (Value value) = false
 is_refused (Recovered xids) = false
 is_refused (Refused error) = true
 
+-- the reply is a list of identifiers, the only reply that takes memory
+abbrev pub is_list : Reply → Bool
+is_list (Recovered xids) = true
+is_list reply = false
+
 -- whether the statement, if it is accepted, has a place in the history (own rule)
 unfoldable pub may_enter : State → Association → Statement → Bool
 may_enter state association (Start xid) = true
@@ -139,31 +144,16 @@ after_all state (entry ∷ entries) = after_all (after state entry.0 entry.1) en
 
 -- the statement is an XA RECOVER, whose reply is a list
 abbrev pub is_recover : Statement → Bool
-is_recover (Start xid) = false
-is_recover (End xid) = false
-is_recover (Prepare xid) = false
-is_recover (Commit xid one_phase) = false
-is_recover (Rollback xid) = false
 is_recover (Recover convert) = true
-is_recover Unsupported = false
-is_recover (Get key) = false
-is_recover (Put key value) = false
-is_recover (Del key) = false
-is_recover Disconnect = false
+is_recover statement = false
 
--- the statement makes a record, where it is accepted
+-- the statement makes a record, where it is accepted: of a branch, or of a row that it holds or writes
 abbrev pub makes_record : Statement → Bool
 makes_record (Start xid) = true
-makes_record (End xid) = false
-makes_record (Prepare xid) = false
-makes_record (Commit xid one_phase) = false
-makes_record (Rollback xid) = false
-makes_record (Recover convert) = false
-makes_record Unsupported = false
 makes_record (Get key) = true
 makes_record (Put key value) = true
 makes_record (Del key) = true
-makes_record Disconnect = false
+makes_record statement = false
 
 -- carrying the statement out may take memory: XA RECOVER, and of what enters XA START and the row statements (own rule)
 abbrev pub may_take_memory : State → ℕ → Statement → Bool

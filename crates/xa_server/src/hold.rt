@@ -1,5 +1,5 @@
 //! How a branch holds a row.
-ghost use Rattle.std.specs.Prelude.{◌≡◌, IfOk};
+ghost use Rattle.std.specs.Prelude.{◌≡◌, ◌≢◌, [], IfOk, OnErr};
 ghost use Rattle.std.specs.BTreeMap as tree;
 ghost use Rattle.xa_xid.specs.Xid.{bytes_cmp};
 ghost use Rattle.xa_server.specs.Held.{hold_in as hold_in_lock, held_among};
@@ -64,6 +64,7 @@ pub fn held_in(
     xid: &Xid,
 ) -> Result<Vec<HeldRow>, NoMemory>
     ensures listed { IfOk result (λ rows. rows.items ≡ held_among xid.now by_key.now.entries) }
+    ensures memory { OnErr result (held_among xid.now by_key.now.entries ≢ []) }
     ensures ordered { tree.IsOrdered bytes_cmp by_key.now }
 {
     let mut rows = Vec::new(alloc);

@@ -1,5 +1,5 @@
 //! What holds of every state and every history, each as the contract of a function that does nothing.
-ghost use Rattle.std.specs.Prelude.{◌≡◌, ◌≢◌, ℕ, ◌<◌, true, false, List};
+ghost use Rattle.std.specs.Prelude.{◌≡◌, ◌≢◌, ◌↔◌, ℕ, ◌<◌, true, false, List, IsTrue};
 ghost use Rattle.std.specs.List.{list_any};
 ghost use Rattle.std.specs.List.Sorted.{IsStrictlySortedBy};
 ghost use Rattle.xa_xid.specs.declared.xid.Xid.{Xid};
@@ -11,6 +11,26 @@ ghost use Rattle.xa_server.specs.Replies.{reply_to};
 ghost use Rattle.xa_server.specs.Step.{after, after_all, enters, is_refused};
 ghost use Rattle.xa_server.specs.Finish.{FinishesAt};
 ghost use Rattle.xa_server.specs.Laws.{IsPreparedBetween, LeavesSession};
+
+use crate::{BranchState, XaError};
+
+/// Refusals are equal exactly where they are the same, with the same state.
+///
+/// Takes no memory. Doesn't wait.
+pub fn same_refusals(left: &XaError, right: &XaError) -> bool
+    ensures { IsTrue result ↔ (left.now ≡ right.now) }
+{
+    left == right
+}
+
+/// States of a refusal are equal exactly where they are the same.
+///
+/// Takes no memory. Doesn't wait.
+pub fn same_states(left: &BranchState, right: &BranchState) -> bool
+    ensures { IsTrue result ↔ (left.now ≡ right.now) }
+{
+    left == right
+}
 
 /// A refused statement changes nothing, in any state.
 ///

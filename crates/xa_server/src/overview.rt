@@ -1,5 +1,5 @@
 //! A server as a person looks at it.
-ghost use Rattle.std.specs.Prelude.{◌≡◌, [], ◌∷◌, IfOk, map};
+ghost use Rattle.std.specs.Prelude.{◌≡◌, ◌≢◌, [], ◌∷◌, IfOk, OnErr, map};
 ghost use Rattle.std.specs.BTreeMap as tree;
 ghost use Rattle.xa_xid.specs.Xid.{xid_cmp};
 ghost use Rattle.xa_server.specs.Held.{recorded_entry};
@@ -44,7 +44,8 @@ pub fn entries_in(
 
 /// The keys of rows, in order.
 fn keys_of(alloc: Global, rows: &[HeldRow]) -> Result<Vec<Key>, NoMemory>
-    ensures { IfOk result (λ keys. keys.items ≡ keys_of_rows rows.now) }
+    ensures listed { IfOk result (λ keys. keys.items ≡ keys_of_rows rows.now) }
+    ensures memory { OnErr result (keys_of_rows rows.now ≢ []) }
 {
     let mut keys = Vec::new(alloc);
     for row in rows {
@@ -77,9 +78,11 @@ impl Server {
 
     /// The rows that the branch of this identifier holds, each once, ascending by key; none, where there is no such branch.
     ///
-    /// Looks at every row of the server. May answer `NoMemory`. Doesn't wait. Own rule: docs/BEHAVIOR.md, 'Showing'.
+    /// Looks at every row of the server. May answer `NoMemory`, where the branch holds a row. Doesn't wait. Own rule: docs/BEHAVIOR.md,
+    /// 'Showing'.
     pub fn rows_of(&self, alloc: Global, xid: &Xid) -> Result<Vec<HeldRow>, NoMemory>
-        ensures { IfOk result (λ rows. rows.items ≡ rows_of_branch self.now xid.now) }
+        ensures listed { IfOk result (λ rows. rows.items ≡ rows_of_branch self.now xid.now) }
+        ensures memory { OnErr result (rows_of_branch self.now xid.now ≢ []) }
     {
         if !self.knows(xid) {
             return Ok(Vec::new(alloc));
@@ -98,7 +101,8 @@ impl Server {
 
     /// The keys of the rows that the session's branch holds.
     fn keys_open(&self, alloc: Global, session: SessionNo) -> Result<Vec<Key>, NoMemory>
-        ensures { IfOk result (λ keys. keys.items ≡ keys_open_at self.now (association_of self.now session)) }
+        ensures listed { IfOk result (λ keys. keys.items ≡ keys_open_at self.now (association_of self.now session)) }
+        ensures memory { OnErr result (keys_open_at self.now (association_of self.now session) ≢ []) }
     {
         match self.association(session) {
             Association::Free => Ok(Vec::new(alloc)),
@@ -109,7 +113,8 @@ impl Server {
 
     /// The keys of the rows that the branch of this identifier holds.
     fn keys_held(&self, alloc: Global, xid: &Xid) -> Result<Vec<Key>, NoMemory>
-        ensures { IfOk result (λ keys. keys.items ≡ keys_of_rows (rows_of_branch self.now xid.now)) }
+        ensures listed { IfOk result (λ keys. keys.items ≡ keys_of_rows (rows_of_branch self.now xid.now)) }
+        ensures memory { OnErr result (keys_of_rows (rows_of_branch self.now xid.now) ≢ []) }
     {
         let rows = self.rows_of(alloc, xid)?;
         keys_of(alloc, rows.as_slice())
@@ -119,7 +124,7 @@ impl Server {
     /// `XA ROLLBACK` those of all rows that the branch holds; of `DISCONNECT` those of all rows that the session's branch holds; of
     /// another statement none. Whether the statement would be refused doesn't matter.
     ///
-    /// May answer `NoMemory`. Doesn't wait. Own rule: docs/BEHAVIOR.md, 'Showing'.
+    /// May answer `NoMemory`, where there is such a row. Doesn't wait. Own rule: docs/BEHAVIOR.md, 'Showing'.
     #[tactic(auto, unfolding(crate::specs::Overview::keys_about))]
     pub fn keys_about(
         &self,
@@ -127,7 +132,8 @@ impl Server {
         session: SessionNo,
         statement: &Statement,
     ) -> Result<Vec<Key>, NoMemory>
-        ensures { IfOk result (λ keys. keys.items ≡ keys_about_statement self.now session statement.now) }
+        ensures listed { IfOk result (λ keys. keys.items ≡ keys_about_statement self.now session statement.now) }
+        ensures memory { OnErr result (keys_about_statement self.now session statement.now ≢ []) }
     {
         match statement {
             Statement::Get(key) => one_key(alloc, key),

@@ -1,5 +1,5 @@
 //! What a statement is answered.
-ghost use Rattle.std.specs.Prelude.{◌≡◌, IfOk};
+ghost use Rattle.std.specs.Prelude.{◌≡◌, ◌≢◌, true, [], IfOk, OnErr};
 
 use crate::XaError;
 use std::marker::Model;
@@ -19,13 +19,14 @@ pub enum Reply {
 }
 
 impl Reply {
-    ghost use Rattle.xa_server.specs.Step.{is_refused as is_refused_reply};
+    ghost use Rattle.xa_server.specs.Step.{is_refused as is_refused_reply, is_list as is_list_reply};
 
     /// The same reply.
     ///
     /// May answer `NoMemory`, for a list of identifiers alone. Doesn't wait.
     pub fn copy(&self) -> Result<Reply, NoMemory>
-        ensures { IfOk result (λ copy. copy ≡ self.now) }
+        ensures same { IfOk result (λ copy. copy ≡ self.now) }
+        ensures memory { OnErr result (is_list_reply self.now ≡ true) }
     {
         Ok(match self {
             Reply::Ok => Reply::Ok,
@@ -80,10 +81,16 @@ impl XidList {
 
     /// The same list.
     ///
-    /// May answer `NoMemory`. Doesn't wait.
+    /// May answer `NoMemory`, for a list that isn't empty. Doesn't wait.
     pub fn copy(&self) -> Result<XidList, NoMemory>
-        ensures { IfOk result (λ copy. copy ≡ self.now) }
+        ensures same { IfOk result (λ copy. copy ≡ self.now) }
+        ensures memory { OnErr result (self.now ≢ []) }
     {
+        if self.xids.is_empty() {
+            return Ok(XidList {
+                xids: Vec::new(*self.xids.allocator()),
+            });
+        }
         Ok(XidList {
             xids: self.xids.clone()?,
         })

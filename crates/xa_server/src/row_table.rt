@@ -1,5 +1,5 @@
 //! The records of all rows, found by key.
-ghost use Rattle.std.specs.Prelude.{◌≡◌, true, [], ◌∷◌, is_some, IfOk, OnOk, OnErr, MatchOption};
+ghost use Rattle.std.specs.Prelude.{◌≡◌, ◌≢◌, true, [], ◌∷◌, is_some, IfOk, OnOk, OnErr, MatchOption};
 ghost use Rattle.std.specs.Option.{option_copied};
 ghost use Rattle.std.specs.BTreeMap as tree;
 ghost use Rattle.std.specs.FinMap as map;
@@ -153,7 +153,8 @@ impl RowTable {
 
     /// The rows that this branch holds, ascending by key.
     pub fn held_by(&self, alloc: Global, xid: &Xid) -> Result<Vec<HeldRow>, NoMemory>
-        ensures { IfOk result (λ rows. rows.items ≡ held_among xid.now (map.entries self.now)) }
+        ensures listed { IfOk result (λ rows. rows.items ≡ held_among xid.now (map.entries self.now)) }
+        ensures memory { OnErr result (held_among xid.now (map.entries self.now) ≢ []) }
     {
         held_in(alloc, &self.by_key, xid)
     }

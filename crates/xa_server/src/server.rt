@@ -1,5 +1,5 @@
 //! The server: its records, and what they say of its state.
-ghost use Rattle.std.specs.Prelude.{◌≡◌, true, false, cond, is_some, Some, None, OnOk, OnErr, IfOk};
+ghost use Rattle.std.specs.Prelude.{◌≡◌, ◌≢◌, [], true, false, cond, is_some, Some, None, OnOk, OnErr, IfOk};
 ghost use Rattle.std.specs.FinMap as map;
 ghost use Rattle.xa_server.specs.State.{association_in as association_in_phase};
 ghost use Rattle.xa_server.specs.Tables.{with_record, without_last};
@@ -200,7 +200,8 @@ impl Server {
     /// The rows that a branch holds, ascending by key.
     pub(crate) fn held_rows(&self, alloc: Global, xid: &Xid) -> Result<Vec<HeldRow>, NoMemory>
         requires { is_known self.now xid.now ≡ true }
-        ensures { IfOk result (λ rows. rows.items ≡ rows_of self.now xid.now) }
+        ensures listed { IfOk result (λ rows. rows.items ≡ rows_of self.now xid.now) }
+        ensures memory { OnErr result (rows_of self.now xid.now ≢ []) }
     {
         self.rows.held_by(alloc, xid)
     }

@@ -2,9 +2,11 @@
 --     Tries            how often an attempt without an answer has tried
 --     TriesOnce        an attempt
 --     LooksLast        no try has followed the last look
-use Rattle.std.specs.Prelude.{◌≡◌, ◌<◌, ◌≤◌, ◌+◌, Result, IfErr}
+--     Leaves           what an attempt without an answer has seen behind its look
+use Rattle.std.specs.Prelude.{◌≡◌, ◌<◌, ◌≤◌, ◌+◌, length, Result, IfErr}
 use Rattle.decision_log.specs.declared.known.Known.{Known}
 use Rattle.xa_session.specs.declared.answer.Answer.{Answer}
+use Rattle.xa_session.specs.declared.replica.Replica.{Replica}
 use Rattle.xa_session.specs.declared.fault.Fault.{Fault}
 use Rattle.xa_session.specs.declared.fault.Fault.TheVariants.{Overtaken, Full, NoMemory, Busy}
 
@@ -24,3 +26,11 @@ pub record TriesOnce (result : Result Answer Fault) (old new : Known) : Type 0 w
 -- where each try comes after a look of its own, more looks than tries say that the last look was followed by none
 abbrev pub LooksLast : Known → Known → Type 0
 LooksLast old new = new.tries + old.looks < new.looks + old.tries
+
+-- the replica stands for all that an attempt saw when it looked: overtaken, more is seen than that; busy, just that, by the one look; at Full and NoMemory
+-- the one look was the last step on the log
+abbrev pub Leaves : Fault → Replica → Known → Known → Type 0
+Leaves (Overtaken front) replica old new = (length old.seen ≤ replica.replayed) × (replica.replayed < length new.seen)
+Leaves Full replica old new = (new.looks ≡ old.looks + 1) × (0 < new.since)
+Leaves NoMemory replica old new = (new.looks ≡ old.looks + 1) × (0 < new.since)
+Leaves Busy replica old new = (new.looks ≡ old.looks + 1) × (replica.replayed ≡ length new.seen)

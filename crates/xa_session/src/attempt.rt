@@ -1,12 +1,12 @@
 //! One try to have a statement answered.
-ghost use Rattle.std.specs.Prelude.{◌≡◌, ◌⊎◌, ◌<◌, ◌^◌, true, length, slice_get, Some, IfOk, OnOk, OnErr};
+ghost use Rattle.std.specs.Prelude.{◌≡◌, ◌⊎◌, ◌<◌, ◌^◌, true, length, slice_get, Some, IfOk, IfErr, OnOk, OnErr};
 ghost use Rattle.decision_log.specs.Calls.{Looked, Adds};
 ghost use Rattle.xa_server.specs.Step.{enters, may_take_memory};
 ghost use Rattle.xa_session.specs.Answer.{entry_of};
 ghost use Rattle.xa_session.specs.Outcome.{Answers};
 ghost use Rattle.xa_session.specs.Replays.{ReplaysOne, CatchesUp};
 ghost use Rattle.xa_session.specs.Stays.{Stays};
-ghost use Rattle.xa_session.specs.Tries.{TriesOnce};
+ghost use Rattle.xa_session.specs.Tries.{TriesOnce, Leaves};
 
 use crate::{Answer, Fault, Session};
 use decision_log::{AddFault, DecisionLog};
@@ -88,7 +88,7 @@ impl<'a, L: DecisionLog> Session<'a, L> {
     /// The answer's place is how long the history was. Errors, in this order: `NoMemory`, where an entry couldn't be replayed or
     /// the reply of `XA RECOVER` couldn't be had; `Full`, where the statement enters and the history is as long as the log's
     /// capacity; `Busy`, only in a log with turns, where another has the turn; `Overtaken`, where another session added
-    /// first. After an error nothing of the statement stands in the history, and the session may have seen and replayed more.
+    /// behind what the attempt saw when it looked. After an error nothing of the statement stands in the history, and the session may have seen and replayed more.
     ///
     /// May answer `NoMemory`, and never after an add. Doesn't wait.
     /// Own rule: docs/BEHAVIOR.md, 'Sessions'.
@@ -96,6 +96,7 @@ impl<'a, L: DecisionLog> Session<'a, L> {
         ensures stays { Stays self.old self.new }
         ensures answers { Answers statement.now result self.old self.new }
         ensures once { TriesOnce result (L.known self.old.pass) (L.known self.new.pass) }
+        ensures leaves { IfErr result (λ fault. Leaves fault self.new.replica (L.known self.old.pass) (L.known self.new.pass)) }
     {
         let place = self.observe()?;
         let session = self.number();

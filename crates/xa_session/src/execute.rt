@@ -1,5 +1,5 @@
 //! Trying until a statement is answered.
-ghost use Rattle.std.specs.Prelude.{◌≡◌, ℕ, IfOk, IfErr, OnErr};
+ghost use Rattle.std.specs.Prelude.{◌≡◌, ◌<◌, ℕ, IfOk, IfErr, OnErr};
 ghost use Rattle.xa_server.specs.declared.reply.Reply.TheVariants.{Ok as Accepted};
 ghost use Rattle.xa_xid.specs.declared.statement.Statement.TheVariants.{Disconnect};
 ghost use Rattle.xa_session.specs.Answer.{IsAnswered, IsFinal};
@@ -16,7 +16,7 @@ use xa_xid::Statement;
 impl<'a, L: DecisionLog> Session<'a, L> {
     /// Answers a statement as `attempt` does, trying again after `Overtaken` and `Busy`.
     ///
-    /// Errors: `Full` and `NoMemory`, as those of `attempt`.
+    /// Errors: `Full` and `NoMemory`, as those of `attempt`: of its last try, and never of one that was lost.
     ///
     /// May answer `NoMemory`, and never after an add. May wait: no number of tries is promised.
     /// Own rule: docs/BEHAVIOR.md, 'Sessions'.
@@ -25,6 +25,7 @@ impl<'a, L: DecisionLog> Session<'a, L> {
         ensures answers { Answers statement.now result self.old self.new }
         ensures lasts { IfErr result IsFinal }
         ensures tried { OnErr result (LooksLast (L.known self.old.pass) (L.known self.new.pass)) }
+        ensures since { OnErr result (0 < (L.known self.new.pass).since) }
     {
         for _ in rt.forever() {
             match self.attempt(statement) {
@@ -50,6 +51,7 @@ impl<'a, L: DecisionLog> Session<'a, L> {
         ensures cause { IfErr result (λ refused. HasFailed Disconnect refused.1 self.entry refused.0) }
         ensures lasts { IfErr result (λ refused. IsFinal refused.1) }
         ensures tried { IfErr result (λ refused. LooksLast (L.known self.entry.pass) (L.known refused.0.pass)) }
+        ensures since { IfErr result (λ refused. 0 < (L.known refused.0.pass).since) }
     {
         match self.execute(rt, &Statement::Disconnect) {
             Ok(_) => Ok(self.pass),

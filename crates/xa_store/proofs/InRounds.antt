@@ -1,5 +1,5 @@
 -- Sessions side by side, from round to round.
-use Rattle.std.proofs.Common.{◌≡◌, ℕ, Bool, suc, ◌+◌, ◌<◌, ◌≤◌, List, [], ◌∷◌, ◌++◌, length, map, take, drop, refl, ap, sym, ◌∙◌, subst, Some, arith}
+use Rattle.std.proofs.Common.{◌≡◌, ◌⊎◌, ℕ, Bool, true, zero, suc, inl, inr, ⊎_elim, ◌+◌, ◌<◌, ◌≤◌, List, [], ◌∷◌, ◌++◌, length, map, take, drop, refl, ap, sym, ◌∙◌, subst, Some, arith}
 use Rattle.std.proofs.Common.{length-append, take_all, take-add, zero-add}
 use Rattle.std.specs.Prelude.{slice_get}
 use Rattle.std.specs.List.{All, AllZip, AllByRecursion}
@@ -11,13 +11,15 @@ use Rattle.xa_server.specs.State.{State}
 use Rattle.decision_log.specs.Known.{LogIdentity, newcomer, AllOf}
 use Rattle.decision_log.specs.declared.known.Known.{Known}
 use Rattle.decision_log.specs.History.{entries_of}
+use Rattle.decision_log.proofs.Histories.{begins_through, begins_same}
 use Rattle.xa_session.specs.Replay.{state_after}
 use Rattle.xa_session.specs.declared.answer.Answer.{Answer}
 use Rattle.xa_store.specs.Passes.{Pass, log_of, known_of}
 use Rattle.xa_store.specs.Gathered.{IsTakenIn, AddsNothing, last_known}
 use Rattle.xa_store.specs.Spread.{AllThree}
-use Rattle.xa_store.specs.Legal.{IsLegal}
+use Rattle.xa_store.specs.Legal.{IsLegal, LetsIn}
 use Rattle.xa_store.specs.Rounds.{later, Gains, AreLegalAtLast, AllGain, AllLegalSoFar, AllAnswered, AreFresh, CanShut, StopsInRound, BlamesRounds}
+use Rattle.xa_store.specs.Rounds.{EachFrom, AllLetIn, AreLetInSoFar, AreNumbered, HasNoRoom, HasEnded}
 use Rattle.xa_store.specs.declared.progress.Progress.{Progress}
 use Rattle.xa_store.specs.declared.run.Run.{Run}
 use Rattle.xa_store.specs.declared.race_fault.RaceFault.{RaceFault}
@@ -25,6 +27,12 @@ use Rattle.xa_store.specs.declared.race_fault.RaceFault.TheVariants.{GateShut, F
 use Rattle.xa_store.proofs.Legality.{legal_longer}
 use Rattle.xa_store.proofs.Races.{taken_before}
 use Rattle.xa_store.proofs.Later.{state_over, legal_over}
+
+less_or_more : (line count : ℕ) → (line < count) ⊎ (count ≤ line)
+less_or_more zero zero = inr (omega arith)
+less_or_more zero (suc count) = inl (omega arith)
+less_or_more (suc line) zero = inr (omega arith)
+less_or_more (suc line) (suc count) = ⊎_elim (λ less. inl (omega (arith, less))) (λ more. inr (omega (arith, more))) (less_or_more line count)
 
 module _ (base : State) (first second : List Entry) where
   legal_one : (session : ℕ) (statements : List Statement) (old new : Progress) → old.lines.items ≡ statements
@@ -174,6 +182,103 @@ all_gain base before history from (pass ∷ passes) (old ∷ olds) (new ∷ news
   all_gain base before history (from + 1) passes olds news
       (λ index one is. fresh (suc index) one is ∙ ap newcomer (let e : suc index + from ≡ index + (from + 1) = omega arith in e)) all.1,
 )
+
+-- the same of each session of a round, by its pass
+pub each_from : (R : ℕ → Progress → Progress → Type 0) (from : ℕ) (passes : List Pass) (olds news : List Progress)
+    → ((index : ℕ) (pass : Pass) → slice_get passes index ≡ Some pass → known_of pass ≡ newcomer (index + from))
+    → AllThree (λ pass old new. R (known_of pass).number old new) passes olds news → EachFrom R from olds news
+each_from R from [] [] [] fresh all = tt
+each_from R from [] [] (new ∷ news) fresh all = absurd all
+each_from R from [] (old ∷ olds) news fresh all = absurd all
+each_from R from (pass ∷ passes) [] news fresh all = absurd all
+each_from R from (pass ∷ passes) (old ∷ olds) [] fresh all = absurd all
+each_from R from (pass ∷ passes) (old ∷ olds) (new ∷ news) fresh all = (
+  subst (λ known. R known.number old new) (fresh 0 pass refl ∙ ap newcomer (zero-add from)) all.0,
+  each_from R (from + 1) passes olds news
+      (λ index one is. fresh (suc index) one is ∙ ap newcomer (let e : suc index + from ≡ index + (from + 1) = omega arith in e)) all.1,
+)
+
+-- passes that are left of fresh ones have their numbers
+pub numbered : (from : ℕ) (passes left : List Pass)
+    → ((index : ℕ) (pass : Pass) → slice_get passes index ≡ Some pass → known_of pass ≡ newcomer (index + from))
+    → AllZip (λ pass one. (known_of one).number ≡ (known_of pass).number) passes left → AreNumbered from left
+numbered from [] [] fresh zip = tt
+numbered from [] (one ∷ left) fresh zip = absurd zip
+numbered from (pass ∷ passes) [] fresh zip = absurd zip
+numbered from (pass ∷ passes) (one ∷ left) fresh zip = (
+  zip.0 ∙ ap (λ known. known.number) (fresh 0 pass refl ∙ ap newcomer (zero-add from)),
+  numbered (from + 1) passes left
+      (λ index p is. fresh (suc index) p is ∙ ap newcomer (let e : suc index + from ≡ index + (from + 1) = omega arith in e)) zip.1,
+)
+
+-- so each run has one of them
+pub run_passes : (from : ℕ) (runs : List Run) (left : List Pass)
+    → ((index : ℕ) (pass : Pass) → slice_get (map (λ run. run.pass) runs) index ≡ Some pass → known_of pass ≡ newcomer (index + from))
+    → length left ≡ length runs → AreNumbered from left → AllZip (λ run pass. (known_of pass).number ≡ (known_of run.pass).number) runs left
+run_passes from [] [] fresh count are = tt
+run_passes from [] (pass ∷ left) fresh count are = absurd (omega (arith, count))
+run_passes from (run ∷ runs) [] fresh count are = absurd (omega (arith, count))
+run_passes from (run ∷ runs) (pass ∷ left) fresh count are = (
+  are.0 ∙ sym (ap (λ known. known.number) (fresh 0 run.pass refl ∙ ap newcomer (zero-add from))),
+  run_passes (from + 1) runs left
+      (λ index p is. fresh (suc index) p is ∙ ap newcomer (let e : suc index + from ≡ index + (from + 1) = omega arith in e))
+      (omega (arith, count)) are.1,
+)
+
+-- before the first round no statement was let in
+pub let_in_nothing : (gate : ℕ → ℕ → Bool → Type 0) (session : ℕ) (far : List Progress) → AllByRecursion (λ one. one.answers.items ≡ []) far
+    → AreLetInSoFar gate session far
+let_in_nothing gate session [] none = tt
+let_in_nothing gate session (one ∷ far) none = (
+  λ line behind below. let e : length one.answers.items ≡ 0 = ap length none.0 in absurd (omega (arith, below, e)),
+  let_in_nothing gate (session + 1) far none.1,
+)
+
+-- one round more
+pub let_in_round : (gate : ℕ → ℕ → Bool → Type 0) (session : ℕ) (olds news : List Progress) → AreLetInSoFar gate session olds
+    → AllLetIn gate session olds news → AreLetInSoFar gate session news
+let_in_round gate session [] [] far all = tt
+let_in_round gate session [] (new ∷ news) far all = absurd all
+let_in_round gate session (old ∷ olds) [] far all = absurd all
+let_in_round gate session (old ∷ olds) (new ∷ news) far all = (
+  λ line behind below.
+      ⊎_elim (λ less. far.0 line behind less) (λ more. all.0 line more below) (less_or_more line (length old.answers.items)),
+  let_in_round gate (session + 1) olds news far.1 all.1,
+)
+
+-- once no statement is left, each of the runs was let in
+pub let_in_runs : (gate : ℕ → ℕ → Bool → Type 0) (base : State) (history : List Entry) (from : ℕ) (runs : List Run) (far : List Progress)
+    → ((index : ℕ) (pass : Pass) → slice_get (map (λ run. run.pass) runs) index ≡ Some pass → known_of pass ≡ newcomer (index + from))
+    → AllLegalSoFar base history from (map (λ run. run.lines.items) runs) far
+    → AllByRecursion (λ one. length one.lines.items ≤ length one.answers.items) far → AreLetInSoFar gate from far
+    → AllByRecursion (λ run. LetsIn gate (known_of run.pass).number (length run.lines.items)) runs
+let_in_runs gate base history from [] far fresh all done let_in = tt
+let_in_runs gate base history from (run ∷ runs) [] fresh all done let_in = absurd all
+let_in_runs gate base history from (run ∷ runs) (one ∷ far) fresh all done let_in =
+    let number : (known_of run.pass).number ≡ from = ap (λ known. known.number) (fresh 0 run.pass refl ∙ ap newcomer (zero-add from)) in (
+      λ line below.
+          subst (λ n. gate n line true) (sym number)
+          (let_in.0 line (omega arith) (let e : length one.lines.items ≡ length run.lines.items = ap length all.0 in omega (arith, below, e, done.0))),
+      let_in_runs gate base history (from + 1) runs far
+          (λ index p is. fresh (suc index) p is ∙ ap newcomer (let e : suc index + from ≡ index + (from + 1) = omega arith in e)) all.2 done.1 let_in.1,
+    )
+
+-- the last of some passes has seen no more than its log has room for
+pub last_within : (identity : LogIdentity) (passes : List Pass) → AllByRecursion (λ pass. log_of pass ≡ identity) passes
+    → length (last_known (map known_of passes)).seen ≤ identity.capacity
+last_within identity [] belong = omega arith
+last_within identity (pass ∷ []) belong =
+    let P : LogIdentity → Type 0 = λ p. length (known_of pass).seen ≤ p.capacity in subst P belong.0 pass.state.within
+last_within identity (pass ∷ other ∷ passes) belong = last_within identity (other ∷ passes) belong.1
+
+-- a session that ended by what it had seen ended by what all have seen in the end
+pub ended_in : (base : State) (capacity : ℕ) (history : List Entry) (after last : Known) (session : ℕ) (new : Progress) → length history ≤ capacity
+    → AddsNothing after last → IsTakenIn history last → HasEnded base capacity after.seen session new → HasEnded base capacity history session new
+ended_in base capacity history after last session new within keeps taken (inl done) = inl done
+ended_in base capacity history after last session new within keeps taken (inr none) =
+    let begins = begins_through after.seen last.seen history keeps.seen taken.seen in
+    let same : after.seen ≡ history = begins_same after.seen history begins (omega (arith, within, none.full)) in
+    inr (subst (λ list. HasNoRoom base capacity list session new) same none)
 
 -- what a session was answered in a round, in the history that all have seen in the end
 pub gains_in : (base : State) (before : ℕ) (history : List Entry) (known after last : Known) (old new : Progress)

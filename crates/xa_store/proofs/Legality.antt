@@ -17,7 +17,7 @@ use Rattle.xa_session.specs.Answer.{entry_of, AnswersAt, IsAnswered}
 use Rattle.xa_session.specs.declared.answer.Answer.{Answer}
 use Rattle.xa_session.proofs.Replaying.{state_at-begins}
 use Rattle.xa_store.specs.Gathered.{IsTakenIn}
-use Rattle.xa_store.specs.Legal.{next_place, Answered, entered, IsLegal, LetsIn, Halts, Stops}
+use Rattle.xa_store.specs.Legal.{next_place, Answered, entered, IsLegal, LetsIn, Halts, IsReachedInRun, GoesNoFurther, Stops}
 use Rattle.xa_store.specs.declared.race_fault.RaceFault.{RaceFault}
 use Rattle.xa_store.specs.declared.race_fault.RaceFault.TheVariants.{GateShut, Full, NoMemory, ThreadRefused}
 
@@ -234,21 +234,18 @@ lets_in_more gate session count before here = below_more (λ line. gate session 
 -- a fault at one statement is a fault of the run
 module _ (gate : ℕ → ℕ → Bool → Type 0) (base : State) (capacity : ℕ) (before now new : Known) (statements : List Statement) (answers : List Answer) (place : ℕ)
     (statement : Statement) where
-  pub stops : (fault : RaceFault) → place < length statements → slice_get statements place ≡ Some statement → entries_of now.number now.seen ≡ now.mine
-      → entries_of new.number new.seen ≡ new.mine
+  pub no_further : (fault : RaceFault) → place < length statements → entries_of now.number now.seen ≡ now.mine → entries_of new.number new.seen ≡ new.mine
       → IsOnTheWay base before now (take place statements) answers → Halts gate base capacity statement place fault now new
-      → Stops gate base capacity before statements fault
-  stops (GateShut session line) below given part part' way is = record {
-    history = now.seen;
-    reached = record {
-      number = is.0 ∙ way.number;
-      below = omega (arith, is.1);
-      answers = answers;
-      legal = subst (λ n. IsLegal base now.seen before (take n statements) answers) (sym is.1) way.legal;
-    };
-    shut = is.2.shut;
-  }
-  stops (Full session line) below given part part' way is =
+      → GoesNoFurther base before statements fault new
+  no_further (GateShut session line) below part part' way is =
+      subst (λ known. IsReachedInRun base known.seen before statements session line) (sym is.2.same)
+      (record {
+        number = is.0 ∙ way.number;
+        below = omega (arith, is.1);
+        answers = answers;
+        legal = subst (λ n. IsLegal base now.seen before (take n statements) answers) (sym is.1) way.legal;
+      })
+  no_further (Full session line) below part part' way is =
       let unanswered = is.2.unanswered in
       let taken : IsTakenIn new.seen now = record {
         seen = unanswered.advances.seen;
@@ -256,17 +253,27 @@ module _ (gate : ℕ → ℕ → Bool → Type 0) (base : State) (capacity : ℕ
       } in
       let legal = legal_longer base new.seen before now (take place statements) answers way.number part taken way.legal in
       record {
-        history = new.seen;
-        reached = record {
-          number = is.0 ∙ way.number;
-          below = omega (arith, is.1);
-          answers = answers;
-          legal = subst (λ n. IsLegal base new.seen before (take n statements) answers) (sym is.1) legal;
-        };
-        statement = statement;
-        given = ap (slice_get statements) is.1 ∙ given;
-        enters = ap (λ n. enters (state_after base new.seen) n statement) is.0 ∙ is.2.enters;
-        full = is.2.full;
+        number = is.0 ∙ way.number;
+        below = omega (arith, is.1);
+        answers = answers;
+        legal = subst (λ n. IsLegal base new.seen before (take n statements) answers) (sym is.1) legal;
       }
+  no_further NoMemory below part part' way is = tt
+  no_further ThreadRefused below part part' way is = absurd is
+
+  pub stops : (fault : RaceFault) → place < length statements → slice_get statements place ≡ Some statement → entries_of now.number now.seen ≡ now.mine
+      → entries_of new.number new.seen ≡ new.mine
+      → IsOnTheWay base before now (take place statements) answers → Halts gate base capacity statement place fault now new
+      → Stops gate base capacity before statements fault
+  stops (GateShut session line) below given part part' way is =
+      record { history = new.seen; reached = no_further (GateShut session line) below part part' way is; shut = is.2.shut }
+  stops (Full session line) below given part part' way is = record {
+    history = new.seen;
+    reached = no_further (Full session line) below part part' way is;
+    statement = statement;
+    given = ap (slice_get statements) is.1 ∙ given;
+    enters = ap (λ n. enters (state_after base new.seen) n statement) is.0 ∙ is.2.enters;
+    full = is.2.full;
+  }
   stops NoMemory below given part part' way is = tt
   stops ThreadRefused below given part part' way is = absurd is

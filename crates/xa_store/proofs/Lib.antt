@@ -1,6 +1,7 @@
 pub mod Gathering
 pub mod Legality
 pub mod Spreading
+pub mod Telling
 pub mod Races
 pub mod Leaves
 pub mod RoundLists

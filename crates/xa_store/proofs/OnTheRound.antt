@@ -1,5 +1,5 @@
 -- One session in a round: an answer more, and no room for more.
-use Rattle.std.proofs.Common.{◌≡◌, ℕ, zero, suc, ◌+◌, List, [], ◌∷◌, ◌++◌, length, map, take, drop, refl, ap, sym, ◌∙◌, subst, Some, arith, length-append}
+use Rattle.std.proofs.Common.{◌≡◌, ℕ, Bool, true, zero, suc, ◌+◌, ◌≤◌, below_more, List, [], ◌∷◌, ◌++◌, length, map, take, drop, refl, ap, sym, ◌∙◌, subst, Some, arith, length-append}
 use Rattle.std.proofs.Common.{append-nil}
 use Rattle.std.specs.Prelude.{slice_get}
 use Rattle.std.proofs.lemmas.List.{length-map, append_assoc}
@@ -7,10 +7,15 @@ use Rattle.xa_xid.specs.declared.statement.Statement.{Statement}
 use Rattle.xa_server.specs.State.{State}
 use Rattle.decision_log.specs.declared.known.Known.{Known}
 use Rattle.decision_log.specs.History.{entries_of}
-use Rattle.xa_session.specs.Answer.{IsAnswered, IsUnanswered}
+use Rattle.xa_server.specs.Step.{enters}
+use Rattle.xa_session.specs.Replay.{state_after}
+use Rattle.xa_session.specs.Answer.{IsAnswered, IsUnanswered, IsFull}
 use Rattle.xa_session.specs.declared.answer.Answer.{Answer}
 use Rattle.xa_store.specs.Gathered.{IsTakenIn}
-use Rattle.xa_store.specs.Rounds.{later, AreLegalAtLast}
+use Rattle.xa_store.specs.Legal.{Halts}
+use Rattle.xa_store.specs.Rounds.{later, AreLegalAtLast, HasBeenLetIn, HasNoRoom, WhereShut}
+use Rattle.xa_store.specs.declared.race_fault.RaceFault.{RaceFault}
+use Rattle.xa_store.specs.declared.race_fault.RaceFault.TheVariants.{GateShut, Full, NoMemory, ThreadRefused}
 use Rattle.xa_store.specs.declared.progress.Progress.{Progress}
 use Rattle.xa_store.proofs.Legality.{IsOnTheWay, sets_out, goes_on, legal_longer}
 
@@ -91,3 +96,32 @@ round_stays base count old now new told told' lines part part' round unanswered 
             (take (length round.answers) (drop (length told.answers.items) told.lines.items)) round.answers round.way.number part taken round.way.legal;
       };
     }
+
+-- a gate lets in no statement, and one more
+pub let_in_none : (gate : ℕ → ℕ → Bool → Type 0) (session from to : ℕ) → to ≤ from → HasBeenLetIn gate session from to
+let_in_none gate session from to none line behind below = absurd (omega (arith, none, behind, below))
+
+pub let_in_more : (gate : ℕ → ℕ → Bool → Type 0) (session from to : ℕ) → HasBeenLetIn gate session from to → gate session to true
+    → HasBeenLetIn gate session from (to + 1)
+let_in_more gate session from to before last line behind below =
+    below_more (λ one. from ≤ one → gate session one true) to (λ one less reached. before one reached less) (λ reached. last) line below behind
+
+-- a statement for which there is no room is the next one
+pub no_room : (base : State) (capacity : ℕ) (now new : Known) (number : ℕ) (statement : Statement) (progress : Progress)
+    → IsFull base capacity statement now new → now.number ≡ number
+    → slice_get progress.lines.items (length progress.answers.items) ≡ Some statement → HasNoRoom base capacity new.seen number progress
+no_room base capacity now new number statement progress full same given = record {
+  statement = statement;
+  next = given;
+  enters = ap (λ n. enters (state_after base new.seen) n statement) (sym same) ∙ full.enters;
+  full = full.full;
+}
+
+-- where the gate is shut nothing is done for the statement
+pub shut_there : (gate : ℕ → ℕ → Bool → Type 0) (base : State) (capacity : ℕ) (statement : Statement) (place : ℕ) (fault : RaceFault) (now new : Known)
+    (holds : ℕ → Type 0)
+    → Halts gate base capacity statement place fault now new → (new ≡ now → holds place) → WhereShut fault holds
+shut_there gate base capacity statement place (GateShut session line) now new holds is thus = subst holds (sym is.1) (thus is.2.same)
+shut_there gate base capacity statement place (Full session line) now new holds is thus = tt
+shut_there gate base capacity statement place NoMemory now new holds is thus = tt
+shut_there gate base capacity statement place ThreadRefused now new holds is thus = tt

@@ -1,6 +1,6 @@
 -- The rounds of a race, one after another.
 use Rattle.std.proofs.Common.{◌≡◌, ◌<◌, ◌≤◌, List, [], ◌∷◌, ◌++◌, length, map, refl, ap, sym, ◌∙◌, subst, arith}
-use Rattle.std.specs.List.{All}
+use Rattle.std.specs.List.{All, AllZip}
 use Rattle.std.proofs.lemmas.List.{length-map}
 use Rattle.std.proofs.lemmas.List.Elements.{All-nil, recursion_from_All}
 use Rattle.xa_xid.specs.declared.statement.Statement.{Statement}
@@ -19,7 +19,7 @@ use Rattle.xa_store.specs.declared.outcome.Outcome.{Outcome}
 use Rattle.xa_store.specs.declared.progress.Progress.{Progress}
 use Rattle.xa_store.specs.declared.run.Run.{Run}
 use Rattle.xa_store.specs.declared.store.Store.{Store}
-use Rattle.xa_store.proofs.InRounds.{IsHeld, legal_nothing, legal_count, legal_all, legal_runs, fresh_few, round_legal, round_own, round_state, round_count, round_held}
+use Rattle.xa_store.proofs.InRounds.{IsHeld, legal_nothing, legal_count, legal_all, legal_runs, fresh_few, round_legal, round_own, round_state, round_count, round_held, run_passes}
 
 -- what each session gives
 abbrev pub lines_of : List Progress → List (List Statement)
@@ -28,6 +28,7 @@ lines_of progress = map (λ one. one.lines.items) progress
 -- the next round goes on with all that the first began
 pub record IsNext (first held : Held) : Type 0 where
   pub count : length held.passes.items ≡ length held.progress.items
+  pub capacity : (identity_of held.store.log).capacity ≡ (identity_of first.store.log).capacity
   pub so_far : IsHeld first.store.base (identity_of first.store.log).sessions (lines_of first.progress.items) held.history.items held.store.base
       (identity_of held.store.log) held.passes.items held.progress.items
 
@@ -38,6 +39,7 @@ begins first is =
     (identity_of first.store.log) first.passes.items first.progress.items in
     record {
       count = is.count;
+      capacity = refl;
       so_far =
           subst Goes (sym is.empty)
           (record {
@@ -113,6 +115,10 @@ module _ (first held next : Held) (is : IsNext first held) (adds : AddsRound hel
             adds.round adds.is_round.own);
         none = none;
         gathered = λ some. gathered_next (omega (arith, some, as_first));
+        count = adds.is_round.count ∙ as_first;
+        numbers = adds.is_round.numbers;
+        capacity = ap (λ store. (identity_of store.log).capacity) adds.store ∙ is.capacity;
+        sessions = ap (λ store. (identity_of store.log).sessions) adds.store ∙ is.so_far.sessions_are;
         state = state;
       }
 
@@ -127,6 +133,7 @@ module _ (first held next : Held) (is : IsNext first held) (adds : AddsRound hel
       let same : after.progress.items ≡ next.progress.items = ap (λ list. list.items) carries.progress in
       record {
         count = omega (arith, carries.count, adds.is_round.count, as_many, ap length same);
+        capacity = carries.capacity ∙ ap (λ store. (identity_of store.log).capacity) adds.store ∙ is.capacity;
         so_far =
             subst (λ progress. IsHeld base sessions lines after.history.items after.store.base (identity_of after.store.log) after.passes.items progress) (sym same)
             (subst (λ history. IsHeld base sessions lines history after.store.base (identity_of after.store.log) after.passes.items next.progress.items) (sym whole)
@@ -165,6 +172,13 @@ told store runs first last store' outcome fresh begun lines held ended history p
       gathered =
           λ some. subst GatheredIn (sym ended)
           (subst (λ list. AreGathered (identity_of last.store.log) list.items) (sym passes) (held.gathered (omega (arith, some, count))));
+      passes =
+          subst (λ list. AllZip (λ run pass. (known_of pass).number ≡ (known_of run.pass).number) runs list.items) (sym passes)
+          (run_passes 1 runs last.passes.items fresh (held.count ∙ count) held.numbers);
+      capacity =
+          ap (λ s. (identity_of s.log).capacity) ended ∙ held.capacity ∙ ap (λ s. (identity_of s.log).capacity) begun;
+      sessions =
+          ap (λ s. (identity_of s.log).sessions) ended ∙ held.sessions ∙ ap (λ s. (identity_of s.log).sessions) begun;
       state =
           ap (λ s. state_after s.base (last_known (map known_of outcome.passes.items)).seen) ended
           ∙ ap (λ list. state_after last.store.base (last_known (map known_of list.items)).seen) passes ∙ held.state

@@ -100,3 +100,30 @@ get_taken (suc n) (y ∷ xs) (suc place) x is = get_taken n xs place x is
 pub all_of_mapped : {A B : Type 0} (P : B → Type 0) (f : A → B) (xs : List A) → All P (map f xs) → All (λ x. P (f x)) xs
 all_of_mapped P f [] all = All-nil (λ x. P (f x))
 all_of_mapped P f (x ∷ xs) all = All-cons (λ y. P (f y)) x xs (All-head P (f x) (map f xs) all) (all_of_mapped P f xs (All-tail P (f x) (map f xs) all))
+
+-- what each first leaves, by what its third becomes
+pub three_left : {A B C D E : Type 0} (R : A → B → C → Type 0) (H : C → D → Type 0) (W : D → E → Type 0) (Q : A → E → Type 0)
+    → ((a : A) (b : B) (c : C) (d : D) (e : E) → R a b c → H c d → W d e → Q a e)
+    → (xs : List A) (ys : List B) (zs : List C) (ws : List D) (vs : List E) → AllThree R xs ys zs → AllZip H zs ws → AllZip W ws vs → AllZip Q xs vs
+three_left R H W Q keep [] [] [] [] [] three went left = tt
+three_left R H W Q keep [] [] [] [] (e ∷ vs) three went left = absurd left
+three_left R H W Q keep [] [] [] (d ∷ ws) vs three went left = absurd went
+three_left R H W Q keep [] [] (c ∷ zs) ws vs three went left = absurd three
+three_left R H W Q keep [] (b ∷ ys) zs ws vs three went left = absurd three
+three_left R H W Q keep (a ∷ xs) [] zs ws vs three went left = absurd three
+three_left R H W Q keep (a ∷ xs) (b ∷ ys) [] ws vs three went left = absurd three
+three_left R H W Q keep (a ∷ xs) (b ∷ ys) (c ∷ zs) [] vs three went left = absurd went
+three_left R H W Q keep (a ∷ xs) (b ∷ ys) (c ∷ zs) (d ∷ ws) [] three went left = absurd left
+three_left R H W Q keep (a ∷ xs) (b ∷ ys) (c ∷ zs) (d ∷ ws) (e ∷ vs) three went left =
+    (keep a b c d e three.0 went.0 left.0, three_left R H W Q keep xs ys zs ws vs three.1 went.1 left.1)
+
+-- what is known of each first stands beside it
+pub three_with : {A B C : Type 0} (R : A → B → C → Type 0) (P : A → Type 0) (xs : List A) (ys : List B) (zs : List C) → AllThree R xs ys zs
+    → AllByRecursion P xs
+    → AllThree (λ a b c. R a b c × P a) xs ys zs
+three_with R P [] [] [] all is = tt
+three_with R P [] [] (c ∷ zs) all is = absurd all
+three_with R P [] (b ∷ ys) zs all is = absurd all
+three_with R P (a ∷ xs) [] zs all is = absurd all
+three_with R P (a ∷ xs) (b ∷ ys) [] all is = absurd all
+three_with R P (a ∷ xs) (b ∷ ys) (c ∷ zs) all is = ((all.0, is.0), three_with R P xs ys zs all.1 is.1)

@@ -12,6 +12,7 @@
 --     IsLetIn         a session's statement is answered
 --     EndsOne         the one or the other
 --     IsReachedInRun  the statements in front of a place were answered
+--     GoesNoFurther   a run has done nothing behind the statement at which it stops
 --     IsShutAt        the gate can shut a run at a statement
 --     IsFullAt        a run's statement has no room in the history
 --     Stops           why a run stops
@@ -118,6 +119,13 @@ pub record IsReachedInRun (base : State) (history : List Entry) (before : Known)
   pub below : line < length statements
   pub answers : List Answer
   pub legal : IsLegal base history before (take line statements) answers
+
+-- in all that the session has seen in the end, the statements in front of the one that the fault names were answered, and none behind them
+abbrev pub GoesNoFurther : State → Known → List Statement → RaceFault → Known → Type 0
+GoesNoFurther base before statements (GateShut session line) after = IsReachedInRun base after.seen before statements session line
+GoesNoFurther base before statements (Full session line) after = IsReachedInRun base after.seen before statements session line
+GoesNoFurther base before statements NoMemory after = Unit {0}
+GoesNoFurther base before statements ThreadRefused after = ⊥
 
 -- once the statements in front of this one were answered, the gate can shut the run
 pub record IsShutAt (gate : ℕ → ℕ → Bool → Type 0) (base : State) (before : Known) (statements : List Statement) (session line : ℕ) : Type 0 where

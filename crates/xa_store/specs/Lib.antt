@@ -4,6 +4,7 @@ pub mod Legal
 pub mod Renewal
 pub mod Faults
 pub mod Spread
+pub mod Lowest
 pub mod Closed
 pub mod Rounds
 pub mod Held

@@ -3,20 +3,32 @@
 --     Gains           what a session was answered in one round
 --     AreLegalAtLast  the same of what its pass knows, before the round and after it
 --     HasGoneOn       the same of a session that is on the log and the base that it was on
+--     HasBeenLetIn    a gate can let a session give some of its statements
+--     HasNoRoom       a session's next statement has no room in the history
+--     HasEnded        no statement is left, or there is no room for the next
+--     EndsItsRound    how a session's round ends, and that the gate can have let it in
+--     EachFrom        the same of each session, from a number on
+--     AllLetIn        the gate can have let all sessions in, in one round
+--     AreLetInSoFar   the same of all rounds so far
+--     AreNumbered     passes of one session after another
+--     GoesOn          a session has a statement left
 --     AllGain         what the sessions, each of which knew nothing at first, were answered in one round
 --     AllLegalSoFar   what they were answered so far
 --     AllAnswered     all that they were answered
 --     AreFresh        the passes of the sessions 1 to the last, none of which knows anything
 --     CanShut         a gate can shut a session's statement
 --     StopsInRound    why a session gives no more statements
+--     WhereShut       what is so where the gate shut a statement
 --     ShutsOne        a gate can shut a statement of one of the sessions
 --     BlamesRounds    why a race in rounds gives nothing
-use Rattle.std.specs.Prelude.{◌≡◌, ◌<◌, ◌+◌, ℕ, Bool, false, List, [], ◌∷◌, ◌++◌, length, map, take, drop, slice_get, Some}
+use Rattle.std.specs.Prelude.{◌≡◌, ◌<◌, ◌≤◌, ◌⊎◌, ◌+◌, ℕ, Bool, true, false, List, [], ◌∷◌, ◌++◌, length, map, take, drop, slice_get, Some}
 use Rattle.xa_xid.specs.declared.statement.Statement.{Statement}
 use Rattle.xa_words.specs.Entry.{Entry}
 use Rattle.xa_server.specs.State.{State}
+use Rattle.xa_server.specs.Step.{enters}
 use Rattle.decision_log.specs.Known.{LogIdentity, newcomer}
 use Rattle.decision_log.specs.declared.known.Known.{Known}
+use Rattle.xa_session.specs.Replay.{state_after}
 use Rattle.xa_session.specs.declared.answer.Answer.{Answer}
 use Rattle.xa_store.specs.Passes.{Pass, known_of}
 use Rattle.xa_store.specs.Legal.{IsLegal}
@@ -47,6 +59,56 @@ pub record HasGoneOn {Pass : Type 0} (belongs_to : Pass → LogIdentity) (known 
   pub same_base : base' ≡ base
   pub same_log : belongs_to pass' ≡ belongs_to pass
   pub goes_on : AreLegalAtLast base before (known pass) (known pass') old new
+
+-- the gate can let the session give its statements from one place up to another
+abbrev pub HasBeenLetIn : (ℕ → ℕ → Bool → Type 0) → ℕ → ℕ → ℕ → Type 0
+HasBeenLetIn gate session from to = (line : ℕ) → from ≤ line → line < to → gate session line true
+
+-- the session's next statement enters, and the history is as long as the log can be
+pub record HasNoRoom (base : State) (capacity : ℕ) (history : List Entry) (session : ℕ) (progress : Progress) : Type 0 where
+  pub statement : Statement
+  pub next : slice_get progress.lines.items (length progress.answers.items) ≡ Some statement
+  pub enters : enters (state_after base history) session statement ≡ true
+  pub full : length history ≡ capacity
+
+-- the session has no statement left, or there is no room for its next
+abbrev pub HasEnded : State → ℕ → List Entry → ℕ → Progress → Type 0
+HasEnded base capacity history session progress =
+    (length progress.lines.items ≤ length progress.answers.items) ⊎ HasNoRoom base capacity history session progress
+
+-- each statement that was answered was let in, and the session ends where it has to
+pub record EndsItsRound (gate : ℕ → ℕ → Bool → Type 0) (base : State) (capacity : ℕ) (known after : Known) (old new : Progress) : Type 0 where
+  pub opened : HasBeenLetIn gate known.number (length old.answers.items) (length new.answers.items)
+  pub ended : HasEnded base capacity after.seen known.number new
+
+-- the same of each session, from this number on, before a round and after it
+abbrev pub EachFrom : (ℕ → Progress → Progress → Type 0) → ℕ → List Progress → List Progress → Type 0
+EachFrom R session [] [] = Unit {0}
+EachFrom R session [] (new ∷ news) = ⊥
+EachFrom R session (old ∷ olds) [] = ⊥
+EachFrom R session (old ∷ olds) (new ∷ news) = R session old new × EachFrom R (session + 1) olds news
+
+-- the gate can have let in each statement that was answered in this round
+abbrev pub AllLetIn : (ℕ → ℕ → Bool → Type 0) → ℕ → List Progress → List Progress → Type 0
+AllLetIn gate session olds news =
+    EachFrom (λ number old new. HasBeenLetIn gate number (length old.answers.items) (length new.answers.items)) session olds news
+
+-- the gate can have let in each statement that was answered so far
+abbrev pub AreLetInSoFar : (ℕ → ℕ → Bool → Type 0) → ℕ → List Progress → Type 0
+AreLetInSoFar gate session [] = Unit {0}
+AreLetInSoFar gate session (one ∷ others) = HasBeenLetIn gate session 0 (length one.answers.items) × AreLetInSoFar gate (session + 1) others
+
+-- the passes of the sessions from this number on
+abbrev pub AreNumbered : ℕ → List Pass → Type 0
+AreNumbered session [] = Unit {0}
+AreNumbered session (pass ∷ passes) = ((known_of pass).number ≡ session) × AreNumbered (session + 1) passes
+
+-- one of the sessions has a statement left
+pub record GoesOn (progress : List Progress) : Type 0 where
+  pub index : ℕ
+  pub one : Progress
+  pub found : slice_get progress index ≡ Some one
+  pub left : length one.answers.items < length one.lines.items
 
 -- the sessions from this number on
 abbrev pub AllGain : State → ℕ → List Entry → ℕ → List Progress → List Progress → Type 0
@@ -89,6 +151,13 @@ StopsInRound gate session count (GateShut named line) = CanShut gate session cou
 StopsInRound gate session count (Full named line) = ⊥
 StopsInRound gate session count NoMemory = Unit {0}
 StopsInRound gate session count ThreadRefused = ⊥
+
+-- what is so of the line at which the gate shut a run
+abbrev pub WhereShut : RaceFault → (ℕ → Type 0) → Type 0
+WhereShut (GateShut session line) holds = holds line
+WhereShut (Full session line) holds = Unit {0}
+WhereShut NoMemory holds = Unit {0}
+WhereShut ThreadRefused holds = Unit {0}
 
 -- the gate can shut a statement of one of the sessions, the first of which is session 1
 pub record ShutsOne (gate : ℕ → ℕ → Bool → Type 0) (lines : List (List Statement)) (named line : ℕ) : Type 0 where

@@ -1,7 +1,7 @@
 //! One session answers its statements, one after another.
 ghost use Rattle.std.specs.Prelude.{◌≡◌, IfOk, IfErr};
 ghost use Rattle.xa_session.specs.Stays.{Stays};
-ghost use Rattle.xa_store.specs.Legal.{fault_at, EndsOne, Stops};
+ghost use Rattle.xa_store.specs.Legal.{fault_at, EndsOne, GoesNoFurther, Stops};
 ghost use Rattle.xa_store.specs.Spread.{HasRun};
 
 use crate::{Gate, RaceFault};
@@ -61,6 +61,7 @@ pub(crate) fn answers_to<L: DecisionLog, G: Gate, R: Wait>(
         session.new.pass answers.items) }
     ensures fault { IfErr result
         (λ fault. Stops (G.may_answer gate.now) session.old.base.now (L.belongs_to session.old.pass).capacity (L.known session.old.pass) lines.now fault) }
+    ensures rest { IfErr result (λ fault. GoesNoFurther session.old.base.now (L.known session.old.pass) lines.now fault (L.known session.new.pass)) }
 {
     let mut answers = Vec::with_capacity(alloc, lines.len())?;
     for index in 0..lines.len() {

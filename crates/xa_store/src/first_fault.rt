@@ -1,8 +1,8 @@
 //! Which fault of a race is told.
 ghost use Rattle.std.specs.Prelude.{◌≡◌, ◌≤◌, ◌⊎◌};
+ghost use Rattle.xa_store.specs.Lowest.{IsOutside};
 
 use crate::RaceFault;
-use xa_xid::SessionNo;
 
 /// A fault, and whose run had it. Of several faults that of the lowest session is told.
 #[derive(Clone, Copy, Drop)]
@@ -14,20 +14,17 @@ pub(crate) struct FirstFault {
 }
 
 impl FirstFault {
-    /// The fault of a session's run.
-    pub(crate) fn of(session: SessionNo, fault: RaceFault) -> FirstFault
+    /// The fault of the run of the session of this number.
+    pub(crate) fn of(session: u64, fault: RaceFault) -> FirstFault
         ensures fault { result.fault ≡ fault }
         ensures session { result.session ≡ session }
     {
-        FirstFault {
-            session: session.get(),
-            fault,
-        }
+        FirstFault { session, fault }
     }
 
     /// NoMemory outside the runs.
     pub(crate) fn outside() -> FirstFault
-        ensures { result.fault ≡ RaceFault.NoMemory }
+        ensures { IsOutside result }
     {
         FirstFault {
             session: u64::MAX,

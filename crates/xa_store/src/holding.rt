@@ -3,7 +3,7 @@ ghost use Rattle.std.specs.Prelude.{◌≡◌, map, IfOk, IfErr, vec_len};
 ghost use Rattle.std.specs.List.{All};
 ghost use Rattle.xa_store.specs.Passes.{identity_of, log_of};
 ghost use Rattle.xa_store.specs.Spread.{AllThree};
-ghost use Rattle.xa_store.specs.Rounds.{AreFresh, BlamesRounds};
+ghost use Rattle.xa_store.specs.Rounds.{AreFresh, AllLetIn, BlamesRounds};
 ghost use Rattle.xa_store.specs.Held.{IsRound};
 
 use crate::closing::{Closed, close_all};
@@ -90,6 +90,7 @@ pub(crate) fn hold_round<G: Gate + Sync, R: Threads + Wait + Sync>(
     requires fresh { AreFresh passes.items }
     ensures round { IfOk result
         (λ closed. IsRound store.now.base (identity_of store.now.log) before progress.items closed.history.items closed.passes.items closed.done.items) }
+    ensures opened { IfOk result (λ closed. AllLetIn (G.may_answer gate.now) 1 progress.items closed.done.items) }
     ensures fault { IfErr result (BlamesRounds (G.may_answer gate.now) (map (λ one. one.lines.items) progress.items)) }
 {
     let resumed = connect_all(alloc, store, passes, progress, before, gate)?;

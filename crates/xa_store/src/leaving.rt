@@ -46,6 +46,9 @@ impl Store {
             (λ ended. AllZip (λ session pass. (log_of pass ≡ log_of session.pass) × AddsNothing (known_of session.pass) (known_of pass)) sessions.entry.items
             ended.1.items) }
         ensures last { IfOk result (λ ended. ended.0.items ≡ (last_known (map known_of ended.1.items)).seen) }
+        ensures looked { IfOk result
+            (λ ended. 0 < length sessions.entry.items
+            → (last_known (map (λ session. known_of session.pass) sessions.entry.items)).looks < (last_known (map known_of ended.1.items)).looks) }
         ensures whole { IfOk result (λ ended. All (λ pass. IsTakenIn ended.0.items (known_of pass)) ended.1.items) }
         ensures gathered { IfOk result (λ ended. 0 < length sessions.entry.items → AreGathered (identity_of self.now.log) ended.1.items) }
         ensures err { IfErr result

@@ -1,6 +1,6 @@
 //! How far a session of a race in rounds has come.
 
-ghost use Rattle.std.specs.Prelude.{◌≡◌, ◌≤◌, true, length};
+ghost use Rattle.std.specs.Prelude.{◌≡◌, ◌<◌, ◌≤◌, true, false, length};
 
 use xa_session::Answer;
 use xa_xid::Statement;
@@ -15,7 +15,8 @@ pub(crate) struct Progress {
 impl Progress {
     /// Whether each statement was answered.
     pub(crate) fn is_done(&self) -> bool
-        ensures { result ≡ true → length self.now.lines.items ≤ length self.now.answers.items }
+        ensures done { result ≡ true → length self.now.lines.items ≤ length self.now.answers.items }
+        ensures left { result ≡ false → length self.now.answers.items < length self.now.lines.items }
     {
         self.answers.len() >= self.lines.len()
     }

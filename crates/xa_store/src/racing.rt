@@ -1,8 +1,9 @@
 //! Runs of sessions side by side.
-ghost use Rattle.std.specs.Prelude.{◌≡◌, length, IfOk, IfErr, OnOk};
+ghost use Rattle.std.specs.Prelude.{◌≡◌, length, count_by, IfOk, IfErr, OnOk};
 ghost use Rattle.std.specs.List.{All, AllZip};
 ghost use Rattle.xa_store.specs.Passes.{identity_of, log_of, known_of};
 ghost use Rattle.xa_store.specs.Legal.{IsOutcome, LetsIn, Blames};
+ghost use Rattle.xa_store.specs.Lowest.{speaks, TellsLowest};
 
 use crate::closing::{Closed, close_all};
 use crate::growing::and_last;
@@ -64,14 +65,10 @@ fn start_all<'a, G: Gate>(
 }
 
 /// How many runs have a statement.
-pub(crate) fn count_speakers(runs: &[Run]) -> u64 {
-    let mut count: u64 = 0;
-    for run in runs {
-        if !run.lines.is_empty() {
-            count = count.saturating_add(1);
-        }
-    }
-    count
+pub(crate) fn count_speakers(runs: &[Run]) -> u64
+    ensures { result ≡ count_by speaks runs.now }
+{
+    runs.iter().filter(|run| !run.lines.is_empty()).count() as u64
 }
 
 /// Runs each of the runs on a thread of its own, and gives all answers with the one history that explains them.
@@ -95,6 +92,7 @@ pub fn race<G: Gate + Sync, R: Threads + Wait + Sync>(
     ensures legal { IfOk result (λ outcome. IsOutcome store.now.base runs.items outcome) }
     ensures opened { OnOk result (All (λ run. LetsIn (G.may_answer gate.now) (known_of run.pass).number (length run.lines.items)) runs.items) }
     ensures fault { IfErr result (λ fault. Blames (G.may_answer gate.now) store.now.base runs.items fault) }
+    ensures lowest { IfErr result (TellsLowest (G.may_answer gate.now) store.now.base runs.items) }
 {
     gate.announce(count_speakers(runs.as_slice()));
     let started = start_all(alloc, store, runs, gate)?;

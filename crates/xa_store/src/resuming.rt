@@ -3,6 +3,7 @@ ghost use Rattle.std.specs.Prelude.{◌≡◌, ◌<◌, ◌≤◌, ◌++◌, [],
 ghost use Rattle.std.specs.List.{All};
 ghost use Rattle.xa_store.specs.Passes.{identity_of};
 ghost use Rattle.xa_store.specs.Renewal.{AreGathered};
+ghost use Rattle.xa_store.specs.Rounds.{GoesOn};
 ghost use Rattle.xa_store.specs.Held.{CarriesOver};
 
 use crate::growing::and_both;
@@ -43,6 +44,7 @@ pub(crate) fn extend(history: &mut Vec<Entry>, mut round: Vec<Entry>) -> Result<
 pub(crate) fn are_done(progress: &[Progress]) -> bool
     ensures done { result ≡ true → All (λ one. length one.lines.items ≤ length one.answers.items) progress.now }
     ensures some { result ≡ false → 0 < length progress.now }
+    ensures left { result ≡ false → GoesOn progress.now }
 {
     for one in progress {
         if !one.is_done() {

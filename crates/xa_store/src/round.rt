@@ -1,6 +1,6 @@
 //! A session goes on with its statements, as long as the history has room.
 ghost use Rattle.std.specs.Prelude.{◌≡◌, ◌∷◌, [], ◌++◌, IfOk, IfErr, OnOk, length};
-ghost use Rattle.xa_store.specs.Rounds.{later, HasGoneOn, StopsInRound};
+ghost use Rattle.xa_store.specs.Rounds.{later, HasGoneOn, EndsItsRound, StopsInRound, WhereShut};
 
 use crate::answering::answer_one;
 use crate::progress::Progress;
@@ -47,8 +47,15 @@ fn go_on<L: DecisionLog, G: Gate, R: Wait>(
 ) -> Result<(), RaceFault>
     ensures ok { OnOk result
         (HasGoneOn L.belongs_to L.known session.old.base.now session.old.pass before progress.old session.new.base.now session.new.pass progress.new) }
+    ensures ends { OnOk result
+        (EndsItsRound (G.may_answer gate.now) session.old.base.now (L.belongs_to session.old.pass).capacity (L.known session.old.pass)
+        (L.known session.new.pass) progress.old progress.new) }
     ensures fault { IfErr result
         (StopsInRound (G.may_answer gate.now) (L.known session.old.pass).number (length progress.old.lines.items)) }
+    ensures rest { IfErr result
+        (λ fault. WhereShut fault
+        (λ line. (line ≡ length progress.new.answers.items)
+        × HasGoneOn L.belongs_to L.known session.old.base.now session.old.pass before progress.old session.new.base.now session.new.pass progress.new)) }
 {
     for index in progress.answers.len()..progress.lines.len() {
         match answer_one(rt, session, index as u64, &progress.lines[index], gate) {
@@ -65,12 +72,16 @@ where
     L::Pass: Drop,
 {
     ghost use Rattle.std.specs.Prelude.{length};
-    ghost use Rattle.xa_store.specs.Rounds.{HasGoneOn, StopsInRound};
+    ghost use Rattle.xa_store.specs.Rounds.{HasGoneOn, EndsItsRound, StopsInRound};
 
     type Gain = Returned<'a, L, Progress>;
 
+    ghost number_of = { λ run. (L.known run.session.pass).number };
+
     ghost gains = { λ run gone. HasGoneOn L.belongs_to L.known run.session.base.now run.session.pass run.before run.progress gone.session.base.now
-        gone.session.pass gone.done };
+        gone.session.pass gone.done
+        × EndsItsRound (G.may_answer run.gate.now) run.session.base.now (L.belongs_to run.session.pass).capacity (L.known run.session.pass)
+        (L.known gone.session.pass) run.progress gone.done };
 
     ghost stops = { λ run fault. StopsInRound (G.may_answer run.gate.now) (L.known run.session.pass).number (length run.progress.lines.items) fault };
 

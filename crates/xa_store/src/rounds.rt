@@ -1,13 +1,13 @@
 //! Races of any length: whenever the history is full, the store is carried over.
-ghost use Rattle.std.specs.Prelude.{◌≡◌, ◌<◌, [], length, map, IfOk, IfErr};
-ghost use Rattle.std.specs.List.{All};
+ghost use Rattle.std.specs.Prelude.{◌≡◌, ◌<◌, [], length, map, IfOk, IfErr, OnOk};
+ghost use Rattle.std.specs.List.{All, AllZip};
 ghost use Rattle.decision_log.specs.Known.{AllOf};
 ghost use Rattle.xa_session.specs.Replay.{state_after};
 ghost use Rattle.xa_store.specs.Passes.{identity_of, log_of, known_of};
 ghost use Rattle.xa_store.specs.Gathered.{last_known};
 ghost use Rattle.xa_store.specs.Renewal.{AreGathered};
-ghost use Rattle.xa_store.specs.Legal.{Legal};
-ghost use Rattle.xa_store.specs.Rounds.{AreFresh, BlamesRounds};
+ghost use Rattle.xa_store.specs.Legal.{Legal, LetsIn};
+ghost use Rattle.xa_store.specs.Rounds.{AreFresh, AllLetIn, AreLetInSoFar, BlamesRounds};
 ghost use Rattle.xa_store.specs.Held.{CanBegin, AddsRound, AreHeld, AreTold};
 
 use crate::closing::Closed;
@@ -51,6 +51,7 @@ fn hold_next<G: Gate + Sync, R: Threads + Wait + Sync>(
     requires belongs { All (λ pass. log_of pass ≡ identity_of held.store.log) held.passes.items }
     requires fresh { AreFresh held.passes.items }
     ensures ok { IfOk result (AddsRound held) }
+    ensures opened { IfOk result (λ next. AllLetIn (G.may_answer gate.now) 1 held.progress.items next.progress.items) }
     ensures fault { IfErr result (BlamesRounds (G.may_answer gate.now) (map (λ one. one.lines.items) held.progress.items)) }
 {
     let Held {
@@ -86,6 +87,7 @@ fn hold_rounds<G: Gate + Sync, R: Threads + Wait + Sync>(
 ) -> Result<Held, RaceFault>
     requires { CanBegin held }
     ensures ok { IfOk result (AreHeld held) }
+    ensures opened { IfOk result (λ last. AreLetInSoFar (G.may_answer gate.now) 1 last.progress.items) }
     ensures fault { IfErr result (BlamesRounds (G.may_answer gate.now) (map (λ one. one.lines.items) held.progress.items)) }
 {
     for _ in rt.forever() {
@@ -132,6 +134,7 @@ fn hold_all<G: Gate + Sync, R: Threads + Wait + Sync>(
     requires belongs { All (λ run. log_of run.pass ≡ identity_of store.log) runs.items }
     requires fresh { AreFresh (map (λ run. run.pass) runs.items) }
     ensures ok { IfOk result (λ ended. AreTold store runs.items ended.0 ended.1) }
+    ensures opened { OnOk result (All (λ run. LetsIn (G.may_answer gate.now) (known_of run.pass).number (length run.lines.items)) runs.items) }
     ensures fault { IfErr result (BlamesRounds (G.may_answer gate.now) (map (λ run. run.lines.items) runs.items)) }
 {
     let first = begin(alloc, store, runs)?;
@@ -167,6 +170,11 @@ pub fn race_in_rounds<G: Gate + Sync, R: Threads + Wait + Sync>(
     ensures gathered { IfOk result (λ ended. 0 < length runs.items → AreGathered (identity_of ended.0.log) ended.1.passes.items) }
     ensures state { IfOk result
         (λ ended. state_after ended.0.base (last_known (map known_of ended.1.passes.items)).seen ≡ state_after store.base ended.1.history.items) }
+    ensures passes { IfOk result
+        (λ ended. AllZip (λ run pass. (known_of pass).number ≡ (known_of run.pass).number) runs.items ended.1.passes.items) }
+    ensures capacity { IfOk result (λ ended. (identity_of ended.0.log).capacity ≡ (identity_of store.log).capacity) }
+    ensures sessions { IfOk result (λ ended. (identity_of ended.0.log).sessions ≡ (identity_of store.log).sessions) }
+    ensures opened { OnOk result (All (λ run. LetsIn (G.may_answer gate.now) (known_of run.pass).number (length run.lines.items)) runs.items) }
     ensures fault { IfErr result (BlamesRounds (G.may_answer gate.now) (map (λ run. run.lines.items) runs.items)) }
 {
     gate.announce(count_speakers(runs.as_slice()));

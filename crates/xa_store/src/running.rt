@@ -27,6 +27,8 @@ where
 
     type Gain = Returned<'a, L, Vec<Answer>>;
 
+    ghost number_of = { λ run. (L.known run.session.pass).number };
+
     ghost gains = { λ run gone. HasRun L.belongs_to L.known (G.may_answer run.gate.now) run.session.base.now run.session.pass run.lines.items
         gone.session.base.now gone.session.pass gone.done.items };
 

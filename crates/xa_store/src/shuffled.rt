@@ -1,5 +1,5 @@
 //! A gate at which sessions step aside by pseudo-random turns.
-ghost use Rattle.std.specs.Prelude.{◌≡◌, IsTrue};
+ghost use Rattle.std.specs.Prelude.{◌≡◌, ◌<◌, IsTrue};
 
 use crate::{Gate, TogetherGate};
 use rand_core::utils::NextWord;
@@ -33,7 +33,9 @@ impl ShuffledGate {
     }
 
     /// For how many turns a session steps aside before this line, in `[0, 64)`.
-    fn turns(&self, session: SessionNo, line: u64) -> u32 {
+    fn turns(&self, session: SessionNo, line: u64) -> u32
+        ensures { result < 64 }
+    {
         let mut stream = Pcg32::new(self.seed, session.get());
         stream.advance(line);
         stream.next_word() % 64

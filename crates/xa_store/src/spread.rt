@@ -1,7 +1,8 @@
 //! Tasks on threads of their own.
-ghost use Rattle.std.specs.Prelude.{◌≡◌, ◌⊎◌, ◌++◌, [], ◌∷◌, Ok, Err, IfOk, IfErr};
+ghost use Rattle.std.specs.Prelude.{◌≡◌, ◌≤◌, ◌⊎◌, ◌++◌, [], ◌∷◌, Ok, Err, IfOk, IfErr};
 ghost use Rattle.std.specs.List.{AllZip};
 ghost use Rattle.xa_store.specs.Spread.{StopsSome};
+ghost use Rattle.xa_store.specs.Lowest.{Joins, IsTold};
 
 use crate::RaceFault;
 use crate::first_fault::FirstFault;
@@ -11,7 +12,6 @@ use std::snapshot::Snapshot;
 use std::sync::Wait;
 use std::thread;
 use std::thread::{Promise, Scope, Threads};
-use xa_xid::SessionNo;
 
 /// What a task's thread promises of what it gives back.
 #[derive(Drop)]
@@ -23,7 +23,8 @@ impl<T: Task> Promise<Result<T::Gain, RaceFault>> for DoesItsPart<T> {
 
 /// The fault that is told where one more task stops.
 fn fault_of<D: Drop>(others: Result<Vec<D>, FirstFault>, own: FirstFault) -> FirstFault
-    ensures { (others ≡ Err result) ⊎ (result ≡ own) }
+    ensures either { (others ≡ Err result) ⊎ (result ≡ own) }
+    ensures lowest { (result.session ≤ own.session) × IfErr others (λ first_fault. result.session ≤ first_fault.session) }
 {
     if let Err(first_fault) = &others {
         return (*first_fault).or(own);
@@ -31,16 +32,17 @@ fn fault_of<D: Drop>(others: Result<Vec<D>, FirstFault>, own: FirstFault) -> Fir
     own
 }
 
-/// Puts what one more task gave behind what all others gave.
+/// Puts what one more task gave, that of the session of this number, behind what all others gave.
 fn join_task<D: Drop>(
     others: Result<Vec<D>, FirstFault>,
-    number: SessionNo,
+    number: u64,
     ended: Result<D, RaceFault>,
 ) -> Result<Vec<D>, FirstFault>
     ensures ok { IfOk result
         (λ all. (before : _) × (gain : _) × (others ≡ Ok before) × (ended ≡ Ok gain) × (all.items ≡ before.items ++ gain ∷ [])) }
     ensures err { IfErr result
         (λ first_fault. (others ≡ Err first_fault) ⊎ (ended ≡ Err first_fault.fault) ⊎ (first_fault.fault ≡ RaceFault.NoMemory)) }
+    ensures lowest { IfErr result (Joins others number ended) }
 {
     let gain = match ended {
         Ok(gain) => gain,
@@ -69,11 +71,12 @@ where
     T::Gain: Send + Drop + 's,
     ensures ok { IfOk result (λ all. AllZip T.gains tasks.items all.items) }
     ensures err { IfErr result (λ first_fault. StopsSome T.stops tasks.items first_fault.fault) }
+    ensures lowest { IfErr result (IsTold T.number_of T.gains T.stops tasks.items) }
 {
     let Some(task) = tasks.pop() else {
         return Ok(Vec::new(alloc));
     };
-    let number = task.number();
+    let number = task.number().get();
     let thread = scope.spawn_with(DoesItsPart(Snapshot::of(&task)), move || task.work(rt));
     let others = spread(scope, rt, alloc, tasks);
     match thread {
@@ -94,6 +97,7 @@ where
     T::Gain: Send + Drop,
     ensures ok { IfOk result (λ all. AllZip T.gains tasks.items all.items) }
     ensures err { IfErr result (λ first_fault. StopsSome T.stops tasks.items first_fault.fault) }
+    ensures lowest { IfErr result (IsTold T.number_of T.gains T.stops tasks.items) }
 {
     thread::scope(
         thread::scope_env(),
@@ -101,6 +105,7 @@ where
         |scope| -> Result<Vec<T::Gain>, FirstFault>
             ensures ok { IfOk result (λ all. AllZip T.gains tasks.items all.items) }
             ensures err { IfErr result (λ first_fault. StopsSome T.stops tasks.items first_fault.fault) }
+            ensures lowest { IfErr result (IsTold T.number_of T.gains T.stops tasks.items) }
         { spread(scope, rt, alloc, tasks) },
     )
 }

@@ -1,5 +1,5 @@
 //! What a thread of a race does.
-ghost use Rattle.std.specs.Prelude.{IfOk, IfErr};
+ghost use Rattle.std.specs.Prelude.{◌≡◌, ℕ, IfOk, IfErr};
 ghost use Rattle.xa_store.specs.declared.race_fault.RaceFault.{RaceFault};
 
 use crate::RaceFault;
@@ -13,6 +13,9 @@ pub(crate) trait Task {
     /// What its thread gives back.
     type Gain;
 
+    // the number of its session
+    ghost number_of: { Self → ℕ };
+
     // what it gives back, where it does its part
     ghost gains: { Self → Self.Gain → Type 0 };
 
@@ -20,7 +23,8 @@ pub(crate) trait Task {
     ghost stops: { Self → RaceFault → Type 0 };
 
     /// The session's number.
-    fn number(&self) -> SessionNo;
+    fn number(&self) -> SessionNo
+        ensures { result ≡ number_of self.now };
 
     /// Does the part.
     fn work<R: Wait>(self, rt: &R) -> Result<Self::Gain, RaceFault>

@@ -22,7 +22,7 @@ use xa_test_support::{is_answer, is_reply};
 use xa_xid::{Key, Statement, write_xid};
 
 /// A coordinator over two sessions.
-fn over<S: Speak + Drop>(
+pub(crate) fn over<S: Speak + Drop>(
     rt: &impl Abort,
     alloc: Global,
     letter: u8,
@@ -38,7 +38,7 @@ fn over<S: Speak + Drop>(
 }
 
 /// Puts a row in a store.
-fn puts<S: Speak, R: Abort + Wait>(
+pub(crate) fn puts<S: Speak, R: Abort + Wait>(
     rt: &R,
     coordinator: &mut Coordinator<S>,
     transaction: &mut Transaction,
@@ -60,6 +60,28 @@ fn puts<S: Speak, R: Abort + Wait>(
     assert!(rt; matches!(told, Ok(Reply::Ok)) && transaction.has(store));
 }
 
+/// A transaction that puts a row in both stores.
+pub(crate) fn works<S: Speak, R: Abort + Wait>(
+    rt: &R,
+    coordinator: &mut Coordinator<S>,
+    decisions: &mut Decisions,
+    row: u8,
+) -> Transaction
+    requires { vec_len coordinator.old.stores ≡ 2 }
+    ensures name { result.name.items ≡ coordinator.new.name.items }
+    ensures stores { result.stores ≡ vec_len coordinator.new.stores }
+    ensures count { vec_len coordinator.new.stores ≡ 2 }
+{
+    let Ok(mut transaction) = coordinator.begin(decisions) else {
+        panic!(rt; "not begun")
+    };
+    assert!(rt; !transaction.has(0) && !transaction.has(1));
+    puts(rt, coordinator, &mut transaction, 0, row);
+    assert!(rt; transaction.has(0) && !transaction.has(1));
+    puts(rt, coordinator, &mut transaction, 1, row);
+    transaction
+}
+
 /// The vote of Ready of transaction 1, which puts a row in both stores.
 fn voted<S: Speak, R: Abort + Wait>(
     rt: &R,
@@ -73,13 +95,7 @@ fn voted<S: Speak, R: Abort + Wait>(
     ensures stores { result.transaction.stores ≡ vec_len coordinator.new.stores }
     ensures count { vec_len coordinator.new.stores ≡ 2 }
 {
-    let Ok(mut transaction) = coordinator.begin(decisions) else {
-        panic!(rt; "not begun")
-    };
-    assert!(rt; !transaction.has(0) && !transaction.has(1));
-    puts(rt, coordinator, &mut transaction, 0, row);
-    assert!(rt; transaction.has(0) && !transaction.has(1));
-    puts(rt, coordinator, &mut transaction, 1, row);
+    let transaction = works(rt, coordinator, decisions, row);
     let Vote::Ready(prepared) = coordinator.prepare(rt, transaction) else {
         panic!(rt; "not ready")
     };
@@ -90,7 +106,7 @@ fn voted<S: Speak, R: Abort + Wait>(
 }
 
 /// Whether a recovery counts so many commits and rollbacks.
-fn recovers<S: Speak, R: Abort + Wait>(
+pub(crate) fn recovers<S: Speak, R: Abort + Wait>(
     rt: &R,
     alloc: Global,
     coordinator: &mut Coordinator<S>,

@@ -1,6 +1,7 @@
 //! Gates of the tests.
 
 use std::sync::atomic::{AtomicU64, Ordering};
+use std::thread::yield_now;
 use xa_store::Gate;
 use xa_xid::SessionNo;
 
@@ -56,5 +57,100 @@ impl Gate for CountsQuestions {
     fn enter(&self, _session: SessionNo, line: u64) -> bool {
         let asked = self.asked.fetch_add(1, Ordering::SeqCst);
         asked < self.shut_from && (!self.is_in_order || asked == line)
+    }
+}
+
+/// A gate that keeps an account of what it is told and asked by sessions 1 and 2, and is shut from one line on. A question is odd where it
+/// isn't the session's next one, where it follows a no, or where it comes before all was announced.
+#[derive(Drop)]
+pub(crate) struct KeepsAccount {
+    pub(crate) announced: AtomicU64,
+    pub(crate) runs: AtomicU64,
+    pub(crate) first: AtomicU64,
+    pub(crate) second: AtomicU64,
+    pub(crate) odd: AtomicU64,
+    pub(crate) shut_from: u64,
+}
+
+impl KeepsAccount {
+    /// A gate of which nobody was told yet.
+    pub(crate) fn new(shut_from: u64) -> KeepsAccount {
+        KeepsAccount {
+            announced: AtomicU64::new(0),
+            runs: AtomicU64::new(0),
+            first: AtomicU64::new(0),
+            second: AtomicU64::new(0),
+            odd: AtomicU64::new(0),
+            shut_from,
+        }
+    }
+}
+
+impl Gate for KeepsAccount {
+    fn announce(&self, runs: u64) {
+        let _before = self.announced.fetch_add(1, Ordering::SeqCst);
+        self.runs.store(runs, Ordering::SeqCst);
+    }
+
+    fn enter(&self, session: SessionNo, line: u64) -> bool {
+        let own = if session.get() == 1 {
+            &self.first
+        } else {
+            &self.second
+        };
+        let asked = own.fetch_add(1, Ordering::SeqCst);
+        if asked != line || line > self.shut_from || self.announced.load(Ordering::SeqCst) != 1 {
+            let _before = self.odd.fetch_add(1, Ordering::SeqCst);
+        }
+        line < self.shut_from
+    }
+}
+
+/// A gate in front of another one, of two sessions. Session 2 comes late; each one that is let past its first line before both have come is
+/// alone.
+#[derive(Drop)]
+pub(crate) struct Watches<G> {
+    pub(crate) behind: G,
+    pub(crate) come: AtomicU64,
+    pub(crate) alone: AtomicU64,
+}
+
+impl<G: Gate> Watches<G> {
+    /// A gate at which nobody stands, in front of this one.
+    pub(crate) fn new(behind: G) -> Watches<G> {
+        Watches {
+            behind,
+            come: AtomicU64::new(0),
+            alone: AtomicU64::new(0),
+        }
+    }
+
+    /// Comes to the first line, and notes whether both had come when the gate let this session past.
+    fn meet(&self, session: SessionNo) -> bool {
+        let _before = self.come.fetch_add(1, Ordering::SeqCst);
+        let opened = self.behind.enter(session, 0);
+        if self.come.load(Ordering::SeqCst) < 2 {
+            let _before = self.alone.fetch_add(1, Ordering::SeqCst);
+        }
+        opened
+    }
+}
+
+impl<G: Gate> Gate for Watches<G> {
+    fn announce(&self, runs: u64) {
+        self.come.store(0, Ordering::SeqCst);
+        self.behind.announce(runs);
+    }
+
+    fn enter(&self, session: SessionNo, line: u64) -> bool {
+        if line > 0 {
+            return self.behind.enter(session, line);
+        }
+        if session.get() == 2 {
+            for _ in 0..1_000 {
+                yield_now();
+            }
+        }
+        self.meet(session)
     }
 }

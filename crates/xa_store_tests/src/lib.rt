@@ -24,4 +24,6 @@ mod runs;
 #[cfg(test)]
 mod sixteen;
 #[cfg(test)]
+mod stopped;
+#[cfg(test)]
 mod stores;

@@ -1,6 +1,6 @@
 //! Races of runs, in one history and in rounds, and the gates that let them pass.
 
-use crate::gates::{CountsQuestions, Rendezvous, ShutsFirst};
+use crate::gates::{CountsQuestions, KeepsAccount, Rendezvous, ShutsFirst, Watches};
 use crate::renewal::{Way, gone_on};
 use crate::runs::{entered, two_runs};
 use crate::stores::{both, joined, opened};
@@ -154,6 +154,75 @@ fn fault_of_the_lowest_session_is_told(rt: HostRuntime) {
     let session = SessionNo::of(1).unwrap();
     let fault = race(&rt, alloc, &store, runs, &ShutsFirst { others: 0 }).err();
     assert!(rt; fault == Some(RaceFault::GateShut { session, line: 1 }));
+
+    let (store, runs) = entered(&rt, alloc, 8, 2, script);
+    let fault = race(&rt, alloc, &store, runs, &ShutsFirst { others: 0 }).err();
+    assert!(rt; fault == Some(RaceFault::GateShut { session, line: 1 }));
+
+    let (store, runs) = entered(&rt, alloc, 8, 2, script);
+    let fault = race_in_rounds(&rt, alloc, store, runs, &ShutsFirst { others: 0 }).err();
+    assert!(rt; fault == Some(RaceFault::GateShut { session, line: 1 }));
+}
+
+/// Sessions 1 and 2 have four statements and three, session 3 none.
+const SPEAKERS: &[u8] =
+    b"1 XA START 'a'\n1 XA END 'a'\n1 XA RECOVER\n1 XA PREPARE 'a'\n2 XA RECOVER\n2 PUT 'k','v'\n2 GET 'k'\n";
+
+/// A race of these sessions, whose gate is told once of two runs, and asked so often by each, once before each line and in order.
+fn is_asked_in_order<R: Abort + Threads + Wait + Sync>(
+    rt: &R,
+    alloc: Global,
+    shut_from: u64,
+    asked: [u64; 2],
+) {
+    let gate = KeepsAccount::new(shut_from);
+    let (store, runs) = entered(rt, alloc, 8, 3, SPEAKERS);
+    let is_answered = race(rt, alloc, &store, runs, &gate).is_ok();
+    assert_eq!(rt; is_answered, shut_from == u64::MAX);
+    assert_eq!(rt; gate.announced.load(Ordering::SeqCst), 1);
+    assert_eq!(rt; gate.runs.load(Ordering::SeqCst), 2);
+    assert_eq!(rt; gate.first.load(Ordering::SeqCst), asked[0]);
+    assert_eq!(rt; gate.second.load(Ordering::SeqCst), asked[1]);
+    assert_eq!(rt; gate.odd.load(Ordering::SeqCst), 0);
+}
+
+#[test]
+fn gate_is_told_once_and_asked_before_each_line_until_it_says_no(rt: HostRuntime) {
+    is_asked_in_order(&rt, rt.alloc(), u64::MAX, [4, 3]);
+    is_asked_in_order(&rt, rt.alloc(), 0, [1, 1]);
+    is_asked_in_order(&rt, rt.alloc(), 2, [3, 3]);
+}
+
+#[test]
+fn gate_of_a_race_in_rounds_is_told_once(rt: HostRuntime) {
+    for (capacity, is_odd) in [(8, false), (1, true)] {
+        let gate = KeepsAccount::new(u64::MAX);
+        let (store, runs) = entered(&rt, rt.alloc(), capacity, 3, SPEAKERS);
+        assert!(rt; race_in_rounds(&rt, rt.alloc(), store, runs, &gate).is_ok());
+        assert_eq!(rt; gate.announced.load(Ordering::SeqCst), 1);
+        assert_eq!(rt; gate.runs.load(Ordering::SeqCst), 2);
+        assert_eq!(rt; gate.odd.load(Ordering::SeqCst) > 0, is_odd);
+    }
+}
+
+/// Both sessions come to the gate before either is let past its first line, in one race and in another one after it.
+fn meet_first<G: Gate + Sync + Drop, R: Abort + Threads + Wait + Sync>(
+    rt: &R,
+    alloc: Global,
+    gate: G,
+) {
+    let watched = Watches::new(gate);
+    for _ in 0..2 {
+        write_all(rt, alloc, &watched);
+        assert_eq!(rt; watched.come.load(Ordering::SeqCst), 2);
+        assert_eq!(rt; watched.alone.load(Ordering::SeqCst), 0);
+    }
+}
+
+#[test]
+fn sessions_meet_at_their_first_lines(rt: HostRuntime) {
+    meet_first(&rt, rt.alloc(), TogetherGate::new());
+    meet_first(&rt, rt.alloc(), ShuffledGate::new(7));
 }
 
 /// Two sessions write a row eight times each.

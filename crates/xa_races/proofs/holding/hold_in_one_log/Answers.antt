@@ -3,6 +3,7 @@ use Rattle.xa_server.specs.State.{State}
 use Rattle.xa_store.specs.Passes.{identity_of}
 use Rattle.xa_store.specs.Legal.{IsOutcome}
 use Rattle.xa_races.proofs.RaceRuns.{own_sessions, own_room}
+use Rattle.xa_store.specs.Legal.{Blames}
 use Rattle.xa_races.proofs.holding.hold_in_one_log.Goals as goal
 
 pub returns-in-Ok-clause-held : goal.returns-in-Ok-clause-held
@@ -17,3 +18,8 @@ returns-in-Ok-clause-held g c =
       own = own_sessions identity outcome.history.items runs outcome.passes.items c.requires.sessions c.requires.belongs raced.passes raced.history;
       fits = own_room identity outcome.history.items runs outcome.passes.items c.requires.belongs raced.passes raced.history;
     }
+
+pub returns-clause-blamed : goal.returns-clause-blamed
+returns-clause-blamed g c =
+    let P : State → Type 0 = λ base. Blames (g.G.Gate.may_answer c.args.gate.now) base c.args.runs.items c.in-Err.fault in
+    (c.in-Err.fault, c.script_fault.ensures, subst P c.requires.empty c.in-Err.ensures.fault)

@@ -3,8 +3,8 @@ use Rattle.std.proofs.lemmas.List.{take_all, take_more}
 use Rattle.std.proofs.lemmas.Option.{slice_get_read}
 use Rattle.xa_session.specs.Answer.{IsAnswered}
 use Rattle.xa_session.specs.declared.answer.Answer.{Answer}
-use Rattle.xa_store.proofs.Legality.{IsOnTheWay, sets_out, goes_on, lets_in_more, stops}
-use Rattle.xa_store.specs.Legal.{IsLegal, Halts, Stops}
+use Rattle.xa_store.proofs.Legality.{IsOnTheWay, sets_out, goes_on, lets_in_more, no_further, stops}
+use Rattle.xa_store.specs.Legal.{IsLegal, Halts, GoesNoFurther, Stops}
 use Rattle.xa_store.proofs.answering.answers_to.Goals as goal
 
 pub loop-index-init : goal.loop-index-init
@@ -89,5 +89,27 @@ returns-in_err-answer-clause-fault g c =
     stops may c.args.session.now.base.now (g.L.DecisionLog.belongs_to c.args.session.now.pass).capacity
     (known c.args.session.now.pass) now new lines c.loop-index.answers.items place statement fault below
     (slice_get_read lines (length lines) place statement refl below c.index-lines-index.is)
+    (g.met.L.DecisionLog.own_part c.loop-index.session.pass) (g.met.L.DecisionLog.own_part c.answer_one.new.session.pass) inv.2 halts in
+    search rules
+
+pub returns-in_err-answer-clause-rest : goal.returns-in_err-answer-clause-rest
+returns-in_err-answer-clause-rest g c =
+    let inv = c.loop-index.invariant in
+    let known = g.L.DecisionLog.known in
+    let may = g.G.Gate.may_answer c.args.gate.now in
+    let place = c.loop-index.index in
+    let lines = c.args.lines.now in
+    let base = c.args.session.now.base.now in
+    let identity = g.L.DecisionLog.belongs_to c.args.session.now.pass in
+    let statement = c.index-lines-index.result in
+    let fault = c.in_err-answer.field-0.0 in
+    let now = known c.loop-index.session.pass in
+    let new = known c.answer_one.new.session.pass in
+    let below : place < length lines = omega (arith, c.loop-index-test.true) in
+    let halts : Halts may base identity.capacity statement place fault now new =
+    subst (λ b. Halts may b identity.capacity statement place fault now new) inv.0
+    (subst (λ i. Halts may c.loop-index.session.base.now i.capacity statement place fault now new) inv.1 c.in_err-answer.ensures.ends) in
+    let further : GoesNoFurther base (known c.args.session.now.pass) lines fault new =
+    no_further may base identity.capacity (known c.args.session.now.pass) now new lines c.loop-index.answers.items place statement fault below
     (g.met.L.DecisionLog.own_part c.loop-index.session.pass) (g.met.L.DecisionLog.own_part c.answer_one.new.session.pass) inv.2 halts in
     search rules

@@ -1,4 +1,4 @@
-use Rattle.std.proofs.Common.{◌≡◌, length, map, ap, sym, subst, ◌∙◌, ⊎_elim, rules}
+use Rattle.std.proofs.Common.{◌≡◌, length, map, refl, ap, sym, subst, ◌∙◌, ⊎_elim, rules}
 use Rattle.std.specs.List.{AllZip}
 use Rattle.std.proofs.lemmas.List.Elements.{All-from_recursion, recursion_from_All}
 use Rattle.xa_store.specs.Passes.{identity_of, log_of, known_of}
@@ -6,7 +6,9 @@ use Rattle.xa_store.specs.Closed.{HasLeft}
 use Rattle.xa_store.specs.Legal.{IsLegal, IsReturned, LetsIn, Stops, Blames}
 use Rattle.xa_store.specs.Spread.{HasAnswered}
 use Rattle.xa_store.specs.declared.run.Run.{Run}
+use Rattle.xa_store.specs.Lowest.{TellsLowest}
 use Rattle.xa_store.proofs.Races.{legal_in, blames}
+use Rattle.xa_store.proofs.Telling.{tells}
 use Rattle.xa_store.proofs.Spreading.{zip_chain, zip_ended, zip_first, zip_unmapped, zip_get, map_twice}
 use Rattle.xa_store.proofs.RoundLists.{zip_all}
 use Rattle.xa_store.proofs.racing.race.Goals as goal
@@ -42,6 +44,33 @@ returns-in_err-returned-clause-fault g c =
     (subst (λ items. Stops (may at.run.gate.now) at.run.session.base.now (log_of pass).capacity (known_of pass) items fault) run.2.2 at.cause)))))
     rest)
     c.in_err-returned.ensures.err in
+    search rules
+
+pub returns-in_err-returned-clause-lowest : goal.returns-in_err-returned-clause-lowest
+returns-in_err-returned-clause-lowest g c =
+    let may = g.G.Gate.may_answer in
+    let base = c.args.store.now.base in
+    let gate = may c.args.gate.now in
+    let told = c.in_err-returned.field-0.0 in
+    let lowest : TellsLowest gate base c.args.runs.items told.fault =
+    tells _ _ _ gate base _ (λ run started is. ap (λ pass. (known_of pass).number) is.1)
+    (λ run started one is was.
+    record {
+      known = known_of one.session.pass;
+      answers = one.done.items;
+      answered = subst (λ g. HasAnswered (may g) base (known_of run.pass) (known_of one.session.pass) run.lines.items one.done.items) is.3
+          (subst (λ lines. HasAnswered (may started.gate.now) base (known_of run.pass) (known_of one.session.pass) lines one.done.items) is.2
+          (subst (λ pass. HasAnswered (may started.gate.now) base (known_of pass) (known_of one.session.pass) started.lines.items one.done.items) is.1
+          (subst (λ b. HasAnswered (may started.gate.now) b (known_of started.session.pass) (known_of one.session.pass) started.lines.items one.done.items) is.0
+          was.answered)));
+    })
+    (λ run started fault is stops.
+    subst (λ g. Stops (may g) base (log_of run.pass).capacity (known_of run.pass) run.lines.items fault) is.3
+    (subst (λ b. Stops (may started.gate.now) b (log_of run.pass).capacity (known_of run.pass) run.lines.items fault) is.0
+    (subst (λ p. Stops (may started.gate.now) started.session.base.now (log_of p).capacity (known_of p) run.lines.items fault) is.1
+    (subst (λ items. Stops (may started.gate.now) started.session.base.now (log_of started.session.pass).capacity (known_of started.session.pass) items fault)
+    is.2 stops))))
+    c.args.runs.items c.in_ok-started.started.items told told.fault refl c.in_ok-started.ensures c.in_err-returned.ensures.lowest in
     search rules
 
 pub returns-clause-legal : goal.returns-clause-legal

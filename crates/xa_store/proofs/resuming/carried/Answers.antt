@@ -17,6 +17,7 @@ returns-in-Ok-clause-ok c =
       history = refl;
       progress = refl;
       base = c.in-Ok.ensures.base;
+      capacity = opened.capacity_is;
       sessions = opened.sessions_is;
       belongs =
           subst (λ list. All (λ pass. log_of pass ≡ identity_of c.in-Ok.store.log) list) (sym taken)

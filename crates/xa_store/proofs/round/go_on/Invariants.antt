@@ -1,4 +1,5 @@
-use Rattle.std.proofs.Common.{◌≡◌, vec_len}
+use Rattle.std.proofs.Common.{◌≡◌, length, vec_len}
+use Rattle.xa_store.specs.Rounds.{HasBeenLetIn}
 use Rattle.xa_store.proofs.OnTheRound.{IsOnTheRound}
 use Rattle.xa_store.proofs.round.go_on.Given as goal
 
@@ -10,3 +11,4 @@ invariant-loop-index g l =
     (g.L.DecisionLog.known l.session.pass) l.fn.progress.lines.items l.fn.progress.answers.items l.progress.answers.items
     × (vec_len l.progress.answers ≡ l.index)
     × (l.progress.lines ≡ l.fn.progress.lines)
+    × HasBeenLetIn (g.G.Gate.may_answer l.fn.gate) (g.L.DecisionLog.known l.fn.session.pass).number (length l.fn.progress.answers.items) l.index

@@ -1,12 +1,19 @@
-use Rattle.std.proofs.Common.{◌<◌, ◌≤◌, length, subst, rules}
+use Rattle.std.proofs.Common.{◌≡◌, ◌<◌, ◌≤◌, [], length, sym, subst, rules}
 use Rattle.std.specs.List.{All}
-use Rattle.xa_store.specs.Rounds.{BlamesRounds}
-use Rattle.xa_store.proofs.InRounds.{legal_lines}
+use Rattle.std.proofs.lemmas.List.Elements.{recursion_from_All}
+use Rattle.xa_store.specs.Rounds.{AreLetInSoFar, BlamesRounds}
+use Rattle.xa_store.proofs.InRounds.{legal_lines, let_in_nothing, let_in_round}
 use Rattle.xa_store.proofs.RoundByRound.{lines_of, begins, gathered, few, ends, goes_on}
 use Rattle.xa_store.proofs.rounds.hold_rounds.Goals as goal
 
 pub loop-init : goal.loop-init
-loop-init g c = record { can = search rules; finite = search rules; next = begins c.args.held c.requires }
+loop-init g c = record {
+  can = search rules;
+  finite = search rules;
+  next = begins c.args.held c.requires;
+  let_in = let_in_nothing (g.G.Gate.may_answer c.args.gate.now) 1 c.args.held.progress.items
+      (recursion_from_All (λ one. one.answers.items ≡ []) c.args.held.progress.items c.requires.none);
+}
 
 pub returns-in_err-next-clause-fault : goal.returns-in_err-next-clause-fault
 returns-in_err-next-clause-fault g c =
@@ -24,6 +31,11 @@ returns-then-are_done-clause-ok g c =
     (c.are_done.ensures.done c.if-are_done.true) in
     ends c.args.held c.loop.held c.in_ok-next.next c.loop.invariant.next c.in_ok-next.ensures.ok done
 
+pub returns-then-are_done-clause-opened : goal.returns-then-are_done-clause-opened
+returns-then-are_done-clause-opened g c =
+    let_in_round (g.G.Gate.may_answer c.args.gate.now) 1 c.loop.held.progress.items c.in_ok-next.next.progress.items c.loop.invariant.let_in
+    c.in_ok-next.ensures.opened
+
 pub carried-requires-clause-gathered : goal.carried-requires-clause-gathered
 carried-requires-clause-gathered g c =
     let some : 0 < length c.in_ok-next.next.progress.items =
@@ -35,10 +47,14 @@ carried-requires-clause-few g c = few c.args.held c.loop.held c.in_ok-next.next 
 
 pub loop-preserved : goal.loop-preserved
 loop-preserved g c =
+    let gate = g.G.Gate.may_answer c.args.gate.now in
     let some : 0 < length c.in_ok-next.next.progress.items =
     subst (λ list. 0 < length list) c.as_slice.ensures.value (c.are_done.ensures.some c.if-are_done.false) in
     record {
       can = search rules;
       finite = search rules;
       next = goes_on c.args.held c.loop.held c.in_ok-next.next c.loop.invariant.next c.in_ok-next.ensures.ok _ c.in_ok-held.ensures.ok some;
+      let_in =
+          subst (λ progress. AreLetInSoFar gate 1 progress.items) (sym c.in_ok-held.ensures.ok.progress)
+          (let_in_round gate 1 c.loop.held.progress.items c.in_ok-next.next.progress.items c.loop.invariant.let_in c.in_ok-next.ensures.opened);
     }

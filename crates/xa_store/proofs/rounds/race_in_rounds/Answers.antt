@@ -15,3 +15,12 @@ returns-clause-gathered g c = IfOk-weaker c.hold_all.result _ _ (λ ended told. 
 
 pub returns-clause-state : goal.returns-clause-state
 returns-clause-state g c = IfOk-weaker c.hold_all.result _ _ (λ ended told. told.state) c.hold_all.ensures.ok
+
+pub returns-clause-passes : goal.returns-clause-passes
+returns-clause-passes g c = IfOk-weaker c.hold_all.result _ _ (λ ended told. told.passes) c.hold_all.ensures.ok
+
+pub returns-clause-capacity : goal.returns-clause-capacity
+returns-clause-capacity g c = IfOk-weaker c.hold_all.result _ _ (λ ended told. told.capacity) c.hold_all.ensures.ok
+
+pub returns-clause-sessions : goal.returns-clause-sessions
+returns-clause-sessions g c = IfOk-weaker c.hold_all.result _ _ (λ ended told. told.sessions) c.hold_all.ensures.ok

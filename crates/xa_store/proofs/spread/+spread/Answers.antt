@@ -1,8 +1,10 @@
-use Rattle.std.proofs.Common.{◌≡◌, ap, sym, ◌∙◌, subst, inl, inr, ⊎_elim}
+use Rattle.std.proofs.Common.{◌≡◌, Err, refl, ap, sym, ◌∙◌, subst, inl, inr, ⊎_elim}
 use Rattle.std.specs.Result.{IfOk, IfErr}
 use Rattle.std.proofs.lemmas.Result.{IfOk-weaker, IfErr-weaker}
 use Rattle.std.proofs.lemmas.Slice.Zip.{all_zipped_more}
 use Rattle.xa_store.proofs.Spreading.{when_ok, when_err, stopped_before, stopped_last}
+use Rattle.xa_store.specs.declared.race_fault.RaceFault.TheVariants.{ThreadRefused}
+use Rattle.xa_store.proofs.Telling.{told_more}
 use Rattle.xa_store.proofs.spread.+spread.Goals as goal
 
 pub returns-in-Ok-clause-ok : goal.returns-in-Ok-clause-ok
@@ -54,3 +56,26 @@ returns-clause-err g t c =
     (λ rest. ⊎_elim (λ refused. inr (inl (cc refused))) (λ memory. inl memory) rest)
     is)
     c.join_task-in-Err.ensures.err
+
+pub returns-in-Ok-clause-lowest : goal.returns-in-Ok-clause-lowest
+returns-in-Ok-clause-lowest g t c =
+    let task = c.in-Some.task in
+    let same : c.in-Ok.thread.promise.0.value ≡ task = ap (λ p. p.0.value) c.in-Ok.ensures.ok ∙ c.of.ensures in
+    let does : IfOk c.join.result (g.T.Task.gains task) = subst (λ one. IfOk c.join.result (g.T.Task.gains one)) same c.join.ensures.0 in
+    let stopped : IfErr c.join.result (g.T.Task.stops task) = subst (λ one. IfErr c.join.result (g.T.Task.stops one)) same c.join.ensures.1 in
+    IfErr-weaker c.join_task.result _ _
+    (λ told is.
+    told_more g.T.Task.number_of g.T.Task.gains g.T.Task.stops c.pop.new.self.items task c.args.tasks.items (sym c.in-Some.ensures.items)
+    c.spread-others.result c.join.result told c.get-number.result (c.get-number.ensures.value ∙ c.number.ensures) c.get-number.ensures.in_range.1
+    c.spread-others.ensures.ok c.spread-others.ensures.lowest does (IfErr-weaker c.join.result _ _ (λ fault stops. inr stops) stopped) is)
+    c.join_task.ensures.lowest
+
+pub returns-clause-lowest : goal.returns-clause-lowest
+returns-clause-lowest g t c =
+    let task = c.in-Some.task in
+    IfErr-weaker c.join_task-in-Err.result _ _
+    (λ told is.
+    told_more g.T.Task.number_of g.T.Task.gains g.T.Task.stops c.pop.new.self.items task c.args.tasks.items (sym c.in-Some.ensures.items)
+    c.spread-others.result (Err ThreadRefused) told c.get-number.result (c.get-number.ensures.value ∙ c.number.ensures) c.get-number.ensures.in_range.1
+    c.spread-others.ensures.ok c.spread-others.ensures.lowest tt (inl refl) is)
+    c.join_task-in-Err.ensures.lowest

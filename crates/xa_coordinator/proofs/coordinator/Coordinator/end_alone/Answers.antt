@@ -1,6 +1,8 @@
-use Rattle.std.proofs.Common.{ℕ, List, refl, sym, subst}
+use Rattle.std.proofs.Common.{◌≡◌, ℕ, List, Some, refl, sym, subst}
+use Rattle.std.specs.Prelude.{slice_get}
 use Rattle.xa_xid.specs.declared.statement.Statement.TheVariants.{End}
 use Rattle.xa_coordinator.specs.Branch.{branch_xid}
+use Rattle.xa_coordinator.specs.declared.branches.Phase.TheVariants.{Idle}
 use Rattle.xa_coordinator.specs.Stores.{AtStore}
 use Rattle.xa_coordinator.specs.Told.{IsDone}
 use Rattle.xa_coordinator.proofs.Ended.{ended_each}
@@ -16,3 +18,8 @@ returns-in-Ok-clause-vote g c = (
       (IsDone (End (branch_xid name c.args.transaction.number c.args.store))) c.args.self.now.stores.items c.end_branch.new.self.stores.items)
       (sym c.requires.name) c.in-Ok.ensures.says),
 )
+
+pub returns-in-Ok-clause-cut : goal.returns-in-Ok-clause-cut
+returns-in-Ok-clause-cut g c other takes =
+    subst (λ (store : ℕ). slice_get c.end_branch.new.self.branches store ≡ Some (Some (record { number = c.args.transaction.number; phase = Idle })))
+    (sym (c.requires.only.others other takes)) c.in-Ok.ensures.mark

@@ -1,16 +1,16 @@
-use Rattle.std.proofs.Common.{List, Option, false, ap, ◌∙◌, subst, arith}
+use Rattle.std.proofs.Common.{ℕ, List, Option, false, ap, ◌∙◌, subst, arith}
 use Rattle.std.specs.Prelude.{slice_get, IfOk, IfErr}
 use Rattle.xa_xid.specs.declared.xid.Xid.{Xid}
-use Rattle.xa_coordinator.specs.Agreement.{Agrees}
+use Rattle.xa_session.specs.View.{SessionView}
 use Rattle.xa_xid.specs.Xid.{Text}
 use Rattle.xa_xid.specs.declared.statement.Statement.TheVariants.{Recover}
 use Rattle.xa_coordinator.specs.declared.fault.Cause.TheVariants.{Session}
 use Rattle.xa_coordinator.specs.declared.branches.OpenBranch.{OpenBranch}
-use Rattle.xa_coordinator.specs.Recovery.{ListsPrepared, IsBroken, Settled}
+use Rattle.xa_coordinator.specs.Recovery.{IsDisconnected, Settled, StopsAmong, IsCutOff, unlisted}
 use Rattle.xa_coordinator.specs.Stores.{AtStore, ChangesAt}
 use Rattle.xa_coordinator.specs.Told.{IsUndone}
 use Rattle.xa_coordinator.proofs.Walk.{at_weaker, changes_then}
-use Rattle.xa_coordinator.proofs.Settling.{listed_agrees, broken_by, listed_finished, broken_behind}
+use Rattle.xa_coordinator.proofs.Settling.{listed_finished, unsettled_listed}
 use Rattle.xa_coordinator.proofs.coordinator.Coordinator.list_and_finish.Goals as goal
 
 pub settle_each-requires-clause-store : goal.settle_each-requires-clause-store
@@ -46,19 +46,23 @@ returns-in-Ok-clause-finished g c =
 pub returns-in-Ok-clause-broken : goal.returns-in-Ok-clause-broken
 returns-in-Ok-clause-broken g c =
     let me = c.args.self.now in
-    broken_behind g.S.Speak.view c.args.decisions.now me.name.items c.args.store c.settle_each.result me.stores.items c.prepared_in.new.self.stores.items
-    c.settle_each.new.self.stores.items c.in-Ok.ensures.frame.count
-    (at_weaker g.S.Speak.view c.args.store (ListsPrepared c.in-Ok.found.0 c.in-Ok.found.1) (Agrees c.args.decisions.now me.name.items c.args.store)
-    (listed_agrees c.args.decisions.now me.name.items c.args.store c.in-Ok.found.0 c.in-Ok.found.1)
-    me.stores.items c.prepared_in.new.self.stores.items c.in-Ok.ensures.listed)
+    unsettled_listed g.S.Speak.view c.args.decisions.now me.name.items c.args.store c.settle_each.result c.in-Ok.found.0 c.in-Ok.found.1 me.stores.items
+    c.prepared_in.new.self.stores.items c.settle_each.new.self.stores.items c.in-Ok.ensures.frame.count c.in-Ok.ensures.listed
+    (subst (λ (xids : List Xid). IfErr c.settle_each.result
+    (λ cause. AtStore g.S.Speak.view c.args.store
+    (StopsAmong c.args.decisions.now me.name.items c.args.store xids cause) c.prepared_in.new.self.stores.items c.settle_each.new.self.stores.items))
+    c.as_slice.ensures
     (subst (λ (name : Text). IfErr c.settle_each.result
     (λ cause. AtStore g.S.Speak.view c.args.store
-    (IsBroken c.args.decisions.now name.items c.args.store cause) c.prepared_in.new.self.stores.items c.settle_each.new.self.stores.items))
-    c.in-Ok.ensures.name c.settle_each.ensures.broken)
+    (StopsAmong c.args.decisions.now name.items c.args.store c.as_slice.result.now cause) c.prepared_in.new.self.stores.items
+    c.settle_each.new.self.stores.items))
+    c.in-Ok.ensures.name c.settle_each.ensures.broken))
 
 pub returns-in-Err-clause-broken : goal.returns-in-Err-clause-broken
 returns-in-Err-clause-broken g c =
+    let d = c.args.decisions.now in
+    let n : List ℕ = c.args.self.now.name.items in
     at_weaker g.S.Speak.view c.args.store (IsUndone (Recover false) (Session c.in-Err.fault))
-    (IsBroken c.args.decisions.now c.args.self.now.name.items c.args.store (Session c.in-Err.fault))
-    (λ a b undone. broken_by c.args.decisions.now c.args.self.now.name.items c.args.store (Recover false) c.in-Err.fault a b tt undone)
+    (λ freed b. (before : SessionView) → IsDisconnected before freed → IsCutOff d n c.args.store before (Session c.in-Err.fault) b)
+    (λ freed b undone before disconnected. unlisted freed disconnected c.in-Err.fault b undone)
     c.args.self.now.stores.items c.prepared_in.new.self.stores.items c.in-Err.ensures.undone

@@ -1,16 +1,17 @@
-use Rattle.std.proofs.Common.{◌≡◌, ℕ, List, false, ◌∙◌, subst, refl}
+use Rattle.std.proofs.Common.{◌≡◌, ℕ, List, Option, false, ap, ◌∙◌, subst, inr}
+use Rattle.std.specs.Prelude.{slice_get}
 use Rattle.std.proofs.Common.{◌<◌, ◌^◌, true}
 use Rattle.std.specs.List.{list_any}
 use Rattle.xa_xid.specs.declared.xid.Xid.{Xid}
 use Rattle.xa_xid.specs.Xid.{Text, same_xid}
 use Rattle.xa_xid.specs.declared.statement.Statement.TheVariants.{Recover}
 use Rattle.xa_coordinator.specs.declared.fault.Cause.TheVariants.{Session}
+use Rattle.xa_coordinator.specs.declared.branches.OpenBranch.{OpenBranch}
 use Rattle.xa_coordinator.specs.Branch.{branch_xid}
-use Rattle.xa_coordinator.specs.Recovery.{ListsPrepared, IsClear, IsBroken, IsStillPrepared}
+use Rattle.xa_coordinator.specs.Recovery.{ListsPrepared, IsClear, IsSettled, IsCutOff, unlisted_again, IsStillPrepared}
 use Rattle.xa_coordinator.specs.Told.{IsUndone}
-use Rattle.xa_coordinator.proofs.Walk.{at_weaker}
+use Rattle.xa_coordinator.proofs.Walk.{at_then, at_weaker}
 use Rattle.xa_coordinator.proofs.Listed.{listed_prepared, none_left_there}
-use Rattle.xa_coordinator.proofs.Settling.{listed_agrees, broken_by}
 use Rattle.xa_coordinator.proofs.coordinator.Coordinator.look_again.Goals as goal
 
 pub returns-in-Ok-clause-clear : goal.returns-in-Ok-clause-clear
@@ -28,28 +29,34 @@ returns-in-Ok-clause-clear g c =
     }) me.stores.items c.prepared_in.new.self.stores.items c.in-Ok.ensures.listed
 
 pub returns-in-Some-clause-fails : goal.returns-in-Some-clause-fails
-returns-in-Some-clause-fails g c = λ decisions.
+returns-in-Some-clause-fails g c = λ decisions tally marks before count settled.
     let me = c.args.self.now in (
-      refl,
-      at_weaker g.S.Speak.view c.args.store (ListsPrepared c.in-Ok.found.0 c.in-Ok.found.1) (IsStillPrepared decisions me.name.items c.args.store)
-          (λ a b is. record {
-            before = listed_agrees decisions me.name.items c.args.store c.in-Ok.found.0 c.in-Ok.found.1 a b is;
-            looked = is.looked;
+      ap (λ (list : List (Option OpenBranch)). slice_get list c.args.store) c.in-Ok.ensures.marks ∙ c.requires.free,
+      at_then g.S.Speak.view c.args.store (IsSettled decisions me.name.items c.args.store tally) (ListsPrepared c.in-Ok.found.0 c.in-Ok.found.1)
+          (IsStillPrepared decisions me.name.items c.args.store)
+          (λ a m b done is. record {
+            tally = tally;
+            finished = m;
+            settled = done;
+            xids = c.in-Ok.found.0;
+            place = c.in-Ok.found.1;
+            listed = is;
             number = c.in-Some._number;
             fits = c.in-Some.ensures.fits;
-            prepared = listed_prepared c.in-Ok.found.0 c.in-Ok.found.1 a b is (branch_xid me.name.items c.in-Some._number c.args.store)
+            prepared = listed_prepared c.in-Ok.found.0 c.in-Ok.found.1 m b is (branch_xid me.name.items c.in-Some._number c.args.store)
                 ∙ subst (λ (xids : List Xid). list_any (same_xid (branch_xid me.name.items c.in-Some._number c.args.store)) xids ≡ true) c.as_slice.ensures
                 (subst (λ (name : Text). list_any (same_xid (branch_xid name.items c.in-Some._number c.args.store)) c.as_slice.result.now ≡ true)
                 c.in-Ok.ensures.name c.in-Some.ensures.some);
-          }) me.stores.items c.prepared_in.new.self.stores.items c.in-Ok.ensures.listed,
+          }) before me.stores.items c.prepared_in.new.self.stores.items count settled c.in-Ok.ensures.listed,
     )
 
 pub returns-clause-fails : goal.returns-clause-fails
-returns-clause-fails g c = λ decisions.
-    let me = c.args.self.now in (
-      refl,
-      at_weaker g.S.Speak.view c.args.store (IsUndone (Recover false) (Session c.in-Err.fault))
-          (IsBroken decisions me.name.items c.args.store (Session c.in-Err.fault))
-          (λ a b undone. broken_by decisions me.name.items c.args.store (Recover false) c.in-Err.fault a b tt undone) me.stores.items
-          c.prepared_in.new.self.stores.items c.in-Err.ensures.undone,
+returns-clause-fails g c = λ decisions tally marks before count settled.
+    let me = c.args.self.now in
+    inr (
+      ap (λ (list : List (Option OpenBranch)). slice_get list c.args.store) c.in-Err.ensures.marks ∙ c.requires.free,
+      at_then g.S.Speak.view c.args.store (IsSettled decisions me.name.items c.args.store tally) (IsUndone (Recover false) (Session c.in-Err.fault))
+          (λ a b. IsCutOff decisions me.name.items c.args.store a (Session c.in-Err.fault) b)
+          (λ a m b done undone. unlisted_again tally m done c.in-Err.fault b undone) before me.stores.items c.prepared_in.new.self.stores.items count settled
+          c.in-Err.ensures.undone,
     )

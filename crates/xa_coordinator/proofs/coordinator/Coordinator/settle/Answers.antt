@@ -5,10 +5,10 @@ use Rattle.xa_coordinator.specs.declared.report.Tally.{Tally}
 use Rattle.xa_coordinator.specs.Branch.{branch_xid}
 use Rattle.xa_coordinator.specs.Decisions.{is_decided}
 use Rattle.xa_coordinator.specs.Outcomes.{finish_statement, SaysAs}
-use Rattle.xa_coordinator.specs.Recovery.{SettlesOne, foreign, counted, finish_decided, IsBroken}
+use Rattle.xa_coordinator.specs.Recovery.{SettlesOne, foreign, counted, finish_decided, IsUnsettled}
 use Rattle.xa_coordinator.specs.Stores.{AtStore}
 use Rattle.xa_coordinator.proofs.Walk.{at_same, at_weaker}
-use Rattle.xa_coordinator.proofs.Settling.{settles, broken_at}
+use Rattle.xa_coordinator.proofs.Settling.{settles, unsettled_by}
 use Rattle.xa_coordinator.proofs.coordinator.Coordinator.settle.Goals as goal
 
 pub returns-in_default-clause-settled : goal.returns-in_default-clause-settled
@@ -49,8 +49,8 @@ returns-in_err-found-clause-broken g c =
     rw (p.1, p.2)
     (at_weaker g.S.Speak.view c.args.store
     (SaysAs (finish_statement (finish_decided decided) (branch_xid me.name.items number c.args.store)) (Err c.in_err-found.field-0.0))
-    (IsBroken decisions me.name.items c.args.store c.in_err-found.field-0.0)
-    (broken_at decisions me.name.items c.args.store number c.args.xid.now c.in-Some.ensures.some decided is c.in_err-found.field-0.0)
+    (IsUnsettled decisions me.name.items c.args.store c.args.xid.now c.in_err-found.field-0.0)
+    (unsettled_by decisions me.name.items c.args.store number c.args.xid.now c.in-Some.ensures.some decided is c.in_err-found.field-0.0)
     me.stores.items c.finish_branch.new.self.stores.items
     (subst (λ (closing : Closing). AtStore g.S.Speak.view c.args.store
     (SaysAs (finish_statement closing (branch_xid me.name.items number c.args.store)) (Err c.in_err-found.field-0.0)) me.stores.items

@@ -4,11 +4,10 @@ use Rattle.std.proofs.lemmas.Result.{err_from_is_err_and}
 use Rattle.xa_xid.specs.Xid.{Text}
 use Rattle.xa_xid.specs.declared.xid.Xid.{Xid}
 use Rattle.xa_coordinator.specs.declared.report.Tally.{Tally}
-use Rattle.xa_coordinator.specs.Recovery.{Settled, nothing, one_more, SettlesOne, IsBroken}
+use Rattle.xa_coordinator.specs.Recovery.{Settled, nothing, one_more, SettlesOne, IsUnsettled, StopsAmong}
 use Rattle.xa_coordinator.specs.Stores.{AtStore}
 use Rattle.xa_coordinator.proofs.Listed.{take_next, at_index}
 use Rattle.xa_coordinator.proofs.Walk.{at_then, at_same, changes_then, unchanged}
-use Rattle.xa_coordinator.proofs.Settling.{broken_later, settled_agrees_so_far}
 use Rattle.xa_coordinator.proofs.coordinator.Coordinator.settle_each.Goals as goal
 
 pub loop-xid-init : goal.loop-xid-init
@@ -69,17 +68,25 @@ returns-in_err-tally-clause-broken g c =
     let d = c.args.decisions.now in
     let n : List ℕ = me.name.items in
     let store : ℕ = c.args.store in
+    let xids : List Xid = c.args.xids.now in
+    let i : ℕ = c.loop-xid.xid-index in
+    let x : Xid = c.xid-item.result in
+    let cause = c.in_err-tally.field-0.0 in
     let so_far = c.loop-xid.invariant in
     let p = err_from_is_err_and c.from_residual.result c.from_residual.ensures.1 in
     rw (p.1, p.2)
-    (at_then view store (λ a b. Settled d n store a (take c.loop-xid.xid-index c.args.xids.now) c.loop-xid.tally b)
-    (IsBroken d n store c.in_err-tally.field-0.0)
-    (IsBroken d n store c.in_err-tally.field-0.0)
-    (λ a m b settled broken. broken_later d n store c.in_err-tally.field-0.0 a m b
-    (settled_agrees_so_far d n store (take c.loop-xid.xid-index c.args.xids.now) c.loop-xid.tally a m settled) broken)
+    (at_then view store (λ a b. Settled d n store a (take i xids) c.loop-xid.tally b) (IsUnsettled d n store x cause) (StopsAmong d n store xids cause)
+    (λ a m b settled unsettled. record {
+      place = i;
+      xid = x;
+      there = at_index xids i x c.xid-item.is c.loop-xid-test.true;
+      tally = c.loop-xid.tally;
+      mid = m;
+      settled = settled;
+      unsettled = unsettled;
+    })
     me.stores.items c.loop-xid.self.stores.items c.settle.new.self.stores.items so_far.frame.count so_far.settled
-    (subst (λ (name : Text). AtStore view store (IsBroken d name.items store c.in_err-tally.field-0.0) c.loop-xid.self.stores.items
-    c.settle.new.self.stores.items)
+    (subst (λ (name : Text). AtStore view store (IsUnsettled d name.items store x cause) c.loop-xid.self.stores.items c.settle.new.self.stores.items)
     so_far.name c.in_err-tally.ensures.broken))
 
 pub returns-clause-settled : goal.returns-clause-settled

@@ -5,7 +5,7 @@ use Rattle.xa_coordinator.specs.Branch.{branch_xid}
 use Rattle.xa_coordinator.specs.declared.branches.OpenBranch.{OpenBranch}
 use Rattle.xa_coordinator.specs.Stores.{AtStore}
 use Rattle.xa_coordinator.specs.Told.{IsDone, IsUndone}
-use Rattle.xa_coordinator.proofs.Works.{works_started}
+use Rattle.xa_coordinator.proofs.Works.{works_started, never_started, unsaid_adds}
 use Rattle.xa_coordinator.proofs.coordinator.Coordinator.start_and_work.Goals as goal
 
 pub returns-in-Ok-clause-works : goal.returns-in-Ok-clause-works
@@ -52,3 +52,23 @@ returns-in-Err-Refused-clause-works g c =
           c.start_branch.new.self.stores.items)
           (sym c.requires.name) c.in-Err-Refused.ensures.says),
     )
+
+pub returns-in-Ok-clause-again : goal.returns-in-Ok-clause-again
+returns-in-Ok-clause-again g c has =
+    let me = c.args.self.now in
+    never_started g.S.Speak.view g.met.S.Speak.lawful g.met.S.Speak.own_part c.args.store
+    (branch_xid me.name.items c.args.transaction.now.number c.args.store) has.branch me.name.items c.args.statement.now me.stores.items
+    c.start_branch.new.self.stores.items c.work_within.new.self.stores.items c.in-Ok.ensures.frame.count
+    (λ s is_s. me.open_there c.args.store s has.branch is_s has.there) c.in-Ok.ensures.says
+
+pub returns-in-Err-Session-clause-again : goal.returns-in-Err-Session-clause-again
+returns-in-Err-Session-clause-again g c has =
+    let me = c.args.self.now in
+    unsaid_adds g.S.Speak.view c.args.store c.args.statement.now (Start (branch_xid me.name.items c.args.transaction.now.number c.args.store))
+    c.in-Err-Session.field-0 me.stores.items c.start_branch.new.self.stores.items c.in-Err-Session.ensures.says
+
+pub returns-in-Err-Refused-clause-again : goal.returns-in-Err-Refused-clause-again
+returns-in-Err-Refused-clause-again g c has =
+    let me = c.args.self.now in
+    unsaid_adds g.S.Speak.view c.args.store c.args.statement.now (Start (branch_xid me.name.items c.args.transaction.now.number c.args.store))
+    c.in-Err-Refused.field-0 me.stores.items c.start_branch.new.self.stores.items c.in-Err-Refused.ensures.says

@@ -1,12 +1,13 @@
-use Rattle.std.proofs.Common.{◌≡◌, ℕ, List, Option, ap, sym, ◌∙◌, subst}
+use Rattle.std.proofs.Common.{◌≡◌, ℕ, List, Option, refl, ap, sym, ◌∙◌, subst}
 use Rattle.std.specs.Prelude.{slice_get}
 use Rattle.xa_server.specs.declared.association.Association.TheVariants.{Active}
 use Rattle.xa_coordinator.specs.Branch.{branch_xid}
 use Rattle.xa_coordinator.specs.OpenBranches.{association_seen, IsWorking}
+use Rattle.xa_coordinator.specs.Outcomes.{branch_of}
 use Rattle.xa_coordinator.specs.declared.branches.OpenBranch.{OpenBranch}
 use Rattle.xa_coordinator.specs.declared.branches.Phase.TheVariants.{Active as PhaseActive}
 use Rattle.xa_coordinator.proofs.Opening.{working}
-use Rattle.xa_coordinator.proofs.Works.{works_open}
+use Rattle.xa_coordinator.proofs.Works.{works_open, within_adds}
 use Rattle.xa_coordinator.proofs.coordinator.Coordinator.work_at.Goals as goal
 
 pub returns-then-is_working-clause-works : goal.returns-then-is_working-clause-works
@@ -24,3 +25,16 @@ returns-then-is_working-clause-works g c =
 
 pub work_within-requires-clause-working : goal.work_within-requires-clause-working
 work_within-requires-clause-working g c = working c.args.self.now.branches c.args.store c.args.transaction.now.number (sym c.if-is_working.ensures)
+
+pub returns-then-is_working-clause-lost : goal.returns-then-is_working-clause-lost
+returns-then-is_working-clause-lost g c part none =
+    absurd (none (record {
+      branch = record { number = c.args.transaction.now.number; phase = PhaseActive };
+      there = working c.args.self.now.branches c.args.store c.args.transaction.now.number (sym c.if-is_working.ensures);
+      is = refl;
+    }))
+
+pub returns-then-is_working-clause-again : goal.returns-then-is_working-clause-again
+returns-then-is_working-clause-again g c part =
+    within_adds g.S.Speak.view c.args.store (branch_of c.args.transaction.now c.args.store) c.args.statement.now c.work_within.result
+    c.args.self.now.stores.items c.work_within.new.self.stores.items c.work_within.ensures.works

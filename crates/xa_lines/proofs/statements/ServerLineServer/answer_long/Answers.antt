@@ -4,4 +4,4 @@ use Rattle.xa_lines.proofs.Told.{bad_answered}
 use Rattle.xa_lines.proofs.statements.ServerLineServer.answer_long.Goals as goal
 
 pub returns : goal.returns
-returns c = inl (bad_answered c.args.self.now Bad _ refl c.bad_line.ensures)
+returns c = inl (bad_answered c.args.self.now Bad _ refl c.bad_line.ensures.bytes)

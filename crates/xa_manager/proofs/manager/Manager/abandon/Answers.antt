@@ -1,7 +1,9 @@
-use Rattle.std.proofs.Common.{◌∙◌, length, vec_len, ap, refl, sym, inr}
+use Rattle.std.proofs.Common.{[], ◌∙◌, length, vec_len, ap, refl, sym, inr}
 use Rattle.xa_manager.specs.declared.stage.Stage.TheVariants.{Working, Over}
 use Rattle.xa_manager.proofs.Stages.{with_stage-length, kept_over, ready_over}
 use Rattle.xa_manager.proofs.States.{same_desk, kept_as, ready_as}
+use Rattle.xa_manager.proofs.Nothing.{none_decided}
+use Rattle.xa_manager.proofs.Said.{agreed_logs}
 use Rattle.xa_manager.proofs.manager.Manager.abandon.Goals as goal
 
 pub abandon-requires-clause-name : goal.abandon-requires-clause-name
@@ -43,6 +45,9 @@ returns-in-Ok-clause-says g c = (
     before = c.in-Ok.transaction;
     working = c.in-Ok.ensures.taken;
     ends = c.abandon.ensures.ends;
+    logs = agreed_logs g.C.Speak.view [] c.args.self.now.coordinator.name.items c.args.self.now.coordinator.stores.items c.abandon.new.self.stores.items
+        (c.abandon.ensures.agrees [] (none_decided c.in-Ok.transaction.number));
+    marks = c.abandon.ensures.elsewhere;
   }),
   refl,
 )

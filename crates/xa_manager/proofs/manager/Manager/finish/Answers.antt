@@ -2,6 +2,7 @@ use Rattle.std.proofs.Common.{◌∙◌, length, vec_len, ap, refl, sym, inl, in
 use Rattle.xa_manager.specs.declared.stage.Stage.TheVariants.{Over}
 use Rattle.xa_manager.proofs.Stages.{with_stage-length, kept_over, ready_over, kept_voted}
 use Rattle.xa_manager.proofs.States.{same_desk, kept_as, ready_as}
+use Rattle.xa_manager.proofs.Said.{agreed_logs}
 use Rattle.xa_manager.proofs.manager.Manager.finish.Goals as goal
 
 pub finish-requires-clause-name : goal.finish-requires-clause-name
@@ -51,6 +52,9 @@ returns-in-Ok-clause-says g c =
         voted = c.in-Ok.ensures.taken;
         of_number = is.number;
         ends = rw (← is.number) c.finish.ensures.ends;
+        logs = agreed_logs g.C.Speak.view c.args.self.now.decisions c.args.self.now.coordinator.name.items c.args.self.now.coordinator.stores.items
+            c.finish.new.self.stores.items c.finish.ensures.agrees;
+        marks = c.finish.ensures.elsewhere;
       }),
       refl,
     )

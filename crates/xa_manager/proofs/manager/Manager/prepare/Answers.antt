@@ -1,10 +1,11 @@
-use Rattle.std.proofs.Common.{◌≡◌, ◌∙◌, length, vec_len, ap, refl, sym, inr}
+use Rattle.std.proofs.Common.{[], ◌≡◌, ◌∙◌, length, vec_len, ap, refl, sym, inr}
 use Rattle.xa_manager.specs.declared.stage.Stage.TheVariants.{Working, Over}
 use Rattle.xa_manager.specs.declared.response.Response.TheVariants.{Voted as Told}
 use Rattle.xa_manager.specs.Ledger.{with_stage}
 use Rattle.xa_manager.specs.Answers.{stage_after}
 use Rattle.xa_manager.proofs.Stages.{with_stage-length, kept_with, ready_with, put_on}
 use Rattle.xa_manager.proofs.States.{same_desk, kept_as, ready_as, voted_kept, voted_ready}
+use Rattle.xa_manager.proofs.Said.{agreed_logs}
 use Rattle.xa_manager.proofs.manager.Manager.prepare.Goals as goal
 
 pub prepare-vote-requires-clause-name : goal.prepare-vote-requires-clause-name
@@ -70,6 +71,10 @@ returns-in-Ok-clause-says g c =
         working = c.in-Ok.ensures.taken;
         told = c.told_of-answer.ensures.answer;
         votes = c.prepare-vote.ensures.vote;
+        logs = agreed_logs g.C.Speak.view [] was.coordinator.name.items was.coordinator.stores.items c.prepare-vote.new.self.stores.items
+            (c.prepare-vote.ensures.agrees []);
+        marks = c.prepare-vote.ensures.elsewhere;
+        marked_there = c.prepare-vote.ensures.cut;
         stages = on;
       },
       refl,

@@ -1,5 +1,6 @@
 use Rattle.std.proofs.Common.{refl, inr}
 use Rattle.xa_manager.proofs.States.{same_desk}
+use Rattle.xa_manager.proofs.Said.{agreed_logs}
 use Rattle.xa_manager.proofs.manager.Manager.recover.Goals as goal
 
 pub returns-clause-answers : goal.returns-clause-answers
@@ -12,6 +13,10 @@ returns-clause-says g c = (
     asked = refl;
     done = rw (← c.args.self.now.named) c.recover.ensures.recovers;
     broken = rw (← c.args.self.now.named) c.recover.ensures.breaks;
+    logs = agreed_logs g.C.Speak.view c.recover.new.decisions c.args.self.now.coordinator.name.items c.args.self.now.coordinator.stores.items
+        c.recover.new.self.stores.items c.recover.ensures.agrees;
+    free = c.recover.ensures.free;
+    marks = c.recover.ensures.marks;
   },
   refl,
 )

@@ -1,7 +1,8 @@
-use Rattle.std.proofs.Common.{rules, ◌≡◌, ◌∙◌, length, vec_len, ap, refl, sym, inr}
+use Rattle.std.proofs.Common.{rules, [], ◌≡◌, ◌∙◌, length, vec_len, ap, refl, sym, inr}
 use Rattle.xa_manager.specs.declared.stage.Stage.TheVariants.{Working, Over}
 use Rattle.xa_manager.proofs.Stages.{with_stage-length, kept_with, ready_with, put_on}
 use Rattle.xa_manager.proofs.States.{same_desk, kept_as, ready_as, worked_kept}
+use Rattle.xa_manager.proofs.Said.{agreed_logs}
 use Rattle.xa_manager.proofs.manager.Manager.work.Goals as goal
 
 pub work-worked-requires-clause-name : goal.work-worked-requires-clause-name
@@ -64,6 +65,9 @@ returns-in-Ok-clause-says g c =
         working = c.in-Ok.ensures.taken;
         works = c.work-worked.ensures.works;
         others = c.work-worked.ensures.frame;
+        logs = agreed_logs g.C.Speak.view [] was.coordinator.name.items was.coordinator.stores.items c.work-worked.new.self.stores.items
+            (c.work-worked.ensures.agrees []);
+        marks = c.work-worked.ensures.marks;
         stages = on;
       },
       refl,

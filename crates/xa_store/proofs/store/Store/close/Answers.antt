@@ -1,4 +1,4 @@
-use Rattle.std.proofs.Common.{◌≡◌, map, ap, sym, subst, ◌∙◌, arith}
+use Rattle.std.proofs.Common.{◌≡◌, ◌<◌, map, ap, sym, subst, ◌∙◌, arith}
 use Rattle.std.specs.List.{All, AllZip}
 use Rattle.std.proofs.lemmas.List.{length-map}
 use Rattle.std.proofs.lemmas.List.Elements.{All-map, length_all_zip}
@@ -19,6 +19,15 @@ pub returns-in_ok-passes-in-Ok-clause-last : goal.returns-in_ok-passes-in-Ok-cla
 returns-in_ok-passes-in-Ok-clause-last c =
     c.in-Ok.ensures.last ∙ ap (λ list. (last_known list).seen) (sym (map_twice (λ session. session.pass) known_of c.history.new.sessions.items))
     ∙ ap (λ passes. (last_known (map known_of passes)).seen) (sym c.in_ok-passes-in-Ok.ensures.ok)
+
+pub returns-in_ok-passes-in-Ok-clause-looked : goal.returns-in_ok-passes-in-Ok-clause-looked
+returns-in_ok-passes-in-Ok-clause-looked c some =
+    let before = (last_known (map (λ session. known_of session.pass) c.args.sessions.items)).looks in
+    let after = (last_known (map (λ session. known_of session.pass) c.history.new.sessions.items)).looks in
+    let same : after ≡ (last_known (map known_of c.in_ok-passes-in-Ok.passes.items)).looks =
+    ap (λ list. (last_known list).looks) (sym (map_twice (λ session. session.pass) known_of c.history.new.sessions.items))
+    ∙ ap (λ passes. (last_known (map known_of passes)).looks) (sym c.in_ok-passes-in-Ok.ensures.ok) in
+    subst (λ n. before < n) same (c.in-Ok.ensures.looked some)
 
 pub returns-in_ok-passes-in-Ok-clause-whole : goal.returns-in_ok-passes-in-Ok-clause-whole
 returns-in_ok-passes-in-Ok-clause-whole c =

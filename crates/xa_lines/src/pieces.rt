@@ -1,0 +1,65 @@
+//! Readers and writers of which a contract sees each call.
+ghost use Rattle.std.specs.Prelude.{ℕ, List, take, MatchResult};
+ghost use Rattle.std.specs.Io.{ReadsAtMost, WritesAtMost};
+ghost use Rattle.std.specs.Io.KnownBytes.{Appends, Consumes, Keeps, ReadConsumes, WriteAppends};
+
+use std::io;
+use std::io::{Read, Write};
+
+/// A reader of which a contract sees each read. Every reader is one.
+///
+/// Own rule: docs/BEHAVIOR.md, 'Scripts'.
+pub trait PieceReader: Read {
+    // From the first state on a read may give these bytes, none at the end, and the last state is then the reader's.
+    ghost gives: { Self → List ℕ → Self → Type 0 };
+
+    // From the first state on a read may fail, and the last state is then the reader's.
+    ghost fails: { Self → Self → Type 0 };
+
+    /// Reads once.
+    ///
+    /// Errors: those of the reader. Takes no memory. Doesn't wait, unless the reader does.
+    fn read_piece(&mut self, piece: &mut [u8]) -> io::Result<usize>
+        ensures bound { ReadsAtMost result piece.new }
+        ensures bytes { ReadConsumes (Self.remaining self.old) (Self.remaining self.new) result piece.new }
+        ensures told { MatchResult result (λ count. gives self.old (take count piece.new) self.new) (λ _. fails self.old self.new) };
+}
+
+impl<R: Read> PieceReader for R {
+    ghost gives = { λ old bytes new. Consumes (R.remaining old) (R.remaining new) bytes };
+
+    ghost fails = { λ old new. Keeps (R.remaining old) (R.remaining new) };
+
+    fn read_piece(&mut self, piece: &mut [u8]) -> io::Result<usize> {
+        self.read(piece)
+    }
+}
+
+/// A writer of which a contract sees each write. Every writer is one.
+///
+/// Own rule: docs/BEHAVIOR.md, 'Scripts'.
+pub trait PieceWriter: Write {
+    // From the first state on a write may take these bytes, and the last state is then the writer's.
+    ghost takes: { Self → List ℕ → Self → Type 0 };
+
+    // From the first state on a write may fail, and the last state is then the writer's.
+    ghost refuses: { Self → Self → Type 0 };
+
+    /// Writes once.
+    ///
+    /// Errors: those of the writer. Takes no memory. Doesn't wait, unless the writer does.
+    fn write_piece(&mut self, bytes: &[u8]) -> io::Result<usize>
+        ensures bound { WritesAtMost result bytes.now }
+        ensures bytes { WriteAppends (Self.contents self.old) (Self.contents self.new) result bytes.now }
+        ensures told { MatchResult result (λ count. takes self.old (take count bytes.now) self.new) (λ _. refuses self.old self.new) };
+}
+
+impl<W: Write> PieceWriter for W {
+    ghost takes = { λ old bytes new. Appends (W.contents old) (W.contents new) bytes };
+
+    ghost refuses = { λ old new. Keeps (W.contents old) (W.contents new) };
+
+    fn write_piece(&mut self, bytes: &[u8]) -> io::Result<usize> {
+        self.write(bytes)
+    }
+}

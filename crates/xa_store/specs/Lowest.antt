@@ -1,0 +1,85 @@
+-- Which fault of a race is told: that of the lowest session that has one.
+--     speaks          a run has a statement
+--     IsOwn           the fault of a session's task
+--     IsOutside       a fault that no task has
+--     Joins           what is told where one more task is taken back
+--     IsOfLowest      the fault of the lowest session that has one
+--     IsOfNone        no task has a fault
+--     IsTold          the one or the other
+--     IsRunThrough    a run was answered to its end
+--     AreRunThrough   the runs of all lower sessions were
+--     TellsLowest     the same of what a race tells
+use Rattle.std.specs.Prelude.{◌≡◌, ◌<◌, ◌≤◌, ◌==◌, ◌⊎◌, ℕ, Bool, not, List, length, slice_get, Some, Result, Ok, Err, vec_len}
+use Rattle.xa_server.specs.State.{State}
+use Rattle.decision_log.specs.declared.known.Known.{Known}
+use Rattle.xa_session.specs.declared.answer.Answer.{Answer}
+use Rattle.xa_store.specs.Passes.{known_of}
+use Rattle.xa_store.specs.Spread.{HasAnswered}
+use Rattle.xa_store.specs.declared.first_fault.FirstFault.{FirstFault}
+use Rattle.xa_store.specs.declared.race_fault.RaceFault.{RaceFault}
+use Rattle.xa_store.specs.declared.race_fault.RaceFault.TheVariants.{GateShut, Full, NoMemory, ThreadRefused}
+use Rattle.xa_store.specs.declared.run.Run.{Run}
+
+-- the run has a statement
+abbrev pub speaks : Run → Bool
+speaks run = not (vec_len run.lines == 0)
+
+-- the fault is this session's own
+pub record IsOwn (number : ℕ) (fault : RaceFault) (told : FirstFault) : Type 0 where
+  pub session : told.session ≡ number
+  pub same : told.fault ≡ fault
+
+-- memory ran out outside the tasks; the number is above those of all sessions
+pub record IsOutside (told : FirstFault) : Type 0 where
+  pub above : 16 < told.session
+  pub memory : told.fault ≡ NoMemory
+
+-- of two faults that of the lower session is told
+pub record IsLower (other : FirstFault) (number : ℕ) (fault : RaceFault) (told : FirstFault) : Type 0 where
+  pub either : (told ≡ other) ⊎ IsOwn number fault told
+  pub below_other : told.session ≤ other.session
+  pub below_own : told.session ≤ number
+
+-- a task of this number is taken back behind others; memory can run out only where none of them has a fault
+abbrev pub Joins : {A B : Type 0} → Result A FirstFault → ℕ → Result B RaceFault → FirstFault → Type 0
+Joins (Ok all) number (Ok gain) told = IsOutside told
+Joins (Ok all) number (Err fault) told = IsOwn number fault told
+Joins (Err other) number (Ok gain) told = told ≡ other
+Joins (Err other) number (Err fault) told = IsLower other number fault told
+
+-- the task stops, or has no thread, and the tasks of all lower sessions have done their part
+pub record IsOfLowest {Task Gain : Type 0} (number : Task → ℕ) (gains : Task → Gain → Type 0) (stops : Task → RaceFault → Type 0) (tasks : List Task)
+    (told : FirstFault) : Type 0 where
+  pub index : ℕ
+  pub task : Task
+  pub found : slice_get tasks index ≡ Some task
+  pub number_is : told.session ≡ number task
+  pub cause : (told.fault ≡ ThreadRefused) ⊎ stops task told.fault
+  pub lower : (place : ℕ) (other : Task) → slice_get tasks place ≡ Some other → number other < told.session → (gain : Gain) × gains other gain
+
+-- memory ran out, and all tasks have done their part
+pub record IsOfNone {Task Gain : Type 0} (gains : Task → Gain → Type 0) (tasks : List Task) (told : FirstFault) : Type 0 where
+  pub outside : IsOutside told
+  pub all : (place : ℕ) (other : Task) → slice_get tasks place ≡ Some other → (gain : Gain) × gains other gain
+
+-- the fault is that of the lowest session, and want of memory outside the tasks is told only where none has a fault
+abbrev pub IsTold : {Task Gain : Type 0} → (Task → ℕ) → (Task → Gain → Type 0) → (Task → RaceFault → Type 0) → List Task → FirstFault → Type 0
+IsTold number gains stops tasks told = IsOfLowest number gains stops tasks told ⊎ IsOfNone gains tasks told
+
+-- all statements of the run were answered
+pub record IsRunThrough (gate : ℕ → ℕ → Bool → Type 0) (base : State) (run : Run) : Type 0 where
+  pub known : Known
+  pub answers : List Answer
+  pub answered : HasAnswered gate base (known_of run.pass) known run.lines.items answers
+
+-- so were all statements of the runs of lower sessions
+abbrev pub AreRunThrough : (ℕ → ℕ → Bool → Type 0) → State → List Run → ℕ → Type 0
+AreRunThrough gate base runs session =
+    (place : ℕ) (run : Run) → slice_get runs place ≡ Some run → (known_of run.pass).number < session → IsRunThrough gate base run
+
+-- a fault that names a session is that of the lowest one that has any, and a thread is refused only to a run
+abbrev pub TellsLowest : (ℕ → ℕ → Bool → Type 0) → State → List Run → RaceFault → Type 0
+TellsLowest gate base runs (GateShut session line) = AreRunThrough gate base runs session
+TellsLowest gate base runs (Full session line) = AreRunThrough gate base runs session
+TellsLowest gate base runs NoMemory = Unit {0}
+TellsLowest gate base runs ThreadRefused = 0 < length runs
