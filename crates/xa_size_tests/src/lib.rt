@@ -1,0 +1,5 @@
+//! Stores at the ends of their ranges.
+#![tactic(auto)]
+
+#[cfg(test)]
+mod sizes;

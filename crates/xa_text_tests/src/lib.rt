@@ -1,0 +1,5 @@
+//! What each fault, refusal and state reads, compared with a table.
+#![tactic(auto)]
+
+#[cfg(test)]
+mod texts;

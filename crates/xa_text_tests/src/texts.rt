@@ -1,0 +1,191 @@
+//! The text of every fault, and its number where no other test has it. A refusal's and a state's are in `xa_meaning_tests`, with its codes.
+use decision_log::{AddFault, OpenFault};
+use std::alloc::Global;
+use std::fmt::Display;
+use std::process::Abort;
+use std::test::Fail;
+use xa_coordinator::{BeginFault, Cause, Closed, RecoverFault, WorkFault};
+use xa_lines::ScriptFault;
+use xa_server::{BranchState, XaError};
+use xa_session::Fault;
+use xa_statement::SyntaxFault;
+use xa_store::RaceFault;
+use xa_xid::{LiteralFault, SessionNo};
+
+/// Fails unless each of these reads as its line.
+fn read_as<T: Display>(rt: &impl Abort, alloc: Global, all: &[T], texts: &str) -> Result<(), Fail> {
+    assert_eq!(rt; all.len(), texts.lines().count());
+    for (one, wanted) in all.iter().zip(texts.lines()) {
+        let text = format!(in alloc; "{one}")?;
+        assert_eq!(rt; text.as_str(), wanted);
+    }
+    Ok(())
+}
+
+#[test]
+fn statements_and_literals(rt: HostRuntime) -> Result<(), Fail> {
+    let places = [SyntaxFault { at: 0 }, SyntaxFault { at: u64::MAX }];
+    read_as(&rt, rt.alloc(), &places, PLACES)?;
+    let faults = [
+        LiteralFault::NotALiteral,
+        LiteralFault::Unclosed,
+        LiteralFault::OddHex,
+        LiteralFault::TooLong,
+        LiteralFault::NumberTooLarge,
+    ];
+    read_as(&rt, rt.alloc(), &faults, LITERALS)
+}
+
+/// docs/BEHAVIOR.md, 'Scripts'.
+const PLACES: &str = "syntax fault at byte 0
+syntax fault at byte 18446744073709551615
+";
+
+/// docs/STATEMENTS.md, 'Literals'.
+const LITERALS: &str = "no literal begins there
+the closing quote is missing
+an odd number of hexadecimal digits
+more than 64 bytes
+the number is above 2^64-1
+";
+
+#[test]
+fn logs_and_sessions(rt: HostRuntime) -> Result<(), Fail> {
+    let unopened = [
+        OpenFault::CapacityOutOfRange,
+        OpenFault::SessionsOutOfRange,
+        OpenFault::NoMemory,
+    ];
+    read_as(&rt, rt.alloc(), &unopened, UNOPENED)?;
+    let front = 1024;
+    let unadded = [
+        AddFault::Overtaken { front },
+        AddFault::Full,
+        AddFault::Busy,
+    ];
+    read_as(&rt, rt.alloc(), &unadded, UNADDED)?;
+    let unanswered = [
+        Fault::Overtaken { front },
+        Fault::Full,
+        Fault::NoMemory,
+        Fault::Busy,
+    ];
+    read_as(&rt, rt.alloc(), &unanswered, UNANSWERED)
+}
+
+/// docs/BEHAVIOR.md, 'Stores'.
+const UNOPENED: &str = "the capacity is not from 1 to 1024
+the number of sessions is not from 1 to 16
+out of memory
+";
+
+/// docs/LOG.md, 'What a log promises'.
+const UNADDED: &str = "others have added: 1024 entries are seen now
+log full
+another pass has the turn
+";
+
+/// docs/BEHAVIOR.md, 'Faults of a session'; docs/COORDINATOR.md, 'At the command line'.
+const UNANSWERED: &str = "others have added: 1024 entries are seen now
+log full
+out of memory
+another session has the turn
+";
+
+#[test]
+fn races_and_scripts(rt: HostRuntime) -> Result<(), Fail> {
+    let session = SessionNo::of(16).ok_or("a session")?;
+    let faults = [
+        RaceFault::GateShut { session, line: 0 },
+        RaceFault::Full {
+            session,
+            line: 4999,
+        },
+        RaceFault::NoMemory,
+        RaceFault::ThreadRefused,
+    ];
+    for (fault, number) in faults.iter().zip(1..=4) {
+        assert_eq!(rt; fault.number(), number);
+    }
+    read_as(&rt, rt.alloc(), &faults, RACES)?;
+    let faults = [
+        ScriptFault::Read,
+        ScriptFault::TooLong,
+        ScriptFault::Write,
+        ScriptFault::NoMemory,
+        ScriptFault::Full,
+        ScriptFault::GateShut,
+        ScriptFault::ThreadRefused,
+    ];
+    for (fault, number) in faults.iter().zip(1..=7) {
+        assert_eq!(rt; fault.number(), number);
+    }
+    read_as(&rt, rt.alloc(), &faults, SCRIPTS)
+}
+
+/// docs/BEHAVIOR.md, 'Races'.
+const RACES: &str = "gate shut for session 16 at its statement 0
+log full for session 16 at its statement 4999
+out of memory
+thread refused
+";
+
+/// docs/BEHAVIOR.md, 'The program'.
+const SCRIPTS: &str = "read fault
+script too long
+write fault
+out of memory
+log full
+gate shut
+thread refused
+";
+
+#[test]
+fn coordinators(rt: HostRuntime) -> Result<(), Fail> {
+    let spent = [BeginFault::NumbersSpent, BeginFault::NoMemory];
+    read_as(&rt, rt.alloc(), &spent, SPENT)?;
+    read_as(&rt, rt.alloc(), &[Closed], CLOSED)?;
+    let causes = [Cause::Session(Fault::Full), Cause::Refused(XaError::Nota)];
+    read_as(&rt, rt.alloc(), &causes, CAUSES)?;
+    let unworked = [
+        WorkFault::Session(Fault::Full),
+        WorkFault::Refused(XaError::Nota),
+        WorkFault::Lost,
+    ];
+    read_as(&rt, rt.alloc(), &unworked, UNWORKED)?;
+    let unrecovered = [
+        RecoverFault::Session {
+            store: 15,
+            fault: Fault::NoMemory,
+        },
+        RecoverFault::StillPrepared { store: 0 },
+        RecoverFault::NoMemory,
+        RecoverFault::Refused {
+            store: 1,
+            error: XaError::Rmfail(BranchState::Active),
+        },
+    ];
+    read_as(&rt, rt.alloc(), &unrecovered, UNRECOVERED)
+}
+
+/// docs/BEHAVIOR.md, 'Faults of a coordinator'.
+const SPENT: &str = "all 1,000,000 numbers were given\nout of memory\n";
+
+/// docs/COORDINATOR.md, 'Decisions'.
+const CLOSED: &str = "the transaction's number is closed, or was never given\n";
+
+/// A cause is a session's fault or a refusal: docs/COORDINATOR.md, 'The vote'.
+const CAUSES: &str = "log full\nXAER_NOTA unknown xid\n";
+
+/// docs/COORDINATOR.md, 'Work'.
+const UNWORKED: &str = "log full
+XAER_NOTA unknown xid
+this coordinator has no open branch of the transaction in the store
+";
+
+/// docs/COORDINATOR.md, 'Recovery'.
+const UNRECOVERED: &str = "store 15: out of memory
+store 0: another branch of this coordinator was prepared meanwhile
+out of memory
+store 1: XAER_RMFAIL state ACTIVE
+";
