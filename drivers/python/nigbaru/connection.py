@@ -1,17 +1,23 @@
 """A session of a store, with the two-phase calls of PEP 249."""
+from __future__ import annotations
+
+from typing import TYPE_CHECKING, List, Optional, Sequence, Tuple, Union
+
+from .cursor import Cursor
 from .errors import (DatabaseError, DataError, Error, IntegrityError, InterfaceError, InternalError, NotSupportedError,
-                     OperationalError, ProgrammingError, Warning)
-from .xid import Xid, as_bytes
+                     OperationalError, ProgrammingError, Warning, means_no_branch)
+from .texts import CONVERTED_LIST, bytes_of, is_list, literal, rows_of, verb_of
+from .xid import Text, Xid, xid_from, xid_of
 
-# Where a transaction stands. IDLE: its work has ended, and it isn't prepared, since a call between failed.
-NONE, ACTIVE, IDLE, PREPARED = "none", "active", "idle", "prepared"
+if TYPE_CHECKING:
+    from .server import Server
 
-
-def literal(part, least):
-    data = as_bytes(part)
-    if not least <= len(data) <= 64:
-        raise DataError(f"{len(data)} bytes, where {least} to 64 may be")
-    return f"X'{data.hex()}'"
+# Where a transaction stands. IDLE: its work has ended, and it isn't prepared, since a call between failed. BY_TEXT: XA START was a cursor's statement.
+NONE, ACTIVE, IDLE, PREPARED, BY_TEXT = "none", "active", "idle", "prepared", "by text"
+# Statements that begin or end a session's branch.
+BEGINS = ("XA START", "XA BEGIN")
+ENDS = ("XA PREPARE", "XA COMMIT", "XA ROLLBACK", "DISCONNECT")
+ChosenXid = Union[Xid, Tuple[int, Text, Text], Sequence[object]]
 
 
 class Connection:
@@ -21,115 +27,178 @@ class Connection:
     DataError, OperationalError, IntegrityError = DataError, OperationalError, IntegrityError
     InternalError, ProgrammingError, NotSupportedError = InternalError, ProgrammingError, NotSupportedError
 
-    def __init__(self, server, session):
-        self._server, self._session = server, session
-        self._xid, self._stage = None, NONE
+    def __init__(self, server: Server, session: int) -> None:
+        self._server = server
+        self._session: Optional[int] = session
+        self._xid: Optional[Xid] = None
+        self._stage = NONE
 
-    def _ask(self, statement):
+    def _number(self) -> int:
+        """The session's number. InterfaceError where the connection is closed."""
         if self._session is None:
             raise InterfaceError("the connection is closed")
-        return self._server.ask(self._session, statement)
+        return self._session
+
+    def _ask(self, statement: str) -> List[str]:
+        return self._server.ask(self._number(), statement)
+
+    def _ask_row(self, statement: str) -> List[str]:
+        if self._stage == PREPARED:
+            raise ProgrammingError("the transaction is prepared: nothing is executed until tpc_commit or tpc_rollback")
+        return self._ask(statement)
 
     # rows
 
-    def get(self, key):
+    def get(self, key: Text) -> Optional[bytes]:
         """The value of a row, or None."""
-        answer = self._ask(f"GET {literal(key, 1)}")[0]
-        if answer == "NONE":
-            return None
-        text = answer.removeprefix("VALUE ")
-        return b"" if text == "X''" else bytes.fromhex(text[2:])
+        answer = self._ask_row(f"GET {literal(key, 1)}")[0]
+        return None if answer == "NONE" else bytes_of(answer[len("VALUE "):])
 
-    def put(self, key, value):
-        self._ask(f"PUT {literal(key, 1)},{literal(value, 0)}")
+    def put(self, key: Text, value: Text) -> None:
+        """Gives a row a value."""
+        self._ask_row(f"PUT {literal(key, 1)},{literal(value, 0)}")
 
-    def delete(self, key):
-        self._ask(f"DEL {literal(key, 1)}")
+    def delete(self, key: Text) -> None:
+        """Takes a row's value away; there need be none."""
+        self._ask_row(f"DEL {literal(key, 1)}")
+
+    def cursor(self) -> Cursor:
+        """A cursor, for statements as texts."""
+        self._number()
+        return Cursor(self)
+
+    def ask(self, statement: str) -> List[str]:
+        """The answer to a statement's text, its lines in a list, as cursors ask for it. XA RECOVER is given with CONVERT XID.
+
+        A text may begin a transaction, where none is open, and then texts end it. Within one of `tpc_begin` ProgrammingError is
+        raised for such a text, and after `tpc_prepare` for any.
+        """
+        verb = verb_of(statement)
+        if self._stage in (ACTIVE, IDLE) and verb in (*BEGINS, "XA END", *ENDS):
+            raise ProgrammingError(f"{verb} within a transaction of tpc_begin: tpc_prepare, tpc_commit and tpc_rollback end it")
+        answer = self._ask_row(CONVERTED_LIST if is_list(statement) else statement)
+        if verb in BEGINS:
+            self._stage = BY_TEXT
+        elif verb in ENDS:
+            self._stage = NONE
+        return answer
 
     # PEP 249
 
-    def close(self):
+    def close(self) -> None:
         """Rolls back what isn't prepared; a prepared transaction stays, for `tpc_recover` of any connection."""
-        if self._session is not None:
-            session, self._session, self._stage = self._session, None, NONE
-            try:
+        if self._session is None:
+            return
+        session, self._session, self._stage = self._session, None, NONE
+        try:
+            if not self._server.is_gone:
                 self._server.ask(session, "DISCONNECT")
-            finally:
-                self._server.give_back(session)
+        finally:
+            self._server.give_back(session)
 
-    def commit(self):
+    @property
+    def in_transaction(self) -> bool:
+        """Whether a transaction is open, prepared or not."""
+        return self._stage != NONE
+
+    def commit(self) -> None:
         """Nothing waits outside a transaction; within one it is an error."""
-        if self._stage != NONE:
-            raise ProgrammingError("commit within a transaction: tpc_commit ends it")
+        self._need_none("commit")
 
-    def rollback(self):
-        if self._stage != NONE:
-            raise ProgrammingError("rollback within a transaction: tpc_rollback ends it")
-        raise NotSupportedError("what is written outside a transaction stays")
+    def rollback(self) -> None:
+        """Does nothing outside a transaction, where each row was written at once; within one it is an error."""
+        self._need_none("rollback")
 
-    def xid(self, format_id, global_transaction_id, branch_qualifier):
-        gtrid, bqual = as_bytes(global_transaction_id), as_bytes(branch_qualifier)
-        if not 0 <= format_id < 2 ** 64 or len(gtrid) > 64 or len(bqual) > 64:
-            raise ProgrammingError("a format id below 2 ** 64, and parts of at most 64 bytes")
-        return Xid(format_id, gtrid, bqual)
+    def xid(self, format_id: int, global_transaction_id: Text, branch_qualifier: Text) -> Xid:
+        """An identifier: a number below 2 ** 64, and two parts of at most 64 bytes."""
+        return xid_of(format_id, global_transaction_id, branch_qualifier)
 
-    def tpc_begin(self, xid):
+    def tpc_begin(self, xid: ChosenXid) -> None:
+        """Begins a transaction. IntegrityError where a branch has the identifier already."""
         if self._stage != NONE:
             raise ProgrammingError("a transaction is open")
-        xid = self.xid(*xid)
-        self._ask(f"XA START {xid.literal()}")
-        self._xid, self._stage = xid, ACTIVE
+        begun = xid_from(xid, "tpc_begin")
+        self._ask(f"XA START {begun.literal()}")
+        self._xid, self._stage = begun, ACTIVE
 
-    def _end_work(self):
-        if self._stage == ACTIVE:
-            self._ask(f"XA END {self._xid.literal()}")
-            self._stage = IDLE
-
-    def tpc_prepare(self):
-        if self._stage not in (ACTIVE, IDLE):
-            raise ProgrammingError("no transaction that can be prepared")
+    def tpc_prepare(self) -> None:
+        """The first phase: the transaction is kept for `tpc_commit` or `tpc_rollback`, and nothing is executed until then."""
+        self._need_own()
+        if self._stage == PREPARED:
+            raise ProgrammingError("the transaction is prepared already")
         self._end_work()
-        self._ask(f"XA PREPARE {self._xid.literal()}")
+        self._ask_own("PREPARE")
         self._stage = PREPARED
 
-    def tpc_commit(self, xid=None):
+    def tpc_commit(self, xid: Optional[ChosenXid] = None) -> None:
         """Commits this connection's transaction, in one phase where it isn't prepared; or a recovered one."""
         if xid is not None:
-            self._finish("COMMIT", xid)
+            self._finish("COMMIT", xid_from(xid, "tpc_commit"))
             return
-        if self._stage == NONE:
-            raise ProgrammingError("no transaction")
+        self._need_own()
         self._end_work()
-        self._ask(f"XA COMMIT {self._xid.literal()}" + (" ONE PHASE" if self._stage == IDLE else ""))
+        self._ask_own("COMMIT", " ONE PHASE" if self._stage == IDLE else "")
         self._stage = NONE
 
-    def tpc_rollback(self, xid=None):
+    def tpc_rollback(self, xid: Optional[ChosenXid] = None) -> None:
         """Rolls back this connection's transaction, or a recovered one."""
         if xid is not None:
-            self._finish("ROLLBACK", xid)
+            self._finish("ROLLBACK", xid_from(xid, "tpc_rollback"))
             return
-        if self._stage == NONE:
-            raise ProgrammingError("no transaction")
+        self._need_own()
         self._end_work()
-        self._ask(f"XA ROLLBACK {self._xid.literal()}")
+        self._ask_own("ROLLBACK")
         self._stage = NONE
 
-    def _finish(self, verb, xid):
+    def tpc_recover(self) -> List[Xid]:
+        """The identifiers of the prepared transactions, ascending."""
+        return [Xid(format_id, data[:length], data[length:]) for format_id, length, _, data in rows_of(self._ask(CONVERTED_LIST))]
+
+    def _need_none(self, call: str) -> None:
+        self._number()
+        if self._stage not in (NONE, BY_TEXT):
+            raise ProgrammingError(f"{call} within a transaction: tpc_{call} ends it")
+        self._need_no_text()
+
+    def _need_own(self) -> None:
+        if self._stage == NONE:
+            raise ProgrammingError("no transaction")
+        self._need_no_text()
+
+    def _need_no_text(self) -> None:
+        if self._stage == BY_TEXT:
+            raise ProgrammingError("the transaction was begun by a statement, and is ended by one")
+
+    def _ask_own(self, verb: str, clause: str = "") -> None:
+        """Asks about this connection's transaction. Where the server has it no more, since another client finished it, it is over here too."""
+        assert self._xid is not None
+        try:
+            self._ask(f"XA {verb} {self._xid.literal()}{clause}")
+        except Error as error:
+            if means_no_branch(error):
+                self._stage = NONE
+            raise
+
+    def _end_work(self) -> None:
+        if self._stage == ACTIVE:
+            self._ask_own("END")
+            self._stage = IDLE
+
+    def _finish(self, verb: str, xid: Xid) -> None:
         if self._stage != NONE:
             raise ProgrammingError("a transaction is open")
-        self._ask(f"XA {verb} {self.xid(*xid).literal()}")
+        self._ask(f"XA {verb} {xid.literal()}")
 
-    def tpc_recover(self):
-        """The identifiers of the prepared transactions, ascending."""
-        found = []
-        for row in self._ask("XA RECOVER CONVERT XID")[1:]:
-            format_id, length, _, data = row.split(" ")
-            data = bytes.fromhex(data[2:])
-            found.append(Xid(int(format_id), data[:int(length)], data[int(length):]))
-        return found
-
-    def __enter__(self):
+    def __enter__(self) -> "Connection":
         return self
 
-    def __exit__(self, *_):
+    def __exit__(self, *_: object) -> None:
         self.close()
+
+    def __repr__(self) -> str:
+        if self._session is None:
+            return "<nigbaru.Connection: closed>"
+        if self._server.is_gone:
+            return f"<nigbaru.Connection, session {self._session}: its store is gone>"
+        named = {NONE: "no transaction", BY_TEXT: "a transaction that was begun by a statement"}
+        return f"<nigbaru.Connection, session {self._session}: {named.get(self._stage) or f'{self._stage} {self._xid!r}'}>"

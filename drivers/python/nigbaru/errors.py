@@ -1,53 +1,56 @@
 """PEP 249's exceptions, with what the server says of a refusal."""
+from __future__ import annotations
+
 import re
+from typing import Dict, Optional, Tuple, Type
 
 
 class Warning(Exception):  # noqa: A001  (the name is PEP 249's)
-    pass
+    """PEP 249's; nothing here raises it."""
 
 
 class Error(Exception):
     """A refusal of the server has its number, SQLSTATE and XA code; others have None."""
 
-    number = None
-    sqlstate = None
-    xa_code = None
+    number: Optional[int] = None
+    sqlstate: Optional[str] = None
+    xa_code: Optional[int] = None
 
 
 class InterfaceError(Error):
-    pass
+    """A connection or cursor that was closed, or an answer that isn't one of the protocol."""
 
 
 class DatabaseError(Error):
-    pass
+    """What the classes below have in common."""
 
 
 class DataError(DatabaseError):
-    pass
+    """A key or a value that is too long, or a key that is empty."""
 
 
 class OperationalError(DatabaseError):
-    pass
+    """A store that is gone, doesn't answer in time or isn't there; a locked row; memory that ran out; 16 sessions that are open."""
 
 
 class IntegrityError(DatabaseError):
-    pass
+    """An identifier that a branch has already."""
 
 
 class InternalError(DatabaseError):
-    pass
+    """A refusal whose number isn't known here."""
 
 
 class ProgrammingError(DatabaseError):
-    pass
+    """A call out of order, or of something that it can't mean; a statement that isn't one; an unknown identifier."""
 
 
 class NotSupportedError(DatabaseError):
-    pass
+    """A clause that the server recognises and doesn't support."""
 
 
 # number: class, XA code (docs/BEHAVIOR.md, 'Replies')
-KINDS = {
+KINDS: Dict[int, Tuple[Type[Error], Optional[int]]] = {
     1037: (OperationalError, None),
     1064: (ProgrammingError, None),
     1397: (ProgrammingError, -4),
@@ -59,7 +62,7 @@ KINDS = {
 REFUSAL = re.compile(r"ERROR (\d+) \((\w+)\): (.*)", re.DOTALL)
 
 
-def refusal(text):
+def refusal(text: str) -> Optional[Error]:
     """The exception of an answer, or None where it is no refusal."""
     found = REFUSAL.fullmatch(text)
     if not found:
@@ -69,3 +72,8 @@ def refusal(text):
     error = kind(text)
     error.number, error.sqlstate, error.xa_code = number, found[2], xa_code
     return error
+
+
+def means_no_branch(error: Error) -> bool:
+    """Whether the server refused because there is no such branch: it is unknown, or the session has none."""
+    return error.number == 1397 or (error.number == 1399 and str(error).endswith(" NON-EXISTING"))

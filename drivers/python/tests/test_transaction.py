@@ -6,8 +6,9 @@ import sys
 import unittest
 
 import transaction
+import transaction.interfaces
 
-from nigbaru import Branch, OperationalError, Server
+from nigbaru import Branch, OperationalError, ProgrammingError, Server
 
 PROGRAM = [os.environ["XA_SCRIPT"], "serve"]
 
@@ -76,6 +77,26 @@ class Transfers(unittest.TestCase):
         self.manager.abort()
         self.assertEqual(self.accounts(), (100, 100))
         self.assertEqual(self.prepared(), [[], []])
+
+    def test_a_branch_that_cannot_be_joined_leaves_no_transaction(self):
+        self.manager.get().join(No())
+        self.assertRaises(RuntimeError, self.manager.commit)
+        with self.assertRaises(transaction.interfaces.TransactionFailedError):
+            Branch(self.manager, self.one, "g", "one")
+        self.one.put("account", "99")
+        self.one.tpc_begin(self.one.xid(1, "g", "one"))
+        self.one.tpc_commit()
+        self.manager.abort()
+
+    def test_a_branch_that_another_finished_is_over(self):
+        branch = Branch(self.manager, self.one, "g", "one")
+        branch.tpc_vote(None)
+        self.stores[0].connect().tpc_commit(branch.xid)
+        self.assertRaises(ProgrammingError, branch.tpc_finish, None)
+        branch.tpc_abort(None)
+        branch.abort(None)
+        self.one.put("account", "99")
+        self.manager.abort()
 
     def test_locked_row_ends_a_transfer(self):
         other = self.stores[1].connect()
