@@ -66,9 +66,9 @@ def talk(pool, question):
     return found
 
 
-def run_once(pool, words, text, seconds):
+def run_once(pool, words, text, seconds, memory_kib=None):
     """One child that reads the whole text: what it writes, and how it ends."""
-    child = pool.start(words)
+    child = pool.start(words, memory_kib)
     try:
         output = child.exchange(text, None, seconds, pool.limits.output_bytes)
         return {"output": output.decode("latin-1"), **child.how_it_ended()}
@@ -108,9 +108,9 @@ def calls(pool, question):
 
 
 def judge(pool, question):
-    """Judges a record."""
-    words = ["judge", "--limit", str(number(question, "limit", 1, 1_000_000, 100_000))]
-    return run_once(pool, words, script(question, "record"), pool.limits.judge_seconds)
+    """Judges a record, in a child that may use what its limit needs."""
+    limit = number(question, "limit", 1, 1_000_000, 100_000)
+    return run_once(pool, ["judge", "--limit", str(limit)], script(question, "record"), pool.limits.judge_seconds, pool.limits.judge_kib(limit))
 
 
 def program(pool, _):

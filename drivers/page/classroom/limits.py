@@ -9,8 +9,13 @@ class Limits:
     children: int = 32              # child processes at a time
     idle_seconds: float = 600       # after which a child that nobody asks is ended
     memory_kib: object = 1 << 20    # of a child's address space, or "unlimited"
+    judged_kib: int = 30            # of the judge's child beside that, for each configuration that it may keep
     answer_seconds: float = 10      # for the answer to a line, and for a run of a race
     judge_seconds: float = 60       # for a verdict
     output_bytes: int = 8 << 20     # of what a child may answer to one request
     runs: int = 200                 # of a race
     batch: int = 25                 # runs of a race for one request, so that the page can show how far it is
+
+    def judge_kib(self, configurations):
+        """Of the address space of a child that judges, and may keep so many configurations."""
+        return self.memory_kib if self.memory_kib == "unlimited" else self.memory_kib + self.judged_kib * configurations

@@ -16,14 +16,14 @@ class Pool:
 
     # children
 
-    def start(self, words):
-        """A child at these words of the command line. Trouble: all places are taken, and no talk is idle."""
+    def start(self, words, memory_kib=None):
+        """A child at these words of the command line, with so much memory, or the limits' own. Trouble: all places are taken, and no talk is idle."""
         with self._lock:
             if self._closed.is_set():
                 raise Trouble("the page is ending")
             if len(self._children) >= self.limits.children and not self._end_idlest():
                 raise Trouble(f"{self.limits.children} children are at work; try again")
-            child = Child(self.program, words, self.limits.memory_kib)
+            child = Child(self.program, words, memory_kib or self.limits.memory_kib)
             self._children.add(child)
             return child
 

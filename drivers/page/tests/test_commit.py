@@ -2,6 +2,7 @@
 import re
 import unittest
 
+from selenium.webdriver.common.keys import Keys
 from support import ROOT, says
 from views import View
 
@@ -31,6 +32,12 @@ class Commit(View):
         return len(self.browser.all(".calls-list > li:not(.waiting)"))
 
     def answers(self):
+        """What the program printed for each call."""
+        return self.browser.run("""return [...document.querySelectorAll('.calls-list .arrow.answer')].map((it) =>
+            [...it.querySelectorAll('.answer-line')].map((line) => line.dataset.printed ?? line.textContent).join('\\n'))""")
+
+    def read(self):
+        """The answers as a person reads them."""
         return self.browser.run("""return [...document.querySelectorAll('.calls-list .arrow.answer')].map((it) =>
             [...it.querySelectorAll('.answer-line')].map((line) => line.textContent).join('\\n'))""")
 
@@ -44,9 +51,13 @@ class Commit(View):
             .slice(2, -1).map((lane) => (lane.dataset.doubt ?? '').split(' ').filter((it) => it))""", line)
 
     def sessions(self, line):
-        """The arrows to sessions of a line: the store, and what is said."""
-        return self.browser.run("""return [...document.querySelectorAll(`.calls-list [data-line="${arguments[0]}"] .arrow.inner`)]
-            .map((it) => [Number(it.dataset.store), it.querySelector('.said').firstChild.textContent])""", line)
+        """What a line asked the stores for, and what they answered: the store, and pairs in order."""
+        return self.browser.run("""return [...document.querySelectorAll(`.calls-list [data-line="${arguments[0]}"] .arrow.inner.right`)]
+            .map((it) => [Number(it.dataset.store), ...['.statement-call > bdi', '.store-answer bdi'].map((part) =>
+                [...it.querySelectorAll(part)].map((text) => text.textContent))])""", line)
+
+    def open_stop(self, stop):
+        self.browser.choose("#stops", stop)
 
     def push(self, call):
         before = self.given()
@@ -59,8 +70,11 @@ class Commit(View):
         for stop in STOPS:
             with self.subTest(stop=stop.stem):
                 calls = stop.read_text().splitlines()
-                self.browser.push(f'#stops [data-stop="{stop.stem}"]')
-                self.until(lambda stop=stop: self.browser.text("#calls-remark") == stop.read_text().split("\n")[0][2:], "the example is open")
+                self.open(calls=stop.read_text(), at=0)
+                self.until(lambda calls=calls: len(self.browser.all(".calls-list > li")) == len(calls), "the example is open")
+                self.assertEqual(self.browser.text("#stops option:checked"), stop.stem.removeprefix("after-").replace("-", " ").removeprefix("0") or "0")
+                self.assertEqual(self.given(), 0, "it is at its beginning")
+                self.browser.chord(Keys.ALT, Keys.END)
                 self.until(lambda: self.given() == len(calls), "all is answered")
                 self.assertEqual("\n".join(self.answers()) + "\n", stop.with_suffix(".transcript").read_text())
 
@@ -77,7 +91,7 @@ class Commit(View):
         self.browser.push(f'.calls-list [data-line="{some[0] + 1}"] .here')
         self.until(lambda: self.given() == some[0] + 1, "run to the vote")
         self.assertEqual(self.doubt(), [f"0x630000000000000001,0x0{store},22593" for store in range(3)])
-        self.until(lambda: len(self.sessions(some[0] + 1)) == 6, "the vote's calls")
+        self.until(lambda: len(self.sessions(some[0] + 1)) == 3, "the vote's calls")
         self.pictures()
 
     def test_a_transaction_by_buttons(self):
@@ -108,19 +122,24 @@ class Commit(View):
         calls = ["BEGIN", *[f"WORK 1 {store} PUT 'k','v'" for store in range(3)], "PREPARE 1", "DECIDE 1", "FINISH 1"]
         self.open(calls="\n".join(calls))
         self.until(lambda: len(self.sessions(7)) == 3, "the calls of the second phase")
-        self.assertEqual(self.sessions(5), [[store, f"call {call} of 2"] for store in range(3) for call in (1, 2)])
-        self.assertEqual(self.sessions(7), [[store, "call 1 of 1"] for store in range(3)])
+        self.assertEqual(self.sessions(2), [[0, ["XA START", "PUT 'k','v'"], ["OK", "OK"]]])
+        self.assertEqual(self.sessions(5), [[store, ["XA END", "XA PREPARE"], ["OK", "OK: yes"]] for store in range(3)])
+        self.assertEqual(self.sessions(7), [[store, ["XA COMMIT"], ["OK"]] for store in range(3)])
         self.browser.push('.calls-list [data-line="7"] .arrow.inner[data-store="1"] .crash')
         self.until(lambda: self.given() == 8, "the call fails")
         self.assertEqual(self.answers()[-2:], ["OK", "UNFINISHED 1: out of memory"])
+        self.until(lambda: self.read()[-1] == "UNFINISHED 1: stopped", "it is said what happened")
         self.assertEqual(self.browser.run("return document.activeElement.closest('[data-line]')?.dataset.line"), "7", "the focus stays at the line")
-        self.until(lambda: self.sessions(8) == [[0, "call 1 of 1"], [1, "call 1: no answer"]], "the arrow is broken")
+        self.until(lambda: self.sessions(8) == [[0, ["XA COMMIT"], ["OK"]], [1, ["XA COMMIT"], ["stopped"]]], "the arrow is broken")
         self.assertEqual(len(self.doubt()), 2)
         self.browser.push('.calls-list [data-line="8"] .arrow.answer .crash')
         self.until(lambda: self.given() == 9, "the coordinator is stopped")
         self.push("RECOVER")
         self.assertEqual(self.answers()[-1], "RECOVERED committed 2 rolled back 0 missing 0")
         self.assertEqual(self.doubt(), [])
+        self.until(lambda: len(self.sessions(10)) == 3, "the calls of the recovery")
+        found = [["DISCONNECT", "XA RECOVER", "XA COMMIT of 1", "XA RECOVER"], ["OK", "1 prepared", "OK", "none"]]
+        self.assertEqual(self.sessions(10), [[0, ["DISCONNECT", "XA RECOVER", "XA RECOVER"], ["OK", "0 prepared", "none"]], [1, *found], [2, *found]])
         self.assertEqual("\n".join(self.answers()) + "\n",
                          says("coordinate", "\n".join([*calls[:6], "FAIL 1 AFTER 0", calls[6], "STOP", "RECOVER"]).encode() + b"\n")[0].decode())
 

@@ -118,7 +118,7 @@ class Race(View):
         self.open()
         self.browser.type("#race-script", "1 GET 'k'")
         self.browser.focus("#runs")
-        self.assertEqual(self.browser.run("return location.hash"), "#race?script=1+GET+'k'&runs=50&capacity=1024")
+        self.assertEqual(self.browser.run("return location.hash"), "#race?script=1+GET+'k'&seed=1&runs=50&capacity=1024")
         self.reopen()
         self.assertEqual(self.browser.one("#race-script").get_property("value"), "1 GET 'k'")
         self.assertEqual(self.bars(), [])
@@ -157,7 +157,7 @@ class Race(View):
         known = help_of("race")
         for option, box in [("--together", "#together"), ("--renew", "#renew"), ("--shuffle", "#shuffled")]:
             with self.subTest(option=option):
-                self.open(script="1 PUT 'k','v'\n2 PUT 'k','w'", runs=3)
+                self.open(script="1 PUT 'k','v'\n2 PUT 'k','w'", runs=3, seed="none")
                 self.browser.focus(box)
                 self.browser.press(Keys.SPACE)
                 self.browser.push('#race-form button[type="submit"]')

@@ -65,19 +65,29 @@ export function spoken(statement, answer, state = null) {
 // A line that isn't one of a session, with what answers it.
 const spokenBadly = (line, answer) => [statementText(line, null), answer ? replyText(answer, line, null) : null];
 
+const isRemark = (line) => /^[ \t\r]*#/.test(line);
+
+// Whether a line is read in passing: a step doesn't end behind it.
+export const isCaption = (line) => isRemark(line) || isBlank(line);
+
+function captionItem(line, place) {
+  const kind = isBlank(line) ? "blank" : "remark";
+  const said = line.replace(/^[ \t\r]*#[ \t\r]*/, "");
+  return el(`li.line.caption.${kind}`, { "data-line": place + 1 }, el("div.cell", {}, shown(said, "bdi.statement")));
+}
+
 // A line at its place; `answer` is null for one that waits.
 export function lineItem(line, place, answer, goTo) {
+  if (isCaption(line)) return captionItem(line, place);
   const { session, statement } = cut(line);
-  const kind = line.startsWith("#") ? "remark" : session === null ? "bad" : "spoken";
   const label = `Run to here: line ${place + 1}`;
-  const item = el(`li.line.${kind}`, { "data-line": place + 1 },
+  const item = el(`li.line.${session === null ? "bad" : "spoken"}`, { "data-line": place + 1 },
     el("button.here", { type: "button", title: label, "aria-label": label, onclick: () => goTo(place + 1) }, String(place + 1)));
-  const cell = el("div.cell", {}, kind === "spoken" ? spoken(statement, answer, answer && stateOf(answer)) : spokenBadly(line, answer));
+  const cell = el("div.cell", {}, session !== null ? spoken(statement, answer, answer && stateOf(answer)) : spokenBadly(line, answer));
   if (session !== null) {
     cell.classList.add(sessionClass(session));
     cell.style.setProperty("--column", session);
   }
-  if (isBlank(line)) item.classList.add("blank");
   item.append(cell);
   return item;
 }

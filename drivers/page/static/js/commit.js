@@ -4,11 +4,12 @@ import { ask, Failure } from "./api.js";
 import { fromText, linesOf } from "./bytes.js";
 import { asksStores, lastBegun } from "./calls.js";
 import { enable, wire } from "./controls.js";
-import { bringIntoView, byId, el, fill, keepingFocus, options, printedInto, remarkOf } from "./dom.js";
+import { bringIntoView, byId, el, fill, keepingFocus, options, printedInto } from "./dom.js";
 import { followed } from "./fuses.js";
-import { callItem, doubtList, heads } from "./lanes.js";
+import { callItem, doubtList, heads, isCaption } from "./lanes.js";
 import { Patch } from "./patch.js";
 import { readStores } from "./shown_stores.js";
+import { saidToStores } from "./statements.js";
 import { Tape } from "./tape.js";
 import { follow, titleOf } from "./titles.js";
 
@@ -17,12 +18,18 @@ const MOST_STORES = 16;
 const PEEK = 60; // so much of the calls that wait is seen
 const NUMBERS = ["UNDECIDED", "DECIDED", "CLOSED"];
 
+// A stop's number of calls, and whether the decision came before it: `12 decided`.
+function callsOfStop({ name }) {
+  const [, number, decided] = /^after-0?(\d+)-?(.*)$/.exec(name);
+  return decided ? `${number} ${decided}` : number;
+}
+
 export class Commit {
   constructor(app) {
     this.app = app;
     this.view = byId("commit");
     this.stores = STORES;
-    this.tape = new Tape({ job: "coordinate", stores: STORES }, (news) => this.changed(news));
+    this.tape = new Tape({ job: "coordinate", stores: STORES }, (news) => this.changed(news), isCaption);
     this.read = [];
     this.list = el("ol.calls-list");
     this.head = el("div.lane-heads");
@@ -40,22 +47,20 @@ export class Commit {
     byId("calls-form").addEventListener("submit", (event) => this.submit(event));
     byId("any-call").addEventListener("keydown", (event) => this.enterKey(event));
     byId("stores").addEventListener("change", (event) => this.open(this.tape.lines, this.tape.at, Number(event.target.value)));
-    byId("calls-example").addEventListener("change", (event) => this.openExample(this.examples[Number(event.target.value)]));
+    byId("calls-example").addEventListener("change", (event) => this.openExample(this.examples[event.target.value]));
+    byId("stops").addEventListener("change", (event) => this.openExample(this.stops[event.target.value]));
   }
 
   offer({ calls, stops }) {
     this.examples = calls;
     this.stops = stops;
     options(byId("calls-example"), [["Calls", calls.map((story, at) => [String(at), titleOf(story)])]]);
-    fill(byId("stops"), stops.map((stop) => {
-      const [, number, decided] = /^after-0?(\d+)-?(.*)$/.exec(stop.name);
-      return el("button", { type: "button", title: stop.title, "data-stop": stop.name, onclick: () => this.openExample(stop) },
-        decided ? `${number} ${decided}` : number);
-    }));
+    const named = stops.map((stop, at) => [String(at), callsOfStop(stop)]);
+    options(byId("stops"), [["Calls of sessions", named]]);
   }
 
   openExample(example) {
-    if (example) this.open(linesOf(example.text), linesOf(example.text).length, STORES);
+    if (example) this.open(linesOf(example.text), 0, STORES);
   }
 
   enter(state) {
@@ -118,10 +123,9 @@ export class Commit {
     fill(byId("decisions"), NUMBERS.flatMap((name) => [el("dt", {}, name), el("dd", {}, behind?.[name].join(" ") || "none")]));
     const last = answers[this.tape.at - 1];
     printedInto(byId("calls-printed"), last ? last.join("") : "");
-    fill(byId("calls-remark"), remarkOf(this.tape.lines));
     const isOpen = (example) => linesOf(example.text).join("\n") === this.tape.lines.join("\n");
     follow(byId("calls-example"), this.examples, isOpen);
-    this.stops.forEach((stop, at) => byId("stops").children[at].setAttribute("aria-pressed", String(isOpen(stop))));
+    follow(byId("stops"), this.stops, isOpen);
     this.followNumber(answers);
     enable(this.view, this.tape);
     this.app.keep("commit", this.state());
@@ -172,13 +176,16 @@ export class Commit {
 
   drawCalls(answers) {
     const { lines, at } = this.tape;
-    const sessions = followed(lines.slice(0, at), this.wanted);
+    const said = saidToStores(lines.slice(0, at), answers.map(([answer]) => answer), this.read, followed(lines.slice(0, at), this.wanted));
+    const captions = lines.filter(isCaption);
+    let captionsSoFar = 0;
     const entries = lines.map((line, place) => {
+      const isRepeated = isCaption(line) && captions[captionsSoFar++ - 1] === line;
       const outcome = place < at
-        ? { answer: answers[place][0], behind: this.read[place], before: this.read[place - 1], sessions: sessions[place] } : null;
-      const key = `${this.stores} ${place} ${line}`;
-      return [key, outcome && [outcome.answer, outcome.before?.text, outcome.behind.text, JSON.stringify(outcome.sessions)].join("\n"), () => {
-        const item = callItem(line, place, outcome, this.stores, this.does);
+        ? { answer: answers[place][0], behind: this.read[place], before: this.read[place - 1], stores: said[place] } : null;
+      const key = `${this.stores} ${place} ${isRepeated} ${line}`;
+      return [key, outcome && [outcome.answer, outcome.before?.text, outcome.behind.text, JSON.stringify(outcome.stores)].join("\n"), () => {
+        const item = callItem(line, place, outcome, this.stores, this.does, isRepeated);
         item.classList.toggle("waiting", outcome === null);
         return item;
       }];

@@ -1,9 +1,11 @@
-// The buttons over a tape, and their keys.
+// The buttons over a tape, and their keys. For the projector the keys do without Alt.
+import { isProjected, isTyping } from "./projector.js";
 
-const KEYS = { ArrowRight: "step", End: "end", ArrowLeft: "back" };
+const KEYS = { ArrowRight: "step", End: "end", ArrowLeft: "back", Home: "start" };
 
 export function wire(view, tape, story) {
   const does = {
+    start: () => tape.toStart(),
     step: () => tape.step(),
     end: () => tape.toEnd(),
     back: () => tape.back(),
@@ -12,7 +14,8 @@ export function wire(view, tape, story) {
   };
   for (const button of view.querySelectorAll("[data-do]")) button.addEventListener("click", () => does[button.dataset.do]());
   addEventListener("keydown", (event) => {
-    const wanted = event.altKey && !view.hidden ? does[KEYS[event.key]] : null;
+    const isMeant = event.altKey || (isProjected() && !isTyping(event));
+    const wanted = isMeant && !view.hidden ? does[KEYS[event.key]] : null;
     if (!wanted) return;
     event.preventDefault();
     wanted();
@@ -22,6 +25,6 @@ export function wire(view, tape, story) {
 // Which buttons have something to do.
 export function enable(view, tape) {
   const waits = tape.at < tape.lines.length;
-  const able = { step: waits, end: waits, back: tape.at > 0, drop: waits, clear: tape.lines.length > 0 };
+  const able = { start: tape.at > 0, step: waits, end: waits, back: tape.at > 0, drop: waits, clear: tape.lines.length > 0 };
   for (const button of view.querySelectorAll("[data-do]")) button.disabled = !able[button.dataset.do];
 }

@@ -5,6 +5,7 @@ import { Commit } from "./commit.js";
 import { byId, el, fill } from "./dom.js";
 import { endingText } from "./ending.js";
 import { Judge } from "./judge.js";
+import { listen } from "./projector.js";
 import { Race } from "./race.js";
 import * as rules from "./rules.js";
 import { Sessions } from "./sessions.js";
@@ -18,6 +19,7 @@ class App {
     this.views = { sessions: new Sessions(this), race: new Race(this), commit: new Commit(this), judge: new Judge(this) };
     this.current = null;
     addEventListener("hashchange", () => this.enter());
+    listen(() => this.enter());
   }
 
   async begin() {

@@ -3,6 +3,7 @@ import { whole } from "./address.js";
 import { ask, Failure } from "./api.js";
 import { fromText, linesOf, toText } from "./bytes.js";
 import { byId, el, fill, options, printedInto, sessionClass, shown } from "./dom.js";
+import { isCaption } from "./columns.js";
 import { endingText } from "./ending.js";
 import { orderOf, readOutcome, tie } from "./outcome.js";
 import { draw } from "./timeline.js";
@@ -10,6 +11,7 @@ import { follow, titleOf } from "./titles.js";
 
 const BATCH = 10;
 const STRIP = 48; // entries that a bar shows
+const UNSHUFFLED = "none"; // in place of a seed: else the sessions' turns are shuffled, so that a script shows its histories soon
 const GONE = "The history that the address names didn't come in these runs.";
 
 // A short name for a history, so that an address can say which one is looked at.
@@ -20,7 +22,7 @@ function nameOf(key) {
 }
 
 // A race takes no remarks.
-const withoutRemarks = (text) => linesOf(text).filter((line) => !line.startsWith("#")).join("\n");
+const withoutRemarks = (text) => linesOf(text).filter((line) => !isCaption(line)).join("\n");
 
 export class Race {
   constructor(app) {
@@ -58,7 +60,7 @@ export class Race {
   asked(go) {
     const number = (id) => byId(id).value;
     return { script: this.script(), together: byId("together").checked ? 1 : "", renew: byId("renew").checked ? 1 : "",
-      seed: byId("shuffled").checked ? number("seed") : "", runs: number("runs"), capacity: number("capacity"), go: go ? ++this.runs : "" };
+      seed: byId("shuffled").checked ? number("seed") : UNSHUFFLED, runs: number("runs"), capacity: number("capacity"), go: go ? ++this.runs : "" };
   }
 
   // The text of the box; bytes that aren't text stay as the address had them while the box isn't touched.
@@ -76,7 +78,7 @@ export class Race {
     follow(byId("race-example"), this.examples, (example) => withoutRemarks(example.text) === lines);
     byId("together").checked = Boolean(state.together);
     byId("renew").checked = Boolean(state.renew);
-    byId("shuffled").checked = state.seed !== undefined;
+    byId("shuffled").checked = state.seed !== UNSHUFFLED;
     for (const [id, plain] of [["seed", 1], ["runs", 50], ["capacity", 1024]]) {
       byId(id).value = whole(state[id], Number(byId(id).min), Number(byId(id).max), plain);
     }

@@ -2,7 +2,7 @@
 import { whole } from "./address.js";
 import { fromText, linesOf } from "./bytes.js";
 import { card, rowLine, rowsOf, xidText } from "./cards.js";
-import { lineItem, widestSession } from "./columns.js";
+import { isCaption, lineItem, widestSession } from "./columns.js";
 import { enable, wire } from "./controls.js";
 import { bringIntoView, byId, el, fill, keepingFocus, options, printedInto, remarkOf, sessionClass } from "./dom.js";
 import { readShown } from "./listing.js";
@@ -13,13 +13,15 @@ import { follow, titleOf } from "./titles.js";
 const FEWEST = 2;
 const MOST = 16;
 const PEEK = 70; // so much of the lines that wait is seen
+const FIRST_STORIES = ["two_phase_commit", "lock_conflict", "rolled_back_on_disconnect"];
+const SAMPLE = "PUT 'alice','90'";
 
 export class Sessions {
   constructor(app) {
     this.app = app;
     this.view = byId("sessions");
     this.columns = FEWEST;
-    this.tape = new Tape({ job: "show" }, (news) => this.changed(news));
+    this.tape = new Tape({ job: "show" }, (news) => this.changed(news), isCaption);
     this.read = [];  // the answers, read
     this.given = new Patch(byId("given"));
     this.pending = new Patch(byId("pending"));
@@ -34,6 +36,20 @@ export class Sessions {
     this.stories = [...examples.stories, ...examples.scripts];
     const listed = (kind, from) => examples[kind].map((story, at) => [String(from + at), titleOf(story)]);
     options(byId("story"), [["Stories", listed("stories", 0)], ["Examples", listed("scripts", examples.stories.length)]]);
+    this.offerFirst();
+  }
+
+  // What somebody who has nothing open can begin with.
+  offerFirst() {
+    const first = FIRST_STORIES.map((name) => this.stories.find((story) => story.name === name)).filter(Boolean);
+    fill(byId("first-stories"), first.map((story) => el("button.story", { type: "button", onclick: () => this.open(linesOf(story.text), 0) },
+      el("strong", {}, story.name.replaceAll("_", " ")), " ", story.title)));
+    fill(byId("sample"), SAMPLE);
+    byId("sample").addEventListener("click", () => {
+      const input = byId("entry").querySelector('input[name="1"]');
+      input.value = SAMPLE;
+      input.focus();
+    });
   }
 
   // A script as the address has it; what is there already is left as it is.
@@ -60,7 +76,7 @@ export class Sessions {
   }
 
   raceThese() {
-    const lines = this.tape.lines.filter((line) => !line.startsWith("#"));
+    const lines = this.tape.lines.filter((line) => !isCaption(line));
     this.app.visit("race", { script: lines.join("\n") });
   }
 
@@ -84,6 +100,7 @@ export class Sessions {
     this.drawLines();
     this.drawStore();
     enable(this.view, this.tape);
+    byId("welcome").hidden = this.tape.lines.length > 0;
     fill(byId("story-remark"), remarkOf(this.tape.lines));
     follow(byId("story"), this.stories, (story) => linesOf(story.text).join("\n") === this.tape.lines.join("\n"));
     this.app.keep("sessions", this.state());
@@ -138,7 +155,7 @@ export class Sessions {
 
   item(line, place, answer) {
     const made = lineItem(line, place, answer, (wanted) => this.tape.goTo(wanted));
-    if (answer === null) {
+    if (answer === null && !isCaption(line)) {
       const label = `Remove line ${place + 1}`;
       made.append(el("button.remove", { type: "button", title: label, "aria-label": label, onclick: () => this.tape.remove(place) }, "×"));
     }

@@ -2,10 +2,12 @@
 import { ask, Failure, NAME } from "./api.js";
 
 export class Tape {
-  // `question` says which job, and `changed` is called behind every change, with what is to be said of it.
-  constructor(question, changed) {
+  // `question` says which job, `changed` is called behind every change, with what is to be said of it, and `isCaption` says which lines are
+  // read in passing: they go with the line that follows them.
+  constructor(question, changed, isCaption) {
     this.question = question;
     this.changed = changed;
+    this.isCaption = isCaption;
     this.lines = [];
     this.at = 0;
     this.answers = []; // of the first so many lines, which may be more than those before the cursor
@@ -51,8 +53,18 @@ export class Tape {
     return this.then(() => this.reach(place));
   }
 
+  // The places at which steps end: behind each line that is no caption, but behind captions that nothing follows.
+  stops() {
+    const found = this.lines.flatMap((line, at) => (this.isCaption(line) ? [] : [at + 1]));
+    return [0, ...found.slice(0, -1), this.lines.length];
+  }
+
   step() {
-    return this.then(() => this.reach(this.at + 1));
+    return this.then(() => this.reach(this.stops().find((place) => place > this.at) ?? this.lines.length));
+  }
+
+  toStart() {
+    return this.then(() => this.reach(0));
   }
 
   toEnd() {
@@ -60,7 +72,7 @@ export class Tape {
   }
 
   back() {
-    return this.then(() => this.reach(this.at - 1));
+    return this.then(() => this.reach(this.stops().findLast((place) => place < this.at) ?? 0));
   }
 
   remove(place) {

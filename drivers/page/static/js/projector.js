@@ -1,0 +1,15 @@
+// For the projector: F leaves out tools and forms, and makes the rest larger; F again, or Escape, brings them back.
+
+export const isTyping = (event) => Boolean(event.target.closest?.("input, textarea, select"));
+
+export const isProjected = () => document.body.classList.contains("projected");
+
+export function listen(changed) {
+  addEventListener("keydown", (event) => {
+    const isToggle = (event.key === "f" || event.key === "F") && !event.altKey && !event.ctrlKey && !event.metaKey && !isTyping(event);
+    if (!isToggle && !(event.key === "Escape" && isProjected())) return;
+    event.preventDefault();
+    document.body.classList.toggle("projected");
+    changed();
+  });
+}
