@@ -1,0 +1,20 @@
+XA START 'transfer','debit';
+PUT 'alice','90';
+GET 'alice';
+XA PREPARE 'transfer','debit';
+XA END 'transfer','debit';
+XA PREPARE 'transfer','debit';
+GET 'alice'; -- nobody has committed it
+XA RECOVER;
+XA RECOVER CONVERT XID;
+PUT 'alice','0';
+XA COMMIT 'transfer','debit';
+GET 'alice';
+XA COMMIT 'transfer','debit';
+XA START 'transfer' JOIN;
+SELECT * FROM accounts;
+START TRANSACTION;
+PUT 'bob','10';
+XA START 'inside';
+ROLLBACK;
+GET 'bob';

@@ -1,0 +1,138 @@
+"""What the tests share: the program, and a gateway over it in a process of its own."""
+import contextlib
+import os
+import re
+import subprocess
+import tempfile
+import threading
+import time
+import unittest
+from pathlib import Path
+
+from wire import Client
+
+HERE = Path(__file__).resolve().parent
+SERVE = HERE.parent / "serve"
+PROGRAM = os.environ["XA_SCRIPT"]
+PYTHON = "/usr/bin/python3"
+LISTENS = re.compile(r"store (\d+) listens on [^ ]*:(\d+)")
+
+
+class Gateway:
+    """`drivers/mysql/serve` as a person starts it, at ports that are free; `log` is what it has said."""
+
+    def __init__(self, *words, stores=1, faults=(), program=PROGRAM, folder=None, record=True):
+        self._folder = tempfile.TemporaryDirectory()
+        self.folder = Path(self._folder.name)
+        self.record = self.folder / "record"
+        self.stores = stores
+        words = [*words, "--port", "0", "--stores", str(stores)]
+        if record:
+            words += ["--record", self.record]
+        if faults:
+            (self.folder / "faults").write_text("".join(f"{line}\n" for line in faults))
+            words += ["--fault", self.folder / "faults"]
+        self.process = subprocess.Popen([PYTHON, SERVE, *words, program], stderr=subprocess.PIPE, text=True)
+        self.log = []
+        self.ports = []
+        while len(self.ports) < stores:
+            line = self.process.stderr.readline()
+            if not line:
+                raise AssertionError(f"the gateway doesn't start: {self.log}")
+            self.log.append(line.rstrip("\n"))
+            found = LISTENS.fullmatch(self.log[-1])
+            if found:
+                self.ports.append(int(found[2]))
+        self._reader = threading.Thread(target=self._read)
+        self._reader.start()
+
+    def _read(self):
+        for line in self.process.stderr:
+            self.log.append(line.rstrip("\n"))
+
+    @property
+    def port(self):
+        return self.ports[0]
+
+    def client(self, store=0):
+        return Client(self.ports[store])
+
+    def records(self):
+        return [self.record] if self.stores == 1 else [Path(f"{self.record}.{number + 1}") for number in range(self.stores)]
+
+    def verdicts(self):
+        """What `judge` says first of each store's record."""
+        return [verdict(path.read_bytes()) for path in self.records()]
+
+    def logged(self, words):
+        return any(words in line for line in self.log)
+
+    def end(self):
+        """Ends the gateway by its signal; the status."""
+        if self.process.poll() is None:
+            self.process.terminate()
+        status = self.process.wait(30)
+        self._reader.join()
+        self.process.stderr.close()
+        return status
+
+    def __enter__(self):
+        return self
+
+    def __exit__(self, *_):
+        self.end()
+        self._folder.cleanup()
+
+
+def verdict(record):
+    ran = subprocess.run([PROGRAM, "judge"], input=record, stdout=subprocess.PIPE, timeout=300)
+    return ran.stdout.split(b"\n")[0].decode()
+
+
+def children_of(pid):
+    """The processes that this one started."""
+    return [int(word) for word in Path(f"/proc/{pid}/task/{pid}/children").read_text().split()]
+
+
+def wait_for(holds, what, seconds=30):
+    deadline = time.monotonic() + seconds
+    while not holds():
+        if time.monotonic() > deadline:
+            raise AssertionError(f"it didn't come: {what}")
+        time.sleep(0.01)
+
+
+class Case(unittest.TestCase):
+    """A test that may open gateways and clients, which end with it."""
+
+    def setUp(self):
+        self.ends = contextlib.ExitStack()
+        self.addCleanup(self.ends.close)
+
+    def gateway(self, *words, **options):
+        return self.ends.enter_context(Gateway(*words, **options))
+
+    def client(self, gateway, store=0):
+        return self.ends.enter_context(gateway.client(store))
+
+    def ok(self, client, *texts):
+        for text in texts:
+            answer = client.ask(text)
+            self.assertEqual(answer.kind, "ok", f"{text}: {answer}")
+        return answer
+
+    def refused(self, client, text, number, sqlstate):
+        answer = client.ask(text)
+        self.assertEqual(answer.kind, "error", f"{text}: {answer}")
+        self.assertEqual((answer.number, answer.sqlstate), (number, sqlstate), text)
+        return answer
+
+    def value(self, client, key):
+        """A row's value, or None."""
+        answer = client.ask(f"GET '{key}'")
+        self.assertEqual(answer.kind, "table", answer)
+        return answer.rows[0][0] if answer.rows else None
+
+    def prepare(self, client, xid, key, value):
+        """A prepared branch that writes a row."""
+        self.ok(client, f"XA START {xid}", f"PUT '{key}','{value}'", f"XA END {xid}", f"XA PREPARE {xid}")
