@@ -1,6 +1,6 @@
 -- What the state that records stand for has, by what the records have.
 use Rattle.std.proofs.Common.{◌≡◌, ◌≢◌, ℕ, List, [], ◌∷◌, refl, ap, sym, ◌∙◌, Bool, true, false, inl, inr}
-use Rattle.std.specs.Prelude.{Option, Some, None, cond, ◌&&◌, ◌||◌, ◌==◌, is_some, find, filter, not}
+use Rattle.std.specs.Prelude.{Option, Some, None, cond, ◌&&◌, ◌||◌, ◌==◌, is_some, is_none, find, filter, not}
 use Rattle.std.specs.Option.{option_map, option_map_or, option_and_then, unwrap_or}
 use Rattle.std.specs.List.{list_any}
 use Rattle.std.specs.FinMap as map
@@ -15,11 +15,12 @@ use Rattle.xa_server.specs.declared.branch.Phase.{Phase}
 use Rattle.xa_server.specs.declared.branch.BranchRecord.{BranchRecord}
 use Rattle.xa_server.specs.declared.row.RowRecord.{RowRecord}
 use Rattle.xa_server.specs.declared.association.Association.{Association}
-use Rattle.xa_server.specs.declared.association.Association.TheVariants.{Free, Active}
+use Rattle.xa_server.specs.declared.association.Association.TheVariants.{Free, Active, Idle}
+use Rattle.xa_server.specs.declared.branch.Phase.TheVariants.{Active as PhaseActive, Idle as PhaseIdle, Prepared as PhasePrepared}
 use Rattle.xa_server.specs.State.{LockMode, Branch, is_known, phase_at, is_prepared_phase, is_prepared, owner_at, owns, own_xid, association_in, association_of}
 use Rattle.xa_server.specs.State.{committed_value, write_at, value_within, prepared_xids}
 use Rattle.xa_server.specs.Locks.{lock_at, holds, is_exclusive, is_another, is_held_against, is_locked_against}
-use Rattle.xa_server.specs.Tables.{BranchMap, owner_of, prepared_among}
+use Rattle.xa_server.specs.Tables.{BranchMap, owner_of, phase_in as recorded_phase, named_in, prepared_among}
 use Rattle.xa_server.specs.Rows.{RowMap, committed_of, lock_of, write_by, lock_by, held_against, locked_against, value_seen}
 use Rattle.xa_server.specs.View.{gather, branch_seen, state_of, times_in, times_listed, IsWhole}
 use Rattle.xa_server.proofs.Maps.{same_or_apart}
@@ -165,6 +166,39 @@ pub association-free : (branches : BranchMap) (rows : RowMap) (session : ℕ) �
 unfolding association_of
 association-free branches rows session free =
     ap (λ own. option_map_or (λ xid. association_in (phase_at (state_of branches rows) xid) xid) own Free) (own_xid-free branches rows session free)
+
+-- what the index says that a session has open
+pub association-opened : (branches : BranchMap) (rows : RowMap) (session : ℕ) (opened : Association) → IsWhole branches rows →
+    ((xid : Xid) → named_in opened ≡ Some xid → owner_of branches xid ≡ Some session) →
+    ((xid : Xid) → owner_of branches xid ≡ Some session → opened ≡ association_in (recorded_phase branches xid) xid)
+    → opened ≡ association_of (state_of branches rows) session
+association-opened branches rows session opened whole named owned = by opened refl
+  where
+    own : (xid : Xid) → owner_of branches xid ≡ Some session → opened ≡ association_of (state_of branches rows) session
+    own xid owner = owned xid owner ∙ sym (association-owned branches rows session xid (recorded_phase branches xid) whole owner refl)
+
+    none : opened ≡ Free → (xid : Xid) → owner_of branches xid ≢ Some session
+    none free xid owner = at (map.get branches xid) refl
+      where
+        clash : (branch : BranchRecord) (phase : Phase) → branch.phase ≡ phase → map.get branches xid ≡ Some branch → ⊥
+        clash branch PhaseActive p is =
+            let e : Free ≡ Active xid = sym free ∙ owned xid owner ∙ ap (λ found. association_in (option_map (λ (b : BranchRecord). b.phase) found) xid) is
+            ∙ ap (λ phase. association_in (Some phase) xid) p in cc
+        clash branch PhaseIdle p is =
+            let e : Free ≡ Idle xid = sym free ∙ owned xid owner ∙ ap (λ found. association_in (option_map (λ (b : BranchRecord). b.phase) found) xid) is
+            ∙ ap (λ phase. association_in (Some phase) xid) p in cc
+        clash branch PhasePrepared p is =
+            true≢false (sym (whole.attached xid branch is ∙ ap is_prepared_phase p)
+            ∙ ap is_none (sym (ap (option_and_then (λ (b : BranchRecord). b.owner)) is) ∙ owner))
+
+        at : (found : Option BranchRecord) → map.get branches xid ≡ found → ⊥
+        at None is = not_none session (sym (ap (option_and_then (λ (b : BranchRecord). b.owner)) is) ∙ owner)
+        at (Some branch) is = clash branch branch.phase refl is
+
+    by : (a : Association) → opened ≡ a → opened ≡ association_of (state_of branches rows) session
+    by Free is = is ∙ sym (association-free branches rows session (none is))
+    by (Active xid) is = own xid (named xid (ap named_in is))
+    by (Idle xid) is = own xid (named xid (ap named_in is))
 
 -- ---- who holds a row
 

@@ -1,19 +1,24 @@
 -- The records of branches and rows as finite maps.
 --     BranchMap, RowMap      the records by identifier, by key
 --     owner_of               the session that owns the branch of an identifier
---     owned_at               the branch at a session's place of the index
+--     phase_in               how far the branch of an identifier has come
+--     opened_at              what a session has open, by the index
+--     named_in               the branch that an association names
 --     with_record            the records with one changed, where there is one
 --     without_last           a list without its last element
 --     prepared_keys          the identifiers of the PREPARED branches in a list of records
 --     prepared_among         the identifiers of the PREPARED branches, ascending
---     IsIndexed              the index has exactly the branches that have owners, each at its owner's place
+--     IsIndexed              the index has exactly the branches that have owners, each at its owner's place and in its phase
 use Rattle.std.specs.Prelude.{◌≡◌, ℕ, ◌-◌, Bool, false, cond, [], ◌∷◌, filter, Option, Some, None, List, slice_index_or, take, length}
 use Rattle.std.specs.Option.{option_and_then, option_map, option_map_or}
 use Rattle.std.specs.FinMap as map
 use Rattle.xa_xid.specs.declared.xid.Xid.{Xid}
 use Rattle.xa_xid.specs.Xid.{xid_cmp}
 use Rattle.xa_server.specs.declared.branch.BranchRecord.{BranchRecord}
-use Rattle.xa_server.specs.State.{is_prepared_phase}
+use Rattle.xa_server.specs.declared.branch.Phase.{Phase}
+use Rattle.xa_server.specs.declared.association.Association.{Association}
+use Rattle.xa_server.specs.declared.association.Association.TheVariants.{Free, Active, Idle}
+use Rattle.xa_server.specs.State.{is_prepared_phase, association_in}
 
 abbrev pub BranchMap : Type 0
 BranchMap = map.FinMap xid_cmp BranchRecord
@@ -22,16 +27,27 @@ BranchMap = map.FinMap xid_cmp BranchRecord
 abbrev pub owner_of : BranchMap → Xid → Option ℕ
 owner_of branches xid = option_and_then (λ branch. branch.owner) (map.get branches xid)
 
--- the branch at this place of the index
-abbrev pub owned_at : List (Option Xid) → ℕ → Option Xid
-owned_at owned session = slice_index_or owned session None
+-- how far the branch of this identifier has come
+abbrev pub phase_in : BranchMap → Xid → Option Phase
+phase_in branches xid = option_map (λ branch. branch.phase) (map.get branches xid)
 
--- the index has exactly the branches that have owners, each at its owner's place
-pub record IsIndexed (owned : List (Option Xid)) (branches : BranchMap) : Type 0 where
-  -- one place for each session number, and place 0
-  pub places : length owned ≡ 17
-  pub found : (session : ℕ) (xid : Xid) → owned_at owned session ≡ Some xid → owner_of branches xid ≡ Some session
-  pub listed : (session : ℕ) (xid : Xid) → owner_of branches xid ≡ Some session → owned_at owned session ≡ Some xid
+-- what the session at this place of the index has open; past its end nothing
+abbrev pub opened_at : List Association → ℕ → Association
+opened_at opened session = slice_index_or opened session Free
+
+-- the branch that an association names
+abbrev pub named_in : Association → Option Xid
+named_in Free = None
+named_in (Active own) = Some own
+named_in (Idle own) = Some own
+
+-- the index has exactly the branches that have owners, each at its owner's place and in its phase
+pub record IsIndexed (opened : List Association) (nothing : Association) (branches : BranchMap) : Type 0 where
+  -- what is lent for a session past the end
+  pub free : nothing ≡ Free
+  pub found : (session : ℕ) (xid : Xid) → named_in (opened_at opened session) ≡ Some xid → owner_of branches xid ≡ Some session
+  pub listed : (session : ℕ) (xid : Xid) → owner_of branches xid ≡ Some session → named_in (opened_at opened session) ≡ Some xid
+  pub phased : (session : ℕ) (xid : Xid) → owner_of branches xid ≡ Some session → opened_at opened session ≡ association_in (phase_in branches xid) xid
 
 -- the records with that of this identifier changed, where there is one
 abbrev pub with_record : BranchMap → Xid → (BranchRecord → BranchRecord) → BranchMap

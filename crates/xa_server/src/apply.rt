@@ -19,14 +19,14 @@ impl Server {
         ensures err { OnErr result (self.new ≡ self.old) }
         ensures memory { OnErr result (may_enter self.old (association_of self.old session) (Get key.now) ≡ true) }
     {
-        let association = self.association(session);
-        let Association::Active(own) = &association else {
+        let Association::Active(own) = self.association(session) else {
             return Ok(());
         };
         if self.holds(own, key) {
             return Ok(());
         }
-        self.share(own, key)
+        let own = own.copy();
+        self.share(&own, key)
     }
 
     /// Gives a row a value: at once, or in the session's branch. After `NoMemory` the server is as before.
@@ -36,10 +36,12 @@ impl Server {
         ensures ok { OnOk result (self.new ≡ effect self.old session (association_of self.old session) (Put key.now value.now)) }
         ensures err { OnErr result (self.new ≡ self.old) }
     {
-        let association = self.association(session);
-        match &association {
+        match self.association(session) {
             Association::Free => self.put_row(key, value),
-            Association::Active(own) => self.hold(own, key, Change::Put(copy_of(value))),
+            Association::Active(own) => {
+                let own = own.copy();
+                self.hold(&own, key, Change::Put(copy_of(value)))
+            }
             Association::Idle(_) => Ok(()),
         }
     }
@@ -51,13 +53,15 @@ impl Server {
         ensures ok { OnOk result (self.new ≡ effect self.old session (association_of self.old session) (Del key.now)) }
         ensures err { OnErr result (self.new ≡ self.old) }
     {
-        let association = self.association(session);
-        match &association {
+        match self.association(session) {
             Association::Free => {
                 self.delete_row(key);
                 Ok(())
             }
-            Association::Active(own) => self.hold(own, key, Change::Delete),
+            Association::Active(own) => {
+                let own = own.copy();
+                self.hold(&own, key, Change::Delete)
+            }
             Association::Idle(_) => Ok(()),
         }
     }
@@ -67,11 +71,10 @@ impl Server {
     fn disconnect(&mut self, session: SessionNo)
         ensures { self.new ≡ effect self.old session (association_of self.old session) Disconnect }
     {
-        let association = self.association(session);
-        match &association {
+        match self.association(session).copy() {
             Association::Free => {}
-            Association::Active(own) => self.end_branch(own, false),
-            Association::Idle(own) => self.end_branch(own, false),
+            Association::Active(own) => self.end_branch(&own, false),
+            Association::Idle(own) => self.end_branch(&own, false),
         }
     }
 
@@ -127,7 +130,7 @@ impl Server {
         ensures memory { OnErr result (may_take_memory self.old session statement.now ≡ true) }
     {
         let association = self.association(session);
-        let reply = self.decide(&association, statement)?;
+        let reply = self.decide(association, statement)?;
         if !reply.is_refused() {
             self.accept(session, statement)?;
         }

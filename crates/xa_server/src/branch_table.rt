@@ -1,12 +1,14 @@
 //! The records of all branches, found by identifier and by session.
-ghost use Rattle.std.specs.Prelude.{◌≡◌, true, ◌≢◌, ℕ, [], ◌∷◌, ◌++◌, OnOk, OnErr, IfOk, IfSome, IfNone, MatchOption, ◌<◌, length};
+ghost use Rattle.std.specs.Prelude.{◌≡◌, true, ◌≢◌, ℕ, [], ◌∷◌, ◌++◌, OnOk, OnErr, IfOk, MatchOption, ◌<◌, length, slice_set};
 ghost use Rattle.std.specs.Option.{option_map, option_and_then};
 ghost use Rattle.std.specs.BTreeMap as tree;
 ghost use Rattle.std.specs.FinMap as map;
 ghost use Rattle.xa_xid.specs.declared.xid.Xid.{Xid as XidSeen};
 ghost use Rattle.xa_xid.specs.Xid.{xid_cmp};
-ghost use Rattle.xa_server.specs.Tables.{owned_at, prepared_keys, without_last};
+ghost use Rattle.xa_server.specs.State.{association_in};
+ghost use Rattle.xa_server.specs.Tables.{opened_at as opened_in, prepared_keys, without_last};
 
+use crate::association::Association;
 use crate::branch::{self, BranchRecord, Phase};
 use crate::keys::Keys;
 use crate::lock::is_same_xid;
@@ -16,15 +18,14 @@ use std::collections::BTreeMap;
 use std::marker::Model;
 use xa_xid::{Key, NoMemory, SessionNo, Xid};
 
-/// One place for each session number; place 0 stays empty.
-const PLACES: usize = 17;
-
 /// The records of all branches: by identifier in logarithmic time, by session in constant time.
 #[derive(Drop)]
 pub struct BranchTable {
     by_xid: BTreeMap<Xid, BranchRecord>,
-    /// At each session's number the branch that it owns.
-    owned: [Option<Xid>; PLACES],
+    /// At each session's number what it has open. A session past the end has nothing open.
+    opened: Vec<Association>,
+    /// Nothing open, which is lent for a session past the end.
+    nothing: Association,
     alloc: Global,
 }
 
@@ -40,33 +41,59 @@ impl Model for BranchTable {
 
     ghost view = { λ table. map.from_entries {R = xid_cmp} table.by_xid.entries };
 
-    ghost invariant = { λ table. IsIndexed table.owned (map.from_entries {R = xid_cmp} table.by_xid.entries) };
+    ghost invariant = { λ table. IsIndexed table.opened.items table.nothing (map.from_entries {R = xid_cmp} table.by_xid.entries) };
 }
 
 /// The place of a session in the index.
 fn place_of(session: SessionNo) -> usize
-    ensures value { result ≡ session }
-    ensures within { result < 17 }
+    ensures { result ≡ session }
 {
     session.get() as usize
 }
 
-/// An index with no branches.
-fn empty_places() -> [Option<Xid>; PLACES]
-    ensures places { length result ≡ 17 }
-    ensures empty { (session : ℕ) → owned_at result session ≡ None }
+/// What a session has open, by the index. Past its end it is `nothing`.
+fn opened_at<'a>(
+    opened: &'a [Association],
+    nothing: &'a Association,
+    session: SessionNo,
+) -> &'a Association
+    requires { nothing.now ≡ Association.Free }
+    ensures { result.now ≡ opened_in opened.now session }
 {
-    std::array::from_fn(|_| None)
+    match opened.get(place_of(session)) {
+        Some(association) => association,
+        None => nothing,
+    }
 }
 
-/// Sets the phase of a branch, where there is one.
-fn set_phase(by_xid: &mut BTreeMap<Xid, BranchRecord>, xid: &Xid, phase: Phase)
-    ensures { MatchOption (tree.get xid_cmp by_xid.old xid.now) (by_xid.new ≡ by_xid.old)
-        (λ branch. tree.Updates xid_cmp by_xid.old by_xid.new xid.now (Some (record branch { phase = phase }))) }
+/// Gives a session a place in the index. After `NoMemory` too, each session has open what it had.
+fn make_place(opened: &mut Vec<Association>, session: SessionNo) -> Result<(), NoMemory>
+    ensures same { (at : ℕ) → opened_in opened.new.items at ≡ opened_in opened.old.items at }
+    ensures there { OnOk result (session < length opened.new.items) }
 {
-    if let Some(branch) = by_xid.get_mut(xid) {
-        branch.phase = phase;
+    while opened.len() <= place_of(session) {
+        opened.push(Association::Free)?;
     }
+    Ok(())
+}
+
+/// Sets what a session has open, which has a place in the index.
+fn set_place(opened: &mut Vec<Association>, session: SessionNo, association: Association)
+    requires { session < length opened.old.items }
+    ensures { opened.new.items ≡ slice_set opened.old.items session association }
+{
+    opened[place_of(session)] = association;
+}
+
+/// Sets the phase of a branch to IDLE, where there is one, and answers who owns it.
+fn set_idle(by_xid: &mut BTreeMap<Xid, BranchRecord>, xid: &Xid) -> Option<SessionNo>
+    ensures changed { MatchOption (tree.get xid_cmp by_xid.old xid.now) (by_xid.new ≡ by_xid.old)
+        (λ branch. tree.Updates xid_cmp by_xid.old by_xid.new xid.now (Some (record branch { phase = Phase.Idle }))) }
+    ensures owner { result ≡ option_and_then (λ branch. branch.owner) (tree.get xid_cmp by_xid.old xid.now) }
+{
+    let branch = by_xid.get_mut(xid)?;
+    branch.phase = Phase::Idle;
+    branch.owner
 }
 
 /// Detaches a branch and sets its phase to PREPARED, where there is one, and answers who owned it.
@@ -144,22 +171,15 @@ fn copy_of_records(
 }
 
 /// A copy of an index.
-fn copy_of_places(owned: &[Option<Xid>; PLACES]) -> [Option<Xid>; PLACES]
-    ensures { result ≡ owned.now }
+fn copy_of_places(opened: &Vec<Association>) -> Result<Vec<Association>, NoMemory>
+    ensures { IfOk result (λ copy. copy.items ≡ opened.now.items) }
 {
-    let mut places = empty_places();
-    for session in 0..PLACES {
-        places[session] = match &owned[session] {
-            None => None,
-            Some(own) => Some(own.copy()),
-        };
-    }
-    places
+    opened.clone()
 }
 
 impl BranchTable {
     ghost use Rattle.xa_server.specs.Held.{recorded_entries};
-    ghost use Rattle.xa_server.specs.Tables.{owner_of, prepared_among, with_record};
+    ghost use Rattle.xa_server.specs.Tables.{named_in, owner_of, phase_in, prepared_among, with_record};
 
     /// No branches.
     pub fn new(alloc: Global) -> BranchTable
@@ -167,7 +187,8 @@ impl BranchTable {
     {
         BranchTable {
             by_xid: BTreeMap::new(alloc),
-            owned: empty_places(),
+            opened: Vec::new(alloc),
+            nothing: Association::Free,
             alloc,
         }
     }
@@ -185,7 +206,8 @@ impl BranchTable {
     {
         Ok(BranchTable {
             by_xid: copy_of_records(&self.by_xid)?,
-            owned: copy_of_places(&self.owned),
+            opened: copy_of_places(&self.opened)?,
+            nothing: Association::Free,
             alloc: self.alloc,
         })
     }
@@ -200,12 +222,12 @@ impl BranchTable {
         }
     }
 
-    /// The branch that the session owns, where it owns one.
-    pub fn owned_by(&self, session: SessionNo) -> Option<&Xid>
-        ensures owner { IfSome result (λ own. owner_of self.now own.now ≡ Some session) }
-        ensures none { IfNone result ((xid : XidSeen) → owner_of self.now xid ≢ Some session) }
+    /// What the session has open.
+    pub fn opened(&self, session: SessionNo) -> &Association
+        ensures named { (xid : XidSeen) → named_in result.now ≡ Some xid → owner_of self.now xid ≡ Some session }
+        ensures owned { (xid : XidSeen) → owner_of self.now xid ≡ Some session → result.now ≡ association_in (phase_in self.now xid) xid }
     {
-        self.owned[place_of(session)].as_ref()
+        opened_at(self.opened.as_slice(), &self.nothing, session)
     }
 
     /// The identifiers of the PREPARED branches, ascending.
@@ -229,13 +251,14 @@ impl BranchTable {
         ensures ok { OnOk result (self.new ≡ map.insert self.old xid.now (record { phase = Phase.Active; owner = Some session; held = [] })) }
         ensures err { OnErr result (self.new ≡ self.old) }
     {
+        make_place(&mut self.opened, session)?;
         let branch = BranchRecord {
             phase: Phase::Active,
             owner: Some(session),
             held: Keys::new(self.alloc),
         };
         self.by_xid.insert(xid.copy(), branch)?;
-        self.owned[place_of(session)] = Some(xid.copy());
+        set_place(&mut self.opened, session, Association::Active(xid.copy()));
         Ok(())
     }
 
@@ -243,7 +266,9 @@ impl BranchTable {
     pub fn end_work(&mut self, xid: &Xid)
         ensures { self.new ≡ with_record self.old xid.now (λ branch. record branch { phase = Phase.Idle }) }
     {
-        set_phase(&mut self.by_xid, xid, Phase::Idle);
+        if let Some(owner) = set_idle(&mut self.by_xid, xid) {
+            set_place(&mut self.opened, owner, Association::Idle(xid.copy()));
+        }
     }
 
     /// Detaches a branch from its owner and sets its phase to PREPARED, where there is one.
@@ -251,7 +276,7 @@ impl BranchTable {
         ensures { self.new ≡ with_record self.old xid.now (λ branch. record branch { phase = Phase.Prepared; owner = None }) }
     {
         if let Some(owner) = set_prepared(&mut self.by_xid, xid) {
-            self.owned[place_of(owner)] = None;
+            set_place(&mut self.opened, owner, Association::Free);
         }
     }
 
@@ -281,7 +306,7 @@ impl BranchTable {
             held,
         } = self.by_xid.remove(xid)?;
         if let Some(owner) = owner {
-            self.owned[place_of(owner)] = None;
+            set_place(&mut self.opened, owner, Association::Free);
         }
         Some(held)
     }

@@ -227,8 +227,8 @@ impl Server {
         ensures lock_law { LockLaw self.now }
     {
         let association = self.association(session);
-        let reply = self.decide(&association, statement)?;
-        let enters = !reply.is_refused() && self.may_enter(&association, statement);
+        let reply = self.decide(association, statement)?;
+        let enters = !reply.is_refused() && self.may_enter(association, statement);
         Ok((reply, enters))
     }
 }

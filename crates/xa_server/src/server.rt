@@ -1,18 +1,16 @@
 //! The server: its records, and what they say of its state.
 ghost use Rattle.std.specs.Prelude.{◌≡◌, ◌≢◌, [], true, false, cond, is_some, Some, None, OnOk, OnErr, IfOk};
 ghost use Rattle.std.specs.FinMap as map;
-ghost use Rattle.xa_server.specs.State.{association_in as association_in_phase};
 ghost use Rattle.xa_server.specs.Tables.{with_record, without_last};
 
 use crate::association::Association;
-use crate::branch::{self, Phase};
 use crate::branch_table::BranchTable;
 use crate::hold::HeldRow;
 use crate::lock::Change;
 use crate::overview::BranchEntry;
 use crate::reply::XidList;
-use crate::row;
 use crate::row_table::RowTable;
+use crate::{branch, row};
 use std::alloc::Global;
 use std::marker::Model;
 use xa_xid::{Bytes, Key, NoMemory, SessionNo, Xid};
@@ -39,18 +37,6 @@ impl Model for Server {
     ghost view = { λ server. state_of server.branches server.rows };
 
     ghost invariant = { λ server. IsWhole server.branches server.rows };
-}
-
-/// What a session has open that owns a branch in this phase.
-fn association_in(phase: Option<Phase>, own: &Xid) -> Association
-    ensures { result ≡ association_in_phase phase own.now }
-{
-    match phase {
-        Some(Phase::Active) => Association::Active(own.copy()),
-        Some(Phase::Idle) => Association::Idle(own.copy()),
-        Some(Phase::Prepared) => Association::Free,
-        None => Association::Free,
-    }
 }
 
 /// Takes the key back that a branch listed last, where the row's allocation failed.
@@ -124,14 +110,11 @@ impl Server {
     }
 
     /// What the session has open. Every server keeps the lock law.
-    pub(crate) fn association(&self, session: SessionNo) -> Association
-        ensures association { result ≡ association_of self.now session }
+    pub(crate) fn association(&self, session: SessionNo) -> &Association
+        ensures association { result.now ≡ association_of self.now session }
         ensures lock_law { LockLaw self.now }
     {
-        let Some(own) = self.branches.owned_by(session) else {
-            return Association::Free;
-        };
-        association_in(self.branches.phase_of(own), own)
+        self.branches.opened(session)
     }
 
     /// Whether a branch has this identifier.

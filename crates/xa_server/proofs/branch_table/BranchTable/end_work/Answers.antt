@@ -1,22 +1,43 @@
 use Rattle.std.proofs.Common.{refl, ap, ◌∙◌}
+use Rattle.std.specs.FinMap as map
 use Rattle.xa_server.specs.declared.branch.BranchRecord.{BranchRecord}
 use Rattle.xa_server.specs.declared.branch.Phase.TheVariants.{Idle}
 use Rattle.xa_server.specs.Tables.{with_record}
-use Rattle.xa_server.proofs.Records.{changed_in}
-use Rattle.xa_server.proofs.Index.{indexed_moved, owner_of-changed}
+use Rattle.xa_server.proofs.Records.{branches_in, changed_in}
+use Rattle.xa_server.proofs.Index.{owner_within, indexed_idle, changed_apart, same_owner, tree_owner}
 use Rattle.xa_server.proofs.branch_table.BranchTable.end_work.Goals as goal
 
 -- the branch, IDLE
 idle : BranchRecord → BranchRecord
 idle branch = record branch { phase = Idle }
 
+pub set_place-requires : goal.set_place-requires
+set_place-requires c =
+    owner_within c.self.inside.opened.items c.self.inside.nothing (branches_in c.self.inside.by_xid) c.in-Some.owner c.args.xid.now
+    (tree_owner c.self.inside.by_xid c.args.xid.now c.set_idle.result c.set_idle.ensures.owner ∙ c.in-Some.is) c.self.invariant
+
 pub invariant_of-self : goal.invariant_of-self
 unfolding idle
 invariant_of-self c =
-    rw (changed_in c.self.inside.by_xid c.set_phase.new.by_xid c.args.xid.now idle c.set_phase.ensures)
-    (indexed_moved _ _ _ (λ other. owner_of-changed _ c.args.xid.now other idle (λ branch. refl)) c.self.invariant)
+    rw (changed_in c.self.inside.by_xid c.set_idle.new.by_xid c.args.xid.now idle c.set_idle.ensures.changed, c.set_place.ensures, c.copy.ensures)
+    (indexed_idle c.self.inside.opened.items c.self.inside.nothing (branches_in c.self.inside.by_xid) c.in-Some.owner c.args.xid.now
+    (tree_owner c.self.inside.by_xid c.args.xid.now c.set_idle.result c.set_idle.ensures.owner ∙ c.in-Some.is) c.self.invariant
+    idle (λ branch. refl) (λ branch. refl))
 
-pub returns : goal.returns
+pub invariant_of-self-in_default : goal.invariant_of-self-in_default
 unfolding idle
-returns c =
-    changed_in c.self.inside.by_xid c.set_phase.new.by_xid c.args.xid.now idle c.set_phase.ensures ∙ ap (λ m. with_record m c.args.xid.now idle) c.self.view_is
+invariant_of-self-in_default c =
+    let nobodys = tree_owner c.self.inside.by_xid c.args.xid.now c.set_idle.result c.set_idle.ensures.owner ∙ c.in_default.is in
+    rw (changed_in c.self.inside.by_xid c.set_idle.new.by_xid c.args.xid.now idle c.set_idle.ensures.changed)
+    (changed_apart c.self.inside.opened.items c.self.inside.nothing (branches_in c.self.inside.by_xid) c.args.xid.now nobodys c.self.invariant idle
+    (same_owner idle (λ branch. refl) (map.get (branches_in c.self.inside.by_xid) c.args.xid.now) ∙ nobodys))
+
+pub returns-in-Some : goal.returns-in-Some
+unfolding idle
+returns-in-Some c =
+    changed_in c.self.inside.by_xid c.set_idle.new.by_xid c.args.xid.now idle c.set_idle.ensures.changed ∙ ap (λ m. with_record m c.args.xid.now idle) c.self.view_is
+
+pub returns-in_default : goal.returns-in_default
+unfolding idle
+returns-in_default c =
+    changed_in c.self.inside.by_xid c.set_idle.new.by_xid c.args.xid.now idle c.set_idle.ensures.changed ∙ ap (λ m. with_record m c.args.xid.now idle) c.self.view_is

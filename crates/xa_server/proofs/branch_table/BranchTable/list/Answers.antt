@@ -3,7 +3,7 @@ use Rattle.xa_server.specs.declared.branch.BranchRecord.{BranchRecord}
 use Rattle.xa_server.specs.Tables.{with_record}
 use Rattle.xa_server.proofs.Outcomes.{either_way, on_ok, on_err}
 use Rattle.xa_server.proofs.Records.{changed_in, with_record-same}
-use Rattle.xa_server.proofs.Index.{indexed_moved, owner_of-changed}
+use Rattle.xa_server.proofs.Index.{indexed_moved, owner_of-changed, phase_in-changed}
 use Rattle.xa_server.proofs.branch_table.BranchTable.list.Goals as goal
 
 -- the branch with one key more
@@ -15,7 +15,7 @@ unfolding longer
 invariant_of-self c =
     either_way c.list_key.result c.list_key.ensures.ok c.list_key.ensures.err
     (λ ok. rw (changed_in c.self.inside.by_xid c.list_key.new.by_xid c.args.xid.now (longer c.args.key.now) ok)
-    (indexed_moved _ _ _ (λ other. owner_of-changed _ c.args.xid.now other (longer c.args.key.now) (λ branch. refl)) c.self.invariant))
+    (indexed_moved _ _ _ _ (owner_of-changed _ c.args.xid.now (longer c.args.key.now) (λ branch. refl)) (phase_in-changed _ c.args.xid.now (longer c.args.key.now) (λ branch. refl)) c.self.invariant))
     (λ err. rw (changed_in c.self.inside.by_xid c.list_key.new.by_xid c.args.xid.now (λ branch. branch) err ∙ with_record-same _ c.args.xid.now)
     c.self.invariant)
 

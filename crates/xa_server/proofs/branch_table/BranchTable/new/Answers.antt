@@ -1,3 +1,4 @@
+use Rattle.std.proofs.Common.{refl}
 use Rattle.xa_xid.proofs.Orders.{xids_total, exact_xids}
 use Rattle.xa_server.proofs.Maps.{empty_view}
 use Rattle.xa_server.proofs.Index.{indexed_empty}
@@ -5,4 +6,4 @@ use Rattle.xa_server.proofs.branch_table.BranchTable.new.Goals as goal
 
 pub invariant_of-result : goal.invariant_of-result
 invariant_of-result c =
-    rw (empty_view xids_total exact_xids c.new.result c.new.ensures.empty) (indexed_empty _ c.empty_places.ensures.places c.empty_places.ensures.empty)
+    rw (empty_view xids_total exact_xids c.new.result c.new.ensures.empty, c.new-2.ensures.items) (indexed_empty _ refl)

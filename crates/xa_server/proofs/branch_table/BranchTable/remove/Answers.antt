@@ -1,20 +1,16 @@
 use Rattle.std.proofs.Common.{List, ◌≡◌, ℕ, ap, sym, ◌∙◌}
 use Rattle.std.specs.Prelude.{Option}
-use Rattle.std.specs.Option.{option_map, option_and_then}
+use Rattle.std.specs.Option.{option_map}
 use Rattle.std.specs.FinMap as map
 use Rattle.xa_server.specs.declared.branch.BranchRecord.{BranchRecord}
 use Rattle.xa_server.proofs.Records.{branches_in, get_branch, removed_in, found_in}
-use Rattle.xa_server.proofs.Index.{indexed_moved, indexed_freed, owner_of-removed, owners_with-none}
+use Rattle.xa_server.proofs.Index.{owner_in, owner_within, indexed_removed, removed_apart}
 use Rattle.xa_server.proofs.branch_table.BranchTable.remove.Goals as goal
 use Rattle.xa_server.proofs.branch_table.BranchTable.remove.Goals.{in-Some, in_default}
 
 -- the keys that a record lists
 keys_in : Option BranchRecord → Option (List (List ℕ))
 keys_in found = option_map (λ (branch : BranchRecord). branch.held) found
-
--- who owns the branch of a record
-owner_in : Option BranchRecord → Option ℕ
-owner_in found = option_and_then (λ (branch : BranchRecord). branch.owner) found
 
 pub returns-in_err-owner-clause-removed : goal.returns-in_err-owner-clause-removed
 returns-in_err-owner-clause-removed c =
@@ -26,22 +22,22 @@ returns-in_err-owner-clause-held c =
     c.from_residual.ensures ∙ ap keys_in
     (sym c.in_err-owner.was ∙ c.remove.ensures.value ∙ get_branch c.self.inside.by_xid c.args.self.now c.args.xid.now c.self.view_is)
 
+pub set_place-requires : goal.set_place-requires
+set_place-requires c =
+    owner_within c.self.inside.opened.items c.self.inside.nothing (branches_in c.self.inside.by_xid) c.in-Some.owner c.args.xid.now
+    (ap owner_in (found_in c.self.inside.by_xid c.args.xid.now c.remove.result c.remove.ensures.value ∙ c.in_ok-owner.was) ∙ c.in-Some.is) c.self.invariant
+
 pub invariant_of-self-in-Some : goal.invariant_of-self-in-Some
-unfolding owner_in
 invariant_of-self-in-Some c =
-    rw (removed_in c.self.inside.by_xid c.remove.new.self c.args.xid.now c.remove.ensures.updates, c.place_of.ensures.value)
-    (indexed_freed c.self.inside.owned (branches_in c.self.inside.by_xid) _ c.in-Some.owner c.args.xid.now
-    (rw (← c.place_of.ensures.value) c.place_of.ensures.within)
-    (ap owner_in (found_in c.self.inside.by_xid c.args.xid.now c.remove.result c.remove.ensures.value ∙ c.in_ok-owner.was) ∙ c.in-Some.is)
-    (owner_of-removed _ c.args.xid.now) c.self.invariant)
+    rw (removed_in c.self.inside.by_xid c.remove.new.self c.args.xid.now c.remove.ensures.updates, c.set_place.ensures)
+    (indexed_removed c.self.inside.opened.items c.self.inside.nothing (branches_in c.self.inside.by_xid) c.in-Some.owner c.args.xid.now
+    (ap owner_in (found_in c.self.inside.by_xid c.args.xid.now c.remove.result c.remove.ensures.value ∙ c.in_ok-owner.was) ∙ c.in-Some.is) c.self.invariant)
 
 pub invariant_of-self-in_default : goal.invariant_of-self-in_default
-unfolding owner_in
 invariant_of-self-in_default c =
     rw (removed_in c.self.inside.by_xid c.remove.new.self c.args.xid.now c.remove.ensures.updates)
-    (indexed_moved c.self.inside.owned (branches_in c.self.inside.by_xid) _
-    (λ other. owner_of-removed _ c.args.xid.now other ∙ owners_with-none _ c.args.xid.now other
-    (ap owner_in (found_in c.self.inside.by_xid c.args.xid.now c.remove.result c.remove.ensures.value ∙ c.in_ok-owner.was) ∙ c.in_default.is))
+    (removed_apart c.self.inside.opened.items c.self.inside.nothing (branches_in c.self.inside.by_xid) c.args.xid.now
+    (ap owner_in (found_in c.self.inside.by_xid c.args.xid.now c.remove.result c.remove.ensures.value ∙ c.in_ok-owner.was) ∙ c.in_default.is)
     c.self.invariant)
 
 pub returns-clause-removed : goal.returns-clause-removed

@@ -2,7 +2,7 @@ use Rattle.std.proofs.Common.{refl, ap, ◌∙◌}
 use Rattle.xa_server.specs.declared.branch.BranchRecord.{BranchRecord}
 use Rattle.xa_server.specs.Tables.{with_record, without_last}
 use Rattle.xa_server.proofs.Records.{changed_in}
-use Rattle.xa_server.proofs.Index.{indexed_moved, owner_of-changed}
+use Rattle.xa_server.proofs.Index.{indexed_moved, owner_of-changed, phase_in-changed}
 use Rattle.xa_server.proofs.branch_table.BranchTable.unlist.Goals as goal
 
 -- the branch without its last key
@@ -13,7 +13,7 @@ pub invariant_of-self : goal.invariant_of-self
 unfolding shorter
 invariant_of-self c =
     rw (changed_in c.self.inside.by_xid c.unlist_key.new.by_xid c.args.xid.now shorter c.unlist_key.ensures)
-    (indexed_moved _ _ _ (λ other. owner_of-changed _ c.args.xid.now other shorter (λ branch. refl)) c.self.invariant)
+    (indexed_moved _ _ _ _ (owner_of-changed _ c.args.xid.now shorter (λ branch. refl)) (phase_in-changed _ c.args.xid.now shorter (λ branch. refl)) c.self.invariant)
 
 pub returns : goal.returns
 unfolding shorter
