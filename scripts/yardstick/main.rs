@@ -1,0 +1,160 @@
+//! Plain Rust programs of the same work as the store's, to measure it beside. Only rustc is needed:
+//!
+//!     rustc --edition 2021 -O -o yardstick scripts/yardstick/main.rs
+//!
+//!     yardstick MODE THREADS SECONDS      writes MODE threads=T per_s=N
+//!     yardstick echo                      answers each line with itself, at once
+//!     yardstick trips SECONDS PROGRAM..   the round trips a second of a client over pipes of the program
+//!
+//! | Mode | What is done | What is counted |
+//! |---|---|---|
+//! | `cas` | entries added to a log by compare-and-swap, and not read | entries |
+//! | `proto` | cycles of sessions over such a log, each with a server of its own | cycles |
+//! | `protomix5` | of a hundred statements of such sessions outside branches five write, the others read | statements |
+//! | `lib-enum`, `lib-text` | cycles on one server behind a lock; the statements are values, or texts that are read first | cycles |
+//! | `libmix5` | the statements of `protomix5` on one server behind a lock | statements |
+mod log;
+mod reader;
+mod server;
+mod statement;
+mod text;
+mod trips;
+
+use log::{Log, Session};
+use reader::Reader;
+use server::Server;
+use statement::{Statement, cycle, cycle_texts};
+use std::hint::black_box;
+use std::sync::Mutex;
+use std::sync::atomic::{AtomicBool, Ordering::Relaxed};
+use std::time::{Duration, Instant};
+use text::Text;
+
+/// How many branches, or rows, a thread uses in turn.
+const TURNS: usize = 100;
+
+/// What is done a second by threads that count what they do, until they are told to stop.
+fn rate(threads: usize, seconds: f64, stop: impl Fn(), work: impl Fn(usize) -> u64 + Sync) -> f64 {
+    let begun = Instant::now();
+    let work = &work;
+    let done: u64 = std::thread::scope(|scope| {
+        let running: Vec<_> = (1..=threads).map(|thread| scope.spawn(move || work(thread))).collect();
+        std::thread::sleep(Duration::from_secs_f64(seconds));
+        stop();
+        running.into_iter().map(|thread| thread.join().unwrap()).sum()
+    });
+    done as f64 / begun.elapsed().as_secs_f64()
+}
+
+/// Numbers that look random.
+struct Numbers(u64);
+
+impl Numbers {
+    fn next(&mut self) -> u64 {
+        self.0 ^= self.0 << 13;
+        self.0 ^= self.0 >> 7;
+        self.0 ^= self.0 << 17;
+        self.0
+    }
+}
+
+/// The statements of a mix outside branches: of a hundred five write.
+struct Mix {
+    numbers: Numbers,
+    rows: Vec<(Text, Text)>,
+}
+
+impl Mix {
+    fn new(thread: usize) -> Mix {
+        let row = |turn: usize| (Text::of(format!("k{thread}_{turn}").as_bytes()), Text::of(format!("v{turn}").as_bytes()));
+        Mix { numbers: Numbers(88172645463325252 ^ (thread as u64 * 7919)), rows: (0..TURNS).map(row).collect() }
+    }
+
+    fn next(&mut self) -> Statement {
+        let number = self.numbers.next();
+        let (key, value) = self.rows[(number >> 20) as usize % TURNS];
+        if number % 100 < 5 { Statement::Put(key, value) } else { Statement::Get(key) }
+    }
+}
+
+fn adds(threads: usize, seconds: f64) -> f64 {
+    let log = Log::new(threads as u64);
+    let statement = Statement::Put(Text::of(b"k0_1"), Text::of(b"v123"));
+    rate(threads, seconds, || log.stop(), |thread| log.add_only(thread as u64, &statement.words(thread as u64)))
+}
+
+fn sessions(threads: usize, seconds: f64) -> f64 {
+    let log = Log::new(threads as u64);
+    rate(threads, seconds, || log.stop(), |thread| {
+        let cycles: Vec<_> = (0..TURNS).map(|turn| cycle(thread, turn)).collect();
+        let mut session = Session::new(&log, thread as u64);
+        (0..).find(|turn| !cycles[*turn as usize % TURNS].iter().all(|statement| session.write(statement))).unwrap()
+    })
+}
+
+fn mixed_sessions(threads: usize, seconds: f64) -> f64 {
+    let log = Log::new(threads as u64);
+    rate(threads, seconds, || log.stop(), |thread| {
+        let (mut mix, mut session) = (Mix::new(thread), Session::new(&log, thread as u64));
+        let mut goes_on = || match mix.next() {
+            write @ Statement::Put(..) => session.write(&write),
+            read => session.read(&read),
+        };
+        (0..).find(|_| !goes_on()).unwrap()
+    })
+}
+
+fn behind_a_lock(threads: usize, seconds: f64, reads: bool) -> f64 {
+    let (server, stops) = (Mutex::new(Server::default()), AtomicBool::new(false));
+    rate(threads, seconds, || stops.store(true, Relaxed), |thread| {
+        let cycles: Vec<_> = (0..TURNS).map(|turn| (cycle(thread, turn), cycle_texts(thread, turn))).collect();
+        let mut turn = 0;
+        while !stops.load(Relaxed) {
+            let (values, texts) = &cycles[turn as usize % TURNS];
+            for (value, text) in values.iter().zip(texts) {
+                let statement = if reads { Reader::read(black_box(text.as_bytes())).unwrap() } else { *black_box(value) };
+                server.lock().unwrap().apply(thread, &statement).expect();
+            }
+            turn += 1;
+        }
+        turn
+    })
+}
+
+fn mixed_behind_a_lock(threads: usize, seconds: f64) -> f64 {
+    let (server, stops) = (Mutex::new(Server::default()), AtomicBool::new(false));
+    rate(threads, seconds, || stops.store(true, Relaxed), |thread| {
+        let mut mix = Mix::new(thread);
+        let mut done = 0;
+        while done % 64 != 0 || !stops.load(Relaxed) {
+            let statement = mix.next();
+            server.lock().unwrap().apply(thread, &statement).expect();
+            done += 1;
+        }
+        done
+    })
+}
+
+fn main() {
+    let words: Vec<String> = std::env::args().skip(1).collect();
+    let words: Vec<&str> = words.iter().map(String::as_str).collect();
+    let (threads, per_second) = match words[..] {
+        ["echo"] => return trips::echo(),
+        ["trips", seconds, ref program @ ..] => (1, trips::trips(seconds.parse().unwrap(), program)),
+        [mode, threads, seconds] => {
+            let (threads, seconds) = (threads.parse().unwrap(), seconds.parse().unwrap());
+            let per_second = match mode {
+                "cas" => adds(threads, seconds),
+                "proto" => sessions(threads, seconds),
+                "protomix5" => mixed_sessions(threads, seconds),
+                "lib-enum" => behind_a_lock(threads, seconds, false),
+                "lib-text" => behind_a_lock(threads, seconds, true),
+                "libmix5" => mixed_behind_a_lock(threads, seconds),
+                _ => panic!("there is no mode {mode}"),
+            };
+            (threads, per_second)
+        }
+        _ => panic!("yardstick MODE THREADS SECONDS"),
+    };
+    println!("{} threads={threads} per_s={per_second:.0}", words[0]);
+}
