@@ -8,6 +8,7 @@ use Rattle.xa_server.specs.State.{State, association_of, prepared_xids}
 use Rattle.xa_server.specs.Step.{enters}
 use Rattle.decision_log.specs.History.{entries_of}
 use Rattle.std.specs.Prelude.{Result, Ok, Err, IfOk, IfErr}
+use Rattle.decision_log.specs.declared.known.Known.{Known}
 use Rattle.xa_session.specs.declared.fault.Fault.{Fault}
 use Rattle.xa_session.specs.View.{SessionView, StaysOfLog}
 use Rattle.xa_session.proofs.Entering.{recover_outside, recover_reply}
@@ -71,6 +72,12 @@ listed_as convert answer xids old new stays is reply =
       front = sym (is.outside outside).whole;
       list = list ∙ ap prepared_xids (sym whole ∙ ap (λ b. state_after b new.known.seen) (sym stays.base));
     }
+
+-- it adds nothing
+pub listed_quietly : (base : State) (convert : Bool) (answer : Answer) (old new : Known) → IsAnswered base (Recover convert) answer old new
+    → new.mine ≡ old.mine
+listed_quietly base convert answer old new is =
+    (is.outside (recover_outside (state_at base new.seen answer.place) old.number convert)).mine
 
 -- it leaves what the session has open
 pub listed_association : (convert : Bool) (answer : Answer) (old new : SessionView) → LockLaw new.base → StaysOfLog old new

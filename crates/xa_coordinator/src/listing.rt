@@ -22,9 +22,11 @@ fn let_go<S: Speak, R: Wait>(rt: &R, session: &mut S) -> Result<(), Fault>
 }
 
 /// The prepared branches of a session's store, and the place at which they are.
+#[tactic(auto, using(crate::proofs::LettingGo::listed_quietly))]
 fn list_prepared<S: Speak, R: Wait>(rt: &R, session: &mut S) -> Result<(XidList, u64), Fault>
     ensures association { association_seen (S.view session.new) ≡ association_seen (S.view session.old) }
     ensures listed { IfOk result (λ found. ListsPrepared found.0 found.1 (S.view session.old) (S.view session.new)) }
+    ensures quiet { OnOk result ((S.view session.new).known.mine ≡ (S.view session.old).known.mine) }
     ensures undone { IfErr result (λ fault. IsUndone (RecoverStatement false) (Cause.Session fault) (S.view session.old) (S.view session.new)) }
 {
     let Answer { place, reply } = session.execute(rt, &Statement::Recover { convert: false })?;
@@ -63,6 +65,7 @@ impl<S: Speak> Coordinator<S> {
         ensures frame { ChangesAt store self.old.stores.items self.new.stores.items }
         ensures marks { self.new.branches ≡ self.old.branches }
         ensures listed { IfOk result (λ found. AtStore S.view store (ListsPrepared found.0 found.1) self.old.stores.items self.new.stores.items) }
+        ensures quiet { OnOk result (AtStore S.view store (λ old new. new.known.mine ≡ old.known.mine) self.old.stores.items self.new.stores.items) }
         ensures undone { IfErr result
             (λ fault. AtStore S.view store (IsUndone (RecoverStatement false) (Cause.Session fault)) self.old.stores.items self.new.stores.items) }
     {

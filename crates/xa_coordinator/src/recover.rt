@@ -84,6 +84,7 @@ impl<S: Speak> Coordinator<S> {
         ensures frame { ChangesAt store self.old.stores.items self.new.stores.items }
         ensures marks { self.new.branches ≡ self.old.branches }
         ensures clear { IfOk result (λ front. AtStore S.view store (IsClear self.old.name.items store front) self.old.stores.items self.new.stores.items) }
+        ensures quiet { OnOk result (AtStore S.view store (λ old new. new.known.mine ≡ old.known.mine) self.old.stores.items self.new.stores.items) }
         ensures place { IfErr result (λ fault. asked_by_fault fault ≡ store + 1) }
         ensures fails { IfErr result
             (λ fault. (decisions : List Decision) (tally : TallyOf) (marks : List (Option OpenBranchOf)) (before : List S)
@@ -91,7 +92,8 @@ impl<S: Speak> Coordinator<S> {
             → AtStore S.view store (IsSettled decisions self.old.name.items store tally) before self.old.stores.items
             → BreaksHere S.view decisions self.old.name.items fault marks self.new.branches before self.new.stores.items) }
     {
-        match self.prepared_in(rt, store) {
+        let listed = self.prepared_in(rt, store);
+        match listed {
             Ok(found) => match self.own_number(store, found.0.as_slice()) {
                 Some(_number) => Err(RecoverFault::StillPrepared { store }),
                 None => Ok(found.1),

@@ -26,7 +26,7 @@ returns-in-Ok-clause-clear g c =
           c.as_slice.ensures
           (subst (λ (name : Text). (number : ℕ) → number < 2 ^ 64
           → list_any (same_xid (branch_xid name.items number c.args.store)) c.as_slice.result.now ≡ false) c.in-Ok.ensures.name c.in-None.ensures.none));
-    }) me.stores.items c.prepared_in.new.self.stores.items c.in-Ok.ensures.listed
+    }) me.stores.items c.prepared_in-listed.new.self.stores.items c.in-Ok.ensures.listed
 
 pub returns-in-Some-clause-fails : goal.returns-in-Some-clause-fails
 returns-in-Some-clause-fails g c = λ decisions tally marks before count settled.
@@ -47,7 +47,7 @@ returns-in-Some-clause-fails g c = λ decisions tally marks before count settled
                 ∙ subst (λ (xids : List Xid). list_any (same_xid (branch_xid me.name.items c.in-Some._number c.args.store)) xids ≡ true) c.as_slice.ensures
                 (subst (λ (name : Text). list_any (same_xid (branch_xid name.items c.in-Some._number c.args.store)) c.as_slice.result.now ≡ true)
                 c.in-Ok.ensures.name c.in-Some.ensures.some);
-          }) before me.stores.items c.prepared_in.new.self.stores.items count settled c.in-Ok.ensures.listed,
+          }) before me.stores.items c.prepared_in-listed.new.self.stores.items count settled c.in-Ok.ensures.listed,
     )
 
 pub returns-clause-fails : goal.returns-clause-fails
@@ -57,6 +57,6 @@ returns-clause-fails g c = λ decisions tally marks before count settled.
       ap (λ (list : List (Option OpenBranch)). slice_get list c.args.store) c.in-Err.ensures.marks ∙ c.requires.free,
       at_then g.S.Speak.view c.args.store (IsSettled decisions me.name.items c.args.store tally) (IsUndone (Recover false) (Session c.in-Err.fault))
           (λ a b. IsCutOff decisions me.name.items c.args.store a (Session c.in-Err.fault) b)
-          (λ a m b done undone. unlisted_again tally m done c.in-Err.fault b undone) before me.stores.items c.prepared_in.new.self.stores.items count settled
+          (λ a m b done undone. unlisted_again tally m done c.in-Err.fault b undone) before me.stores.items c.prepared_in-listed.new.self.stores.items count settled
           c.in-Err.ensures.undone,
     )
