@@ -21,7 +21,7 @@ use Rattle.xa_coordinator.specs.Participants.{takes_part}
 use Rattle.xa_coordinator.specs.Agreement.{AddsStatements, AgreesWith, Agrees}
 use Rattle.xa_coordinator.specs.Stores.{EachStore}
 use Rattle.xa_coordinator.specs.Told.{IsDone, IsUndone, IsUndoneBehind, IsStopped, IsMissing, IsUnfinished}
-use Rattle.xa_coordinator.specs.Outcomes.{branch_of, finish_statement, ends_in, IsClosed, Settles, SettlesIn, IsVoted, IsEnded, EndsAs, VotesAs, Allows}
+use Rattle.xa_coordinator.specs.Outcomes.{branch_of, finish_statement, ends_in, IsClosed, Settles, SettlesIn, IsVoted, IsEnded, EndsAs, VotesAs}
 use Rattle.xa_coordinator.specs.Outcomes.{finish_for}
 use Rattle.xa_coordinator.specs.Outcomes.{lists_store}
 use Rattle.xa_coordinator.specs.Decisions.{is_decided}
@@ -29,6 +29,12 @@ use Rattle.xa_coordinator.specs.declared.transaction.VoteKind.{VoteKind}
 use Rattle.xa_coordinator.specs.declared.transaction.VoteKind.TheVariants.{Ready as VoteKindReady, OnePhase as VoteKindOnePhase, No as VoteKindNo}
 use Rattle.xa_coordinator.proofs.Telling.{adds_then, adds_nothing}
 use Rattle.xa_coordinator.proofs.Walk.{at_weaker, from_ends, same_one}
+
+-- the decisions allow that a transaction is finished so
+abbrev pub Allows : List Decision → ℕ → Closing → Type 0
+Allows decisions number InTwoPhases = is_decided decisions number ≡ true
+Allows decisions number InOnePhase = Unit {0}
+Allows decisions number RollBack = is_decided decisions number ≡ false
 
 module _ (decisions : List Decision) (name : List ℕ) (store : ℕ) where
   pub nothing_agrees : (session : SessionView) → Agrees decisions name store session session

@@ -10,8 +10,9 @@ use Rattle.xa_coordinator.specs.declared.closing.Closing.TheVariants.{InTwoPhase
 use Rattle.xa_coordinator.specs.declared.closing.Found.{Found}
 use Rattle.xa_coordinator.specs.declared.closing.Found.TheVariants.{Closed, Missing}
 use Rattle.xa_coordinator.specs.Agreement.{AddsStatements}
-use Rattle.xa_coordinator.specs.Outcomes.{ends_first, SaysAs, ClosesAs, PreparesAs}
-use Rattle.xa_coordinator.specs.Told.{IsToldAs, IsDone}
+use Rattle.xa_coordinator.specs.Outcomes.{ends_first}
+use Rattle.xa_coordinator.specs.Parts.{SaysAs, ClosesAs, PreparesAs, IsToldAs}
+use Rattle.xa_coordinator.specs.Told.{IsDone}
 use Rattle.xa_coordinator.proofs.Telling.{adds_then}
 
 -- XA END and then XA PREPARE

@@ -9,11 +9,12 @@ use Rattle.xa_coordinator.specs.declared.participants.Participants.{Participants
 use Rattle.xa_coordinator.specs.declared.closing.Closing.{Closing}
 use Rattle.xa_coordinator.specs.declared.transaction.Transaction.{Transaction}
 use Rattle.xa_coordinator.specs.Participants.{takes_part}
-use Rattle.xa_coordinator.specs.Stores.{AtStore, EachStore, ChangesAt, Reached}
+use Rattle.xa_coordinator.specs.Stores.{AtStore, EachStore, ChangesAt}
 use Rattle.xa_coordinator.specs.Told.{IsMissing}
-use Rattle.xa_coordinator.specs.Outcomes.{Ascends, lists_store, branch_of, finish_statement, ends_in, IsClosed, Settles, SettlesIn, ClosesNext}
+use Rattle.xa_coordinator.specs.Outcomes.{Ascends, lists_store, branch_of, finish_statement, ends_in, IsClosed, Settles, SettlesIn}
+use Rattle.xa_coordinator.specs.Parts.{ClosesNext}
 use Rattle.xa_coordinator.specs.declared.branches.OpenBranch.{OpenBranch}
-use Rattle.xa_coordinator.proofs.Walk.{reached_skip, reached_next, reached_weaker, at_weaker}
+use Rattle.xa_coordinator.proofs.Walk.{Reached, reached_skip, reached_next, reached_weaker, at_weaker}
 
 -- participants below a number, ascending
 pub record IsListed (participants : Participants) (place : ℕ) (stores : List ℕ) : Type 0 where

@@ -13,7 +13,8 @@ use Rattle.xa_coordinator.specs.Told.{IsDone}
 use Rattle.xa_coordinator.proofs.Telling.{association_done}
 use Rattle.xa_coordinator.specs.Branch.{branch_xid}
 use Rattle.xa_coordinator.specs.Stores.{AtStore, ChangesAt}
-use Rattle.xa_coordinator.specs.OpenBranches.{association_seen, association_in, OpenThere, LeavesOpen}
+use Rattle.xa_coordinator.specs.OpenBranches.{association_seen, association_in, OpenThere}
+use Rattle.xa_coordinator.specs.Parts.{LeavesOpen}
 use Rattle.xa_coordinator.specs.declared.branches.OpenBranch.{OpenBranch}
 use Rattle.xa_coordinator.proofs.Places.{get_set_other, get_set_is, get_before_set}
 

@@ -18,10 +18,11 @@ use Rattle.xa_coordinator.specs.declared.report.Tally.{Tally}
 use Rattle.xa_xid.specs.declared.statement.Statement.TheVariants.{Disconnect}
 use Rattle.xa_coordinator.specs.Told.{IsUndone}
 use Rattle.xa_coordinator.specs.Agreement.{Agrees}
-use Rattle.xa_coordinator.specs.Stores.{AtStore, EachStore, ChangesAt, Reached, EndsAt}
-use Rattle.xa_coordinator.specs.Recovery.{IsRecovered, RecoveredBy, Recovers, BreaksBy, BreaksHere, BreaksAt, BreaksOff, fault_by, asked_by_fault, IsBroken}
+use Rattle.xa_coordinator.specs.Stores.{AtStore, EachStore, ChangesAt, EndsAt}
+use Rattle.xa_coordinator.specs.Recovery.{IsRecovered, RecoveredBy, Recovers, BreaksBy, BreaksHere, BreaksAt, BreaksOff, asked_by_fault, IsBroken}
+use Rattle.xa_coordinator.specs.Parts.{fault_by}
 use Rattle.xa_coordinator.specs.Recovery.{IsCutOff, IsStillPrepared}
-use Rattle.xa_coordinator.proofs.Walk.{reached_none, reached_next, reached_weaker, reached_all, ended_at, from_ends, at_weaker, at_same}
+use Rattle.xa_coordinator.proofs.Walk.{Reached, reached_none, reached_next, reached_weaker, reached_all, ended_at, from_ends, at_weaker, at_same}
 use Rattle.xa_coordinator.proofs.Settling.{recovered_agrees, broken_agrees, still_agrees}
 use Rattle.xa_coordinator.proofs.Agreeing.{nothing_agrees}
 

@@ -17,11 +17,12 @@ use Rattle.xa_coordinator.specs.declared.report.Tally.{Tally}
 use Rattle.xa_coordinator.specs.Agreement.{AddsStatements, AgreesWith, Agrees}
 use Rattle.xa_coordinator.specs.Branch.{branch_xid, IsBranchOf}
 use Rattle.xa_coordinator.specs.Decisions.{is_decided}
-use Rattle.xa_coordinator.specs.Outcomes.{finish_statement, SaysAs}
+use Rattle.xa_coordinator.specs.Outcomes.{finish_statement}
+use Rattle.xa_coordinator.specs.Parts.{SaysAs, counted}
 use Rattle.xa_coordinator.specs.Stores.{AtStore}
 use Rattle.xa_coordinator.specs.Told.{IsUndone}
 use Rattle.xa_coordinator.specs.Work.{MayBe}
-use Rattle.xa_coordinator.specs.Recovery.{IsDisconnected, ListsPrepared, finish_decided, SettlesOne, foreign, committed, rolled_back, missing, counted}
+use Rattle.xa_coordinator.specs.Recovery.{IsDisconnected, ListsPrepared, finish_decided, SettlesOne, foreign, committed, rolled_back, missing}
 use Rattle.xa_coordinator.specs.Recovery.{Settled, nothing, one_more, IsFinished, IsSettled, IsRecovered, IsUnsettled, StopsAmong}
 use Rattle.xa_coordinator.specs.Recovery.{IsCutOff, unlisted, unsettled, unlisted_again, IsBroken, IsStillPrepared, BreaksBy}
 use Rattle.xa_coordinator.proofs.Walk.{at_then}

@@ -24,8 +24,9 @@ use Rattle.xa_session.specs.View.{SessionView, StaysOfLog}
 use Rattle.xa_session.proofs.OwnAssociations.{started, ended}
 use Rattle.xa_session.proofs.Associations.{law_seen, association_at, association_unanswered, state_entered}
 use Rattle.xa_coordinator.specs.Agreement.{AddsStatements}
-use Rattle.xa_coordinator.specs.Told.{IsOfBranch, IsDone, IsUndone, HasCause}
-use Rattle.xa_coordinator.specs.OpenBranches.{association_seen, association_in, statement_into}
+use Rattle.xa_coordinator.specs.Told.{IsDone, IsUndone, HasCause}
+use Rattle.xa_coordinator.specs.Parts.{IsOfBranch, statement_into}
+use Rattle.xa_coordinator.specs.OpenBranches.{association_seen, association_in}
 use Rattle.xa_coordinator.specs.declared.branches.Phase.{Phase}
 use Rattle.xa_coordinator.specs.declared.branches.Phase.TheVariants.{Active, Idle}
 use Rattle.xa_coordinator.specs.declared.fault.Cause.{Cause}

@@ -5,7 +5,13 @@ use Rattle.std.proofs.lemmas.Bool.{cases_order, cases_lt}
 use Rattle.std.proofs.lemmas.Bool.Decides.{eqb_tells}
 use Rattle.std.proofs.lemmas.Option.{slice_get_within, slice_get-get_or}
 use Rattle.xa_session.specs.View.{SessionView}
-use Rattle.xa_coordinator.specs.Stores.{AtStore, EachStore, ChangesAt, Reached, EndsAt}
+use Rattle.xa_coordinator.specs.Stores.{AtStore, EachStore, ChangesAt, EndsAt}
+
+-- all stores below this number are done with, and the sessions of the others are as they were
+pub record Reached {S : Type 0} (view : S → SessionView) (fact : ℕ → SessionView → SessionView → Type 0) (place : ℕ) (old now : List S) : Type 0 where
+  pub count : length now ≡ length old
+  pub below : (store : ℕ) → store < place → AtStore view store (fact store) old now
+  pub behind : (store : ℕ) → place ≤ store → slice_get now store ≡ slice_get old store
 
 -- two changes of one store
 pub changes_then : {S : Type 0} (store : ℕ) (old mid new : List S) → ChangesAt store old mid → ChangesAt store mid new → ChangesAt store old new

@@ -27,7 +27,8 @@ use Rattle.xa_coordinator.specs.Outcomes.{branch_of}
 use Rattle.xa_coordinator.specs.Participants.{takes_part}
 use Rattle.xa_coordinator.specs.Stores.{AtStore, EachStore, ChangesAt}
 use Rattle.xa_coordinator.specs.Told.{IsDone, IsUndone}
-use Rattle.xa_coordinator.specs.Work.{IsRow, MayBe, AddsAtMost, AddsWork, MayStart, was_open, was_started, IsReplied, IsWorked, IsCut, WorksWithin, WorksAs}
+use Rattle.xa_coordinator.specs.Work.{IsRow, MayBe, AddsAtMost, AddsWork, MayStart, was_open, was_started, IsReplied, IsWorked, IsCut, WorksAs}
+use Rattle.xa_coordinator.specs.Parts.{WorksWithin}
 use Rattle.xa_coordinator.proofs.Telling.{adds_then, adds_nothing, open_unstarted}
 use Rattle.xa_coordinator.proofs.Agreeing.{nothing_agrees}
 use Rattle.xa_coordinator.proofs.Walk.{at_then, at_weaker, at_same, only_at}

@@ -4,7 +4,7 @@
 --     Agrees           a call added only statements that agree with the decisions
 use Rattle.std.specs.Prelude.{◌≡◌, ◌++◌, ℕ, true, false, List, map, All}
 use Rattle.xa_xid.specs.declared.statement.Statement.{Statement}
-use Rattle.xa_xid.specs.declared.statement.Statement.TheVariants.{Start, End, Prepare, Commit, Rollback, Recover, Unsupported, Get, Put, Del, Disconnect}
+use Rattle.xa_xid.specs.declared.statement.Statement.TheVariants.{Commit, Rollback}
 use Rattle.xa_session.specs.Answer.{Advances, entry_of}
 use Rattle.xa_session.specs.View.{SessionView, StaysOfLog}
 use Rattle.xa_coordinator.specs.Branch.{IsBranchOf}
@@ -17,20 +17,13 @@ pub record AddsStatements (statements : List Statement) (old new : SessionView) 
   pub advances : Advances old.known new.known
   pub mine : new.known.mine ≡ old.known.mine ++ map (entry_of old.known.number) statements
 
--- XA COMMIT is of a decided number's branch, with ONE PHASE of any number's; XA ROLLBACK of a branch whose number isn't decided (presumed abort)
+-- XA COMMIT is of a decided number's branch, with ONE PHASE of any number's; XA ROLLBACK of a branch whose number isn't decided (presumed abort); no other
+-- statement goes against them
 abbrev pub AgreesWith : List Decision → List ℕ → ℕ → Statement → Type 0
-AgreesWith decisions name store (Start xid) = Unit {0}
-AgreesWith decisions name store (End xid) = Unit {0}
-AgreesWith decisions name store (Prepare xid) = Unit {0}
 AgreesWith decisions name store (Commit xid false) = (number : ℕ) × IsBranchOf name number store xid × (is_decided decisions number ≡ true)
 AgreesWith decisions name store (Commit xid true) = (number : ℕ) × IsBranchOf name number store xid
 AgreesWith decisions name store (Rollback xid) = (number : ℕ) × IsBranchOf name number store xid × (is_decided decisions number ≡ false)
-AgreesWith decisions name store (Recover convert) = Unit {0}
-AgreesWith decisions name store Unsupported = Unit {0}
-AgreesWith decisions name store (Get key) = Unit {0}
-AgreesWith decisions name store (Put key value) = Unit {0}
-AgreesWith decisions name store (Del key) = Unit {0}
-AgreesWith decisions name store Disconnect = Unit {0}
+AgreesWith decisions name store statement = Unit {0}
 
 -- whatever was added agrees with the decisions
 pub record Agrees (decisions : List Decision) (name : List ℕ) (store : ℕ) (old new : SessionView) : Type 0 where

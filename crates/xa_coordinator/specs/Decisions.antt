@@ -14,17 +14,14 @@ decision_of decisions number = if number == 0 then None else slice_get decisions
 
 -- the decision to commit was recorded
 abbrev pub decides : Option Decision → Bool
-decides None = false
-decides (Some Undecided) = false
 decides (Some Decided) = true
-decides (Some Closed) = false
+decides decision = false
 
 -- the number was given, and no recovery has closed it
 abbrev pub is_not_closed : Option Decision → Bool
 is_not_closed None = false
-is_not_closed (Some Undecided) = true
-is_not_closed (Some Decided) = true
 is_not_closed (Some Closed) = false
+is_not_closed decision = true
 
 abbrev pub is_decided : List Decision → ℕ → Bool
 is_decided decisions number = decides (decision_of decisions number)
@@ -39,5 +36,4 @@ with_decided decisions number = slice_set decisions (number - 1) Decided
 -- a recovery closes what is undecided
 abbrev pub closed_of : Decision → Decision
 closed_of Undecided = Closed
-closed_of Decided = Decided
-closed_of Closed = Closed
+closed_of decision = decision

@@ -11,3 +11,4 @@ pub mod Work
 pub mod Recovery
 pub mod Faults
 pub mod Fusing
+pub mod Parts

@@ -2,17 +2,13 @@
 --     association_seen  what a session has open, as far as it has seen
 --     association_in   a session that has the branch open in this phase
 --     OpenThere        each branch that the coordinator has open is what the session of its store has open
---     statement_into   the statement that brings a branch into a phase
---     LeavesOpen       a statement leaves this branch open
 --     HasOpen          the coordinator has a transaction's branch open
 --     has_working_branch  whether it has it open and ACTIVE
 --     IsWorking        it has it open and ACTIVE
 --     IsAsBeforeOrEnded  what is open in a store is as before, or the branch is IDLE
 --     KeepsOpen        a call left what is open in the stores that it didn't speak to
-use Rattle.std.specs.Prelude.{◌≡◌, ◌≤◌, ◌==◌, ◌&&◌, ◌⊎◌, ℕ, Bool, true, false, List, Option, Some, None, slice_get}
+use Rattle.std.specs.Prelude.{◌≡◌, ◌≤◌, ◌==◌, ◌&&◌, ◌⊎◌, ℕ, Bool, true, false, List, Option, Some, slice_get}
 use Rattle.xa_xid.specs.declared.xid.Xid.{Xid}
-use Rattle.xa_xid.specs.declared.statement.Statement.{Statement}
-use Rattle.xa_xid.specs.declared.statement.Statement.TheVariants.{Start, End}
 use Rattle.xa_server.specs.State.{association_of}
 use Rattle.xa_server.specs.declared.association.Association.{Association}
 use Rattle.xa_server.specs.declared.association.Association.TheVariants.{Active as AssociationActive, Idle as AssociationIdle}
@@ -40,16 +36,6 @@ OpenThere view name stores branches =
     (store : ℕ) (session : _) (branch : OpenBranch) → slice_get stores store ≡ Some session → slice_get branches store ≡ Some (Some branch) →
     association_seen (view session) ≡ association_in branch.phase (branch_xid name branch.number store)
 
--- the statement that brings a branch into this phase
-abbrev pub statement_into : Phase → Xid → Statement
-statement_into Active xid = Start xid
-statement_into Idle xid = End xid
-
--- the statement, once it is carried out, leaves this branch open, or none that the coordinator keeps
-abbrev pub LeavesOpen : List ℕ → ℕ → Statement → Option OpenBranch → Type 0
-LeavesOpen name store statement None = Unit {0}
-LeavesOpen name store statement (Some branch) = statement ≡ statement_into branch.phase (branch_xid name branch.number store)
-
 -- the coordinator has the transaction's branch open in the store
 pub record HasOpen (branches : List (Option OpenBranch)) (store number : ℕ) : Type 0 where
   pub branch : OpenBranch
@@ -62,9 +48,8 @@ is_active Idle = false
 
 -- what is open in a store is the branch of the transaction of this number, ACTIVE
 abbrev pub works_for : ℕ → Option (Option OpenBranch) → Bool
-works_for number None = false
-works_for number (Some None) = false
 works_for number (Some (Some branch)) = is_active branch.phase && (branch.number == number)
+works_for number there = false
 
 -- the coordinator has the transaction's branch open in the store, and ACTIVE
 unfoldable pub has_working_branch : List (Option OpenBranch) → ℕ → ℕ → Bool

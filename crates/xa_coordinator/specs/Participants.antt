@@ -1,10 +1,8 @@
 -- Which stores take part in a global transaction.
 --     takes_part       whether a store takes part
---     IsParticipation        how many take part, as far as a vote has to know
+--     TwoTakePart, OnlyTakesPart      two stores take part;  only this one does
 use Rattle.std.specs.Prelude.{◌≡◌, ◌<◌, ℕ, Bool, true, false, unwrap_or, slice_get}
 use Rattle.xa_coordinator.specs.declared.participants.Participants.{Participants}
-use Rattle.xa_coordinator.specs.declared.participants.Participation.{Participation}
-use Rattle.xa_coordinator.specs.declared.participants.Participation.TheVariants.{Nobody, Single, Several}
 
 -- the store takes part
 unfoldable pub takes_part : Participants → ℕ → Bool
@@ -22,9 +20,3 @@ pub record TwoTakePart (participants : Participants) : Type 0 where
 pub record OnlyTakesPart (participants : Participants) (store : ℕ) : Type 0 where
   pub in_it : takes_part participants store ≡ true
   pub others : (other : ℕ) → takes_part participants other ≡ true → other ≡ store
-
--- how many stores take part: none, one, or more
-abbrev pub IsParticipation : Participants → Participation → Type 0
-IsParticipation participants Nobody = (store : ℕ) → takes_part participants store ≡ false
-IsParticipation participants (Single store) = OnlyTakesPart participants store
-IsParticipation participants Several = TwoTakePart participants

@@ -29,8 +29,6 @@ use Rattle.xa_coordinator.specs.declared.fault.Cause.{Cause}
 use Rattle.xa_coordinator.specs.declared.fault.Cause.TheVariants.{Session as CauseSession, Refused as CauseRefused}
 use Rattle.xa_coordinator.specs.declared.closing.Closing.{Closing}
 use Rattle.xa_coordinator.specs.declared.closing.Closing.TheVariants.{InTwoPhases, RollBack}
-use Rattle.xa_coordinator.specs.declared.closing.Found.{Found}
-use Rattle.xa_coordinator.specs.declared.closing.Found.TheVariants.{Closed, Missing}
 use Rattle.xa_coordinator.specs.declared.decisions.Decision.{Decision}
 use Rattle.xa_coordinator.specs.declared.report.Tally.{Tally}
 use Rattle.xa_coordinator.specs.declared.report.Report.{Report}
@@ -82,16 +80,6 @@ pub data SettlesOne (decisions : List Decision) (name : List ℕ) (store : ℕ) 
   missing : (number : ℕ) → IsBranchOf name number store xid → (new : SessionView)
       → IsUndone (finish_statement (finish_decided (is_decided decisions number)) xid) (CauseRefused Nota) old new →
       SettlesOne decisions name store xid tally old (record tally { missing = tally.missing + 1 }) new
-
--- all that was counted
-abbrev pub total : Tally → ℕ
-total tally = tally.committed + tally.rolled_back + tally.missing
-
--- the tally with one branch more
-abbrev pub counted : Tally → (decided : Bool) → Found → Tally
-counted tally true Closed = record tally { committed = tally.committed + 1 }
-counted tally false Closed = record tally { rolled_back = tally.rolled_back + 1 }
-counted tally decided Missing = record tally { missing = tally.missing + 1 }
 
 -- what became of the branches of a list, one after another
 pub data Settled (decisions : List Decision) (name : List ℕ) (store : ℕ) (old : SessionView) : List Xid → Tally → SessionView → Type 0 where
@@ -187,11 +175,6 @@ pub record Recovers {S : Type 0} (view : S → SessionView) (decisions : List De
   pub committed : report.committed ≡ sum_by (λ one. one.0.committed) found
   pub rolled_back : report.rolled_back ≡ sum_by (λ one. one.0.rolled_back) found
   pub missing : report.missing ≡ sum_by (λ one. one.0.missing) found
-
--- the fault of a store, by its cause
-abbrev pub fault_by : ℕ → Cause → RecoverFault
-fault_by store (CauseSession fault) = Session store fault
-fault_by store (CauseRefused error) = Refused store error
 
 -- a statement of the recovery of a store wasn't carried out for this cause: DISCONNECT, and the coordinator has open there what it had, or one behind it, and it
 -- has nothing open there

@@ -2,9 +2,8 @@
 --     AtStore          a fact of one store
 --     EachStore        a fact of each store
 --     ChangesAt        only one store's session was used
---     Reached          a call has come as far as this store
 --     EndsAt           a call ended at this store
-use Rattle.std.specs.Prelude.{◌≡◌, ◌≢◌, ◌<◌, ◌≤◌, ℕ, List, Some, length, slice_get}
+use Rattle.std.specs.Prelude.{◌≡◌, ◌≢◌, ◌<◌, ℕ, List, Some, length, slice_get}
 use Rattle.xa_session.specs.View.{SessionView}
 
 -- a fact of one store, of what its session was and is
@@ -20,12 +19,6 @@ EachStore {S} view fact old new = (store : ℕ) → AtStore view store (fact sto
 pub record ChangesAt {S : Type 0} (store : ℕ) (old new : List S) : Type 0 where
   pub count : length new ≡ length old
   pub others : (other : ℕ) → other ≢ store → slice_get new other ≡ slice_get old other
-
--- all stores below this number are done with, and the sessions of the others are as they were
-pub record Reached {S : Type 0} (view : S → SessionView) (fact : ℕ → SessionView → SessionView → Type 0) (place : ℕ) (old now : List S) : Type 0 where
-  pub count : length now ≡ length old
-  pub below : (store : ℕ) → store < place → AtStore view store (fact store) old now
-  pub behind : (store : ℕ) → place ≤ store → slice_get now store ≡ slice_get old store
 
 -- a call ended at this store: those below are done with, this one fared so, and the sessions of those behind are as they were
 pub record EndsAt {S : Type 0} (view : S → SessionView) (fact : ℕ → SessionView → SessionView → Type 0) (store : ℕ) (last : SessionView → SessionView → Type 0)

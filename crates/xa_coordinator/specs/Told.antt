@@ -1,16 +1,14 @@
 -- What became of a statement that a coordinator gave to the session of one store.
---     IsOfBranch       a statement that begins, ends, prepares or finishes a branch
 --     IsDone           it was carried out
 --     HasCause, IsUndone      why it wasn't;  and nothing was added
---     IsToldAs         whether it was, by the answer
 --     IsUndoneBehind   it wasn't, and XA END before it was
 --     IsStopped        it wasn't, or XA END before it wasn't
 --     IsMissing        the branch wasn't known
 --     IsUnfinished     it wasn't, for another cause than that the branch wasn't known, or XA END before it wasn't
-use Rattle.std.specs.Prelude.{◌≡◌, ◌≢◌, ◌⊎◌, ℕ, Bool, true, false, [], ◌∷◌, Result, Ok, Err}
+use Rattle.std.specs.Prelude.{◌≡◌, ◌≢◌, ◌⊎◌, ℕ, Bool, true, false, [], ◌∷◌}
 use Rattle.xa_xid.specs.declared.xid.Xid.{Xid}
 use Rattle.xa_xid.specs.declared.statement.Statement.{Statement}
-use Rattle.xa_xid.specs.declared.statement.Statement.TheVariants.{Start, End, Prepare, Commit, Rollback, Recover, Unsupported, Get, Put, Del, Disconnect}
+use Rattle.xa_xid.specs.declared.statement.Statement.TheVariants.{End}
 use Rattle.xa_server.specs.declared.reply.Reply.TheVariants.{Refused}
 use Rattle.xa_server.specs.declared.xa_error.XaError.{XaError}
 use Rattle.xa_server.specs.declared.xa_error.XaError.TheVariants.{Nota}
@@ -21,20 +19,6 @@ use Rattle.xa_session.specs.View.{SessionView}
 use Rattle.xa_coordinator.specs.declared.fault.Cause.{Cause}
 use Rattle.xa_coordinator.specs.declared.fault.Cause.TheVariants.{Session, Refused as RefusedBy}
 use Rattle.xa_coordinator.specs.Agreement.{AddsStatements}
-
--- XA START, XA END, XA PREPARE, XA COMMIT and XA ROLLBACK
-abbrev pub IsOfBranch : Statement → Type 0
-IsOfBranch (Start xid) = Unit {0}
-IsOfBranch (End xid) = Unit {0}
-IsOfBranch (Prepare xid) = Unit {0}
-IsOfBranch (Commit xid one_phase) = Unit {0}
-IsOfBranch (Rollback xid) = Unit {0}
-IsOfBranch (Recover convert) = ⊥
-IsOfBranch Unsupported = ⊥
-IsOfBranch (Get key) = ⊥
-IsOfBranch (Put key value) = ⊥
-IsOfBranch (Del key) = ⊥
-IsOfBranch Disconnect = ⊥
 
 -- the statement was carried out, and is what the session added
 pub record IsDone (statement : Statement) (old new : SessionView) : Type 0 where
@@ -57,11 +41,6 @@ HasCause statement (RefusedBy error) old new = IsRefused statement error old new
 pub record IsUndone (statement : Statement) (cause : Cause) (old new : SessionView) : Type 0 where
   pub adds : AddsStatements [] old new
   pub why : HasCause statement cause old new
-
--- what became of the statement, by the answer
-abbrev pub IsToldAs : Statement → Result (Unit {0}) Cause → SessionView → SessionView → Type 0
-IsToldAs statement (Ok _) old new = IsDone statement old new
-IsToldAs statement (Err cause) old new = IsUndone statement cause old new
 
 -- XA END of the branch was carried out, and the statement behind it wasn't
 pub record IsUndoneBehind (statement : Statement) (xid : Xid) (cause : Cause) (old new : SessionView) : Type 0 where

@@ -7,13 +7,12 @@
 --     IsReplied        a row statement was answered within the branch
 --     IsWorked         the branch was open or was started, and the row statement was answered
 --     IsCut            the branch was open or was started, and the row statement wasn't answered
---     WorksWithin      what a row statement came to in an open branch
 --     KeepsOthers      the transaction is the same but for one store
 --     WorksAs          what work came to, by the answer
 use Rattle.std.specs.Prelude.{◌≡◌, ◌≢◌, ◌⊎◌, ℕ, true, false, List, [], ◌∷◌, ◌++◌, Option, Result, Ok, Err}
 use Rattle.xa_xid.specs.declared.xid.Xid.{Xid}
 use Rattle.xa_xid.specs.declared.statement.Statement.{Statement}
-use Rattle.xa_xid.specs.declared.statement.Statement.TheVariants.{Start, End, Prepare, Commit, Rollback, Recover, Unsupported, Get, Put, Del, Disconnect}
+use Rattle.xa_xid.specs.declared.statement.Statement.TheVariants.{Start, Get, Put, Del}
 use Rattle.xa_server.specs.State.{association_of}
 use Rattle.xa_server.specs.declared.association.Association.TheVariants.{Active}
 use Rattle.xa_server.specs.declared.reply.Reply.{Reply}
@@ -35,17 +34,10 @@ use Rattle.xa_coordinator.specs.Told.{IsDone, IsUndone}
 
 -- GET, PUT and DEL
 abbrev pub IsRow : Statement → Type 0
-IsRow (Start xid) = ⊥
-IsRow (End xid) = ⊥
-IsRow (Prepare xid) = ⊥
-IsRow (Commit xid one_phase) = ⊥
-IsRow (Rollback xid) = ⊥
-IsRow (Recover convert) = ⊥
-IsRow Unsupported = ⊥
 IsRow (Get key) = Unit {0}
 IsRow (Put key value) = Unit {0}
 IsRow (Del key) = Unit {0}
-IsRow Disconnect = ⊥
+IsRow statement = ⊥
 
 -- this statement, or none
 abbrev pub MayBe : Statement → List Statement → Type 0
@@ -88,13 +80,6 @@ pub record IsCut (row : Statement) (cause : Cause) (xid : Xid) (old new : Sessio
   pub mid : SessionView
   pub opened : MayStart xid old mid
   pub undone : IsUndone row cause mid new
-
--- what a row statement came to in a branch that is ACTIVE
-abbrev pub WorksWithin : {S : Type 0} → (S → SessionView) → Xid → ℕ → Statement → Result Reply WorkFault → List S → List S → Type 0
-WorksWithin view xid store row (Ok reply) before after = AtStore view store (IsReplied row reply xid) before after
-WorksWithin view xid store row (Err (Session fault)) before after = AtStore view store (IsUndone row (CauseSession fault)) before after
-WorksWithin view xid store row (Err (Refused error)) before after = ⊥
-WorksWithin view xid store row (Err Lost) before after = ⊥
 
 -- the transaction is the same, and no other store comes to take part or ceases to
 pub record KeepsOthers (store : ℕ) (old new : Transaction) : Type 0 where

@@ -3,9 +3,8 @@ ghost use Rattle.std.specs.Prelude.{◌≡◌, false, MatchOption, ◌<◌, Some
 ghost use Rattle.xa_server.specs.Locks.{LockLaw};
 ghost use Rattle.xa_server.specs.Step.{is_refused};
 ghost use Rattle.xa_server.specs.declared.reply.Reply.TheVariants.{Refused};
-ghost use Rattle.xa_coordinator.specs.Told.{IsOfBranch, IsToldAs};
+ghost use Rattle.xa_coordinator.specs.Parts.{IsOfBranch, IsToldAs, LeavesOpen};
 ghost use Rattle.xa_coordinator.specs.Branch.{branch_xid as xid_of_branch};
-ghost use Rattle.xa_coordinator.specs.OpenBranches.{LeavesOpen};
 ghost use Rattle.xa_coordinator.specs.Stores.{AtStore, ChangesAt};
 
 use crate::branch_name::branch_xid;

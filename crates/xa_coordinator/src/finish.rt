@@ -7,7 +7,8 @@ ghost use Rattle.xa_coordinator.specs.Told.{IsUnfinished};
 ghost use Rattle.xa_coordinator.specs.Branch.{branch_xid};
 ghost use Rattle.arrayvec.specs.ArrayVec.{array_vec_len};
 ghost use Rattle.xa_coordinator.specs.OpenBranches.{has_working_branch, IsAsBeforeOrEnded, KeepsOpen};
-ghost use Rattle.xa_coordinator.specs.Outcomes.{EndsAs, KeepsUnfinished, ClosesNext, finish_statement, ends_first, asked_by_ending, finish_for as finish_of_vote};
+ghost use Rattle.xa_coordinator.specs.Outcomes.{EndsAs, KeepsUnfinished, finish_statement, ends_first, asked_by_ending, finish_for as finish_of_vote};
+ghost use Rattle.xa_coordinator.specs.Parts.{ClosesNext};
 ghost use Rattle.xa_coordinator.specs.declared.decisions.Decision.{Decision};
 
 use crate::closing::{Closing, Found};

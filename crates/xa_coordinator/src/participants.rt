@@ -20,7 +20,8 @@ pub struct Participants {
 }
 
 impl Participants {
-    ghost use Rattle.xa_coordinator.specs.Participants.{takes_part, IsParticipation};
+    ghost use Rattle.xa_coordinator.specs.Participants.{takes_part};
+    ghost use Rattle.xa_coordinator.specs.Parts.{IsParticipation};
 
     /// No store.
     #[tactic(auto, unfolding(crate::specs::Participants::takes_part))]

@@ -3,7 +3,8 @@ ghost use Rattle.std.specs.Prelude.{◌≡◌, List, IfErr, vec_len};
 ghost use Rattle.xa_coordinator.specs.Agreement.{Agrees};
 ghost use Rattle.xa_coordinator.specs.Stores.{EachStore};
 ghost use Rattle.xa_coordinator.specs.OpenBranches.{IsAsBeforeOrEnded, KeepsOpen};
-ghost use Rattle.xa_coordinator.specs.Outcomes.{VotesAs, PollsAs, KeepsMark, asked_by_vote, asked_by_poll};
+ghost use Rattle.xa_coordinator.specs.Outcomes.{VotesAs, KeepsMark, asked_by_vote};
+ghost use Rattle.xa_coordinator.specs.Parts.{PollsAs, asked_by_poll};
 ghost use Rattle.xa_coordinator.specs.Participants.{TwoTakePart, OnlyTakesPart};
 ghost use Rattle.xa_coordinator.specs.declared.decisions.Decision.{Decision};
 

@@ -3,7 +3,8 @@ ghost use Rattle.std.specs.Prelude.{◌≡◌, ◌<◌, ◌≤◌, ◌+◌, ◌^
 ghost use Rattle.std.specs.List.{list_any};
 ghost use Rattle.xa_xid.specs.Xid.{same_xid};
 ghost use Rattle.xa_coordinator.specs.Branch.{branch_xid};
-ghost use Rattle.xa_coordinator.specs.Recovery.{finish_decided as finish_by_decision, counted, total, SettlesOne, Settled, IsUnsettled, StopsAmong};
+ghost use Rattle.xa_coordinator.specs.Recovery.{finish_decided as finish_by_decision, SettlesOne, Settled, IsUnsettled, StopsAmong};
+ghost use Rattle.xa_coordinator.specs.Parts.{counted, total};
 ghost use Rattle.xa_coordinator.specs.Stores.{AtStore, ChangesAt};
 
 use crate::branch_name::number_of_branch;

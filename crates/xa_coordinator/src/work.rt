@@ -7,7 +7,8 @@ ghost use Rattle.xa_coordinator.specs.Outcomes.{branch_of};
 ghost use Rattle.xa_coordinator.specs.Participants.{takes_part};
 ghost use Rattle.xa_coordinator.specs.Stores.{AtStore, EachStore, ChangesAt};
 ghost use Rattle.xa_coordinator.specs.Told.{IsUndone};
-ghost use Rattle.xa_coordinator.specs.Work.{IsRow, IsReplied, AddsAtMost, AddsWork, KeepsOthers, WorksWithin, WorksAs};
+ghost use Rattle.xa_coordinator.specs.Work.{IsRow, IsReplied, AddsAtMost, AddsWork, KeepsOthers, WorksAs};
+ghost use Rattle.xa_coordinator.specs.Parts.{WorksWithin};
 ghost use Rattle.xa_coordinator.specs.declared.decisions.Decision.{Decision};
 ghost use Rattle.xa_coordinator.specs.declared.branches.Phase.TheVariants.{Active as PhaseActive};
 

@@ -4,7 +4,8 @@ use Rattle.xa_xid.specs.declared.xid.Xid.{Xid}
 use Rattle.xa_xid.specs.declared.statement.Statement.TheVariants.{End}
 use Rattle.xa_coordinator.specs.declared.closing.Closing.TheVariants.{RollBack}
 use Rattle.xa_coordinator.specs.Branch.{branch_xid}
-use Rattle.xa_coordinator.specs.Outcomes.{finish_statement, SaysAs, ClosesAs}
+use Rattle.xa_coordinator.specs.Outcomes.{finish_statement}
+use Rattle.xa_coordinator.specs.Parts.{SaysAs, ClosesAs}
 use Rattle.xa_coordinator.specs.Stores.{AtStore}
 use Rattle.xa_coordinator.specs.Told.{IsDone}
 use Rattle.xa_coordinator.proofs.Walk.{at_then}

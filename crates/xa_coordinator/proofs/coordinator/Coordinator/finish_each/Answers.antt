@@ -4,7 +4,8 @@ use Rattle.xa_xid.specs.Xid.{Text}
 use Rattle.xa_coordinator.specs.Branch.{branch_xid}
 use Rattle.xa_coordinator.specs.OpenBranches.{has_working_branch}
 use Rattle.xa_coordinator.specs.Stores.{AtStore}
-use Rattle.xa_coordinator.specs.Outcomes.{branch_of, finish_statement, ends_first, ends_in, commits, ClosesNext, lists_store}
+use Rattle.xa_coordinator.specs.Outcomes.{branch_of, finish_statement, ends_first, ends_in, commits, lists_store}
+use Rattle.xa_coordinator.specs.Parts.{ClosesNext}
 use Rattle.xa_coordinator.specs.Told.{IsUnfinished}
 use Rattle.xa_coordinator.proofs.Opening.{working_kept, keeps_next, keeps_farther}
 use Rattle.xa_coordinator.proofs.Walk.{ended_at, reached_all, reached_weaker}

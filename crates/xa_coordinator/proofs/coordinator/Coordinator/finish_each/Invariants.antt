@@ -1,6 +1,6 @@
 use Rattle.std.proofs.Common.{◌≡◌}
 use Rattle.xa_coordinator.specs.OpenBranches.{KeepsOpen}
-use Rattle.xa_coordinator.specs.Stores.{Reached}
+use Rattle.xa_coordinator.proofs.Walk.{Reached}
 use Rattle.xa_coordinator.proofs.Hazards.{IsListed, SettledBy}
 use Rattle.xa_coordinator.proofs.coordinator.Coordinator.finish_each.Given as goal
 

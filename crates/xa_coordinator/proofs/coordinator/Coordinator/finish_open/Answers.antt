@@ -5,7 +5,8 @@ use Rattle.xa_coordinator.specs.declared.closing.Closing.TheVariants.{RollBack}
 use Rattle.xa_coordinator.specs.Branch.{branch_xid}
 use Rattle.xa_coordinator.specs.OpenBranches.{has_working_branch}
 use Rattle.xa_coordinator.specs.Stores.{AtStore}
-use Rattle.xa_coordinator.specs.Outcomes.{finish_statement, ends_first, SaysAs, ClosesAs}
+use Rattle.xa_coordinator.specs.Outcomes.{finish_statement, ends_first}
+use Rattle.xa_coordinator.specs.Parts.{SaysAs, ClosesAs}
 use Rattle.xa_coordinator.proofs.Walk.{at_weaker}
 use Rattle.xa_coordinator.proofs.Closings.{said_alone, ends_roll_back}
 use Rattle.xa_coordinator.proofs.coordinator.Coordinator.finish_open.Goals as goal

@@ -3,9 +3,9 @@ use Rattle.xa_xid.specs.Xid.{Text}
 use Rattle.xa_xid.specs.declared.xid.Xid.{Xid}
 use Rattle.xa_xid.specs.declared.statement.Statement.TheVariants.{End, Prepare}
 use Rattle.xa_coordinator.specs.Branch.{branch_xid}
-use Rattle.xa_coordinator.specs.Outcomes.{PreparesAs}
+use Rattle.xa_coordinator.specs.Parts.{PreparesAs, IsToldAs}
 use Rattle.xa_coordinator.specs.Stores.{AtStore}
-use Rattle.xa_coordinator.specs.Told.{IsToldAs, IsDone}
+use Rattle.xa_coordinator.specs.Told.{IsDone}
 use Rattle.xa_coordinator.proofs.Walk.{at_then}
 use Rattle.xa_coordinator.proofs.Closings.{prepared_behind}
 use Rattle.xa_coordinator.proofs.coordinator.Coordinator.prepare_branch.Goals as goal

@@ -4,8 +4,9 @@ use Rattle.xa_coordinator.specs.declared.closing.Closing.{Closing}
 use Rattle.xa_coordinator.specs.declared.report.Tally.{Tally}
 use Rattle.xa_coordinator.specs.Branch.{branch_xid}
 use Rattle.xa_coordinator.specs.Decisions.{is_decided}
-use Rattle.xa_coordinator.specs.Outcomes.{finish_statement, SaysAs}
-use Rattle.xa_coordinator.specs.Recovery.{SettlesOne, foreign, counted, finish_decided, IsUnsettled}
+use Rattle.xa_coordinator.specs.Outcomes.{finish_statement}
+use Rattle.xa_coordinator.specs.Parts.{SaysAs, counted}
+use Rattle.xa_coordinator.specs.Recovery.{SettlesOne, foreign, finish_decided, IsUnsettled}
 use Rattle.xa_coordinator.specs.Stores.{AtStore}
 use Rattle.xa_coordinator.proofs.Walk.{at_same, at_weaker}
 use Rattle.xa_coordinator.proofs.Settling.{settles, unsettled_by}

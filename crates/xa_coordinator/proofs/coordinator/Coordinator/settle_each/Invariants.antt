@@ -1,7 +1,8 @@
 use Rattle.std.proofs.Common.{◌≡◌, ◌≤◌, Some, None, take}
 use Rattle.std.specs.Prelude.{slice_get}
 use Rattle.xa_coordinator.specs.Stores.{AtStore, ChangesAt}
-use Rattle.xa_coordinator.specs.Recovery.{Settled, total}
+use Rattle.xa_coordinator.specs.Recovery.{Settled}
+use Rattle.xa_coordinator.specs.Parts.{total}
 use Rattle.xa_coordinator.proofs.coordinator.Coordinator.settle_each.Given as goal
 
 abbrev pub invariant-loop-xid : goal.invariant-loop-xid

@@ -1,0 +1,132 @@
+-- What the parts of a call come to. Contracts of private functions alone cite these: no public clause rests on them.
+--     IsOfBranch       a statement that begins, ends, prepares or finishes a branch
+--     IsToldAs         what became of a statement, by the answer
+--     statement_into   the statement that brings a branch into a phase
+--     LeavesOpen       a statement leaves this branch open
+--     SaysAs           what became of a statement that was to finish a branch
+--     ClosesAs         what became of one branch that was to be finished
+--     PreparesAs       what became of one branch that was to be prepared
+--     ClosesNext       what became of one participant that was to be finished
+--     PollsAs, asked_by_poll      what became of the participants that were to be prepared;  how far the poll came
+--     IsParticipation  how many take part, as far as a vote has to know
+--     WorksWithin      what a row statement came to in an open branch
+--     total, counted   all that was counted;  with one branch more
+--     fault_by         the fault of a store, by its cause
+use Rattle.std.specs.Prelude.{◌≡◌, ◌≢◌, ◌+◌, ◌⊎◌, ℕ, Bool, true, false, List, [], ◌∷◌, ◌++◌, Option, Some, None, Result, Ok, Err}
+use Rattle.xa_coordinator.specs.Agreement.{AddsStatements}
+use Rattle.xa_coordinator.specs.Branch.{branch_xid}
+use Rattle.xa_coordinator.specs.Outcomes.{IsClosed, IsVoted, branch_of}
+use Rattle.xa_coordinator.specs.Participants.{OnlyTakesPart, TwoTakePart, takes_part}
+use Rattle.xa_coordinator.specs.Stores.{AtStore, EachStore, EndsAt}
+use Rattle.xa_coordinator.specs.Told.{IsDone, IsMissing, IsStopped, IsUndone, IsUnfinished}
+use Rattle.xa_coordinator.specs.Work.{IsReplied}
+use Rattle.xa_coordinator.specs.declared.branches.OpenBranch.{OpenBranch}
+use Rattle.xa_coordinator.specs.declared.branches.Phase.{Phase}
+use Rattle.xa_coordinator.specs.declared.branches.Phase.TheVariants.{Active, Idle}
+use Rattle.xa_coordinator.specs.declared.closing.Found.{Found}
+use Rattle.xa_coordinator.specs.declared.closing.Found.TheVariants.{Closed, Missing}
+use Rattle.xa_coordinator.specs.declared.fault.Cause.{Cause}
+use Rattle.xa_coordinator.specs.declared.fault.Cause.TheVariants.{Refused as CauseRefused, Session as CauseSession}
+use Rattle.xa_coordinator.specs.declared.fault.RecoverFault.{RecoverFault}
+use Rattle.xa_coordinator.specs.declared.fault.RecoverFault.TheVariants.{Refused as RecoverRefused, Session as RecoverSession}
+use Rattle.xa_coordinator.specs.declared.fault.WorkFault.{WorkFault}
+use Rattle.xa_coordinator.specs.declared.fault.WorkFault.TheVariants.{Lost, Refused, Session}
+use Rattle.xa_coordinator.specs.declared.participants.Participants.{Participants}
+use Rattle.xa_coordinator.specs.declared.participants.Participation.{Participation}
+use Rattle.xa_coordinator.specs.declared.participants.Participation.TheVariants.{Nobody, Several, Single}
+use Rattle.xa_coordinator.specs.declared.report.Tally.{Tally}
+use Rattle.xa_coordinator.specs.declared.transaction.Transaction.{Transaction}
+use Rattle.xa_server.specs.declared.reply.Reply.{Reply}
+use Rattle.xa_server.specs.declared.xa_error.XaError.TheVariants.{Nota}
+use Rattle.xa_session.specs.View.{SessionView}
+use Rattle.xa_xid.specs.declared.statement.Statement.{Statement}
+use Rattle.xa_xid.specs.declared.statement.Statement.TheVariants.{Commit, End, Prepare, Rollback, Start}
+use Rattle.xa_xid.specs.declared.xid.Xid.{Xid}
+
+-- XA START, XA END, XA PREPARE, XA COMMIT and XA ROLLBACK
+abbrev pub IsOfBranch : Statement → Type 0
+IsOfBranch (Start xid) = Unit {0}
+IsOfBranch (End xid) = Unit {0}
+IsOfBranch (Prepare xid) = Unit {0}
+IsOfBranch (Commit xid one_phase) = Unit {0}
+IsOfBranch (Rollback xid) = Unit {0}
+IsOfBranch statement = ⊥
+
+-- what became of the statement, by the answer
+abbrev pub IsToldAs : Statement → Result (Unit {0}) Cause → SessionView → SessionView → Type 0
+IsToldAs statement (Ok _) old new = IsDone statement old new
+IsToldAs statement (Err cause) old new = IsUndone statement cause old new
+
+-- the statement that brings a branch into this phase
+abbrev pub statement_into : Phase → Xid → Statement
+statement_into Active xid = Start xid
+statement_into Idle xid = End xid
+
+-- the statement, once it is carried out, leaves this branch open, or none that the coordinator keeps
+abbrev pub LeavesOpen : List ℕ → ℕ → Statement → Option OpenBranch → Type 0
+LeavesOpen name store statement None = Unit {0}
+LeavesOpen name store statement (Some branch) = statement ≡ statement_into branch.phase (branch_xid name branch.number store)
+
+-- one statement that was to finish a branch
+abbrev pub SaysAs : Statement → Result Found Cause → SessionView → SessionView → Type 0
+SaysAs statement (Ok Closed) old new = AddsStatements (statement ∷ []) old new
+SaysAs statement (Ok Missing) old new = IsUndone statement (CauseRefused Nota) old new
+SaysAs statement (Err cause) old new = (cause ≢ CauseRefused Nota) × IsUndone statement cause old new
+
+-- a branch that was to be finished
+abbrev pub ClosesAs : (ends : Bool) → Statement → Xid → Result Found Cause → SessionView → SessionView → Type 0
+ClosesAs ends statement xid (Ok Closed) old new = IsClosed ends statement xid old new
+ClosesAs ends statement xid (Ok Missing) old new = IsMissing ends statement xid old new
+ClosesAs ends statement xid (Err cause) old new = IsUnfinished ends statement xid cause old new
+
+-- a branch that was to be ended and prepared
+abbrev pub PreparesAs : Xid → Result (Unit {0}) Cause → SessionView → SessionView → Type 0
+PreparesAs xid (Ok _) old new = AddsStatements (End xid ∷ Prepare xid ∷ []) old new
+PreparesAs xid (Err cause) old new = IsStopped true (Prepare xid) xid cause old new
+
+-- the branch of a store was finished, or wasn't known there and the store was listed
+abbrev pub ClosesNext : {S : Type 0} → (S → SessionView) → (ends : Bool) → Statement → Xid → ℕ → (listed listed' : List ℕ) → List S → List S → Type 0
+ClosesNext view ends statement xid store listed listed' old new =
+    ((listed' ≡ listed) × AtStore view store (IsClosed ends statement xid) old new)
+    ⊎ ((listed' ≡ listed ++ store ∷ []) × AtStore view store (IsMissing ends statement xid) old new)
+
+-- the participants were asked to prepare, in ascending order, up to the first that didn't
+abbrev pub PollsAs : {S : Type 0} → (S → SessionView) → Transaction → Result (Unit {0}) (ℕ × Cause) → List S → List S → Type 0
+PollsAs view transaction (Ok _) old new = EachStore view (λ store. IsVoted (branch_of transaction store) (takes_part transaction.participants store)) old new
+PollsAs view transaction (Err (store, cause)) old new =
+    (takes_part transaction.participants store ≡ true)
+    × EndsAt view (λ other. IsVoted (branch_of transaction other) (takes_part transaction.participants other))
+    store (IsStopped true (Prepare (branch_of transaction store)) (branch_of transaction store) cause) old new
+
+-- the stores below this number were asked, if they take part
+abbrev pub asked_by_poll : Result (Unit {0}) (ℕ × Cause) → ℕ
+asked_by_poll (Ok _) = 16
+asked_by_poll (Err (store, cause)) = store + 1
+
+-- how many stores take part: none, one, or more
+abbrev pub IsParticipation : Participants → Participation → Type 0
+IsParticipation participants Nobody = (store : ℕ) → takes_part participants store ≡ false
+IsParticipation participants (Single store) = OnlyTakesPart participants store
+IsParticipation participants Several = TwoTakePart participants
+
+-- what a row statement came to in a branch that is ACTIVE
+abbrev pub WorksWithin : {S : Type 0} → (S → SessionView) → Xid → ℕ → Statement → Result Reply WorkFault → List S → List S → Type 0
+WorksWithin view xid store row (Ok reply) before after = AtStore view store (IsReplied row reply xid) before after
+WorksWithin view xid store row (Err (Session fault)) before after = AtStore view store (IsUndone row (CauseSession fault)) before after
+WorksWithin view xid store row (Err (Refused error)) before after = ⊥
+WorksWithin view xid store row (Err Lost) before after = ⊥
+
+-- all that was counted
+abbrev pub total : Tally → ℕ
+total tally = tally.committed + tally.rolled_back + tally.missing
+
+-- the tally with one branch more
+abbrev pub counted : Tally → (decided : Bool) → Found → Tally
+counted tally true Closed = record tally { committed = tally.committed + 1 }
+counted tally false Closed = record tally { rolled_back = tally.rolled_back + 1 }
+counted tally decided Missing = record tally { missing = tally.missing + 1 }
+
+-- the fault of a store, by its cause
+abbrev pub fault_by : ℕ → Cause → RecoverFault
+fault_by store (CauseSession fault) = RecoverSession store fault
+fault_by store (CauseRefused error) = RecoverRefused store error
