@@ -6,7 +6,8 @@ use Rattle.xa_xid.specs.declared.statement.Statement.TheVariants.{Recover}
 use Rattle.xa_server.specs.declared.reply.Reply.{Reply}
 use Rattle.xa_coordinator.specs.declared.decisions.Decision.{Decision}
 use Rattle.xa_coordinator.specs.Agreement.{Agrees}
-use Rattle.xa_coordinator.specs.Stores.{EachStore, Reached}
+use Rattle.xa_coordinator.specs.Stores.{EachStore}
+use Rattle.xa_coordinator.proofs.Walk.{Reached}
 use Rattle.xa_coordinator.proofs.Keeping.{at_place, changes_at}
 use Rattle.xa_coordinator.proofs.Walk.{reached_next, reached_weaker}
 use Rattle.xa_xid.specs.declared.statement.Statement.{Statement}

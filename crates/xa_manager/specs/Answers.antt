@@ -38,25 +38,20 @@ use Rattle.xa_manager.specs.Ledger.{stage_of, with_stage}
 abbrev pub refusal_of_work : ℕ → Option Stage → Option Response
 refusal_of_work number None = Some (UnknownTransaction number)
 refusal_of_work number (Some (Working transaction)) = None
-refusal_of_work number (Some (Ready prepared)) = Some (WrongStage number)
-refusal_of_work number (Some (VotedStage prepared)) = Some (WrongStage number)
-refusal_of_work number (Some Over) = Some (WrongStage number)
+refusal_of_work number stage = Some (WrongStage number)
 
 -- a call that needs a vote of Ready
 abbrev pub refusal_of_decision : ℕ → Option Stage → Option Response
 refusal_of_decision number None = Some (UnknownTransaction number)
-refusal_of_decision number (Some (Working transaction)) = Some (WrongStage number)
 refusal_of_decision number (Some (Ready prepared)) = None
-refusal_of_decision number (Some (VotedStage prepared)) = Some (WrongStage number)
-refusal_of_decision number (Some Over) = Some (WrongStage number)
+refusal_of_decision number stage = Some (WrongStage number)
 
 -- a call that needs a vote of Ready, One Phase or No
 abbrev pub refusal_of_finish : ℕ → Option Stage → Option Response
 refusal_of_finish number None = Some (UnknownTransaction number)
-refusal_of_finish number (Some (Working transaction)) = Some (WrongStage number)
 refusal_of_finish number (Some (Ready prepared)) = None
 refusal_of_finish number (Some (VotedStage prepared)) = None
-refusal_of_finish number (Some Over) = Some (WrongStage number)
+refusal_of_finish number stage = Some (WrongStage number)
 
 -- a call that needs a store of this number, and then is refused so
 abbrev pub refusal_at : (stores store : ℕ) → Option Response → Option Response
@@ -64,19 +59,15 @@ refusal_at stores store refusal = if nat_lt store stores then refusal else Some 
 
 -- what a call is refused with: the faults in this order, a line that isn't read, an unknown store, an unknown transaction, a wrong stage
 abbrev pub refusal_of : ℕ → List Stage → Call → Option Response
-refusal_of stores stages SilentCall = None
 refusal_of stores stages (UnreadCall place) = Some (Unread place)
-refusal_of stores stages Begin = None
 refusal_of stores stages (Work number store statement) = refusal_at stores store (refusal_of_work number (stage_of stages number))
 refusal_of stores stages (Prepare number) = refusal_of_work number (stage_of stages number)
 refusal_of stores stages (Decide number) = refusal_of_decision number (stage_of stages number)
 refusal_of stores stages (Finish number) = refusal_of_finish number (stage_of stages number)
 refusal_of stores stages (Abandon number) = refusal_of_work number (stage_of stages number)
 refusal_of stores stages (Fail store calls) = refusal_at stores store None
-refusal_of stores stages Stop = None
-refusal_of stores stages Recover = None
 refusal_of stores stages (At store statement) = refusal_at stores store None
-refusal_of stores stages Show = None
+refusal_of stores stages call = None
 
 -- a transaction manager, as contracts see it: how many stores it has, how the numbers stand, and how far each transaction has come
 pub record ManagerState : Type 0 where

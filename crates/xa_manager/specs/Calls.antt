@@ -5,7 +5,7 @@
 use Rattle.std.specs.Prelude.{◌≡◌, ℕ, Bool, true, false, bytes_eq, if◌then◌else◌, Option, Some, None, Result, Ok, Err, List, [], ◌∷◌, codes}
 use Rattle.xa_xid.specs.Bytes.{unblank}
 use Rattle.xa_xid.specs.declared.statement.Statement.{Statement}
-use Rattle.xa_xid.specs.declared.statement.Statement.TheVariants.{Start, End, Prepare, Commit, Rollback, Recover, Unsupported, Get, Put, Del, Disconnect}
+use Rattle.xa_xid.specs.declared.statement.Statement.TheVariants.{Get, Put, Del}
 use Rattle.xa_statement.specs.Reading.{read_of}
 use Rattle.xa_lines.specs.Script.{is_comment_line, is_empty_line, first_word, behind_word, number_of_word}
 use Rattle.xa_manager.specs.declared.call.Call.{Call}
@@ -14,17 +14,10 @@ use Rattle.xa_manager.specs.declared.call.Call.TheVariants.{Recover as RecoverCa
 
 -- GET, PUT and DEL
 abbrev pub takes_rows : Statement → Bool
-takes_rows (Start xid) = false
-takes_rows (End xid) = false
-takes_rows (Prepare xid) = false
-takes_rows (Commit xid one_phase) = false
-takes_rows (Rollback xid) = false
-takes_rows (Recover convert) = false
-takes_rows Unsupported = false
 takes_rows (Get key) = true
 takes_rows (Put key value) = true
 takes_rows (Del key) = true
-takes_rows Disconnect = false
+takes_rows statement = false
 
 -- the number that is all of a text, but for blanks behind it
 unfoldable pub lone_number : List ℕ → Option ℕ
@@ -102,16 +95,5 @@ call_of line = if is_comment_line line then Silent else filled_call (unblank lin
 
 -- work gives GET, PUT or DEL, as in each call that a line tells
 abbrev pub IsWritten : Call → Type 0
-IsWritten Silent = Unit {0}
-IsWritten (Unread place) = Unit {0}
-IsWritten Begin = Unit {0}
 IsWritten (Work number store statement) = takes_rows statement ≡ true
-IsWritten (PrepareCall number) = Unit {0}
-IsWritten (Decide number) = Unit {0}
-IsWritten (Finish number) = Unit {0}
-IsWritten (Abandon number) = Unit {0}
-IsWritten (Fail store calls) = Unit {0}
-IsWritten Stop = Unit {0}
-IsWritten RecoverCall = Unit {0}
-IsWritten (At store statement) = Unit {0}
-IsWritten Show = Unit {0}
+IsWritten call = Unit {0}

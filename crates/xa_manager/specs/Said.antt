@@ -43,8 +43,8 @@ use Rattle.xa_manager.specs.declared.listing.Listing.{Listing}
 use Rattle.xa_manager.specs.declared.vote_answer.VoteAnswer.{VoteAnswer}
 use Rattle.xa_manager.specs.declared.stage.Stage.TheVariants.{Working, Ready, Voted as VotedStage}
 use Rattle.xa_manager.specs.declared.response.Response.{Response}
-use Rattle.xa_manager.specs.declared.response.Response.TheVariants.{Silent, Unread, UnknownStore, UnknownTransaction, WrongStage, Begun, NumbersSpent, Worked}
-use Rattle.xa_manager.specs.declared.response.Response.TheVariants.{Voted, Decided, Closed, Ended, Limited, Stopped, Recovered, Replied, Shown}
+use Rattle.xa_manager.specs.declared.response.Response.TheVariants.{Worked}
+use Rattle.xa_manager.specs.declared.response.Response.TheVariants.{Voted, Ended, Limited, Stopped, Recovered, Replied, Shown}
 use Rattle.xa_manager.specs.Ledger.{stage_of, with_stage}
 use Rattle.xa_manager.specs.Answers.{ManagerState, vote_answer_of, stage_after}
 
@@ -162,17 +162,8 @@ pub record SaysShow {C T : Type 0} (view : T → SessionView) (call : Call) (lis
 
 -- what was said for a call that was answered so, and to no other session anything
 abbrev pub SaidFor : {C T : Type 0} → (C → SessionView) → (T → SessionView) → Call → Response → WholeManager C T → WholeManager C T → Type 0
-SaidFor view view' call Silent old new = IsStill old new
-SaidFor view view' call (Unread place) old new = IsStill old new
-SaidFor view view' call (UnknownStore store) old new = IsStill old new
-SaidFor view view' call (UnknownTransaction number) old new = IsStill old new
-SaidFor view view' call (WrongStage number) old new = IsStill old new
-SaidFor view view' call (Begun number) old new = IsStill old new
-SaidFor view view' call NumbersSpent old new = IsStill old new
 SaidFor view view' call (Worked answer) old new = SaysWork view call answer old new × (new.other_clients ≡ old.other_clients)
 SaidFor view view' call (Voted answer) old new = SaysVote view call answer old new × (new.other_clients ≡ old.other_clients)
-SaidFor view view' call Decided old new = IsStill old new
-SaidFor view view' call Closed old new = IsStill old new
 SaidFor view view' call (Ended ending) old new =
     (SaysFinish view call ending old new ⊎ SaysAbandon view call ending old new) × (new.other_clients ≡ old.other_clients)
 SaidFor view view' call Limited old new =
@@ -182,3 +173,4 @@ SaidFor view view' call (Recovered outcome) old new = SaysRecovery view call out
 SaidFor view view' call (Replied convert answer) old new =
     SaysReply view' call answer old new × (new.branches ≡ old.branches) × (new.sessions ≡ old.sessions)
 SaidFor view view' call (Shown listing) old new = SaysShow view' call listing old new × (new.branches ≡ old.branches) × (new.sessions ≡ old.sessions)
+SaidFor view view' call response old new = IsStill old new

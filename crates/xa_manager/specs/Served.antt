@@ -4,25 +4,24 @@
 --     has_few_words   a response whose words take no memory
 --     IsRefusedCall   memory was refused for a call or for its answer
 --     IsCallAnswer    how a line may be answered
-use Rattle.std.specs.Prelude.{◌≡◌, ◌⊎◌, ℕ, Bool, true, false, Some, None, Result, Ok, Err, List, codes}
+use Rattle.std.specs.Prelude.{◌≡◌, ◌⊎◌, ℕ, Bool, true, false, None, Result, Ok, Err, List, codes}
 use Rattle.xa_server.specs.declared.reply.Reply.{Reply}
-use Rattle.xa_server.specs.declared.reply.Reply.TheVariants.{Ok as Done, Value, Recovered as Listed, Refused}
+use Rattle.xa_server.specs.declared.reply.Reply.TheVariants.{Ok as Done, Value}
 use Rattle.xa_session.specs.declared.fault.Fault.{Fault}
 use Rattle.xa_session.specs.View.{SessionView}
 use Rattle.xa_coordinator.specs.declared.fused.Fused.{Fused}
 use Rattle.xa_coordinator.specs.declared.ending.Ending.{Ending}
-use Rattle.xa_coordinator.specs.declared.ending.Ending.TheVariants.{Committed, RolledBack, Hazard, Unfinished}
+use Rattle.xa_coordinator.specs.declared.ending.Ending.TheVariants.{Committed, RolledBack}
 use Rattle.xa_coordinator.specs.declared.fault.WorkFault.{WorkFault}
-use Rattle.xa_coordinator.specs.declared.fault.WorkFault.TheVariants.{Session as WorkSession, Refused as WorkRefused, Lost}
+use Rattle.xa_coordinator.specs.declared.fault.WorkFault.TheVariants.{Lost}
 use Rattle.xa_lines.specs.Received.{Received, Whole, TooLong}
 use Rattle.xa_manager.specs.declared.call.Call.{Call}
 use Rattle.xa_manager.specs.declared.call.Call.TheVariants.{Silent, Unread}
 use Rattle.xa_manager.specs.declared.vote_answer.VoteAnswer.{VoteAnswer}
-use Rattle.xa_manager.specs.declared.vote_answer.VoteAnswer.TheVariants.{Ready, OnePhase, Nothing, No}
+use Rattle.xa_manager.specs.declared.vote_answer.VoteAnswer.TheVariants.{No}
 use Rattle.xa_manager.specs.declared.response.Response.{Response}
-use Rattle.xa_manager.specs.declared.response.Response.TheVariants.{Silent as Quiet, Unread as NotRead, UnknownStore, UnknownTransaction, WrongStage, Begun}
-use Rattle.xa_manager.specs.declared.response.Response.TheVariants.{NumbersSpent, Worked, Voted, Decided, Closed, Ended, Limited, Stopped, Recovered, Replied}
-use Rattle.xa_manager.specs.declared.response.Response.TheVariants.{Shown}
+use Rattle.xa_manager.specs.declared.response.Response.TheVariants.{Begun}
+use Rattle.xa_manager.specs.declared.response.Response.TheVariants.{NumbersSpent, Worked, Voted, Decided, Closed, Ended, Limited, Stopped, Replied}
 use Rattle.xa_manager.specs.Calls.{call_of}
 use Rattle.xa_manager.specs.Texts.{answer_text}
 use Rattle.xa_manager.specs.Said.{WholeManager}
@@ -41,30 +40,24 @@ refused_text = codes "ERROR 1037 (HY001): out of memory\n"
 abbrev pub is_word : Reply → Bool
 is_word Done = true
 is_word (Value None) = true
-is_word (Value (Some value)) = false
-is_word (Listed xids) = false
-is_word (Refused error) = false
+is_word reply = false
 
 -- what work came to, in words that are always the same
 abbrev pub is_plain_work : Result Reply WorkFault → Bool
 is_plain_work (Ok reply) = is_word reply
-is_plain_work (Err (WorkSession fault)) = false
-is_plain_work (Err (WorkRefused error)) = false
 is_plain_work (Err Lost) = true
+is_plain_work work = false
 
 -- a vote, without a store and a cause
 abbrev pub is_plain_vote : VoteAnswer → Bool
-is_plain_vote Ready = true
-is_plain_vote OnePhase = true
-is_plain_vote Nothing = true
 is_plain_vote (No store cause) = false
+is_plain_vote vote = true
 
 -- an ending, without stores and a cause
 abbrev pub is_plain_ending : Ending → Bool
 is_plain_ending Committed = true
 is_plain_ending RolledBack = true
-is_plain_ending (Hazard stores) = false
-is_plain_ending (Unfinished store cause) = false
+is_plain_ending ending = false
 
 -- what another client was answered, in a word
 abbrev pub is_plain_reply : Result Reply Fault → Bool
@@ -73,11 +66,6 @@ is_plain_reply (Err fault) = false
 
 -- a response to a call that was carried out whose words take no memory
 abbrev pub has_few_words : Response → Bool
-has_few_words Quiet = false
-has_few_words (NotRead place) = false
-has_few_words (UnknownStore store) = false
-has_few_words (UnknownTransaction number) = false
-has_few_words (WrongStage number) = false
 has_few_words (Begun number) = true
 has_few_words NumbersSpent = true
 has_few_words (Worked worked) = is_plain_work worked
@@ -87,9 +75,8 @@ has_few_words Closed = true
 has_few_words (Ended ending) = is_plain_ending ending
 has_few_words Limited = true
 has_few_words Stopped = true
-has_few_words (Recovered outcome) = false
 has_few_words (Replied convert answer) = is_plain_reply answer
-has_few_words (Shown listing) = false
+has_few_words response = false
 
 -- memory was refused for a call, and nothing was said and nothing changed; or it was carried out, and memory was refused for what is
 -- told of it, which is then a response of many words: so a transaction that begins, a decision, a limit and a stop aren't carried out

@@ -106,14 +106,9 @@ stores_shown_text store (answer ∷ answers) = store_text store answer ++ stores
 -- a number stands so
 abbrev pub stands_as : Decision → Decision → Bool
 stands_as Undecided Undecided = true
-stands_as Undecided Decided = false
-stands_as Undecided Closed = false
-stands_as Decided Undecided = false
 stands_as Decided Decided = true
-stands_as Decided Closed = false
-stands_as Closed Undecided = false
-stands_as Closed Decided = false
 stands_as Closed Closed = true
+stands_as wanted decision = false
 
 -- a number after a space, where it stands as wanted
 abbrev pub number_text : Decision → ℕ → Decision → List ℕ
@@ -153,22 +148,7 @@ response_text decisions (Shown listing) = stores_shown_text 0 listing.answers.it
 -- nothing is written for a line that tells nothing
 abbrev pub is_silent : Response → Bool
 is_silent Silent = true
-is_silent (Unread place) = false
-is_silent (UnknownStore store) = false
-is_silent (UnknownTransaction number) = false
-is_silent (WrongStage number) = false
-is_silent (Begun number) = false
-is_silent NumbersSpent = false
-is_silent (Worked worked) = false
-is_silent (Voted answer) = false
-is_silent WasDecided = false
-is_silent WasClosed = false
-is_silent (Ended ending) = false
-is_silent Limited = false
-is_silent Stopped = false
-is_silent (Recovered recovered) = false
-is_silent (Replied convert answer) = false
-is_silent (Shown answers) = false
+is_silent response = false
 
 -- what is written for a call
 abbrev pub answer_text : List Decision → Response → List ℕ

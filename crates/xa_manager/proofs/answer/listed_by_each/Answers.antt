@@ -1,6 +1,6 @@
 use Rattle.std.proofs.Common.{◌∙◌, ◌+◌, ℕ, ap, sym, subst, arith}
 use Rattle.std.specs.Prelude.{slice_set}
-use Rattle.xa_coordinator.specs.Stores.{Reached}
+use Rattle.xa_coordinator.proofs.Walk.{Reached}
 use Rattle.xa_coordinator.proofs.Walk.{reached_all}
 use Rattle.xa_manager.specs.Said.{IsListed}
 use Rattle.xa_manager.proofs.Said.{listed_more}

@@ -1,5 +1,5 @@
 use Rattle.std.proofs.Common.{◌≡◌, ◌≤◌, length, vec_len, vec_capacity}
-use Rattle.xa_coordinator.specs.Stores.{Reached}
+use Rattle.xa_coordinator.proofs.Walk.{Reached}
 use Rattle.xa_manager.specs.Said.{IsListed}
 use Rattle.xa_manager.proofs.answer.listed_by_each.Given as goal
 
