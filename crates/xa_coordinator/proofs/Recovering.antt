@@ -19,11 +19,11 @@ use Rattle.xa_xid.specs.declared.statement.Statement.TheVariants.{Disconnect}
 use Rattle.xa_coordinator.specs.Told.{IsUndone}
 use Rattle.xa_coordinator.specs.Agreement.{Agrees}
 use Rattle.xa_coordinator.specs.Stores.{AtStore, EachStore, ChangesAt, EndsAt}
-use Rattle.xa_coordinator.specs.Recovery.{IsRecovered, RecoveredBy, Recovers, BreaksBy, BreaksHere, BreaksAt, BreaksOff, asked_by_fault, IsBroken}
+use Rattle.xa_coordinator.specs.Recovery.{IsRecovered, RecoveredBy, Recovers, BreaksBy, BreaksHere, BreaksOff, asked_by_fault}
 use Rattle.xa_coordinator.specs.Parts.{fault_by}
 use Rattle.xa_coordinator.specs.Recovery.{IsCutOff, IsStillPrepared}
-use Rattle.xa_coordinator.proofs.Walk.{Reached, reached_none, reached_next, reached_weaker, reached_all, ended_at, from_ends, at_weaker, at_same}
-use Rattle.xa_coordinator.proofs.Settling.{recovered_agrees, broken_agrees, still_agrees}
+use Rattle.xa_coordinator.proofs.Walk.{Reached, reached_none, reached_next, reached_weaker, reached_all, from_ends, at_weaker, at_same}
+use Rattle.xa_coordinator.proofs.Settling.{IsBroken, recovered_agrees, broken_agrees, still_agrees}
 use Rattle.xa_coordinator.proofs.Agreeing.{nothing_agrees}
 
 -- the places below a number are free, and those from it on are as they were
@@ -123,50 +123,12 @@ module _ {S : Type 0} (view : S → SessionView) (decisions : List Decision) (na
     missing = so_far.missing;
   }
 
-  broke : (place : ℕ) (report : Report) (last : SessionView → SessionView → Type 0) (old now next : List S) → place < length old
-      → RecoversBelow place report old now → ChangesAt place now next → AtStore view place last now next →
-      (place < length old) × EndsAt view
-      (λ other before after. (one : Tally × ℕ) × IsRecovered decisions name other one.0 one.1 before after) place last old next
-  broke place report last old now next within so_far changes is = (
-    within,
-    ended_at view (λ other before after. (one : Tally × ℕ) × IsRecovered decisions name other one.0 one.1 before after) place last old now next
-        (reached_weaker view (RecoveredBy decisions name so_far.found) _ place old now (λ store less a b by. (by.0, by.2)) so_far.reached) changes is,
-  )
-
   -- what was broken, whatever the coordinator has open
   broken_at : (place : ℕ) (cause : Cause) (marks marks' : List (Option OpenBranch)) (old new : List S)
       → BreaksBy view decisions name place cause marks marks' old new → AtStore view place (IsBroken decisions name place cause) old new
   broken_at place (CauseSession fault) marks marks' old new (inl is) = λ a b is_a is_b. inl (is.1 a b is_a is_b)
   broken_at place (CauseSession fault) marks marks' old new (inr is) = λ a b is_a is_b. inr (is.1 a b is_a is_b)
   broken_at place (CauseRefused error) marks marks' old new is = is.1
-
-  -- the store at which it came to no end
-  pub breaks_at : (place : ℕ) (report : Report) (fault : RecoverFault) (marks marks' : List (Option OpenBranch)) (old now next : List S) → place < length old
-      → RecoversBelow place report old now → ChangesAt place now next → asked_by_fault fault ≡ place + 1
-      → BreaksHere view decisions name fault marks marks' now next →
-      BreaksOff view decisions name fault old next
-  breaks_at place report (Session at fault) marks marks' old now next within so_far changes asked is =
-      let there : at + 1 ≡ place + 1 = asked in
-      let here : place ≡ at = omega (arith, there) in
-      subst (λ n. BreaksAt view decisions name n (IsBroken decisions name n (CauseSession fault)) old next) here
-      (broke place report (IsBroken decisions name place (CauseSession fault)) old now next within so_far changes
-      (broken_at place (CauseSession fault) marks marks' now next
-      (subst (λ n. BreaksBy view decisions name n (CauseSession fault) marks marks' now next) (sym here) is)))
-  breaks_at place report (StillPrepared at) marks marks' old now next within so_far changes asked is =
-      let there : at + 1 ≡ place + 1 = asked in
-      let here : place ≡ at = omega (arith, there) in
-      subst (λ n. BreaksAt view decisions name n (IsStillPrepared decisions name n) old next) here
-      (broke place report (IsStillPrepared decisions name place) old now next within so_far changes
-      (subst (λ n. AtStore view n (IsStillPrepared decisions name n) now next) (sym here) is.1))
-  breaks_at place report NoMemory marks marks' old now next within so_far changes asked is =
-      let none : 0 ≡ place + 1 = asked in absurd (omega (arith, none))
-  breaks_at place report (Refused at error) marks marks' old now next within so_far changes asked is =
-      let there : at + 1 ≡ place + 1 = asked in
-      let here : place ≡ at = omega (arith, there) in
-      subst (λ n. BreaksAt view decisions name n (IsBroken decisions name n (CauseRefused error)) old next) here
-      (broke place report (IsBroken decisions name place (CauseRefused error)) old now next within so_far changes
-      (broken_at place (CauseRefused error) marks marks' now next
-      (subst (λ n. BreaksBy view decisions name n (CauseRefused error) marks marks' now next) (sym here) is)))
 
   -- the store behind those that were recovered was as at first
   here_at : (place : ℕ) (report : Report) (last : SessionView → SessionView → Type 0) (old now next : List S) → RecoversBelow place report old now
@@ -210,6 +172,21 @@ module _ {S : Type 0} (view : S → SessionView) (decisions : List Decision) (na
       (broke_by place report (CauseRefused error) marks now_marks marks' old now next so_far same
       (subst (λ n. BreaksBy view decisions name n (CauseRefused error) now_marks marks' now next) (sym here) is))
 
+  -- the store at which it came to no end
+  pub breaks_at : (place : ℕ) (report : Report) (fault : RecoverFault) (marks now_marks marks' : List (Option OpenBranch)) (old now next : List S)
+      → place < length old → RecoversBelow place report old now → slice_get now_marks place ≡ slice_get marks place → ChangesAt place now next
+      → asked_by_fault fault ≡ place + 1 → BreaksHere view decisions name fault now_marks marks' now next
+      → BreaksOff view decisions name fault marks marks' old next
+  breaks_at place report fault marks now_marks marks' old now next within so_far same changes asked is = record {
+    within = omega (arith, asked, within);
+    below = λ store less. λ before after is_before is_after.
+        let by = so_far.reached.below store (omega (arith, less, asked)) before after is_before
+        (sym (changes.others store (omega (arith, less, asked))) ∙ is_after) in
+        (by.0, by.2);
+    here = breaks_there place report fault marks now_marks marks' old now next so_far same asked is;
+    behind = λ store from. changes.others store (omega (arith, from, asked)) ∙ so_far.reached.behind store (omega (arith, from, asked));
+  }
+
   -- a cause is told as the fault of the store
   pub breaks_by : (place : ℕ) (cause : Cause) (marks marks' : List (Option OpenBranch)) (old next : List S)
       → BreaksBy view decisions name place cause marks marks' old next
@@ -234,19 +211,34 @@ module _ {S : Type 0} (view : S → SessionView) (decisions : List Decision) (na
       from_ends view _ (Agrees decisions name) place last old new is (λ other a b by. recovered_agrees decisions name other by.0.0 by.0.1 a b by.1) at_last
       (λ other a. nothing_agrees decisions name other a)
 
-  pub breaks_agree : (fault : RecoverFault) (old new : List S) → BreaksOff view decisions name fault old new → EachStore view (Agrees decisions name) old new
-  breaks_agree (Session store fault) old new is =
-      ends_agree store _ old new (λ a b broken. broken_agrees decisions name store (CauseSession fault) a b broken) is.1
-  breaks_agree (StillPrepared store) old new is = ends_agree store _ old new (λ a b still. still_agrees decisions name store a b still) is.1
-  breaks_agree NoMemory old new is =
-      λ store. at_same view store (Agrees decisions name store) (λ a. nothing_agrees decisions name store a) old new
-      (ap (λ (list : List S). slice_get list store) is)
-  breaks_agree (Refused store error) old new is =
-      ends_agree store _ old new (λ a b broken. broken_agrees decisions name store (CauseRefused error) a b broken) is.1
+  pub breaks_agree : (fault : RecoverFault) (marks marks' : List (Option OpenBranch)) (old new : List S)
+      → BreaksOff view decisions name fault marks marks' old new → EachStore view (Agrees decisions name) old new
+  breaks_agree (Session store fault) marks marks' old new is =
+      ends_agree store (IsBroken decisions name store (CauseSession fault)) old new
+      (λ a b broken. broken_agrees decisions name store (CauseSession fault) a b broken)
+      (record {
+        below = λ other less. is.below other (omega (arith, less));
+        at = broken_at store (CauseSession fault) marks marks' old new is.here;
+        behind = λ other more. is.behind other (omega (arith, more));
+      })
+  breaks_agree (StillPrepared store) marks marks' old new is =
+      ends_agree store (IsStillPrepared decisions name store) old new (λ a b still. still_agrees decisions name store a b still)
+      (record { below = λ other less. is.below other (omega (arith, less)); at = is.here.1; behind = λ other more. is.behind other (omega (arith, more)) })
+  breaks_agree NoMemory marks marks' old new is =
+      λ store. at_same view store (Agrees decisions name store) (λ a. nothing_agrees decisions name store a) old new (is.behind store (omega arith))
+  breaks_agree (Refused store error) marks marks' old new is =
+      ends_agree store (IsBroken decisions name store (CauseRefused error)) old new
+      (λ a b broken. broken_agrees decisions name store (CauseRefused error) a b broken)
+      (record {
+        below = λ other less. is.below other (omega (arith, less));
+        at = broken_at store (CauseRefused error) marks marks' old new is.here;
+        behind = λ other more. is.behind other (omega (arith, more));
+      })
 
   -- whatever it answers
-  pub ends_as : (result : Result Report RecoverFault) (old new : List S) → IfOk result (λ report. Recovers view decisions name report old new)
-      → IfErr result (λ fault. BreaksOff view decisions name fault old new) →
+  pub ends_as : (result : Result Report RecoverFault) (marks marks' : List (Option OpenBranch)) (old new : List S)
+      → IfOk result (λ report. Recovers view decisions name report old new)
+      → IfErr result (λ fault. BreaksOff view decisions name fault marks marks' old new) →
       EachStore view (Agrees decisions name) old new
-  ends_as (Ok report) old new recovers breaks = recovers_agree report old new recovers
-  ends_as (Err fault) old new recovers breaks = breaks_agree fault old new breaks
+  ends_as (Ok report) marks marks' old new recovers breaks = recovers_agree report old new recovers
+  ends_as (Err fault) marks marks' old new recovers breaks = breaks_agree fault marks marks' old new breaks

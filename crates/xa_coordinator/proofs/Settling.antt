@@ -1,6 +1,6 @@
 -- What a recovery does with the prepared branches of a store, and what it counts.
 use Rattle.std.proofs.Common.{◌≡◌, ℕ, Bool, true, false, List, [], ◌∷◌, ◌++◌, length, take, sym, subst, inl, inr, Result, Ok, Err, Option, Some, None}
-use Rattle.std.specs.Prelude.{All, IfOk, IfErr, slice_get}
+use Rattle.std.specs.Prelude.{◌⊎◌, All, IfOk, IfErr, slice_get}
 use Rattle.std.proofs.lemmas.List.Elements.{All-nil, All-cons, All-append}
 use Rattle.xa_xid.specs.declared.xid.Xid.{Xid}
 use Rattle.xa_xid.specs.declared.statement.Statement.{Statement}
@@ -24,10 +24,16 @@ use Rattle.xa_coordinator.specs.Told.{IsUndone}
 use Rattle.xa_coordinator.specs.Work.{MayBe}
 use Rattle.xa_coordinator.specs.Recovery.{IsDisconnected, ListsPrepared, finish_decided, SettlesOne, foreign, committed, rolled_back, missing}
 use Rattle.xa_coordinator.specs.Recovery.{Settled, nothing, one_more, IsFinished, IsSettled, IsRecovered, IsUnsettled, StopsAmong}
-use Rattle.xa_coordinator.specs.Recovery.{IsCutOff, unlisted, unsettled, unlisted_again, IsBroken, IsStillPrepared, BreaksBy}
+use Rattle.xa_coordinator.specs.Recovery.{IsCutOff, unlisted, unsettled, unlisted_again, IsStillPrepared, BreaksBy}
 use Rattle.xa_coordinator.proofs.Walk.{at_then}
 use Rattle.xa_coordinator.proofs.Agreeing.{nothing_agrees, one_agrees, undone_agrees}
 use Rattle.xa_coordinator.proofs.Telling.{adds_then}
+
+-- a statement of the recovery of a store wasn't carried out for this cause: DISCONNECT, or one behind it
+abbrev pub IsBroken : List Decision → List ℕ → ℕ → Cause → SessionView → SessionView → Type 0
+IsBroken decisions name store (Session fault) old new =
+    IsUndone Disconnect (Session fault) old new ⊎ IsCutOff decisions name store old (Session fault) new
+IsBroken decisions name store (RefusedBy error) old new = IsCutOff decisions name store old (RefusedBy error) new
 
 pub two_agreements : (decisions : List Decision) (name : List ℕ) (store : ℕ) (old mid new : SessionView) → Agrees decisions name store old mid
     → Agrees decisions name store mid new → Agrees decisions name store old new

@@ -8,13 +8,12 @@
 --     IsRecovered      what the recovery of a store came to
 --     IsUnsettled, StopsAmong      a listed branch wasn't finished;  those before it were settled
 --     IsCutOff         once the session had let go, a statement of the recovery wasn't carried out
---     IsBroken         that, or DISCONNECT wasn't
 --     IsStillPrepared  a branch of the coordinator's naming is prepared afterwards
 --     BreaksBy, BreaksHere      the recovery of a store came to no end, and what the coordinator has open there
 --     Recovers         what the recovery of all stores came to
 --     BreaksOff        it came to no end
 --     asked_by_fault   how far it came
-use Rattle.std.specs.Prelude.{◌≡◌, ◌≢◌, ◌<◌, ◌+◌, ◌^◌, ◌⊎◌, ℕ, Bool, true, false, List, [], ◌∷◌, ◌++◌, length, take, map, slice_get, Option, Some, None}
+use Rattle.std.specs.Prelude.{◌≡◌, ◌≢◌, ◌<◌, ◌≤◌, ◌+◌, ◌^◌, ◌⊎◌, ℕ, Bool, true, false, List, [], ◌∷◌, ◌++◌, length, take, map, slice_get, Option, Some, None}
 use Rattle.std.specs.List.{sum_by}
 use Rattle.xa_xid.specs.declared.xid.Xid.{Xid}
 use Rattle.xa_xid.specs.declared.statement.Statement.{Statement}
@@ -40,7 +39,7 @@ use Rattle.xa_coordinator.specs.Decisions.{is_decided}
 use Rattle.xa_coordinator.specs.OpenBranches.{association_seen}
 use Rattle.xa_coordinator.specs.declared.branches.OpenBranch.{OpenBranch}
 use Rattle.xa_coordinator.specs.Outcomes.{finish_statement}
-use Rattle.xa_coordinator.specs.Stores.{AtStore, EachStore, EndsAt}
+use Rattle.xa_coordinator.specs.Stores.{AtStore, EachStore}
 use Rattle.xa_coordinator.specs.Told.{IsUndone}
 use Rattle.xa_coordinator.specs.Work.{MayBe}
 
@@ -144,12 +143,6 @@ pub data IsCutOff (decisions : List Decision) (name : List ℕ) (store : ℕ) (o
   unlisted_again : (tally : Tally) (finished : SessionView) → IsSettled decisions name store tally old finished → (fault : Fault) (new : SessionView)
       → IsUndone (Recover false) (CauseSession fault) finished new → IsCutOff decisions name store old (CauseSession fault) new
 
--- a statement of the recovery of a store wasn't carried out for this cause: DISCONNECT, or one behind it
-abbrev pub IsBroken : List Decision → List ℕ → ℕ → Cause → SessionView → SessionView → Type 0
-IsBroken decisions name store (CauseSession fault) old new =
-    IsUndone Disconnect (CauseSession fault) old new ⊎ IsCutOff decisions name store old (CauseSession fault) new
-IsBroken decisions name store (CauseRefused error) old new = IsCutOff decisions name store old (CauseRefused error) new
-
 -- the prepared branches were settled, and of the last list one is of this coordinator's naming
 pub record IsStillPrepared (decisions : List Decision) (name : List ℕ) (store : ℕ) (old new : SessionView) : Type 0 where
   pub tally : Tally
@@ -194,21 +187,18 @@ BreaksHere view decisions name (StillPrepared store) marks marks' old new =
 BreaksHere view decisions name NoMemory marks marks' old new = (marks' ≡ marks) × (new ≡ old)
 BreaksHere view decisions name (Refused store error) marks marks' old new = BreaksBy view decisions name store (CauseRefused error) marks marks' old new
 
--- the recovery came to an end at a store: those below are recovered, and this one fared so
-abbrev pub BreaksAt : {S : Type 0} → (S → SessionView) → List Decision → List ℕ → ℕ → (SessionView → SessionView → Type 0) → List S → List S → Type 0
-BreaksAt view decisions name store last old new =
-    (store < length old) × EndsAt view (λ other before after. (one : Tally × ℕ) × IsRecovered decisions name other one.0 one.1 before after) store last old new
-
--- why the recovery came to no end
-abbrev pub BreaksOff : {S : Type 0} → (S → SessionView) → List Decision → List ℕ → RecoverFault → List S → List S → Type 0
-BreaksOff view decisions name (Session store fault) old new = BreaksAt view decisions name store (IsBroken decisions name store (CauseSession fault)) old new
-BreaksOff view decisions name (StillPrepared store) old new = BreaksAt view decisions name store (IsStillPrepared decisions name store) old new
-BreaksOff view decisions name NoMemory old new = new ≡ old
-BreaksOff view decisions name (Refused store error) old new = BreaksAt view decisions name store (IsBroken decisions name store (CauseRefused error)) old new
-
 -- the stores below this number were spoken to
 abbrev pub asked_by_fault : RecoverFault → ℕ
 asked_by_fault (Session store fault) = store + 1
 asked_by_fault (StillPrepared store) = store + 1
 asked_by_fault NoMemory = 0
 asked_by_fault (Refused store error) = store + 1
+
+-- the recovery came to no end: the stores below the one that the fault names are recovered, that one fared so, and those behind weren't spoken to
+pub record BreaksOff {S : Type 0} (view : S → SessionView) (decisions : List Decision) (name : List ℕ) (fault : RecoverFault)
+    (marks marks' : List (Option OpenBranch)) (old new : List S) : Type 0 where
+  pub within : asked_by_fault fault ≤ length old
+  pub below : (store : ℕ) → store + 1 < asked_by_fault fault
+      → AtStore view store (λ before after. (one : Tally × ℕ) × IsRecovered decisions name store one.0 one.1 before after) old new
+  pub here : BreaksHere view decisions name fault marks marks' old new
+  pub behind : (store : ℕ) → asked_by_fault fault ≤ store → slice_get new store ≡ slice_get old store

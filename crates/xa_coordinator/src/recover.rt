@@ -146,10 +146,9 @@ impl<S: Speak> Coordinator<S> {
         ensures marks { IfErr result
             (λ fault. (store : ℕ) → asked_by_fault fault ≤ store → slice_get self.new.branches store ≡ slice_get self.old.branches store) }
         ensures below { IfErr result (λ fault. (store : ℕ) → store + 1 < asked_by_fault fault → slice_get self.new.branches store ≡ Some None) }
-        ensures here { IfErr result
-            (λ fault. BreaksHere S.view decisions.now self.old.name.items fault self.old.branches self.new.branches self.old.stores.items self.new.stores.items) }
         ensures recovers { IfOk result (λ report. Recovers S.view decisions.now self.old.name.items report self.old.stores.items self.new.stores.items) }
-        ensures breaks { IfErr result (λ fault. BreaksOff S.view decisions.now self.old.name.items fault self.old.stores.items self.new.stores.items) }
+        ensures breaks { IfErr result
+            (λ fault. BreaksOff S.view decisions.now self.old.name.items fault self.old.branches self.new.branches self.old.stores.items self.new.stores.items) }
     {
         let mut report = Report {
             fronts,
@@ -191,10 +190,9 @@ impl<S: Speak> Coordinator<S> {
         ensures marks { IfErr result
             (λ fault. (store : ℕ) → asked_by_fault fault ≤ store → slice_get self.new.branches store ≡ slice_get self.old.branches store) }
         ensures below { IfErr result (λ fault. (store : ℕ) → store + 1 < asked_by_fault fault → slice_get self.new.branches store ≡ Some None) }
-        ensures here { IfErr result
-            (λ fault. BreaksHere S.view decisions.new self.old.name.items fault self.old.branches self.new.branches self.old.stores.items self.new.stores.items) }
         ensures recovers { IfOk result (λ report. Recovers S.view decisions.new self.old.name.items report self.old.stores.items self.new.stores.items) }
-        ensures breaks { IfErr result (λ fault. BreaksOff S.view decisions.new self.old.name.items fault self.old.stores.items self.new.stores.items) }
+        ensures breaks { IfErr result
+            (λ fault. BreaksOff S.view decisions.new self.old.name.items fault self.old.branches self.new.branches self.old.stores.items self.new.stores.items) }
         ensures agrees { EachStore S.view (Agrees decisions.new self.old.name.items) self.old.stores.items self.new.stores.items }
     {
         decisions.close_all();

@@ -121,7 +121,7 @@ pub record SaysAbandon {C T : Type 0} (view : C → SessionView) (call : Call) (
 pub record SaysRecovery {C T : Type 0} (view : C → SessionView) (call : Call) (outcome : Result Report RecoverFault) (old new : WholeManager C T) : Type 0 where
   pub asked : call ≡ Recover
   pub done : IfOk outcome (λ report. Recovers view new.state.decisions (codes "c") report old.sessions new.sessions)
-  pub broken : IfErr outcome (λ fault. BreaksOff view new.state.decisions (codes "c") fault old.sessions new.sessions)
+  pub broken : IfErr outcome (λ fault. BreaksOff view new.state.decisions (codes "c") fault old.branches new.branches old.sessions new.sessions)
   pub logs : StayOfLogs view old.sessions new.sessions
   pub free : OnOk outcome ((store : ℕ) → store < new.state.stores → slice_get new.branches store ≡ Some None)
   pub marks : IfErr outcome (λ fault. (store : ℕ) → asked_by_fault fault ≤ store → slice_get new.branches store ≡ slice_get old.branches store)

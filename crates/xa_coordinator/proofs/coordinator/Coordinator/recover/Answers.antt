@@ -23,5 +23,6 @@ returns-clause-kept g c = λ number. ap (λ (list : List Decision). is_decided l
 
 pub returns-clause-agrees : goal.returns-clause-agrees
 returns-clause-agrees g c =
-    ends_as g.S.Speak.view c.close_all.new.self c.args.self.now.name.items c.recover_each.result c.args.self.now.stores.items
+    ends_as g.S.Speak.view c.close_all.new.self c.args.self.now.name.items c.recover_each.result c.args.self.now.branches
+    c.recover_each.new.self.branches c.args.self.now.stores.items
     c.recover_each.new.self.stores.items c.recover_each.ensures.recovers c.recover_each.ensures.breaks

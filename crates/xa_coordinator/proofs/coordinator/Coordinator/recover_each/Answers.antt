@@ -3,7 +3,7 @@ use Rattle.xa_xid.specs.Xid.{Text}
 use Rattle.std.proofs.lemmas.Result.{err_from_is_err_and}
 use Rattle.xa_coordinator.specs.Recovery.{IsRecovered, BreaksHere}
 use Rattle.xa_coordinator.specs.Stores.{AtStore}
-use Rattle.xa_coordinator.proofs.Recovering.{frees_none, frees_next, frees_below, frees_behind, recovers_none, recovers_next, recovers_all, breaks_at, breaks_there}
+use Rattle.xa_coordinator.proofs.Recovering.{frees_none, frees_next, frees_below, frees_behind, recovers_none, recovers_next, recovers_all, breaks_at}
 use Rattle.xa_coordinator.proofs.coordinator.Coordinator.recover_each.Goals as goal
 
 pub loop-store-init : goal.loop-store-init
@@ -56,26 +56,10 @@ returns-in_err-tally-clause-breaks g c =
     let fault = c.in_err-tally.field-0.0 in
     let p = err_from_is_err_and c.from_residual.result c.from_residual.ensures.1 in
     rw (p.1, p.2)
-    (breaks_at view d me.name.items store c.loop-store.report fault c.loop-store.self.branches c.recover_store.new.self.branches me.stores.items
+    (breaks_at view d me.name.items store c.loop-store.report fault me.branches c.loop-store.self.branches c.recover_store.new.self.branches me.stores.items
     c.loop-store.self.stores.items c.recover_store.new.self.stores.items
     (omega (arith, c.loop-store-test.true, me.sized))
-    c.loop-store.invariant.recovers c.in_err-tally.ensures.frame c.in_err-tally.ensures.place
-    (subst (λ (name : Text). BreaksHere view d name.items fault c.loop-store.self.branches c.recover_store.new.self.branches c.loop-store.self.stores.items
-    c.recover_store.new.self.stores.items)
-    c.loop-store.invariant.name c.in_err-tally.ensures.fails))
-
-pub returns-in_err-tally-clause-here : goal.returns-in_err-tally-clause-here
-returns-in_err-tally-clause-here g c =
-    let me = c.args.self.now in
-    let view = g.S.Speak.view in
-    let d = c.args.decisions.now in
-    let store : ℕ = c.loop-store.store in
-    let fault = c.in_err-tally.field-0.0 in
-    let p = err_from_is_err_and c.from_residual.result c.from_residual.ensures.1 in
-    rw (p.1, p.2)
-    (breaks_there view d me.name.items store c.loop-store.report fault me.branches c.loop-store.self.branches c.recover_store.new.self.branches me.stores.items
-    c.loop-store.self.stores.items c.recover_store.new.self.stores.items
-    c.loop-store.invariant.recovers (c.loop-store.invariant.frees.behind store (omega arith)) c.in_err-tally.ensures.place
+    c.loop-store.invariant.recovers (c.loop-store.invariant.frees.behind store (omega arith)) c.in_err-tally.ensures.frame c.in_err-tally.ensures.place
     (subst (λ (name : Text). BreaksHere view d name.items fault c.loop-store.self.branches c.recover_store.new.self.branches c.loop-store.self.stores.items
     c.recover_store.new.self.stores.items)
     c.loop-store.invariant.name c.in_err-tally.ensures.fails))
