@@ -1,6 +1,7 @@
 pub mod Places
 pub mod Limited
 pub mod DecisionsOf
+pub mod Overtaking
 pub mod Marks
 pub mod Opening
 pub mod Telling

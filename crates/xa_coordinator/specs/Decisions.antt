@@ -4,7 +4,13 @@
 --     may_be_decided   whether a number was given and isn't closed
 --     with_decided     the decisions with this number decided
 --     closed_of        how a number stands once a recovery has closed what is undecided
-use Rattle.std.specs.Prelude.{ℕ, Bool, true, false, Option, Some, None, if◌then◌else◌, ◌==◌, ◌-◌, List, slice_get, slice_set}
+--     IsOvertaken      a number is undecided, and a later one closed
+--     CanStand         numbers can stand so
+--     IsNoList         why a list isn't how numbers can stand
+use Rattle.std.specs.Prelude.{ℕ, ◌≡◌, ◌<◌, ◌≤◌, Bool, true, false, Option, Some, None, if◌then◌else◌, ◌==◌, ◌-◌, List, length, slice_get, slice_set}
+use Rattle.xa_coordinator.specs.Limits.{most_numbers}
+use Rattle.xa_coordinator.specs.declared.fault.DecisionsFault.{DecisionsFault}
+use Rattle.xa_coordinator.specs.declared.fault.DecisionsFault.TheVariants.{TooMany, Overtaken, NoMemory}
 use Rattle.xa_coordinator.specs.declared.decisions.Decision.{Decision}
 use Rattle.xa_coordinator.specs.declared.decisions.Decision.TheVariants.{Undecided, Decided, Closed}
 
@@ -37,3 +43,21 @@ with_decided decisions number = slice_set decisions (number - 1) Decided
 abbrev pub closed_of : Decision → Decision
 closed_of Undecided = Closed
 closed_of decision = decision
+
+-- the number is undecided, and a later one is closed
+pub record IsOvertaken (decisions : List Decision) (number : ℕ) : Type 0 where
+  pub undecided : decision_of decisions number ≡ Some Undecided
+  pub later : ℕ
+  pub behind : number < later
+  pub closed : decision_of decisions later ≡ Some Closed
+
+-- so many numbers can be given, and what closes a number closes every undecided one
+pub record CanStand (decisions : List Decision) : Type 0 where
+  pub most : length decisions ≤ most_numbers
+  pub none : (number : ℕ) → IsOvertaken decisions number → ⊥
+
+-- the fault's cause holds; memory is wanted for nothing but what can stand so
+abbrev pub IsNoList : List Decision → DecisionsFault → Type 0
+IsNoList decisions TooMany = most_numbers < length decisions
+IsNoList decisions (Overtaken number) = IsOvertaken decisions number
+IsNoList decisions NoMemory = CanStand decisions

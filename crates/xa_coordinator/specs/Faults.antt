@@ -1,10 +1,13 @@
 -- The numbers of a coordinator's faults, votes and endings.
+--     number_of_decisions_fault  why a list isn't taken for decisions
 --     number_of_begin_fault      why no number was given
 --     number_of_work_fault       why work wasn't answered
 --     number_of_recover_fault    why a recovery didn't come to its end
 --     number_of_vote             what the stores voted
 --     number_of_ending           how a transaction ended
 use Rattle.std.specs.Prelude.{ℕ}
+use Rattle.xa_coordinator.specs.declared.fault.DecisionsFault.{DecisionsFault}
+use Rattle.xa_coordinator.specs.declared.fault.DecisionsFault.TheVariants.{TooMany, Overtaken, NoMemory as DecisionsNoMemory}
 use Rattle.xa_coordinator.specs.declared.fault.BeginFault.{BeginFault}
 use Rattle.xa_coordinator.specs.declared.fault.BeginFault.TheVariants.{NumbersSpent, NoMemory}
 use Rattle.xa_coordinator.specs.declared.fault.WorkFault.{WorkFault}
@@ -16,6 +19,12 @@ use Rattle.xa_coordinator.specs.declared.vote.Vote.{Vote}
 use Rattle.xa_coordinator.specs.declared.vote.Vote.TheVariants.{Ready, OnePhase, No, Nothing}
 use Rattle.xa_coordinator.specs.declared.ending.Ending.{Ending}
 use Rattle.xa_coordinator.specs.declared.ending.Ending.TheVariants.{Committed, RolledBack, Hazard, Unfinished}
+
+-- in the order of docs/BEHAVIOR.md, 'Faults of a coordinator'
+abbrev pub number_of_decisions_fault : DecisionsFault → ℕ
+number_of_decisions_fault TooMany = 1
+number_of_decisions_fault (Overtaken number) = 2
+number_of_decisions_fault DecisionsNoMemory = 3
 
 -- in the order of docs/BEHAVIOR.md, 'Faults of a coordinator'
 abbrev pub number_of_begin_fault : BeginFault → ℕ

@@ -1,10 +1,10 @@
 //! The decisions of a coordinator, and how each number stands.
-ghost use Rattle.std.specs.Prelude.{ℕ, ◌≡◌, ◌≤◌, ◌<◌, ◌+◌, [], ◌∷◌, ◌++◌, true, false, length, map, OnOk, OnErr, IfOk, IfSome, IfNone};
+ghost use Rattle.std.specs.Prelude.{ℕ, ◌≡◌, ◌≤◌, ◌<◌, ◌+◌, [], ◌∷◌, ◌++◌, true, false, length, map, OnOk, OnErr, IfOk, IfErr, IfSome, IfNone};
 ghost use Rattle.xa_coordinator.specs.declared.decisions.Decision.TheVariants.{Undecided as StandsUndecided};
 ghost use Rattle.xa_coordinator.specs.Limits.{most_numbers};
-ghost use Rattle.xa_coordinator.specs.Decisions.{decision_of, is_decided as is_decided_by, may_be_decided, with_decided, closed_of};
+ghost use Rattle.xa_coordinator.specs.Decisions.{decision_of, is_decided as is_decided_by, may_be_decided, with_decided, closed_of, CanStand, IsNoList, IsOvertaken};
 
-use crate::fault::BeginFault;
+use crate::fault::{BeginFault, DecisionsFault};
 use crate::transaction::{Prepared, VoteKind};
 use std::alloc::Global;
 use std::marker::Model;
@@ -44,6 +44,24 @@ fn close_each(by_number: &mut [Decision])
     }
 }
 
+/// The first number that is undecided, if a later one is closed.
+fn overtaken(list: &[Decision]) -> Option<u64>
+    ensures some { IfSome result (IsOvertaken list.now) }
+    ensures none { IfNone result ((number : ℕ) → IsOvertaken list.now number → ⊥) }
+{
+    let mut undecided = None;
+    for (place, decision) in list.iter().enumerate() {
+        match (decision, undecided) {
+            (Decision::Closed, Some(first)) => return Some(first),
+            (Decision::Closed, None) => {}
+            (Decision::Undecided, Some(_)) => {}
+            (Decision::Undecided, None) => undecided = Some(place as u64 + 1),
+            (Decision::Decided, _) => {}
+        }
+    }
+    None
+}
+
 impl Decisions {
     /// How many numbers can be given.
     pub const MOST: usize = 1_000_000;
@@ -57,6 +75,29 @@ impl Decisions {
         Decisions {
             by_number: Vec::new(alloc),
         }
+    }
+
+    /// Decisions that were kept elsewhere, as `as_slice` gave them: how the numbers 1, 2, .. stand, which are given.
+    ///
+    /// Errors, in the order of test: `TooMany`, for more than 1,000,000 numbers; `Overtaken`, where the number is undecided and a later one
+    /// closed, which no call of a coordinator leads to; `NoMemory`.
+    ///
+    /// May answer `NoMemory`. Doesn't wait.
+    /// Own rule: docs/COORDINATOR.md, 'Decisions'.
+    pub fn of(alloc: Global, list: &[Decision]) -> Result<Decisions, DecisionsFault>
+        ensures ok { IfOk result (λ decisions. decisions ≡ list.now) }
+        ensures stands { OnOk result (CanStand list.now) }
+        ensures fault { IfErr result (IsNoList list.now) }
+    {
+        if Self::MOST < list.len() {
+            return Err(DecisionsFault::TooMany);
+        }
+        if let Some(number) = overtaken(list) {
+            return Err(DecisionsFault::Overtaken { number });
+        }
+        Ok(Decisions {
+            by_number: list.to_vec(alloc)?,
+        })
     }
 
     /// How the numbers 1, 2, .. stand that were given.

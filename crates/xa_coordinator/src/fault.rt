@@ -1,6 +1,6 @@
 //! The faults of a coordinator's calls, and why a branch couldn't be brought on.
 ghost use Rattle.std.specs.Prelude.{◌≡◌};
-ghost use Rattle.xa_coordinator.specs.Faults.{number_of_work_fault, number_of_begin_fault, number_of_recover_fault};
+ghost use Rattle.xa_coordinator.specs.Faults.{number_of_decisions_fault, number_of_work_fault, number_of_begin_fault, number_of_recover_fault};
 
 use std::alloc::{AllocError, AllocFailed};
 use thiserror::Error;
@@ -33,6 +33,39 @@ impl WorkFault {
             WorkFault::Session(_) => 1,
             WorkFault::Refused(_) => 2,
             WorkFault::Lost => 3,
+        }
+    }
+}
+
+/// Why a list isn't taken for decisions.
+#[derive(Clone, Copy, Debug, Drop, PartialEq, Eq, Error)]
+pub enum DecisionsFault {
+    /// It has more than 1,000,000 numbers.
+    #[error("more than 1,000,000 numbers")]
+    TooMany,
+    /// The number is undecided and a later one closed, though what closes a number closes every undecided one.
+    #[error("transaction {number} is undecided, and a later one is closed")]
+    Overtaken {
+        /// The transaction's number, from 1.
+        number: u64,
+    },
+    /// There was no memory.
+    #[error("out of memory")]
+    NoMemory,
+}
+
+impl DecisionsFault {
+    /// The fault's number, in `[1, 3]`.
+    ///
+    /// Takes no memory. Doesn't wait.
+    /// Own rule: docs/BEHAVIOR.md, 'Faults of a coordinator'.
+    pub fn number(&self) -> u64
+        ensures { result ≡ number_of_decisions_fault self.now }
+    {
+        match self {
+            DecisionsFault::TooMany => 1,
+            DecisionsFault::Overtaken { number: _ } => 2,
+            DecisionsFault::NoMemory => 3,
         }
     }
 }
@@ -129,6 +162,17 @@ impl<T: Drop> From<AllocFailed<T>> for BeginFault {
 
     fn from(_refused: AllocFailed<T>) -> BeginFault {
         BeginFault::NoMemory
+    }
+}
+
+impl From<AllocError> for DecisionsFault {
+    ghost use Rattle.std.specs.Prelude.{◌≡◌};
+    ghost use Rattle.xa_coordinator.specs.declared.fault.DecisionsFault.TheVariants.{NoMemory};
+
+    ghost from_gives = { λ _ fault. fault ≡ NoMemory };
+
+    fn from(_refused: AllocError) -> DecisionsFault {
+        DecisionsFault::NoMemory
     }
 }
 

@@ -27,7 +27,7 @@ pub use closing::Closing;
 pub use coordinator::Coordinator;
 pub use decisions::{Closed, Decision, Decisions};
 pub use ending::Ending;
-pub use fault::{BeginFault, Cause, RecoverFault, WorkFault};
+pub use fault::{BeginFault, Cause, DecisionsFault, RecoverFault, WorkFault};
 pub use fused::Fused;
 pub use report::Report;
 pub use speak::Speak;
