@@ -1,4 +1,4 @@
-#!/usr/bin/env python3
+#!/usr/bin/python3
 """Runs the sessions of a script against a MySQL or MariaDB server at the same time, and writes what they saw as a record.
 
     record.py --socket PATH [--user NAME] [--password WORD] [--database NAME] [--in-turn | --pauses SEED] [--first N] [--lose S:N ..] [--cut S:N ..] SCRIPT > RECORD
@@ -20,7 +20,7 @@ try:
     import pymysql
     from pymysql.constants import COMMAND
 except ModuleNotFoundError:
-    sys.exit("record: PyMySQL isn't there; Debian packages it as python3-pymysql")
+    pymysql = None
 
 LITERAL = rb"""('(?:[^'\\]|\\.|'')*'|"(?:[^"\\]|\\.|"")*"|[xX]'(?:[0-9a-fA-F]{2})*'|0x[0-9a-fA-F]+)"""
 GET = re.compile(rb"GET\s*" + LITERAL + rb"\s*;?", re.I | re.S)
@@ -419,8 +419,11 @@ def main():
     parser.add_argument("--lose", action="append", default=[], metavar="S:N", help="cut session S off once its Nth statement has returned")
     parser.add_argument("--cut", action="append", default=[], metavar="S:N", help="cut session S off once its Nth statement is sent, without its answer")
     parser.add_argument("script", metavar="SCRIPT", help="lines of a session, 1 to 16, and a statement; # begins a remark")
+    options = parser.parse_args()
+    if pymysql is None:
+        sys.exit("record: PyMySQL isn't there; Debian packages it as python3-pymysql")
     try:
-        lines = record_of(parser.parse_args())
+        lines = record_of(options)
     except Fault as fault:
         sys.exit(f"record: {fault}")
     sys.stdout.buffer.write(b"".join(line + b"\n" for line in lines))
