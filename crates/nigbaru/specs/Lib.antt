@@ -8,3 +8,6 @@ pub use Rattle.xa_store.specs as store
 pub use Rattle.xa_coordinator.specs as coordinator
 pub use Rattle.xa_lines.specs as lines
 pub use Rattle.xa_races.specs as races
+pub use Rattle.xa_judge.specs as judge
+pub use Rattle.xa_record.specs as records
+pub use Rattle.xa_manager.specs as manager

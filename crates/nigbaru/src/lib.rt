@@ -1,11 +1,14 @@
 //! Nigbaru for who embeds it: the public surface of its crates under one name.
 //!
 //! What a session, a store or a coordinator is made of stands here. `script` has scripts and what they write, `conversation` who is
-//! answered line by line, and `history` the entries of a history and the logs that keep it.
+//! answered line by line, `history` the entries of a history and the logs that keep it, `records` the judge of what clients saw, and
+//! `manager` a transaction manager that is told its calls.
 #![tactic(auto)]
 
 pub mod conversation;
 pub mod history;
+pub mod manager;
+pub mod records;
 pub mod script;
 
 pub use xa_coordinator::{
@@ -17,7 +20,10 @@ pub use xa_server::{
 };
 pub use xa_session::{Answer, Fault, Session};
 pub use xa_statement::{SyntaxFault, read_statement, write_statement};
-pub use xa_store::{Gate, Log, OpenGate, Outcome, Pass, RaceFault, Run, Store, race};
+pub use xa_store::{
+    Gate, Log, OpenGate, Outcome, Pass, RaceFault, Run, ShuffledGate, Store, TogetherGate, race,
+    race_in_rounds,
+};
 pub use xa_xid::{
     Bytes, Key, LiteralFault, NoMemory, SessionNo, Statement, Xid, copy_of, read_xid, write_xid,
 };
