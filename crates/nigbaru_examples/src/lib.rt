@@ -9,6 +9,7 @@ mod statement;
 #[cfg(test)]
 mod tests;
 mod threads;
+mod turns;
 
 pub use agreement::{finish, in_both, over_both, work};
 pub use meeting::{opened, read_elsewhere, written_down};
@@ -16,3 +17,4 @@ pub use passes::asked_again;
 pub use speech::say;
 pub use statement::reply_to_text;
 pub use threads::{raced, side_by_side};
+pub use turns::{say_in_turn, written_in_turn};

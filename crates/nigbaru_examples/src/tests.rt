@@ -2,6 +2,7 @@
 
 use crate::{
     asked_again, in_both, raced, read_elsewhere, reply_to_text, side_by_side, written_down,
+    written_in_turn,
 };
 use nigbaru::{Ending, Reply, Server, SessionNo};
 
@@ -38,6 +39,14 @@ fn who_has_met_a_session_sees_its_write(rt: HostRuntime) {
         panic!(rt; "no reply")
     };
     assert!(rt; is_value(&reply, b"v"));
+}
+
+#[test]
+fn sessions_write_in_turn(rt: HostRuntime) {
+    let Ok(reply) = written_in_turn(&rt, rt.alloc()) else {
+        panic!(rt; "no reply")
+    };
+    assert!(rt; is_value(&reply, b"w"));
 }
 
 #[test]
