@@ -58,24 +58,16 @@ with_client config session client = record { state = config.state; clients = sli
 
 -- what a session called for takes effect: it is answered, or nobody hears the answer
 unfoldable pub carried_out : Option ClientState → Config → ℕ → Option Config
-carried_out None config session = None
-carried_out (Some Idle) config session = None
 carried_out (Some (Called request)) config session =
     Some (with_client (record config { state = next_state config.state session request }) session (Answered (answer_to config.state session request)))
-carried_out (Some (Answered answer)) config session = None
-carried_out (Some (Gone None)) config session = None
 carried_out (Some (Gone (Some request))) config session =
     Some (with_client (record config { state = next_state config.state session request }) session (Gone None))
-carried_out (Some Left) config session = None
+carried_out other config session = None
 
 -- the DISCONNECT of a session whose client is gone takes effect; what it had called for then never does
 unfoldable pub disconnected : Option ClientState → Config → ℕ → Option Config
-disconnected None config session = None
-disconnected (Some Idle) config session = None
-disconnected (Some (Called request)) config session = None
-disconnected (Some (Answered answer)) config session = None
 disconnected (Some (Gone request)) config session = Some (with_client (record config { state = after config.state session Disconnect }) session Left)
-disconnected (Some Left) config session = None
+disconnected other config session = None
 
 -- an act of a session takes effect
 unfoldable pub effect_of : Config → ℕ → Act → Option Config
@@ -88,65 +80,39 @@ same_text left right = pointwise nat_eq left.items right.items
 
 abbrev pub same_values : Option Text → Option Text → Bool
 same_values None None = true
-same_values None (Some value) = false
-same_values (Some text) None = false
 same_values (Some text) (Some value) = same_text text value
+same_values left right = false
 
 abbrev pub same_rows : List Xid → List Xid → Bool
 same_rows [] [] = true
-same_rows [] (xid ∷ xids) = false
-same_rows (row ∷ rows) [] = false
 same_rows (row ∷ rows) (xid ∷ xids) = same_xid row xid && same_rows rows xids
+same_rows left right = false
 
 -- a return shows this answer; of a refusal the number alone counts
 abbrev pub shows_answer : Seen → Answer → Bool
 shows_answer SeenOk (Replied Accepted) = true
-shows_answer SeenOk (Replied (Value value)) = false
-shows_answer SeenOk (Replied (Recovered xids)) = false
-shows_answer SeenOk (Replied (Refused error)) = false
-shows_answer (SeenValue seen) (Replied Accepted) = false
 shows_answer (SeenValue seen) (Replied (Value value)) = same_values seen value
-shows_answer (SeenValue seen) (Replied (Recovered xids)) = false
-shows_answer (SeenValue seen) (Replied (Refused error)) = false
-shows_answer (SeenRows rows) (Replied Accepted) = false
-shows_answer (SeenRows rows) (Replied (Value value)) = false
 shows_answer (SeenRows rows) (Replied (Recovered xids)) = same_rows rows.items xids
-shows_answer (SeenRows rows) (Replied (Refused error)) = false
-shows_answer (SeenError number) (Replied Accepted) = false
-shows_answer (SeenError number) (Replied (Value value)) = false
-shows_answer (SeenError number) (Replied (Recovered xids)) = false
 shows_answer (SeenError number) (Replied (Refused error)) = number == number_of error
-shows_answer SeenOk NotRead = false
-shows_answer (SeenValue seen) NotRead = false
-shows_answer (SeenRows rows) NotRead = false
 shows_answer (SeenError number) NotRead = number == 1064
+shows_answer seen answer = false
 
 -- an idle session calls
 unfoldable pub called : Option ClientState → Config → ℕ → Request → Option Config
-called None config session request = None
 called (Some Idle) config session request = Some (with_client config session (Called request))
-called (Some (Called other)) config session request = None
-called (Some (Answered answer)) config session request = None
-called (Some (Gone other)) config session request = None
-called (Some Left) config session request = None
+called other config session request = None
 
 -- the call of an answered session returns so
 unfoldable pub returned : Option ClientState → Config → ℕ → Seen → Option Config
-returned None config session seen = None
-returned (Some Idle) config session seen = None
-returned (Some (Called request)) config session seen = None
 returned (Some (Answered answer)) config session seen = cond (shows_answer seen answer) (Some (with_client config session Idle)) None
-returned (Some (Gone request)) config session seen = None
-returned (Some Left) config session seen = None
+returned other config session seen = None
 
 -- the client of a session is gone; an open call may still take effect, and nobody hears its answer
 unfoldable pub lost : Option ClientState → Config → ℕ → Option Config
-lost None config session = None
 lost (Some Idle) config session = Some (with_client config session (Gone None))
 lost (Some (Called request)) config session = Some (with_client config session (Gone (Some request)))
 lost (Some (Answered answer)) config session = Some (with_client config session (Gone None))
-lost (Some (Gone request)) config session = None
-lost (Some Left) config session = None
+lost other config session = None
 
 -- an event is seen
 unfoldable pub observed : Config → Event → Option Config
@@ -162,10 +128,9 @@ IsSession session = (1 ≤ session) × (session ≤ 16)
 abbrev pub LeadsThrough : Config → List Event → List Move → Config → Type 0
 LeadsThrough old events (Effect session act ∷ moves) new =
     (mid : Config) × IsSession session × (effect_of old session act ≡ Some mid) × LeadsThrough mid events moves new
-LeadsThrough old [] (Seeing ∷ moves) new = ⊥
 LeadsThrough old (event ∷ events) (Seeing ∷ moves) new = (mid : Config) × (observed old event ≡ Some mid) × LeadsThrough mid events moves new
 LeadsThrough old [] [] new = new ≡ old
-LeadsThrough old (event ∷ events) [] new = ⊥
+LeadsThrough old events moves new = ⊥
 
 -- some order explains the events
 abbrev pub Explained : State → List Event → Type 0

@@ -37,12 +37,8 @@ configs list = map config_of list
 
 -- what a session has called for, where that has taken no effect yet
 abbrev pub called_for : Option ClientState → Option Request
-called_for None = None
-called_for (Some Idle) = None
 called_for (Some (Called request)) = Some request
-called_for (Some (Answered answer)) = None
-called_for (Some (Gone request)) = None
-called_for (Some Left) = None
+called_for other = None
 
 abbrev pub settled_by : Option Request → Config → ℕ → Config
 settled_by None config session = config
@@ -57,12 +53,8 @@ unfoldable pub after_settling : Config → ℕ → Config
 after_settling config session = settled_by (called_for (slice_get config.clients session)) config session
 
 abbrev pub answered_so : Option ClientState → Bool
-answered_so None = false
-answered_so (Some Idle) = false
-answered_so (Some (Called request)) = false
 answered_so (Some (Answered answer)) = true
-answered_so (Some (Gone request)) = false
-answered_so (Some Left) = false
+answered_so other = false
 
 -- the session's call was answered
 abbrev pub call_is_answered : Config → ℕ → Bool
