@@ -3,7 +3,8 @@
 --     IsSeen             what is seen is what a return shows, rows in ascending order
 --     IsEvent            an event is what happens
 --     AreEvents          so it is with each
-use Rattle.std.specs.Prelude.{◌≡◌, ℕ, Result, Ok, Err, List, [], ◌∷◌}
+use Rattle.std.specs.Prelude.{◌≡◌, ℕ, Result, Ok, Err, List}
+use Rattle.std.specs.List.{AllZip}
 use Rattle.std.specs.List.Sorted.{IsPermutation, IsSorted}
 use Rattle.xa_xid.specs.Xid.{xid_cmp}
 use Rattle.xa_xid.specs.declared.statement.Statement.{Statement}
@@ -29,23 +30,17 @@ request_called text = request_read (read_of text)
 abbrev pub IsSeen : Shown → Seen → Type 0
 IsSeen ShowsOk seen = seen ≡ SeenOk
 IsSeen (ShowsValue value) seen = seen ≡ SeenValue value
-IsSeen (ShowsRows rows) SeenOk = ⊥
-IsSeen (ShowsRows rows) (SeenValue value) = ⊥
 IsSeen (ShowsRows rows) (SeenRows sorted) = IsPermutation rows sorted.items × IsSorted xid_cmp sorted.items
-IsSeen (ShowsRows rows) (SeenError number) = ⊥
+IsSeen (ShowsRows rows) seen = ⊥
 IsSeen (ShowsError number) seen = seen ≡ SeenError number
 
 -- an event is what happens
 abbrev pub IsEvent : Told → Event → Type 0
 IsEvent (Calls session text) event = event ≡ Call session (request_called text)
-IsEvent (Returns session shown) (Call other request) = ⊥
 IsEvent (Returns session shown) (Return other seen) = (other ≡ session) × IsSeen shown seen
-IsEvent (Returns session shown) (Lost other) = ⊥
+IsEvent (Returns session shown) event = ⊥
 IsEvent (Leaves session) event = event ≡ Lost session
 
--- so it is with each
+-- so it is with each, one event for each line
 abbrev pub AreEvents : List NumberedEvent → List Event → Type 0
-AreEvents [] [] = Unit {0}
-AreEvents [] (event ∷ events) = ⊥
-AreEvents (numbered ∷ more) [] = ⊥
-AreEvents (numbered ∷ more) (event ∷ events) = IsEvent numbered.told event × AreEvents more events
+AreEvents numbered events = AllZip (λ one event. IsEvent one.told event) numbered events

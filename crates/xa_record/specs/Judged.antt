@@ -62,10 +62,8 @@ IsFaultOfJudging written fault = fault ≡ NoMemory
 
 -- what a fault leaves in the writer: a prefix where a write failed, else nothing; judging has no fault of a race
 abbrev pub AfterJudgeFault : ℕ → ScriptFault → Option (List ℕ) → Option (List ℕ) → Option (List ℕ) → Type 0
-AfterJudgeFault limit Read input old new = Keeps old new
-AfterJudgeFault limit TooLong input old new = Keeps old new
 AfterJudgeFault limit Write input old new = IfSome input (λ written. AppendsJudgedPrefix limit written old new)
-AfterJudgeFault limit NoMemory input old new = Keeps old new
 AfterJudgeFault limit Full input old new = ⊥
 AfterJudgeFault limit GateShut input old new = ⊥
 AfterJudgeFault limit ThreadRefused input old new = ⊥
+AfterJudgeFault limit fault input old new = Keeps old new

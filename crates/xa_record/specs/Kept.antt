@@ -58,8 +58,7 @@ notes_kept notes =
 -- what is called for where this happens, nothing if it is no call
 abbrev pub text_told : Told → List ℕ
 text_told (Calls session text) = text
-text_told (Returns session shown) = []
-text_told (Leaves session) = []
+text_told other = []
 
 abbrev pub text_numbered : Option NumberedEvent → List ℕ
 text_numbered None = []
@@ -77,5 +76,4 @@ calls_kept numbered calls = map (text_at numbered) calls.places
 -- at each session's number, the place of its last call, once this happens there
 abbrev pub with_place : ℕ → Told → List (Option ℕ) → List (Option ℕ)
 with_place place (Calls session text) places = slice_set places session (Some place)
-with_place place (Returns session shown) places = places
-with_place place (Leaves session) places = places
+with_place place other places = places

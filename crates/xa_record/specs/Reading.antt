@@ -34,16 +34,10 @@ presence_after (Leaves session) = Lost
 
 -- a call of a session with an open call is faulty, a return to one without, and anything of one that is lost
 abbrev pub cause_of : Option Presence → Told → Option LineFault
-cause_of None told = None
-cause_of (Some Idle) (Calls session text) = None
-cause_of (Some Idle) (Returns session shown) = Some (NoOpenCall session)
-cause_of (Some Idle) (Leaves session) = None
 cause_of (Some Open) (Calls session text) = Some (OpenCall session)
-cause_of (Some Open) (Returns session shown) = None
-cause_of (Some Open) (Leaves session) = None
-cause_of (Some Lost) (Calls session text) = Some (WasLost session)
-cause_of (Some Lost) (Returns session shown) = Some (WasLost session)
-cause_of (Some Lost) (Leaves session) = Some (WasLost session)
+cause_of (Some Idle) (Returns session shown) = Some (NoOpenCall session)
+cause_of (Some Lost) told = Some (WasLost (session_of told))
+cause_of presence told = None
 
 abbrev pub cause_text : LineFault → List ℕ
 cause_text NotALine = codes "not a line of a record"

@@ -16,9 +16,8 @@ leading_number text = number_of_word (front (belongs Decimal) text)
 
 -- the digits of a word behind its `0x`
 abbrev pub digits_named : List ℕ → Option (List ℕ)
-digits_named [] = None
-digits_named (zero_digit ∷ []) = None
 digits_named (zero_digit ∷ letter ∷ digits) = if zero_digit == 48 && letter == 120 then Some digits else None
+digits_named word = None
 
 -- the identifier of these bytes, the first of which are its gtrid
 abbrev pub xid_of : ℕ → ℕ → Result (List ℕ) FromHexError → Option Xid
@@ -32,11 +31,8 @@ xid_written format_id gtrid bqual digits =
     if nat_le gtrid text_bytes && nat_le bqual text_bytes then xid_of format_id gtrid (decode_sized digits (gtrid + bqual)) else None
 
 abbrev pub xid_with : Option ℕ → Option ℕ → Option ℕ → Option (List ℕ) → Option Xid
-xid_with None gtrid bqual digits = None
-xid_with (Some format_id) None bqual digits = None
-xid_with (Some format_id) (Some gtrid) None digits = None
-xid_with (Some format_id) (Some gtrid) (Some bqual) None = None
 xid_with (Some format_id) (Some gtrid) (Some bqual) (Some digits) = xid_written format_id gtrid bqual digits
+xid_with format_id gtrid bqual digits = None
 
 -- the identifier of four words, behind which nothing stands
 unfoldable pub row_of : List ℕ → List ℕ → List ℕ → List ℕ → Option Xid

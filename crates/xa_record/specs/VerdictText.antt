@@ -10,7 +10,7 @@ use Rattle.std.specs.Prelude.{ℕ, true, Option, Some, None, Result, Ok, Err, Li
 use Rattle.std.specs.BTreeSet.{insert_key}
 use Rattle.xa_xid.specs.Xid.{bytes_cmp}
 use Rattle.xa_xid.specs.declared.statement.Statement.{Statement}
-use Rattle.xa_xid.specs.declared.statement.Statement.TheVariants.{Start, End, Prepare, Commit, Rollback, Recover, Unsupported, Get, Put, Del, Disconnect}
+use Rattle.xa_xid.specs.declared.statement.Statement.TheVariants.{Unsupported}
 use Rattle.xa_statement.specs.Canonical.{statement_text}
 use Rattle.xa_statement.specs.Reading.{read_of}
 use Rattle.xa_lines.specs.Printed.{reply_text}
@@ -24,22 +24,13 @@ use Rattle.xa_judge.specs.declared.verdict.Verdict.{Verdict}
 use Rattle.xa_judge.specs.declared.verdict.Verdict.TheVariants.{Legal, Illegal, Undecided}
 use Rattle.xa_record.specs.declared.outcome.Outcome.{Outcome}
 use Rattle.xa_record.specs.declared.outcome.Outcome.TheVariants.{Legal as IsLegal, Illegal as IsIllegal, Undecided as IsUndecided}
-use Rattle.xa_record.specs.Lines.{Told, Calls, Returns, Leaves}
+use Rattle.xa_record.specs.Lines.{Told, Calls}
 use Rattle.xa_record.specs.Reading.{NumberedEvent}
 
 -- the canonical form of a statement, or its text where it has none
 abbrev pub canonical_text : Statement → List ℕ → List ℕ
-canonical_text (Start xid) text = statement_text (Start xid)
-canonical_text (End xid) text = statement_text (End xid)
-canonical_text (Prepare xid) text = statement_text (Prepare xid)
-canonical_text (Commit xid one_phase) text = statement_text (Commit xid one_phase)
-canonical_text (Rollback xid) text = statement_text (Rollback xid)
-canonical_text (Recover convert) text = statement_text (Recover convert)
 canonical_text Unsupported text = text
-canonical_text (Get key) text = statement_text (Get key)
-canonical_text (Put key value) text = statement_text (Put key value)
-canonical_text (Del key) text = statement_text (Del key)
-canonical_text Disconnect text = statement_text Disconnect
+canonical_text statement text = statement_text statement
 
 abbrev pub text_read : Result Statement ℕ → List ℕ → List ℕ
 text_read (Ok statement) text = canonical_text statement text
@@ -52,8 +43,7 @@ call_text text = text_read (read_of text) text
 -- at each session's number, the text that it called for last
 abbrev pub with_call : Told → List (List ℕ) → List (List ℕ)
 with_call (Calls session text) calls = slice_set calls session text
-with_call (Returns session shown) calls = calls
-with_call (Leaves session) calls = calls
+with_call other calls = calls
 
 abbrev pub text_of_call : Option (List ℕ) → List ℕ
 text_of_call None = []
