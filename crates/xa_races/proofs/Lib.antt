@@ -1,4 +1,3 @@
 pub mod Race
 pub mod RaceRuns
 pub mod ReadLines
-pub mod RaceKinds

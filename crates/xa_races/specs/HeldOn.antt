@@ -16,8 +16,8 @@ use Rattle.xa_store.specs.declared.race_fault.RaceFault.{RaceFault}
 use Rattle.xa_lines.specs.declared.script_fault.ScriptFault.{ScriptFault}
 use Rattle.xa_lines.specs.declared.script_fault.ScriptFault.TheVariants.{NoMemory}
 use Rattle.xa_races.specs.Race.{AreRuns}
-use Rattle.xa_races.specs.Outcome.{outcome_text, script_fault_of}
-use Rattle.xa_races.specs.RaceKind.{IsHeld}
+use Rattle.xa_races.specs.Outcome.{IsHeld, outcome_text, script_fault_of}
+use Rattle.xa_races.specs.RaceKind.{room_of}
 use Rattle.xa_races.specs.declared.race_kind.RaceKind.{RaceKind}
 use Rattle.xa_races.specs.declared.race_kind.RaceKind.TheVariants.{OneLog, Rounds}
 
@@ -37,7 +37,7 @@ pub record IsHeldOn (race_kind : RaceKind) (gate : ℕ → ℕ → Bool → Type
   pub are_runs : AreRuns lines runs
   pub room : HaveRoom capacity runs
   pub opened : All (λ run. LetsIn gate (known_of run.pass).number (length run.lines.items)) runs
-  pub held : IsHeld race_kind capacity runs outcome
+  pub held : IsHeld (room_of race_kind capacity) runs outcome
   pub text_is : text ≡ outcome_text lines outcome
 
 -- a race of the script's runs, in logs of that room, ended by this fault, which has its cause

@@ -1,5 +1,4 @@
 pub mod Race
 pub mod Outcome
-pub mod LongRace
 pub mod RaceKind
 pub mod HeldOn

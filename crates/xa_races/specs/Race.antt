@@ -45,9 +45,8 @@ IsReadable script = faults_text 1 (lines_of script) ≡ []
 
 -- the session that a line names, or 0
 abbrev pub session_in : Line → ℕ
-session_in Blank = 0
-session_in Bad = 0
 session_in (Given session text) = session
+session_in line = 0
 
 -- the greatest session that a line names, or 0 where none does
 unfoldable pub last_session : List (List ℕ) → ℕ
@@ -61,9 +60,8 @@ statement_read (Err place) = None
 
 -- the statement that the session gives on a line
 abbrev pub statement_by : ℕ → Line → Option Statement
-statement_by session Blank = None
-statement_by session Bad = None
 statement_by session (Given other text) = cond (other == session) (statement_read (read_of text)) None
+statement_by session line = None
 
 -- the statements that a session gives, in order
 unfoldable pub statements_of : ℕ → List (List ℕ) → List Statement

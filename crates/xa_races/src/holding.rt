@@ -1,5 +1,5 @@
 //! Holds a race of a script's runs.
-ghost use Rattle.std.specs.Prelude.{◌≡◌, ◌≤◌, ◌+◌, ℕ, List, length, map, max, slice_get, vec_len, Some, IfOk, IfErr, OnOk};
+ghost use Rattle.std.specs.Prelude.{◌≡◌, ◌≤◌, ◌+◌, ℕ, List, length, map, max, slice_get, vec_len, Some, None, IfOk, IfErr, OnOk};
 ghost use Rattle.std.specs.List.{All, zip};
 ghost use Rattle.decision_log.specs.Opens.{IsCapacity};
 ghost use Rattle.xa_server.specs.State.{no_state};
@@ -10,10 +10,9 @@ ghost use Rattle.xa_store.specs.declared.race_fault.RaceFault.{RaceFault};
 ghost use Rattle.xa_lines.specs.Script.{lines_of};
 ghost use Rattle.xa_lines.specs.Limits.{script_bytes};
 ghost use Rattle.xa_races.specs.Race.{AreRuns, IsGiven, IsReadable, last_session};
-ghost use Rattle.xa_races.specs.Outcome.{IsOfRace, script_fault_of};
-ghost use Rattle.xa_races.specs.LongRace.{IsOfRounds};
+ghost use Rattle.xa_races.specs.Outcome.{IsHeld, IsRaced, IsRaceText, IsOfRace, IsOfText, script_fault_of};
 ghost use Rattle.xa_races.specs.HeldOn.{Blamed, IsHeldOn, IsCaused};
-ghost use Rattle.xa_races.specs.RaceKind.{HeldInOneLog, HeldInRounds, IsHeld, IsRacedAs, IsOfRaceAs, IsTextAs, IsOfTextAs};
+ghost use Rattle.xa_races.specs.RaceKind.{room_of};
 
 use crate::asked::asked_of;
 use crate::given::RaceScript;
@@ -54,9 +53,9 @@ fn hold_in_one_log<G: Gate + Sync, R: Threads + Wait + Sync>(
     requires belongs { All (λ run. log_of run.pass ≡ identity_of store.log) runs.items }
     requires sessions { (identity_of store.log).sessions ≡ max (length runs.items) 1 }
     requires empty { store.base ≡ no_state }
-    ensures held { IfOk result (λ outcome. HeldInOneLog (identity_of store.log).capacity runs.items outcome) }
+    ensures held { IfOk result (λ outcome. IsHeld (Some (identity_of store.log).capacity) runs.items outcome) }
     ensures opened { OnOk result (All (λ run. LetsIn (G.may_answer gate.now) (known_of run.pass).number (length run.lines.items)) runs.items) }
-    ensures fault { IfErr result IsOfRace }
+    ensures fault { IfErr result (IsOfRace (Some (identity_of store.log).capacity)) }
     ensures blamed { IfErr result
         (λ fault. (raced : RaceFault) × (fault ≡ script_fault_of raced) × Blamed RaceKind.OneLog (G.may_answer gate.now) runs.items raced) }
 {
@@ -78,9 +77,9 @@ fn hold_in_rounds<G: Gate + Sync, R: Threads + Wait + Sync>(
     requires fresh { AreFresh (map (λ run. run.pass) runs.items) }
     requires sessions { (identity_of store.log).sessions ≡ max (length runs.items) 1 }
     requires empty { store.base ≡ no_state }
-    ensures held { IfOk result (λ outcome. HeldInRounds runs.items outcome) }
+    ensures held { IfOk result (λ outcome. IsHeld None runs.items outcome) }
     ensures opened { OnOk result (All (λ run. LetsIn (G.may_answer gate.now) (known_of run.pass).number (length run.lines.items)) runs.items) }
-    ensures fault { IfErr result IsOfRounds }
+    ensures fault { IfErr result (IsOfRace None) }
     ensures blamed { IfErr result
         (λ fault. (raced : RaceFault) × (fault ≡ script_fault_of raced) × Blamed RaceKind.Rounds (G.may_answer gate.now) runs.items raced) }
 {
@@ -103,9 +102,9 @@ fn hold_runs<G: Gate + Sync, R: Threads + Wait + Sync>(
     requires fresh { AreFresh (map (λ run. run.pass) runs.items) }
     requires sessions { (identity_of store.log).sessions ≡ max (length runs.items) 1 }
     requires empty { store.base ≡ no_state }
-    ensures held { IfOk result (λ outcome. IsHeld race_kind (identity_of store.log).capacity runs.items outcome) }
+    ensures held { IfOk result (λ outcome. IsHeld (room_of race_kind (identity_of store.log).capacity) runs.items outcome) }
     ensures opened { OnOk result (All (λ run. LetsIn (G.may_answer gate.now) (known_of run.pass).number (length run.lines.items)) runs.items) }
-    ensures fault { IfErr result (IsOfRaceAs race_kind) }
+    ensures fault { IfErr result (IsOfRace (room_of race_kind (identity_of store.log).capacity)) }
     ensures blamed { IfErr result
         (λ fault. (raced : RaceFault) × (fault ≡ script_fault_of raced) × Blamed race_kind (G.may_answer gate.now) runs.items raced) }
 {
@@ -157,12 +156,12 @@ fn hold<G: Gate + Sync, R: Threads + Wait + Sync>(
     ensures raced { (lines : List (List ℕ))
         → greatest ≡ last_session lines
         → IsGiven lines (map (λ list. list.items) lists.items)
-        → IfOk result (λ text. IsRacedAs race_kind capacity lines text.items) }
+        → IfOk result (λ text. IsRaced (room_of race_kind capacity) lines text.items) }
     ensures on { (lines : List (List ℕ))
         → greatest ≡ last_session lines
         → IsGiven lines (map (λ list. list.items) lists.items)
         → IfOk result (λ text. IsHeldOn race_kind (G.may_answer gate.now) capacity lines text.items) }
-    ensures fault { IfErr result (IsOfRaceAs race_kind) }
+    ensures fault { IfErr result (IsOfRace (room_of race_kind capacity)) }
     ensures cause { (lines : List (List ℕ))
         → greatest ≡ last_session lines
         → IsGiven lines (map (λ list. list.items) lists.items)
@@ -187,10 +186,10 @@ pub fn text_of_race<G: Gate + Sync, R: Threads + Wait + Sync>(
 ) -> Result<Vec<u8>, ScriptFault>
     requires capacity { IsCapacity capacity }
     requires short { length script.now ≤ script_bytes }
-    ensures text { IfOk result (λ text. IsTextAs race_kind capacity script.now text.items) }
+    ensures text { IfOk result (λ text. IsRaceText (room_of race_kind capacity) script.now text.items) }
     ensures on { IsReadable script.now → IfOk result
         (λ text. IsHeldOn race_kind (G.may_answer gate.now) capacity (lines_of script.now) text.items) }
-    ensures fault { IfErr result (IsOfTextAs race_kind script.now) }
+    ensures fault { IfErr result (IsOfText (room_of race_kind capacity) script.now) }
     ensures cause { IfErr result (IsCaused race_kind (G.may_answer gate.now) capacity (lines_of script.now)) }
 {
     let given = read_race(alloc, script)?;

@@ -1,11 +1,11 @@
 //! Races the runs of a script in rounds: the history has any length.
-ghost use Rattle.std.specs.Prelude.{◌≡◌, ◌≤◌, length, IfErr, OnOk, IfSome, Err};
+ghost use Rattle.std.specs.Prelude.{◌≡◌, ◌≤◌, length, IfErr, OnOk, IfSome, Err, None};
 ghost use Rattle.std.specs.Io.KnownBytes.{IsAtEnd};
 ghost use Rattle.decision_log.specs.Opens.{IsCapacity};
 ghost use Rattle.xa_lines.specs.Calls.{Completes, Stops};
 ghost use Rattle.xa_lines.specs.Limits.{script_bytes, script_reads};
 ghost use Rattle.xa_lines.specs.Transcript.{ConsumesMoreThan};
-ghost use Rattle.xa_races.specs.LongRace.{AppendsLongRace, AfterLongFault, IsLongText, IsOfLongText};
+ghost use Rattle.xa_races.specs.Outcome.{AppendsRace, AfterRaceFault, IsRaceText, IsOfText};
 
 use crate::holding::text_of_race;
 use crate::race_kind::RaceKind;
@@ -40,17 +40,17 @@ pub fn race_script_in_rounds<
 
     // All was read, and what was written is the text of its faulty lines, or of an outcome of a race of its runs.
     ensures read { OnOk result (IsAtEnd (I.remaining reader.new)) }
-    ensures written { OnOk result (IfSome (I.remaining reader.old) (λ script. AppendsLongRace script (O.contents writer.old) (O.contents writer.new))) }
+    ensures written { OnOk result (IfSome (I.remaining reader.old) (λ script. AppendsRace None script (O.contents writer.old) (O.contents writer.new))) }
     ensures short { OnOk result (IfSome (I.remaining reader.old) (λ script. length script ≤ script_bytes)) }
 
-    ensures fault { IfErr result (λ fault. AfterLongFault fault (I.remaining reader.old) (O.contents writer.old) (O.contents writer.new)) }
+    ensures fault { IfErr result (λ fault. AfterRaceFault None fault (I.remaining reader.old) (O.contents writer.old) (O.contents writer.new)) }
     ensures too_long { result ≡ Err ScriptFault.TooLong → ConsumesMoreThan script_bytes (I.remaining reader.old) (I.remaining reader.new) }
 
     // Of any reader and writer: all calls on them succeeded; or the last call on one of them failed, and that is the fault; or the
     // fault is the race's.
-    ensures calls { OnOk result (Completes I.gives O.takes script_reads IsLongText reader.old reader.new writer.old writer.new) }
+    ensures calls { OnOk result (Completes I.gives O.takes script_reads (IsRaceText None) reader.old reader.new writer.old writer.new) }
     ensures cause { IfErr result
-        (λ fault. Stops I.gives I.fails O.takes O.refuses script_reads script_bytes IsLongText IsOfLongText fault reader.old reader.new writer.old writer.new) }
+        (λ fault. Stops I.gives I.fails O.takes O.refuses script_reads script_bytes (IsRaceText None) (IsOfText None) fault reader.old reader.new writer.old writer.new) }
 {
     let script = read_all(alloc, reader)?;
     let text = text_of_race(

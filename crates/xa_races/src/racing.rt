@@ -1,5 +1,5 @@
 //! Races the runs of a script.
-ghost use Rattle.std.specs.Prelude.{◌≡◌, ◌≤◌, length, IfErr, OnOk, IfSome, Err};
+ghost use Rattle.std.specs.Prelude.{◌≡◌, ◌≤◌, length, IfErr, OnOk, IfSome, Err, Some};
 ghost use Rattle.std.specs.Io.KnownBytes.{IsAtEnd};
 ghost use Rattle.decision_log.specs.Opens.{IsCapacity};
 ghost use Rattle.xa_lines.specs.Calls.{Completes, Stops};
@@ -39,17 +39,17 @@ pub fn race_script<I: PieceReader, O: PieceWriter, G: Gate + Sync, R: Threads + 
 
     // All was read, and what was written is the text of its faulty lines, or of an outcome of a race of its runs.
     ensures read { OnOk result (IsAtEnd (I.remaining reader.new)) }
-    ensures written { OnOk result (IfSome (I.remaining reader.old) (λ script. AppendsRace capacity script (O.contents writer.old) (O.contents writer.new))) }
+    ensures written { OnOk result (IfSome (I.remaining reader.old) (λ script. AppendsRace (Some capacity) script (O.contents writer.old) (O.contents writer.new))) }
     ensures short { OnOk result (IfSome (I.remaining reader.old) (λ script. length script ≤ script_bytes)) }
 
-    ensures fault { IfErr result (λ fault. AfterRaceFault capacity fault (I.remaining reader.old) (O.contents writer.old) (O.contents writer.new)) }
+    ensures fault { IfErr result (λ fault. AfterRaceFault (Some capacity) fault (I.remaining reader.old) (O.contents writer.old) (O.contents writer.new)) }
     ensures too_long { result ≡ Err ScriptFault.TooLong → ConsumesMoreThan script_bytes (I.remaining reader.old) (I.remaining reader.new) }
 
     // Of any reader and writer: all calls on them succeeded; or the last call on one of them failed, and that is the fault; or the
     // fault is the race's.
-    ensures calls { OnOk result (Completes I.gives O.takes script_reads (IsRaceText capacity) reader.old reader.new writer.old writer.new) }
+    ensures calls { OnOk result (Completes I.gives O.takes script_reads (IsRaceText (Some capacity)) reader.old reader.new writer.old writer.new) }
     ensures cause { IfErr result
-        (λ fault. Stops I.gives I.fails O.takes O.refuses script_reads script_bytes (IsRaceText capacity) IsOfText fault reader.old reader.new writer.old writer.new) }
+        (λ fault. Stops I.gives I.fails O.takes O.refuses script_reads script_bytes (IsRaceText (Some capacity)) (IsOfText (Some capacity)) fault reader.old reader.new writer.old writer.new) }
 {
     let script = read_all(alloc, reader)?;
     let text = text_of_race(

@@ -3,9 +3,8 @@
 --     status_for       the exit status for how judging a record ended
 --     AppendsVerdict   the writer got what is written for a record, and the status is for how judging it ended
 --     AppendsRaceBy    the writer got what is written for a race
-use Rattle.std.specs.Prelude.{◌≡◌, ℕ, Bool, true, false, Option, List, IfSome}
+use Rattle.std.specs.Prelude.{◌≡◌, ℕ, Bool, true, false, Option, Some, None, List, IfSome}
 use Rattle.xa_races.specs.Outcome.{AppendsRace}
-use Rattle.xa_races.specs.LongRace.{AppendsLongRace}
 use Rattle.xa_lines.specs.declared.script_fault.ScriptFault.{ScriptFault}
 use Rattle.xa_lines.specs.declared.script_fault.ScriptFault.TheVariants.{Read, TooLong, Write, NoMemory, Full, GateShut, ThreadRefused}
 use Rattle.xa_record.specs.Judged.{AppendsJudged}
@@ -36,5 +35,5 @@ AppendsVerdict limit status input old new =
 
 -- the writer got what a race of the script writes: in rounds where it renews, else in one history of at most this capacity
 abbrev pub AppendsRaceBy : Bool → (capacity : ℕ) → List ℕ → Option (List ℕ) → Option (List ℕ) → Type 0
-AppendsRaceBy true capacity script old new = AppendsLongRace script old new
-AppendsRaceBy false capacity script old new = AppendsRace capacity script old new
+AppendsRaceBy true capacity script old new = AppendsRace None script old new
+AppendsRaceBy false capacity script old new = AppendsRace (Some capacity) script old new

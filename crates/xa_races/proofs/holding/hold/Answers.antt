@@ -1,12 +1,12 @@
-use Rattle.std.proofs.Common.{◌≡◌, ℕ, Bool, Vec, Global, map, ap, ◌∙◌, subst, inr, rules}
+use Rattle.std.proofs.Common.{ℕ, Bool, Vec, Global, map, ap, ◌∙◌, subst, inr, rules}
 use Rattle.xa_xid.specs.declared.statement.Statement.{Statement}
 use Rattle.xa_lines.specs.Printed.{converts}
 use Rattle.xa_store.specs.Passes.{identity_of}
-use Rattle.xa_races.specs.RaceKind.{IsHeld}
+use Rattle.xa_races.specs.Outcome.{IsHeld}
+use Rattle.xa_races.specs.RaceKind.{room_of}
 use Rattle.xa_races.specs.HeldOn.{IsCaused}
 use Rattle.xa_races.specs.Race.{part_at}
 use Rattle.xa_races.proofs.RaceRuns.{have_room, part_at-map}
-use Rattle.xa_races.proofs.RaceKinds.{raced_as}
 use Rattle.xa_races.proofs.holding.hold.Goals as goal
 
 pub returns-clause-raced : goal.returns-clause-raced
@@ -14,20 +14,24 @@ returns-clause-raced g c = λ lines last given.
     let both = c.in_ok-both.ensures in
     let lists = c.args.lists.items in
     let runs = c.in_ok-both.both.1.items in
-    let P : ℕ → Type 0 = λ capacity. IsHeld c.args.race_kind capacity runs c.in_ok-outcome.outcome in
-    raced_as c.args.race_kind c.args.capacity lines runs c.in_ok-outcome.outcome _ (both.runs lines last given)
-    (subst P both.room c.in_ok-outcome.ensures.held)
-    (c.in_ok-text.ensures lines
-    (λ index. ap (λ list. part_at list index) (ap (map (λ (list : Vec Bool Global). list.items)) c.as_slice-2.ensures.value ∙ c.in_ok-asked.ensures
-    ∙ ap (map (λ (list : Vec Statement Global). map converts list.items)) c.as_slice.ensures.value)
-    ∙ part_at-map (λ list. list.items) converts lists index ∙ ap (map converts) (given index)))
+    let P : ℕ → Type 0 = λ capacity. IsHeld (room_of c.args.race_kind capacity) runs c.in_ok-outcome.outcome in
+    record {
+      runs = runs;
+      outcome = c.in_ok-outcome.outcome;
+      are_runs = both.runs lines last given;
+      held = subst P both.room c.in_ok-outcome.ensures.held;
+      text_is = c.in_ok-text.ensures lines
+          (λ index. ap (λ list. part_at list index) (ap (map (λ (list : Vec Bool Global). list.items)) c.as_slice-2.ensures.value ∙ c.in_ok-asked.ensures
+          ∙ ap (map (λ (list : Vec Statement Global). map converts list.items)) c.as_slice.ensures.value)
+          ∙ part_at-map (λ list. list.items) converts lists index ∙ ap (map converts) (given index));
+    }
 
 pub returns-clause-on : goal.returns-clause-on
 returns-clause-on g c = λ lines last given.
     let both = c.in_ok-both.ensures in
     let lists = c.args.lists.items in
     let runs = c.in_ok-both.both.1.items in
-    let P : ℕ → Type 0 = λ capacity. IsHeld c.args.race_kind capacity runs c.in_ok-outcome.outcome in
+    let P : ℕ → Type 0 = λ capacity. IsHeld (room_of c.args.race_kind capacity) runs c.in_ok-outcome.outcome in
     record {
       runs = runs;
       outcome = c.in_ok-outcome.outcome;

@@ -14,9 +14,11 @@ returns-in-Ok-clause-held g c =
     let raced = c.in-Ok.ensures.legal in
     let P : State → Type 0 = λ base. IsOutcome base runs outcome in
     record {
-      legal = subst P c.requires.empty raced;
+      explained = (
+        subst P c.requires.empty raced,
+        own_room identity outcome.history.items runs outcome.passes.items c.requires.belongs raced.passes raced.history,
+      );
       own = own_sessions identity outcome.history.items runs outcome.passes.items c.requires.sessions c.requires.belongs raced.passes raced.history;
-      fits = own_room identity outcome.history.items runs outcome.passes.items c.requires.belongs raced.passes raced.history;
     }
 
 pub returns-clause-blamed : goal.returns-clause-blamed
