@@ -1,5 +1,6 @@
 //! Judges a record, and gives the exit status for how that ended.
-ghost use Rattle.std.specs.Prelude.{◌≡◌, IfOk};
+ghost use Rattle.std.specs.Prelude.{◌≡◌, IfOk, IfErr};
+ghost use Rattle.xa_record.specs.Judged.{AfterJudgeFault};
 ghost use Rattle.xa_script.specs.CommandLine.{IsLimit};
 ghost use Rattle.xa_script.specs.Status.{status_for, AppendsVerdict};
 
@@ -35,7 +36,7 @@ fn status_of_outcome(outcome: Outcome) -> u8
 /// Judges a record, writes the verdict or its faulty lines, and gives the exit status for it.
 ///
 /// A limit is in `[1, 1_000_000]`.
-/// Errors, and what stands in the writer after them: those of `judge_record`.
+/// Errors: those of `judge_record`. After `Write` a prefix of the text was written, after any other nothing.
 /// May answer `NoMemory`. Doesn't wait, unless the reader or the writer does.
 /// Own rule: docs/BEHAVIOR.md, 'The program'.
 pub fn judge_within<R: Read, W: Write>(
@@ -46,6 +47,7 @@ pub fn judge_within<R: Read, W: Write>(
 ) -> Result<u8, ScriptFault>
     requires { IsLimit limit }
     ensures judged { IfOk result (λ status. AppendsVerdict limit status (R.remaining reader.old) (W.contents writer.old) (W.contents writer.new)) }
+    ensures fault { IfErr result (λ fault. AfterJudgeFault limit fault (R.remaining reader.old) (W.contents writer.old) (W.contents writer.new)) }
 {
     let outcome = judge_record(alloc, reader, writer, limit as usize)?;
     Ok(status_of_outcome(outcome))
