@@ -1,13 +1,15 @@
 -- Loops over configurations.
-use Rattle.std.proofs.Common.{◌≡◌, ◌≢◌, ◌⊎◌, ℕ, ◌+◌, ◌<◌, Option, Some, List, [], ◌∷◌, ◌++◌, length, get_or, refl, ap, sym, ◌∙◌, subst, inl, inr, arith}
+use Rattle.std.proofs.Common.{◌≡◌, ◌≢◌, ◌⊎◌, ℕ, ◌+◌, ◌<◌, Option, Some, None, List, [], ◌∷◌, ◌++◌, length, get_or, refl, ap, sym, ◌∙◌, subst, inl, inr, arith}
 use Rattle.std.specs.Prelude.{slice_get, IfSome}
 use Rattle.std.specs.Option.{option_map}
 use Rattle.std.specs.List.{All, Contains}
 use Rattle.std.proofs.lemmas.Option.{same_Some, none-some, slice_get_read}
 use Rattle.std.proofs.lemmas.Bool.{cases_lt}
-use Rattle.std.proofs.lemmas.List.Elements.{All-push, All-pop, Contains-push_cases}
+use Rattle.std.proofs.lemmas.List.Elements.{All-push, All-pop, Contains-append_left, Contains-push, Contains-push_cases}
 use Rattle.xa_server.specs.State.{State}
 use Rattle.xa_judge.specs.declared.answer.Answer.{Answer}
+use Rattle.xa_judge.specs.declared.client_state.ClientState.{ClientState}
+use Rattle.xa_judge.specs.declared.client_state.ClientState.TheVariants.{Idle, Called, Answered, Gone, Left}
 use Rattle.xa_judge.specs.declared.event.Event.{Event}
 use Rattle.xa_judge.specs.declared.moves.Act.{Act}
 use Rattle.xa_judge.specs.declared.moves.Act.TheVariants.{Statement, Disconnect}
@@ -106,19 +108,55 @@ sees_reach event first known rest list new one parts (inr some) reach = λ base 
           (reaches_event base events trunk one some.0 event cut.1 some.1 some.2),
     )
 
+-- of the configurations before a place, each answer of the session is in the list
+abbrev pub HasAnswersBefore : ℕ → List Configuration → ℕ → List Answer → Type 0
+HasAnswersBefore count known session answers =
+    (place : ℕ) (one : Configuration) (answer : Answer) → place < count → slice_get known place ≡ Some one
+    → slice_get one.clients.items session ≡ Some (Answered answer) → Contains answers answer
+
 -- one more answer
 pub answers_step : (known : List Configuration) (place session : ℕ) (one : Configuration) (old new : List Answer) → place < length known
     → one ≡ get_or known place one → IsAnswerAdded (slice_get one.clients.items session) old new
     → All (IsAnsweredIn known session) old → All (IsAnsweredIn known session) new
-answers_step known place session one old new within at (inl same) all = subst (λ l. All (IsAnsweredIn known session) l) (sym same) all
-answers_step known place session one old new within at (inr more) all =
-    subst (λ l. All (IsAnsweredIn known session) l) (sym more.2)
-    (All-push (IsAnsweredIn known session) old more.0 all
-    (record {
-      one = config_of one;
-      has = place_mapped config_of known place one (slice_get_read known (length known) place one refl within at);
-      stands = more.1;
-    }))
+answers_step known place session one old new within at added all = by (slice_get one.clients.items session) refl added
+  where
+    by : (o : Option ClientState) → slice_get one.clients.items session ≡ o → IsAnswerAdded o old new → All (IsAnsweredIn known session) new
+    by None is same = subst (λ l. All (IsAnsweredIn known session) l) (sym same) all
+    by (Some Idle) is same = subst (λ l. All (IsAnsweredIn known session) l) (sym same) all
+    by (Some (Called request)) is same = subst (λ l. All (IsAnsweredIn known session) l) (sym same) all
+    by (Some (Answered answer)) is more =
+        subst (λ l. All (IsAnsweredIn known session) l) (sym more)
+        (All-push (IsAnsweredIn known session) old answer all
+        (record {
+          one = config_of one;
+          has = place_mapped config_of known place one (slice_get_read known (length known) place one refl within at);
+          stands = is;
+        }))
+    by (Some (Gone request)) is same = subst (λ l. All (IsAnsweredIn known session) l) (sym same) all
+    by (Some Left) is same = subst (λ l. All (IsAnsweredIn known session) l) (sym same) all
+
+-- the answers before a place and the one there
+pub answers_more : (known : List Configuration) (place session : ℕ) (one : Configuration) (old new : List Answer) → place < length known
+    → one ≡ get_or known place one → IsAnswerAdded (slice_get one.clients.items session) old new
+    → HasAnswersBefore place known session old → HasAnswersBefore (place + 1) known session new
+answers_more known place session one old new within at added before k other answer below found stands = elim (cases_lt k place) [
+  | inl less ↦ kept (slice_get one.clients.items session) added (before k other answer less found stands)
+  | inr more ↦
+      let here : slice_get known place ≡ Some one = slice_get_read known (length known) place one refl within at in
+      let same : k ≡ place = omega (arith, below, more) in
+      let is : one ≡ other = same_Some one other (sym here ∙ ap (slice_get known) (sym same) ∙ found) in
+      let there : slice_get one.clients.items session ≡ Some (Answered answer) = ap (λ (c : Configuration). slice_get c.clients.items session) is ∙ stands in
+      let pushed : new ≡ old ++ answer ∷ [] = subst (λ o. IsAnswerAdded o old new) there added in
+      subst (λ l. Contains l answer) (sym pushed) (Contains-push old answer)
+]
+  where
+    kept : (o : Option ClientState) → IsAnswerAdded o old new → Contains old answer → Contains new answer
+    kept None same has = subst (λ l. Contains l answer) (sym same) has
+    kept (Some Idle) same has = subst (λ l. Contains l answer) (sym same) has
+    kept (Some (Called request)) same has = subst (λ l. Contains l answer) (sym same) has
+    kept (Some (Answered last)) more has = subst (λ l. Contains l answer) (sym more) (Contains-append_left old (last ∷ []) answer has)
+    kept (Some (Gone request)) same has = subst (λ l. Contains l answer) (sym same) has
+    kept (Some Left) same has = subst (λ l. Contains l answer) (sym same) has
 
 -- a list stays closed as it grows, and is at one place more
 pub closed_more : (place returning : ℕ) (old new : List Configuration) → place < length old → IsClosedBelow place returning old → Grows old new

@@ -1,10 +1,11 @@
 -- A return, and what comes before it.
 --     dead         a session that can't be answered never returns
 --     settles      where a list is closed, a return is seen from one of it, once what its session called for has taken effect
-use Rattle.std.proofs.Common.{◌≡◌, ◌≢◌, ℕ, Bool, true, false, Option, Some, None, List, [], ◌∷◌, length, set, refl, ap, sym, ◌∙◌, subst, inl, inr, arith}
+use Rattle.std.proofs.Common.{◌≡◌, ◌≢◌, ◌⊎◌, ℕ, Bool, true, false, Option, Some, None, List, [], ◌∷◌, length, set, refl, ap, sym, ◌∙◌, subst, inl, inr, arith}
 use Rattle.std.specs.Prelude.{slice_get}
 use Rattle.std.proofs.lemmas.Option.{none-some, same_Some}
 use Rattle.std.proofs.lemmas.Bool.{false≢true}
+use Rattle.xa_judge.specs.declared.answer.Answer.{Answer}
 use Rattle.xa_judge.specs.declared.request.Request.{Request}
 use Rattle.xa_judge.specs.declared.event.Seen.{Seen}
 use Rattle.xa_judge.specs.declared.event.Event.{Event}
@@ -19,7 +20,7 @@ use Rattle.xa_judge.specs.declared.configuration.Configuration.{Configuration}
 use Rattle.xa_judge.specs.Explained.{Config, effect_of, carried_out, disconnected, answer_to, next_state, LeadsThrough, IsSession}
 use Rattle.xa_judge.specs.Found.{config_of, Has, after_settling, settled_by, called_for, call_is_answered, answered_so, IsClosedBelow}
 use Rattle.xa_judge.proofs.Places.{same_number, get_written, get_apart, mapped_place}
-use Rattle.xa_judge.proofs.Waits.{acted, may_answer, First, later, return_answered}
+use Rattle.xa_judge.proofs.Waits.{acted, may_answer, answered_apart, First, later, return_answered}
 
 answered_may : (o : Option ClientState) → answered_so o ≡ true → may_answer o ≡ true
 answered_may None e = absurd (false≢true e)
@@ -29,28 +30,33 @@ answered_may (Some (Answered answer)) e = refl
 answered_may (Some (Gone request)) e = absurd (false≢true e)
 answered_may (Some Left) e = absurd (false≢true e)
 
+-- a session that can't be answered can't be behind an act
+dead_behind : (old mid : Config) (session other : ℕ) (act : Act) → effect_of old other act ≡ Some mid → may_answer (slice_get old.clients session) ≡ false
+    → may_answer (slice_get mid.clients session) ≡ false
+dead_behind old mid session other act at none =
+    let a = acted old mid other act at in
+    elim (same_number other session) [
+      | inl e ↦
+          ap may_answer (ap (λ (c : Config). slice_get c.clients session) a.is ∙ ap (slice_get (set old.clients other a.next)) (sym e)
+          ∙ get_written old.clients other a.before a.next a.found)
+          ∙ a.dead (ap may_answer (sym a.found ∙ ap (slice_get old.clients) e) ∙ none)
+      | inr apart ↦ ap may_answer (ap (λ (c : Config). slice_get c.clients session) a.is ∙ get_apart old.clients other session a.next apart) ∙ none
+    ]
+
 -- a session that can't be answered never returns
 pub dead : (old new : Config) (session : ℕ) (seen : Seen) (more : List Event) (moves : List Move) → may_answer (slice_get old.clients session) ≡ false
     → LeadsThrough old (Return session seen ∷ more) moves new → ⊥
 dead old new session seen more (Seeing ∷ moves) none runs =
     false≢true (sym none ∙ answered_may (slice_get old.clients session) (return_answered old runs.0 session seen runs.1))
 dead old new session seen more (Effect other act ∷ moves) none runs =
-    let a = acted old runs.0 other act runs.2 in
-    let stays : may_answer (slice_get runs.0.clients session) ≡ false = elim (same_number other session) [
-      | inl e ↦
-          ap may_answer (ap (λ (c : Config). slice_get c.clients session) a.is ∙ ap (slice_get (set old.clients other a.next)) (sym e)
-          ∙ get_written old.clients other a.before a.next a.found)
-          ∙ a.dead (ap may_answer (sym a.found ∙ ap (slice_get old.clients) e) ∙ none)
-      | inr apart ↦ ap may_answer (ap (λ (c : Config). slice_get c.clients session) a.is ∙ get_apart old.clients other session a.next apart) ∙ none
-    ] in
-    dead runs.0 new session seen more moves stays runs.3
+    dead runs.0 new session seen more moves (dead_behind old runs.0 session other act runs.2 none) runs.3
 dead old new session seen more [] none runs = runs
 
 -- a return is seen once what its session called for has taken effect
-pub record Settled (list : List Configuration) (session : ℕ) (seen : Seen) (more : List Event) : Type 0 where
+pub record Settled (list : List Configuration) (session : ℕ) (seen : Seen) (more : List Event) (new : Config) : Type 0 where
   pub one : Config
   pub has : Has list one
-  pub rest : First (after_settling one session) (Return session seen) more
+  pub rest : First (after_settling one session) (Return session seen) more new
 
 -- where the session was answered, nothing is left to settle
 settled_answered : (old : Config) (session : ℕ) → call_is_answered old session ≡ true → after_settling old session ≡ old
@@ -67,23 +73,32 @@ settled_answered old session answered = ap (λ r. settled_by r old session) (by 
 
 settles_answered : (list : List Configuration) (session : ℕ) (seen : Seen) (more : List Event) (old new : Config) (moves : List Move) → Has list old
     → call_is_answered old session ≡ true → LeadsThrough old (Return session seen ∷ more) moves new
-    → Settled list session seen more
+    → Settled list session seen more new
 settles_answered list session seen more old new moves has answered runs = record {
   one = old;
   has = has;
   rest =
-      subst (λ c. First c (Return session seen) more) (sym (settled_answered old session answered))
+      subst (λ c. First c (Return session seen) more new) (sym (settled_answered old session answered))
       (later old new (Return session seen) more moves answered runs);
 }
 
--- the session's own act: what it called for, or one after which it is never answered
-own_act : (list : List Configuration) (session : ℕ) (act : Act) (seen : Seen) (more : List Event) (old mid new : Config) (moves : List Move) → Has list old
-    → effect_of old session act ≡ Some mid
-    → LeadsThrough mid (Return session seen ∷ more) moves new → Settled list session seen more
+-- what a session's own act does: what it called for takes effect and is answered, or the session can't be answered any more
+abbrev OwnAct : Config → ℕ → Config → Type 0
+OwnAct old session mid =
+    ((after_settling old session ≡ mid) × (call_is_answered mid session ≡ true)) ⊎ (may_answer (slice_get mid.clients session) ≡ false)
+
+own_act : (session : ℕ) (act : Act) (old mid : Config) → effect_of old session act ≡ Some mid → OwnAct old session mid
 unfolding effect_of carried_out disconnected after_settling
-own_act list session act seen more old mid new moves has at runs = by act (slice_get old.clients session) refl at
+own_act session act old mid at = by act (slice_get old.clients session) refl at
   where
-    by : (act : Act) (o : Option ClientState) → slice_get old.clients session ≡ o → effect_of old session act ≡ Some mid → Settled list session seen more
+    gone : (act : Act) (request : Option Request) → slice_get old.clients session ≡ Some (Gone request) → effect_of old session act ≡ Some mid
+        → may_answer (slice_get mid.clients session) ≡ false
+    gone act request found is =
+        let a = acted old mid session act is in
+        ap may_answer (ap (λ (c : Config). slice_get c.clients session) a.is ∙ get_written old.clients session a.before a.next a.found)
+        ∙ a.dead (ap may_answer (sym a.found ∙ found))
+
+    by : (act : Act) (o : Option ClientState) → slice_get old.clients session ≡ o → effect_of old session act ≡ Some mid → OwnAct old session mid
     by Statement None found is = absurd (none-some mid (sym (ap (λ o. carried_out o old session) found) ∙ is))
     by Statement (Some Idle) found is = absurd (none-some mid (sym (ap (λ o. carried_out o old session) found) ∙ is))
     by Statement (Some (Called request)) found is =
@@ -94,31 +109,29 @@ own_act list session act seen more old mid new moves has at runs = by act (slice
         ap answered_so (ap (λ (c : Config). slice_get c.clients session) (sym mid_is)
         ∙ get_written old.clients session (Called request) answer found) in
         let same : after_settling old session ≡ mid = ap (λ r. settled_by r old session) (ap called_for found) ∙ mid_is in
-        record {
-          one = old;
-          has = has;
-          rest = subst (λ c. First c (Return session seen) more) (sym same) (later mid new (Return session seen) more moves here runs);
-        }
+        inl (same, here)
     by Statement (Some (Answered answer)) found is = absurd (none-some mid (sym (ap (λ o. carried_out o old session) found) ∙ is))
-    by Statement (Some (Gone request)) found is = absurd (gone Statement request found is)
-      where
-        gone : (act : Act) (request : Option Request) → slice_get old.clients session ≡ Some (Gone request) → effect_of old session act ≡ Some mid → ⊥
-        gone act request found is =
-            let a = acted old mid session act is in
-            dead mid new session seen more moves
-            (ap may_answer (ap (λ (c : Config). slice_get c.clients session) a.is ∙ get_written old.clients session a.before a.next a.found)
-            ∙ a.dead (ap may_answer (sym a.found ∙ found))) runs
+    by Statement (Some (Gone request)) found is = inr (gone Statement request found is)
     by Statement (Some Left) found is = absurd (none-some mid (sym (ap (λ o. carried_out o old session) found) ∙ is))
     by Disconnect None found is = absurd (none-some mid (sym (ap (λ o. disconnected o old session) found) ∙ is))
     by Disconnect (Some Idle) found is = absurd (none-some mid (sym (ap (λ o. disconnected o old session) found) ∙ is))
     by Disconnect (Some (Called request)) found is = absurd (none-some mid (sym (ap (λ o. disconnected o old session) found) ∙ is))
     by Disconnect (Some (Answered answer)) found is = absurd (none-some mid (sym (ap (λ o. disconnected o old session) found) ∙ is))
-    by Disconnect (Some (Gone request)) found is =
-        let a = acted old mid session Disconnect is in
-        absurd (dead mid new session seen more moves
-        (ap may_answer (ap (λ (c : Config). slice_get c.clients session) a.is ∙ get_written old.clients session a.before a.next a.found)
-        ∙ a.dead (ap may_answer (sym a.found ∙ found))) runs)
+    by Disconnect (Some (Gone request)) found is = inr (gone Disconnect request found is)
     by Disconnect (Some Left) found is = absurd (none-some mid (sym (ap (λ o. disconnected o old session) found) ∙ is))
+
+settles_own : (list : List Configuration) (session : ℕ) (act : Act) (seen : Seen) (more : List Event) (old mid new : Config) (moves : List Move) → Has list old
+    → effect_of old session act ≡ Some mid
+    → LeadsThrough mid (Return session seen ∷ more) moves new → Settled list session seen more new
+settles_own list session act seen more old mid new moves has at runs = elim (own_act session act old mid at) [
+  | inl s ↦
+      record {
+        one = old;
+        has = has;
+        rest = subst (λ c. First c (Return session seen) more new) (sym s.0) (later mid new (Return session seen) more moves s.1 runs);
+      }
+  | inr none ↦ absurd (dead mid new session seen more moves none runs)
+]
 
 -- the act of another session leads to one of a closed list
 other_act : (list : List Configuration) (returning session : ℕ) (act : Act) (old mid : Config) → IsClosedBelow (length list) returning list → Has list old
@@ -133,22 +146,97 @@ other_act list returning session act old mid closed has is apart unanswered at =
 -- a run that begins with an act, where one that begins behind an act of another session settles
 settles_effect : (list : List Configuration) (session other : ℕ) (act : Act) (seen : Seen) (more : List Event) (old new : Config) (moves : List Move)
     → IsClosedBelow (length list) session list → Has list old
-    → (runs : LeadsThrough old (Return session seen ∷ more) (Effect other act ∷ moves) new) → (Has list runs.0 → Settled list session seen more)
-    → Settled list session seen more
+    → (runs : LeadsThrough old (Return session seen ∷ more) (Effect other act ∷ moves) new) → (Has list runs.0 → Settled list session seen more new)
+    → Settled list session seen more new
 settles_effect list session other act seen more old new moves closed has runs go_on = by (call_is_answered old session) refl
   where
-    by : (b : Bool) → call_is_answered old session ≡ b → Settled list session seen more
+    by : (b : Bool) → call_is_answered old session ≡ b → Settled list session seen more new
     by true answered = settles_answered list session seen more old new (Effect other act ∷ moves) has answered runs
     by false unanswered = elim (same_number other session) [
-      | inl e ↦ own_act list session act seen more old runs.0 new moves has (ap (λ n. effect_of old n act) (sym e) ∙ runs.2) runs.3
+      | inl e ↦ settles_own list session act seen more old runs.0 new moves has (ap (λ n. effect_of old n act) (sym e) ∙ runs.2) runs.3
       | inr apart ↦ go_on (other_act list session other act old runs.0 closed has runs.1 apart unanswered runs.2)
     ]
 
 pub settles : (list : List Configuration) (session : ℕ) (seen : Seen) (more : List Event) (old new : Config) (moves : List Move)
     → IsClosedBelow (length list) session list → Has list old → LeadsThrough old (Return session seen ∷ more) moves new
-    → Settled list session seen more
+    → Settled list session seen more new
 settles list session seen more old new (Seeing ∷ moves) closed has runs =
     settles_answered list session seen more old new (Seeing ∷ moves) has (return_answered old runs.0 session seen runs.1) runs
 settles list session seen more old new (Effect other act ∷ moves) closed has runs =
     settles_effect list session other act seen more old new moves closed has runs (λ there. settles list session seen more runs.0 new moves closed there runs.3)
 settles list session seen more old new [] closed has runs = absurd runs
+
+-- a session that can't be answered is never answered by acts alone
+dead_end : (old new : Config) (session : ℕ) (answer : Answer) (moves : List Move) → may_answer (slice_get old.clients session) ≡ false
+    → LeadsThrough old [] moves new → slice_get new.clients session ≡ Some (Answered answer) → ⊥
+dead_end old new session answer (Seeing ∷ moves) none runs stands = absurd runs
+dead_end old new session answer (Effect other act ∷ moves) none runs stands =
+    dead_end runs.0 new session answer moves (dead_behind old runs.0 session other act runs.2 none) runs.3 stands
+dead_end old new session answer [] none runs stands =
+    false≢true (sym none ∙ ap may_answer (ap (λ (c : Config). slice_get c.clients session) (sym runs) ∙ stands))
+
+-- what a session was answered stays through acts
+stays_answered : (old new : Config) (session : ℕ) (moves : List Move) → call_is_answered old session ≡ true → LeadsThrough old [] moves new
+    → slice_get new.clients session ≡ slice_get old.clients session
+stays_answered old new session (Seeing ∷ moves) answered runs = absurd runs
+stays_answered old new session (Effect other act ∷ moves) answered runs =
+    let a = acted old runs.0 other act runs.2 in
+    let here : slice_get runs.0.clients session ≡ slice_get old.clients session =
+    ap (λ (c : Config). slice_get c.clients session) a.is
+    ∙ get_apart old.clients other session a.next (answered_apart old runs.0 other session act a answered) in
+    stays_answered runs.0 new session moves (ap answered_so here ∙ answered) runs.3 ∙ here
+stays_answered old new session [] answered runs = ap (λ (c : Config). slice_get c.clients session) runs
+
+-- in one of the list the session is answered so, once what it called for has taken effect
+pub record AnsweredSo (list : List Configuration) (session : ℕ) (answer : Answer) : Type 0 where
+  pub one : Config
+  pub has : Has list one
+  pub stands : slice_get (after_settling one session).clients session ≡ Some (Answered answer)
+
+answers_here : (list : List Configuration) (session : ℕ) (answer : Answer) (old new : Config) (moves : List Move) → Has list old
+    → call_is_answered old session ≡ true → LeadsThrough old [] moves new → slice_get new.clients session ≡ Some (Answered answer)
+    → AnsweredSo list session answer
+answers_here list session answer old new moves has answered runs stands = record {
+  one = old;
+  has = has;
+  stands = ap (λ (c : Config). slice_get c.clients session) (settled_answered old session answered)
+      ∙ sym (stays_answered old new session moves answered runs) ∙ stands;
+}
+
+answers_own : (list : List Configuration) (session : ℕ) (answer : Answer) (act : Act) (old mid new : Config) (moves : List Move) → Has list old
+    → effect_of old session act ≡ Some mid → LeadsThrough mid [] moves new → slice_get new.clients session ≡ Some (Answered answer)
+    → AnsweredSo list session answer
+answers_own list session answer act old mid new moves has at runs stands = elim (own_act session act old mid at) [
+  | inl s ↦
+      record {
+        one = old;
+        has = has;
+        stands = ap (λ (c : Config). slice_get c.clients session) s.0 ∙ sym (stays_answered mid new session moves s.1 runs) ∙ stands;
+      }
+  | inr none ↦ absurd (dead_end mid new session answer moves none runs stands)
+]
+
+answers_effect : (list : List Configuration) (session other : ℕ) (answer : Answer) (act : Act) (old new : Config) (moves : List Move)
+    → IsClosedBelow (length list) session list → Has list old
+    → (runs : LeadsThrough old [] (Effect other act ∷ moves) new) → slice_get new.clients session ≡ Some (Answered answer)
+    → (Has list runs.0 → AnsweredSo list session answer) → AnsweredSo list session answer
+answers_effect list session other answer act old new moves closed has runs stands go_on = by (call_is_answered old session) refl
+  where
+    by : (b : Bool) → call_is_answered old session ≡ b → AnsweredSo list session answer
+    by true answered = answers_here list session answer old new (Effect other act ∷ moves) has answered runs stands
+    by false unanswered = elim (same_number other session) [
+      | inl e ↦ answers_own list session answer act old runs.0 new moves has (ap (λ n. effect_of old n act) (sym e) ∙ runs.2) runs.3 stands
+      | inr apart ↦ go_on (other_act list session other act old runs.0 closed has runs.1 apart unanswered runs.2)
+    ]
+
+-- where a list is closed, whatever a session is answered by acts alone it is in one of the list, once what it called for has taken effect
+pub answers_settle : (list : List Configuration) (session : ℕ) (answer : Answer) (old new : Config) (moves : List Move)
+    → IsClosedBelow (length list) session list → Has list old → LeadsThrough old [] moves new → slice_get new.clients session ≡ Some (Answered answer)
+    → AnsweredSo list session answer
+answers_settle list session answer old new (Seeing ∷ moves) closed has runs stands = absurd runs
+answers_settle list session answer old new (Effect other act ∷ moves) closed has runs stands =
+    answers_effect list session other answer act old new moves closed has runs stands
+    (λ there. answers_settle list session answer runs.0 new moves closed there runs.3 stands)
+answers_settle list session answer old new [] closed has runs stands =
+    answers_here list session answer old new [] has
+    (ap answered_so (ap (λ (c : Config). slice_get c.clients session) (sym runs) ∙ stands)) runs stands

@@ -1,31 +1,36 @@
 -- What a verdict rests on.
-use Rattle.std.proofs.Common.{◌≡◌, ℕ, ◌+◌, ◌<◌, List, [], ◌∷◌, ◌++◌, length, take, drop, get_or, ap, sym, ◌∙◌, subst, arith, append_assoc, append-nil}
+use Rattle.std.proofs.Common.{◌≡◌, ℕ, ◌+◌, ◌<◌, Some, List, slice_get, [], ◌∷◌, ◌++◌, length, take, drop, get_or, ap, sym, ◌∙◌, subst, arith, append_assoc, append-nil}
 use Rattle.std.specs.List.{All, Contains}
+use Rattle.std.proofs.lemmas.Option.{same_Some}
 use Rattle.std.proofs.lemmas.List.{take_more, take-append-drop, take_all}
 use Rattle.std.proofs.lemmas.List.Elements.{All-map, All-cons, All-nil, All-head}
 use Rattle.xa_server.specs.State.{State}
+use Rattle.xa_judge.specs.declared.answer.Answer.{Answer}
+use Rattle.xa_judge.specs.declared.client_state.ClientState.TheVariants.{Answered}
 use Rattle.xa_judge.specs.declared.event.Event.{Event}
+use Rattle.xa_judge.specs.declared.event.Event.TheVariants.{Call, Return, Lost}
 use Rattle.xa_judge.specs.declared.moves.Move.{Move}
 use Rattle.xa_judge.specs.declared.configuration.Configuration.{Configuration}
 use Rattle.xa_judge.specs.Explained.{Config, opening_config, LeadsThrough, Explained}
 use Rattle.xa_judge.specs.Found.{config_of, configs, Has, Reaches, KeepsReach, ReachesPast, IsShortened, IsOpening, IsPathOf}
-use Rattle.xa_judge.specs.Advances.{Continues}
-use Rattle.xa_judge.specs.Verdicts.{IsRefuted, IsWide, IsReachedByMoves}
+use Rattle.xa_judge.specs.Advances.{Continues, AreAnswers}
+use Rattle.xa_judge.specs.Verdicts.{IsRefuted, CouldBe, AreAllAnswers, IsWide, IsReachedByMoves}
 use Rattle.xa_judge.proofs.Places.{get_within, length_map}
 use Rattle.xa_judge.proofs.Growth.{all_at}
 
--- where more events are explained behind those that were seen, they go on from the list
+-- where moves lead through those that were seen and more, some lead through these from the list, to the same end
 abbrev pub IsComplete : State → List Event → List Configuration → Type 0
-IsComplete base seen list = (more : List Event) → Explained base (seen ++ more) → Continues list more
+IsComplete base seen list =
+    (more : List Event) (moves : List Move) (new : Config) → LeadsThrough (opening_config base) (seen ++ more) moves new → Continues list more new
 
 pub complete_more : (base : State) (events : List Event) (place : ℕ) (event : Event) (old new : List Configuration) → place < length events
     → event ≡ get_or events place event → IsComplete base (take place events) old
-    → ((more : List Event) → Continues old (event ∷ more) → Continues new more) → IsComplete base (take (place + 1) events) new
-complete_more base events place event old new within at complete leads = λ more explained.
+    → ((more : List Event) (end : Config) → Continues old (event ∷ more) end → Continues new more end) → IsComplete base (take (place + 1) events) new
+complete_more base events place event old new within at complete leads = λ more moves end runs.
     let parts : take (place + 1) events ++ more ≡ take place events ++ event ∷ more =
     ap (λ l. l ++ more) (take_more events place event within ∙ ap (λ x. take place events ++ x ∷ []) (sym at))
     ∙ append_assoc (take place events) (event ∷ []) more in
-    leads more (complete (event ∷ more) (subst (Explained base) parts explained))
+    leads more end (complete (event ∷ more) moves end (subst (λ l. LeadsThrough (opening_config base) l moves end) parts runs))
 
 pub reach_more : (base : State) (events : List Event) (place : ℕ) (event : Event) (trunk : List Move) (old new : List Configuration) → place < length events
     → event ≡ get_or events place event
@@ -57,13 +62,15 @@ legal base events trunk moves list all path =
 
 pub refuted : (base : State) (events : List Event) (place : ℕ) (event : Event) (trunk : List Move) (list : List Configuration) → place < length events
     → event ≡ get_or events place event → 0 < length list
-    → All (Reaches base (take place events) trunk) list → IsComplete base (take place events) list → ((more : List Event) → Continues list (event ∷ more) → ⊥)
+    → All (Reaches base (take place events) trunk) list → IsComplete base (take place events) list → ((more : List Event) (end : Config) → Continues list (event ∷ more) end → ⊥)
     → IsRefuted base events place
 refuted base events place event trunk list within at some all complete none = record {
   within = within;
   before = explained_by base (take place events) trunk list some all;
-  refuted = λ explained. none [] (complete (event ∷ []) (subst (Explained base) upto explained));
-  whole = λ explained. none (drop (place + 1) events) (complete (event ∷ drop (place + 1) events) (subst (Explained base) parts explained));
+  refuted = λ explained.
+      let e = subst (Explained base) upto explained in none [] e.1 (complete (event ∷ []) e.0 e.1 e.2);
+  whole = λ explained.
+      let e = subst (Explained base) parts explained in none (drop (place + 1) events) e.1 (complete (event ∷ drop (place + 1) events) e.0 e.1 e.2);
 }
   where
     upto : take (place + 1) events ≡ take place events ++ event ∷ []
@@ -73,6 +80,30 @@ refuted base events place event trunk list within at some all complete none = re
     parts =
         sym (take-append-drop (place + 1) events) ∙ ap (λ l. l ++ drop (place + 1) events) upto
         ∙ append_assoc (take place events) (event ∷ []) (drop (place + 1) events)
+
+-- the answers that the list has are all that some order gives
+pub answers_given : (base : State) (events : List Event) (place : ℕ) (event : Event) (trunk : List Move) (list : List Configuration) (answers : List Answer)
+    → slice_get events place ≡ Some event → All (Reaches base (take place events) trunk) list → IsComplete base (take place events) list
+    → AreAnswers list event answers → AreAllAnswers base events place answers
+answers_given base events place (Call session request) trunk list answers at all complete none = record {
+  each = subst (λ l. All (CouldBe base events place) l) (sym none) (All-nil (CouldBe base events place));
+  all = λ answer could. absurd (let other : Some (Call session request) ≡ Some (Return could.session could.seen) = sym at ∙ could.returns in cc);
+}
+answers_given base events place (Return session seen) trunk list answers at all complete are = record {
+  each = λ k d below. record { session = session; seen = seen; returns = at; after = are.each base (take place events) trunk all k d below };
+  all = λ answer could.
+      let it = could.after in
+      let event : Return could.session could.seen ≡ Return session seen = same_Some _ (Return session seen) (sym could.returns ∙ at) in
+      let same : could.session ≡ session = cc in
+      let runs : LeadsThrough (opening_config base) (take place events ++ []) it.reached.moves it.config =
+      subst (λ l. LeadsThrough (opening_config base) l it.reached.moves it.config) (sym (append-nil (take place events))) it.reached.runs in
+      are.all it.config answer (complete [] it.reached.moves it.config runs)
+      (subst (λ n. slice_get it.config.clients n ≡ Some (Answered answer)) same it.answered);
+}
+answers_given base events place (Lost session) trunk list answers at all complete none = record {
+  each = subst (λ l. All (CouldBe base events place) l) (sym none) (All-nil (CouldBe base events place));
+  all = λ answer could. absurd (let other : Some (Lost session) ≡ Some (Return could.session could.seen) = sym at ∙ could.returns in cc);
+}
 
 pub wide : (base : State) (events : List Event) (limit place : ℕ) (trunk : List Move) (list many : List Configuration) → place < length events
     → All (Reaches base (take place events) trunk) list → limit < length many → KeepsReach list many
@@ -95,18 +126,17 @@ opens_reached base list is = subst (λ l. All (Reaches base [] []) l) (sym is.1)
     one = subst (λ m. LeadsThrough (opening_config base) [] m (config_of is.0)) (sym is.3) is.2
 
 pub opens_complete : (base : State) (list : List Configuration) → IsOpening base list → IsComplete base [] list
-opens_complete base list is more explained = record {
+opens_complete base list is more moves end runs = record {
   one = opening_config base;
   has = subst (λ l. Has l (opening_config base)) (sym is.1) (0, omega arith, is.2);
-  moves = explained.0;
-  new = explained.1;
-  runs = explained.2;
+  moves = moves;
+  runs = runs;
 }
 
-pub continues_shortened : (trunk longer : List Move) (old new : List Configuration) (more : List Event) → IsShortened trunk longer old new → Continues old more
-    → Continues new more
-continues_shortened trunk longer old new more is now =
-    record { one = now.one; has = subst (λ l. Contains l now.one) (sym is.same) now.has; moves = now.moves; new = now.new; runs = now.runs }
+pub continues_shortened : (trunk longer : List Move) (old new : List Configuration) (more : List Event) (end : Config) → IsShortened trunk longer old new
+    → Continues old more end → Continues new more end
+continues_shortened trunk longer old new more end is now =
+    record { one = now.one; has = subst (λ l. Contains l now.one) (sym is.same) now.has; moves = now.moves; runs = now.runs }
 
 pub some_shortened : (trunk longer : List Move) (old new : List Configuration) → IsShortened trunk longer old new → 0 < length old → 0 < length new
 some_shortened trunk longer old new is some = omega (arith, length_map config_of old, length_map config_of new, ap length is.same)

@@ -294,7 +294,7 @@ CanWait config (Return session seen) = call_is_answered config session ≡ true
 CanWait config (Lost session) = Unit {0}
 
 -- a session that was answered acts no more
-answered_apart : (old mid : Config) (session other : ℕ) (act : Act) → Acted old session act mid → call_is_answered old other ≡ true → session ≢ other
+pub answered_apart : (old mid : Config) (session other : ℕ) (act : Act) → Acted old session act mid → call_is_answered old other ≡ true → session ≢ other
 answered_apart old mid session other act a answered = λ e.
     false≢true (sym a.unanswered ∙ ap answered_so (sym a.found ∙ ap (slice_get old.clients) e) ∙ answered)
 
@@ -339,20 +339,19 @@ still_waits old mid session act (Return other seen) is waits =
 still_waits old mid session act (Lost other) is waits = tt
 
 -- the event is seen first, and then come the other moves
-pub record First (old : Config) (event : Event) (more : List Event) : Type 0 where
+pub record First (old : Config) (event : Event) (more : List Event) (new : Config) : Type 0 where
   pub first : Config
   pub sees : observed old event ≡ Some first
   pub moves : List Move
-  pub new : Config
   pub runs : LeadsThrough first more moves new
 
 pub later : (old new : Config) (event : Event) (more : List Event) (moves : List Move) → CanWait old event → LeadsThrough old (event ∷ more) moves new
-    → First old event more
-later old new event more (Seeing ∷ moves) waits runs = record { first = runs.0; sees = runs.1; moves = moves; new = new; runs = runs.2 }
+    → First old event more new
+later old new event more (Seeing ∷ moves) waits runs = record { first = runs.0; sees = runs.1; moves = moves; runs = runs.2 }
 later old new event more (Effect session act ∷ moves) waits runs =
     let rest = later runs.0 new event more moves (still_waits old runs.0 session act event runs.2 waits) runs.3 in
     let s = swap old runs.0 rest.first session act event runs.2 rest.sees waits in
-    record { first = s.0; sees = s.1; moves = Effect session act ∷ rest.moves; new = rest.new; runs = (rest.first, runs.1, s.2, rest.runs) }
+    record { first = s.0; sees = s.1; moves = Effect session act ∷ rest.moves; runs = (rest.first, runs.1, s.2, rest.runs) }
 later old new event more [] waits runs = absurd runs
 
 -- where a return was seen, its session was answered

@@ -1,8 +1,12 @@
 -- What one event more leads to.
---     Continues        a list of configurations has one from which more events are explained
+--     Continues        a list of configurations has one from which some moves lead through more events
+--     AreAnswers       what a return's session can be answered before it
 --     IsSeenFrom       what the event leaves of configurations in which it can be seen at once
 --     IsAdvance        what the event leaves of configurations
-use Rattle.std.specs.Prelude.{◌≡◌, ℕ, ◌<◌, List, ◌∷◌, Some, length, vec_len}
+use Rattle.std.specs.Prelude.{◌≡◌, ℕ, ◌<◌, List, [], ◌∷◌, Some, length, vec_len, slice_get}
+use Rattle.std.specs.List.{All, Contains}
+use Rattle.xa_server.specs.State.{State}
+use Rattle.xa_judge.specs.declared.client_state.ClientState.TheVariants.{Answered}
 use Rattle.xa_judge.specs.declared.answer.Answer.{Answer}
 use Rattle.xa_judge.specs.declared.event.Event.{Event}
 use Rattle.xa_judge.specs.declared.event.Event.TheVariants.{Call, Return, Lost}
@@ -11,14 +15,14 @@ use Rattle.xa_judge.specs.declared.configuration.Configuration.{Configuration}
 use Rattle.xa_judge.specs.declared.advance.Advance.{Advance}
 use Rattle.xa_judge.specs.declared.advance.Advance.TheVariants.{Known, Impossible, TooMany}
 use Rattle.xa_judge.specs.Explained.{Config, observed, LeadsThrough}
-use Rattle.xa_judge.specs.Found.{Has, KeepsReach, ReachesPast}
+use Rattle.xa_judge.specs.Found.{Has, Reaches, KeepsReach, ReachesPast}
+use Rattle.xa_judge.specs.Verdicts.{IsAnswerAfter}
 
--- from one of these configurations, some moves lead through the events
-pub record Continues (list : List Configuration) (events : List Event) : Type 0 where
+-- from one of these configurations, some moves lead through the events to this one
+pub record Continues (list : List Configuration) (events : List Event) (new : Config) : Type 0 where
   pub one : Config
   pub has : Has list one
   pub moves : List Move
-  pub new : Config
   pub runs : LeadsThrough one events moves new
 
 -- the event is a return to this session
@@ -27,16 +31,28 @@ IsReturnOf session (Call other request) = ⊥
 IsReturnOf session (Return other seen) = other ≡ session
 IsReturnOf session (Lost other) = ⊥
 
--- each configuration that the event leads to at once is in the list, or there is none
+-- each configuration that the event leads to at once is in the list, or there is none, and these are the answers
 abbrev pub IsSeenFrom : List Configuration → List Answer → Event → Advance → Type 0
 IsSeenFrom old answers event (Known list) =
     (0 < vec_len list) × ((one new : Config) → Has old one → observed one event ≡ Some new → Has list.items new) × ReachesPast event old list.items
-IsSeenFrom old answers event (Impossible others) = (one new : Config) → Has old one → observed one event ≡ Some new → ⊥
+IsSeenFrom old answers event (Impossible others) =
+    ((one new : Config) → Has old one → observed one event ≡ Some new → ⊥) × (others.items ≡ answers)
 IsSeenFrom old answers event TooMany = ⊥
+
+-- these are the answers to which the session comes from the list by acts alone, wherever the list is reached
+pub record AreAnswersTo (list : List Configuration) (session : ℕ) (answers : List Answer) : Type 0 where
+  pub each : (base : State) (events : List Event) (trunk : List Move) → All (Reaches base events trunk) list → All (IsAnswerAfter base events session) answers
+  pub all : (new : Config) (answer : Answer) → Continues list [] new → slice_get new.clients session ≡ Some (Answered answer) → Contains answers answer
+
+-- before a return these are the answers to which its session comes; before another event there is none
+abbrev pub AreAnswers : List Configuration → Event → List Answer → Type 0
+AreAnswers list (Return session seen) answers = AreAnswersTo list session answers
+AreAnswers list event answers = answers ≡ []
 
 -- what the event leads to: where events go on from the old list, they do from the new one; or they never do; or too many are reached
 abbrev pub IsAdvance : List Configuration → Event → ℕ → Advance → Type 0
 IsAdvance old event limit (Known list) =
-    (0 < vec_len list) × ((more : List Event) → Continues old (event ∷ more) → Continues list.items more) × ReachesPast event old list.items
-IsAdvance old event limit (Impossible answers) = (more : List Event) → Continues old (event ∷ more) → ⊥
+    (0 < vec_len list) × ((more : List Event) (new : Config) → Continues old (event ∷ more) new → Continues list.items more new) × ReachesPast event old list.items
+IsAdvance old event limit (Impossible answers) =
+    ((more : List Event) (new : Config) → Continues old (event ∷ more) new → ⊥) × AreAnswers old event answers.items
 IsAdvance old event limit TooMany = (many : List Configuration) × (limit < length many) × KeepsReach old many

@@ -15,7 +15,7 @@ use Rattle.xa_server.specs.State.{State}
 use Rattle.xa_judge.specs.declared.request.Request.{Request}
 use Rattle.xa_judge.specs.declared.event.Event.{Event}
 use Rattle.xa_judge.specs.declared.client_state.ClientState.{ClientState}
-use Rattle.xa_judge.specs.declared.client_state.ClientState.TheVariants.{Idle, Called, Answered, Gone, Left}
+use Rattle.xa_judge.specs.declared.client_state.ClientState.TheVariants.{Called, Answered}
 use Rattle.xa_judge.specs.declared.answer.Answer.{Answer}
 use Rattle.xa_judge.specs.declared.moves.Act.{Act}
 use Rattle.xa_judge.specs.declared.moves.Act.TheVariants.{Statement}
@@ -94,9 +94,10 @@ IsSeenAdded event one old new =
     ⊎ ((next : Configuration) × (observed (config_of one) event ≡ Some (config_of next)) × (next.path.items ≡ one.path.items ++ Seeing ∷ [])
     × AddsUnlessThere old next new)
 
--- the list is as it was, or has this answer more
+-- the list has the client's answer more, or is as it was where it has none
 abbrev pub IsAnswerAdded : Option ClientState → List Answer → List Answer → Type 0
-IsAnswerAdded client old new = (new ≡ old) ⊎ ((answer : Answer) × (client ≡ Some (Answered answer)) × (new ≡ old ++ answer ∷ []))
+IsAnswerAdded (Some (Answered answer)) old new = new ≡ old ++ answer ∷ []
+IsAnswerAdded other old new = new ≡ old
 
 -- the session was answered so in a configuration of the list
 pub record IsAnsweredIn (list : List Configuration) (session : ℕ) (answer : Answer) : Type 0 where

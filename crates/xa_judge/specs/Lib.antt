@@ -1,4 +1,4 @@
 pub mod Explained
+pub mod Verdicts
 pub mod Found
 pub mod Advances
-pub mod Verdicts

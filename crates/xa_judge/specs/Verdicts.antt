@@ -1,14 +1,16 @@
 -- When a verdict is right.
---     config_of        a configuration as the definitions see it
---     Reaches          its path leads to it
---     Has              a list of configurations has this one
 --     IsRefuted        no order explains the events up to and with the one at a place
+--     AreAllAnswers    these are the answers that some order gives the call that returns there
 --     IsWide           more configurations than allowed can stand before an event
 --     IsVerdict        the verdict is right
-use Rattle.std.specs.Prelude.{ℕ, ◌+◌, ◌<◌, List, length, take}
-use Rattle.std.specs.List.{All}
+use Rattle.std.specs.Prelude.{◌≡◌, ℕ, ◌+◌, ◌<◌, List, Some, length, take, slice_get}
+use Rattle.std.specs.List.{All, Contains}
 use Rattle.xa_server.specs.State.{State}
+use Rattle.xa_judge.specs.declared.answer.Answer.{Answer}
+use Rattle.xa_judge.specs.declared.client_state.ClientState.TheVariants.{Answered}
 use Rattle.xa_judge.specs.declared.event.Event.{Event}
+use Rattle.xa_judge.specs.declared.event.Event.TheVariants.{Return}
+use Rattle.xa_judge.specs.declared.event.Seen.{Seen}
 use Rattle.xa_judge.specs.declared.moves.Move.{Move}
 use Rattle.xa_judge.specs.declared.verdict.Verdict.{Verdict}
 use Rattle.xa_judge.specs.declared.verdict.Verdict.TheVariants.{Legal, Illegal, Undecided}
@@ -26,6 +28,24 @@ pub record IsReachedByMoves (base : State) (events : List Event) (config : Confi
   pub moves : List Move
   pub runs : LeadsThrough (opening_config base) events moves config
 
+-- some moves lead through the events to a configuration in which the session is answered so
+pub record IsAnswerAfter (base : State) (events : List Event) (session : ℕ) (answer : Answer) : Type 0 where
+  pub config : Config
+  pub reached : IsReachedByMoves base events config
+  pub answered : slice_get config.clients session ≡ Some (Answered answer)
+
+-- some order explains the events before this place, and so answers the call that returns there
+pub record CouldBe (base : State) (events : List Event) (place : ℕ) (answer : Answer) : Type 0 where
+  pub session : ℕ
+  pub seen : Seen
+  pub returns : slice_get events place ≡ Some (Return session seen)
+  pub after : IsAnswerAfter base (take place events) session answer
+
+-- these are the answers that some order gives the call that returns there, and all of them
+pub record AreAllAnswers (base : State) (events : List Event) (place : ℕ) (answers : List Answer) : Type 0 where
+  pub each : All (CouldBe base events place) answers
+  pub all : (answer : Answer) → CouldBe base events place answer → Contains answers answer
+
 -- the events before this place lead to more configurations than are allowed
 pub record IsWide (base : State) (events : List Event) (limit place : ℕ) : Type 0 where
   pub within : place < length events
@@ -36,5 +56,5 @@ pub record IsWide (base : State) (events : List Event) (limit place : ℕ) : Typ
 -- the verdict is right
 abbrev pub IsVerdict : State → List Event → ℕ → Verdict → Type 0
 IsVerdict base events limit (Legal moves) = (new : Config) × LeadsThrough (opening_config base) events moves.items new
-IsVerdict base events limit (Illegal place answers) = IsRefuted base events place
+IsVerdict base events limit (Illegal place answers) = IsRefuted base events place × AreAllAnswers base events place answers.items
 IsVerdict base events limit (Undecided place) = IsWide base events limit place

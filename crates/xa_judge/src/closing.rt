@@ -1,6 +1,6 @@
 //! What can have come before a return.
 ghost use Rattle.std.specs.Prelude.{◌≡◌, ◌<◌, ℕ, List, Some, true, false, slice_get, vec_len, length, IfOk, OnOk};
-ghost use Rattle.std.specs.List.{All};
+ghost use Rattle.std.specs.List.{All, Contains};
 ghost use Rattle.xa_judge.specs.Explained.{Config, observed};
 ghost use Rattle.xa_judge.specs.Found.{Has, Grows, KeepsReach, ReachesPast, after_settling, IsClosedBelow, IsAnsweredIn, IsAnswerAdded, IsSeenAdded};
 
@@ -116,7 +116,12 @@ pub fn answers_in(
     known: &[Configuration],
     session: SessionNo,
 ) -> Result<Vec<Answer>, NoMemory>
-    ensures { IfOk result (λ answers. All (IsAnsweredIn known.now session) answers.items) }
+    ensures each { IfOk result (λ answers. All (IsAnsweredIn known.now session) answers.items) }
+    ensures all { IfOk result
+        (λ answers. (one : Config) (answer : Answer)
+        → Has known.now one
+        → slice_get one.clients session ≡ Some (ClientState.Answered answer)
+        → Contains answers.items answer) }
 {
     let mut answers = Vec::new(alloc);
     for one in known {

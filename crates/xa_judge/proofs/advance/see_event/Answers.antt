@@ -1,6 +1,6 @@
 use Rattle.std.proofs.Common.{sym, subst}
 use Rattle.std.proofs.lemmas.Result.{IfOk-weaker}
-use Rattle.xa_judge.specs.Advances.{IsSeenFrom, IsAdvance}
+use Rattle.xa_judge.specs.Advances.{IsSeenFrom, AreAnswers, IsAdvance}
 use Rattle.xa_judge.proofs.Waits.{CanWait}
 use Rattle.xa_judge.proofs.Advances.{advance_now}
 use Rattle.xa_judge.proofs.advance.see_event.Goals as goal
@@ -9,11 +9,13 @@ pub returns-in-Call : goal.returns-in-Call
 returns-in-Call c =
     IfOk-weaker c.seen.result (IsSeenFrom c.args.known.items c.new.result.items c.args.event.now) (IsAdvance c.args.known.items c.args.event.now c.args.limit)
     (λ next seen. advance_now c.args.known.items c.new.result.items c.args.event.now c.args.limit next
-    (λ config. subst (CanWait config) (sym c.in-Call.is) tt) seen) c.seen.ensures
+    (λ config. subst (CanWait config) (sym c.in-Call.is) tt) (subst (λ e. AreAnswers c.args.known.items e c.new.result.items) (sym c.in-Call.is) c.new.ensures.items) seen)
+    c.seen.ensures
 
 pub returns-in-Lost : goal.returns-in-Lost
 returns-in-Lost c =
     IfOk-weaker c.seen-in-Lost.result (IsSeenFrom c.args.known.items c.new-in-Lost.result.items c.args.event.now)
     (IsAdvance c.args.known.items c.args.event.now c.args.limit)
     (λ next seen. advance_now c.args.known.items c.new-in-Lost.result.items c.args.event.now c.args.limit next
-    (λ config. subst (CanWait config) (sym c.in-Lost.is) tt) seen) c.seen-in-Lost.ensures
+    (λ config. subst (CanWait config) (sym c.in-Lost.is) tt)
+    (subst (λ e. AreAnswers c.args.known.items e c.new-in-Lost.result.items) (sym c.in-Lost.is) c.new-in-Lost.ensures.items) seen) c.seen-in-Lost.ensures

@@ -1,8 +1,9 @@
-use Rattle.std.proofs.Common.{◌≡◌, ◌<◌, ◌+◌, [], take, length, ap, sym, subst, arith}
+use Rattle.std.proofs.Common.{◌≡◌, ◌<◌, ◌+◌, [], take, length, refl, ap, sym, subst, arith}
+use Rattle.std.proofs.lemmas.Option.{slice_get_read}
 use Rattle.std.specs.List.{All}
 use Rattle.xa_judge.specs.Found.{Reaches, IsPathOf}
 use Rattle.xa_judge.specs.Advances.{IsAdvance}
-use Rattle.xa_judge.proofs.Verdicts.{complete_more, reach_more, legal, refuted, wide, opens_reached, opens_complete, continues_shortened, some_shortened}
+use Rattle.xa_judge.proofs.Verdicts.{complete_more, reach_more, legal, refuted, answers_given, wide, opens_reached, opens_complete, continues_shortened, some_shortened}
 use Rattle.xa_judge.proofs.judging.judge.Goals as goal
 
 pub loop-place-init : goal.loop-place-init
@@ -20,9 +21,13 @@ returns-in-Impossible c =
     let event = c.index-events-place.result in
     let known = c.loop-place.known.items in
     let none = subst (λ a. IsAdvance known event c.args.limit a) c.in-Impossible.is c.in_ok-next.ensures in
-    refuted c.args.base.now c.args.events.now c.loop-place.place event c.loop-place.trunk.items known
-    (omega (arith, c.loop-place-test.true)) c.index-events-place.is c.loop-place.invariant.some
-    c.loop-place.invariant.reach c.loop-place.invariant.complete none
+    let within : c.loop-place.place < length c.args.events.now = omega (arith, c.loop-place-test.true) in (
+      refuted c.args.base.now c.args.events.now c.loop-place.place event c.loop-place.trunk.items known within c.index-events-place.is
+          c.loop-place.invariant.some c.loop-place.invariant.reach c.loop-place.invariant.complete none.0,
+      answers_given c.args.base.now c.args.events.now c.loop-place.place event c.loop-place.trunk.items known c.in-Impossible.answers.items
+          (slice_get_read c.args.events.now (length c.args.events.now) c.loop-place.place event refl within c.index-events-place.is)
+          c.loop-place.invariant.reach c.loop-place.invariant.complete none.1,
+    )
 
 pub returns-in-TooMany : goal.returns-in-TooMany
 returns-in-TooMany c =
@@ -50,9 +55,9 @@ loop-place-preserved c =
       reach =
           c.in_ok-shorten.ensures.reach base (take (place + 1) events)
           (reach_more base events place event trunk known next within c.index-events-place.is c.loop-place.invariant.reach leads.2);
-      complete = λ more explained.
-          continues_shortened trunk longer next new more c.in_ok-shorten.ensures
-          (complete_more base events place event known next within c.index-events-place.is c.loop-place.invariant.complete leads.1 more explained);
+      complete = λ more moves end runs.
+          continues_shortened trunk longer next new more end c.in_ok-shorten.ensures
+          (complete_more base events place event known next within c.index-events-place.is c.loop-place.invariant.complete leads.1 more moves end runs);
     }
 
 pub returns : goal.returns
