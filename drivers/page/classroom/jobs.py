@@ -3,6 +3,7 @@
 Bytes go both ways as strings of the characters U+0000 to U+00FF, one a byte.
 """
 from .child import Trouble
+from .picture import picture
 from .probe import calls_in
 from .talk import Talk, remark, unknown_transaction
 
@@ -108,9 +109,14 @@ def calls(pool, question):
 
 
 def judge(pool, question):
-    """Judges a record, in a child that may use what its limit needs."""
-    limit = number(question, "limit", 1, 1_000_000, 100_000)
-    return run_once(pool, ["judge", "--limit", str(limit)], script(question, "record"), pool.limits.judge_seconds, pool.limits.judge_kib(limit))
+    """Judges a record, in a child that may use what its limit needs, and draws it where there is a verdict."""
+    limit, record = number(question, "limit", 1, 1_000_000, 100_000), script(question, "record")
+
+    def run(text):
+        return run_once(pool, ["judge", "--limit", str(limit)], text, pool.limits.judge_seconds, pool.limits.judge_kib(limit))
+
+    ran = run(record)
+    return {**ran, "picture": picture(record, ran["output"].encode("latin-1"), lambda text: run(text)["output"].encode("latin-1"))}
 
 
 def program(pool, _):

@@ -4,6 +4,7 @@ import { ask, Failure } from "./api.js";
 import { fromText, linesOf, toText } from "./bytes.js";
 import { byId, el, fill, options, printedInto, sessionClass, shown, shownLines } from "./dom.js";
 import { endingText } from "./ending.js";
+import { drawInto, save } from "./picture.js";
 import { follow, titleOf } from "./titles.js";
 import { readVerdict } from "./verdict.js";
 
@@ -32,6 +33,7 @@ export class Judge {
     });
     byId("record-example").addEventListener("change", (event) => this.openExample(event.target.value));
     byId("play-order").addEventListener("click", () => this.app.visit("sessions", { script: this.verdict.order.join("\n") }));
+    byId("save-picture").addEventListener("click", () => save(this.picture));
   }
 
   offer({ records, judged }) {
@@ -97,7 +99,9 @@ export class Judge {
     const faulty = new Map(this.verdict.faults.map(({ line, cause }) => [line, cause]));
     fill(byId("record-lines"), linesOf(record).map((line, at) => this.lineItem(line, at + 1, faulty.get(at + 1))));
     printedInto(byId("judge-printed"), ran.output);
-    byId("record-lines").querySelector(".marked")?.scrollIntoView({ block: "nearest" });
+    this.picture = ran.picture;
+    byId("picture").hidden = byId("save-picture").hidden = this.picture === null;
+    if (this.picture !== null) drawInto(byId("picture"), this.picture);
   }
 
   lineItem(line, number, fault) {

@@ -1,0 +1,142 @@
+"""Draws a record and its verdict as SVG: a lane for each session, a bar from each call to its return, and a stroke where an order puts its effect."""
+from pathlib import Path
+from xml.sax.saxutils import escape
+
+from .calls import calls_of, effects_of
+from .labels import Labels
+from .layout import BAR, EVENT, GUTTER, HEAD, LINE, Layout
+from .record_lines import EVENTS, LOSS, lines_of, read_lines
+from .svg import element, plain
+from .verdict import read_verdict
+
+STYLE = (Path(__file__).resolve().parent.parent / "static/css/picture.css").read_text(encoding="utf-8")
+MOST_LINES = 400    # that are drawn where none are named
+BEFORE_MARK = 300   # of these, before a line that is marked
+MOST_ANSWERS = 12   # lines of what could have been answered
+CORNER = 5
+READING = "A bar reaches from a call to its return."
+ORDER = "Numbered strokes: an order of the effects that explains"
+
+
+def before_mark(record, verdict):
+    """The lines of a record before the one at which it is ILLEGAL."""
+    return b"".join(line + b"\n" for line in lines_of(record)[:verdict.line - 1])
+
+
+def picture(record, judged, judge, chosen=None):
+    """The picture of a record of which this was judged, or none where that is no verdict. `judge` judges a record: an ILLEGAL one's lines before
+    its mark are explained by an order of their own. `chosen` are the first and the last line that are drawn."""
+    verdict = read_verdict(judged)
+    if verdict.kind is None:
+        return None
+    lines = read_lines(record, verdict.faults)
+    explained, order = lines, verdict.order
+    if verdict.kind == "ILLEGAL":
+        explained = lines[:verdict.line - 1]
+        order = read_verdict(judge(before_mark(record, verdict))).order
+    effects = effects_of(order, explained)
+    return Picture(lines, verdict, effects, chosen or cut(lines, verdict)).text()
+
+
+def cut(lines, verdict):
+    """The first and the last line that are drawn of a long record: with its mark, or else from its beginning."""
+    marked = verdict.line or min(verdict.faults, default=1)
+    first = max(1, min(marked - BEFORE_MARK, len(lines) - MOST_LINES + 1))
+    return first, min(len(lines), first + MOST_LINES - 1)
+
+
+def notes_of(verdict):
+    """What is said below the marked lines: texts with their classes."""
+    if verdict.kind == "ILLEGAL":
+        answers = [line for answer in verdict.could for line in lines_of(b"COULD BE " + answer.replace(b"\n", b"\n  "))]
+        more = [(b"and %d lines more" % (len(answers) - MOST_ANSWERS), "hint")] if len(answers) > MOST_ANSWERS else []
+        return {verdict.line: [(b"ILLEGAL at line %d" % verdict.line, "said illegal"), *((line, "text could") for line in answers[:MOST_ANSWERS]), *more]}
+    if verdict.kind == "UNDECIDED":
+        return {verdict.line: [(b"UNDECIDED at line %d" % verdict.line, "said undecided")]}
+    return {number: [(cause, "said faulty")] for number, cause in verdict.faults.items()}
+
+
+class Picture:
+    def __init__(self, lines, verdict, effects, chosen):
+        first, last = chosen
+        self.verdict, self.all = verdict, len(lines)
+        self.first, self.last = first, last
+        self.mark = verdict.line
+        drawn = lines[first - 1:last]
+        numbers = {line.number for line in drawn}
+        self.calls = [call for call in calls_of(lines) if call.begin.number <= last and (call.end is None or call.end.number >= first)]
+        self.effects = [effect for effect in effects if effect.behind in numbers]
+        notes = {number: note for number, note in notes_of(verdict).items() if number in numbers}
+        self.layout = Layout(drawn, self.calls, self.effects, notes)
+        self.labels = Labels(self.layout, self.mark)
+
+    def text(self):
+        width, height = round(self.layout.width), round(self.layout.height)
+        inside = [
+            element("title", {}, escape(self._heading())), element("style", {}, escape(STYLE)),
+            element("rect", {"class_": "paper", "width": width, "height": height}),
+            *self._heads(), *map(self._guide, self.layout.sessions), *map(self._bar, self.calls),
+            *self.labels.all(self.calls), *map(self._tick, self.effects), *self._foot()]
+        return element("svg", {"xmlns": "http://www.w3.org/2000/svg", "class_": "lanes-picture", "width": width, "height": height,
+                               "viewBox": f"0 0 {width} {height}", "role": "img"}, "\n", "\n".join(inside), "\n") + "\n"
+
+    def _heading(self):
+        if self.verdict.kind == "FAULTY":
+            return "Faulty lines"
+        return self.verdict.kind + (f" at line {self.mark}" if self.mark else "")
+
+    def _heads(self):
+        found = [element("text", {"class_": f"verdict {self.verdict.kind.lower()}", "x": 12, "y": 26}, self._heading())]
+        if self.last - self.first + 1 < self.all:
+            found.append(element("text", {"class_": "hint", "x": 250, "y": 26}, f"lines {self.first:,} to {self.last:,} of {self.all:,}"))
+        return found + [element("text", {"class_": f"session s{session}", "x": self.layout.bar(session), "y": 52}, f"Session {session}")
+                        for session in self.layout.sessions]
+
+    def _guide(self, session):
+        """The line of a lane, up to where its client is lost."""
+        middle, loss = self.layout.bar(session) + BAR / 2, self.layout.losses.get(session)
+        end = self.layout.middle(loss.number) if loss else self.layout.bottom
+        return element("line", {"class_": f"guide s{session}", "x1": middle, "x2": middle, "y1": HEAD - 6, "y2": end})
+
+    def _bar(self, call):
+        layout, session = self.layout, call.begin.session
+        top = HEAD if call in layout.carried else layout.middle(call.begin.number) - 9
+        open_from = layout.bottom
+        if call.end is not None and call.end.number in layout.top:
+            open_from = layout.middle(call.end.number) + (0 if call.end.kind == LOSS else 9)
+        elif call.end is None:
+            open_from = top + 18
+        bottom = max([open_from, *(layout.ticks[it.number] + 8 for it in self.effects if it.call is not None and it.call.begin == call.begin)])
+        if call.end is None:
+            bottom = max(bottom, layout.bottom)
+        parts = [self._piece(session, "bar", top, open_from)]
+        if bottom > open_from:
+            parts.append(self._piece(session, "bar open", open_from, bottom))
+        parts.append(element("text", {"class_": "who", "x": layout.bar(session) + BAR / 2, "y": top + 13}, str(session)))
+        said = f"Session {session}, line {call.begin.number}: {plain(call.begin.text)}"
+        if call.end is not None:
+            said += f"; line {call.end.number}: {plain(call.end.text)}"
+        is_unjudged = self.mark is not None and call.begin.number > self.mark
+        return element("g", {"class_": f"call s{session}{' unjudged' if is_unjudged else ''}", "data_line": call.begin.number},
+                       element("title", {}, escape(said)), *parts)
+
+    def _piece(self, session, kind, top, bottom):
+        return element("rect", {"class_": kind, "x": self.layout.bar(session), "y": top, "width": BAR, "height": bottom - top, "rx": CORNER})
+
+    def _tick(self, effect):
+        layout, y = self.layout, self.layout.ticks[effect.number]
+        left = layout.bar(effect.session)
+        parts = [element("line", {"class_": "tick", "x1": left - 5, "x2": left + BAR + 5, "y1": y, "y2": y}),
+                 element("text", {"class_": "nth halo", "x": left - 8, "y": y + 4}, str(effect.number))]
+        if effect.call is None:
+            parts.append(element("text", {"class_": "remark halo", "x": layout.beside(effect.session), "y": y + 4}, "DISCONNECT"))
+        return element("g", {"class_": "effect", "data_nth": effect.number, "data_line": effect.call.begin.number if effect.call else None}, *parts)
+
+    def _foot(self):
+        said = [READING]
+        if self.effects:
+            said.append(f"{ORDER} {f'all above line {self.mark}' if self.mark else 'all'}.")
+        if self.mark is not None and any(line.number > self.mark and line.kind in EVENTS for line in self.layout.lines):
+            said.append("What is pale comes later, and wasn't judged.")
+        y = self.layout.bottom + EVENT
+        return [element("text", {"class_": "hint", "x": 12, "y": y + LINE * at}, text) for at, text in enumerate(said)]

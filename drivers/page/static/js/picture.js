@@ -1,0 +1,22 @@
+// The picture of a record: the server makes its SVG, which is shown as it is and saved as it is.
+import { bringIntoView, el, fill } from "./dom.js";
+
+const UNITS = 16; // of the picture for the height of the page's letters
+const BELOW = 120; // pixels that are seen below the mark
+
+// Its style stands in a style sheet of the page's own.
+export function drawInto(room, svg) {
+  const [head, , rest] = svg.split(/<\/?style>/);
+  const made = document.importNode(new DOMParser().parseFromString(head + rest, "image/svg+xml").documentElement, true);
+  for (const side of ["width", "height"]) made.setAttribute(side, `${Number(made.getAttribute(side)) / UNITS}rem`);
+  fill(room, made);
+  room.scrollTo(0, 0);
+  const marked = room.querySelector(".marked");
+  if (marked) bringIntoView(room, marked, BELOW);
+}
+
+export function save(svg) {
+  const address = URL.createObjectURL(new Blob([svg], { type: "image/svg+xml" }));
+  el("a", { href: address, download: "record.svg" }).click();
+  setTimeout(() => URL.revokeObjectURL(address), 10_000);
+}
