@@ -14,7 +14,7 @@ BESIDE = 9          # from a bar to what is said beside it
 FOOT = 72
 NARROWEST = 560
 MOST_ROWS = 8       # of a list that are drawn
-LETTERS = ((3, 34), (6, 24), (16, 18))  # where there are so many lanes at most, one has so many letters at most
+LETTERS = ((2, 34), (16, 20))  # where there are so many lanes at most, one has so many letters at most
 
 
 class Layout:

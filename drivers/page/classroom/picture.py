@@ -58,7 +58,7 @@ def notes_of(verdict):
 
 class Picture:
     def __init__(self, lines, verdict, effects, chosen):
-        first, last = chosen
+        first, last = min(chosen[0], max(1, len(lines))), min(chosen[1], len(lines))
         self.verdict, self.all = verdict, len(lines)
         self.first, self.last = first, last
         self.mark = verdict.line

@@ -3,6 +3,7 @@ import { bringIntoView, el, fill } from "./dom.js";
 
 const UNITS = 16; // of the picture for the height of the page's letters
 const BELOW = 120; // pixels that are seen below the mark
+const BESIDE = 24; // and beside it
 
 // Its style stands in a style sheet of the page's own.
 export function drawInto(room, svg) {
@@ -12,7 +13,9 @@ export function drawInto(room, svg) {
   fill(room, made);
   room.scrollTo(0, 0);
   const marked = room.querySelector(".marked");
-  if (marked) bringIntoView(room, marked, BELOW);
+  if (!marked) return;
+  bringIntoView(room, marked, BELOW);
+  room.scrollLeft = Math.max(0, marked.getBoundingClientRect().right - room.getBoundingClientRect().right + BESIDE);
 }
 
 export function save(svg) {
