@@ -10,7 +10,7 @@ BASE = 16.5  # from the top of an event to the foot of its letters
 class Labels:
     def __init__(self, layout, mark):
         self.layout, self.mark = layout, mark
-        self.session = None  # of the list whose rows come
+        self.session = None  # of the list whose rows come, where its return is drawn
 
     def all(self, calls):
         """Every line's, and then those notes that lie over others."""
@@ -56,9 +56,13 @@ class Labels:
     def _row(self, line):
         text, y = line.text, self.layout.top[line.number] + 13
         left = self.layout.rows_left.get(line.number)
-        session = self.session or self.layout.sessions[0]
-        found = [self._beside("reply halo", session, y, text)]
-        return found if left is None else [*found, element("text", {"class_": "hint halo", "x": self.layout.beside(session) + LETTER * columns(text) + 10, "y": y}, f"+ {left:,}")]
+        if self.session is None:
+            return self._other(line)
+        found = [self._beside("reply halo", self.session, y, text)]
+        if left is not None:
+            beside = self.layout.beside(self.session) + LETTER * min(columns(text), self.layout.letters) + 10
+            found.append(element("text", {"class_": "hint halo", "x": beside, "y": y}, f"+ {left:,}"))
+        return found
 
     def _remark(self, line):
         return [element("text", {"class_": "remark halo", "x": GUTTER, "y": self.layout.top[line.number] + 13 + LINE * at}, shown(part, columns(part)))

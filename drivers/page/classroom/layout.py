@@ -22,7 +22,7 @@ class Layout:
 
     def __init__(self, lines, calls, effects, notes):
         self.lines, self.effects, self.notes = lines, effects, notes
-        self.sessions = sorted({line.session for line in lines if line.kind in EVENTS} | {call.begin.session for call in calls})
+        self.sessions = sorted({line.session for line in lines if line.kind in EVENTS} | {call.begin.session for call in calls} | {effect.session for effect in effects})
         self.carried = [call for call in calls if lines and call.begin.number < lines[0].number]
         self.losses = {line.session: line for line in lines if line.kind == LOSS}
         self.margin = 14 + LETTER * len(str(max((effect.number for effect in effects), default=0)))

@@ -64,8 +64,10 @@ class Picture:
         self.mark = verdict.line
         drawn = lines[first - 1:last]
         numbers = {line.number for line in drawn}
-        self.calls = [call for call in calls_of(lines) if call.begin.number <= last and (call.end is None or call.end.number >= first)]
         self.effects = [effect for effect in effects if effect.behind in numbers]
+        late = {effect.call.begin.number for effect in self.effects if effect.call}
+        self.calls = [call for call in calls_of(lines)
+                      if call.begin.number <= last and (call.end is None or call.end.number >= first or call.begin.number in late)]
         notes = {number: note for number, note in notes_of(verdict).items() if number in numbers}
         self.layout = Layout(drawn, self.calls, self.effects, notes)
         self.labels = Labels(self.layout, self.mark)
@@ -100,25 +102,29 @@ class Picture:
 
     def _bar(self, call):
         layout, session = self.layout, call.begin.session
-        top = HEAD if call in layout.carried else layout.middle(call.begin.number) - 9
-        open_from = layout.bottom
-        if call.end is not None and call.end.number in layout.top:
-            open_from = layout.middle(call.end.number) + (0 if call.end.kind == LOSS else 9)
-        elif call.end is None:
-            open_from = top + 18
-        bottom = max([open_from, *(layout.ticks[it.number] + 8 for it in self.effects if it.call is not None and it.call.begin == call.begin)])
-        if call.end is None:
-            bottom = max(bottom, layout.bottom)
-        parts = [self._piece(session, "bar", top, open_from)]
-        if bottom > open_from:
-            parts.append(self._piece(session, "bar open", open_from, bottom))
+        top, known, bottom = self._reach(call)
+        parts = [self._piece(session, "bar", top, known)]
+        if bottom > known:
+            parts.append(self._piece(session, "bar open", known, bottom))
         parts.append(element("text", {"class_": "who", "x": layout.bar(session) + BAR / 2, "y": top + 13}, str(session)))
         said = f"Session {session}, line {call.begin.number}: {plain(call.begin.text)}"
         if call.end is not None:
             said += f"; line {call.end.number}: {plain(call.end.text)}"
-        is_unjudged = self.mark is not None and call.begin.number > self.mark
-        return element("g", {"class_": f"call s{session}{' unjudged' if is_unjudged else ''}", "data_line": call.begin.number},
-                       element("title", {}, escape(said)), *parts)
+        unjudged = " unjudged" if self.mark is not None and call.begin.number > self.mark else ""
+        return element("g", {"class_": f"call s{session}{unjudged}", "data_line": call.begin.number}, element("title", {}, escape(said)), *parts)
+
+    def _reach(self, call):
+        """Where a bar begins, up to where its call is known to be open, and where it ends."""
+        layout = self.layout
+        top = HEAD if call in layout.carried else layout.middle(call.begin.number) - 9
+        if call.end is None or call.end.number < self.first:
+            known = top + 18
+        elif call.end.number > self.last:
+            known = layout.bottom
+        else:
+            known = layout.middle(call.end.number) + (9 if call.is_answered() else 0)
+        strokes = [layout.ticks[it.number] + 8 for it in self.effects if it.call is not None and it.call.begin == call.begin]
+        return top, known, max([known, *strokes, layout.bottom if call.end is None else known])
 
     def _piece(self, session, kind, top, bottom):
         return element("rect", {"class_": kind, "x": self.layout.bar(session), "y": top, "width": BAR, "height": bottom - top, "rx": CORNER})

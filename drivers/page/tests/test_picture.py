@@ -142,6 +142,13 @@ class Pictures(unittest.TestCase):
         self.assertIn("lines 1,001 to 1,010 of 2,001", drawn.texts("hint"))
         self.assertIn("GET 'k'", drawn.texts("statement"))
 
+    def test_a_part_has_what_takes_effect_in_it_and_the_rest_of_a_list(self):
+        record = RECORDS["lost_client"]
+        self.assertEqual([line for _, line, _ in Drawn(record, (7, 10)).ticks()], ["7", None, "9"])
+        self.assertEqual([line for _, line, _ in Drawn(RECORDS["lost_call_with_effect"], (4, 6)).ticks()][0], "2")
+        part = Drawn(b"1 > XA RECOVER\n1 < ROWS 2\n1 1 0 0x61\n1 1 0 0x62\n", (3, 4))
+        self.assertEqual(part.texts("text"), ["1 1 0 0x61", "1 1 0 0x62"])
+
     def test_sixteen_lanes(self):
         drawn = Drawn(b"".join(b"%d > GET 'k'\n%d < NONE\n" % (session, session) for session in range(1, 17)))
         self.assertEqual(drawn.texts("session"), [f"Session {session}" for session in range(1, 17)])
