@@ -65,9 +65,9 @@ class Picture:
         drawn = lines[first - 1:last]
         numbers = {line.number for line in drawn}
         self.effects = [effect for effect in effects if effect.behind in numbers]
-        late = {effect.call.begin.number for effect in self.effects if effect.call}
+        self.strokes = {effect.call.begin.number: effect.number for effect in self.effects if effect.call}
         self.calls = [call for call in calls_of(lines)
-                      if call.begin.number <= last and (call.end is None or call.end.number >= first or call.begin.number in late)]
+                      if call.begin.number <= last and (call.end is None or call.end.number >= first or call.begin.number in self.strokes)]
         notes = {number: note for number, note in notes_of(verdict).items() if number in numbers}
         self.layout = Layout(drawn, self.calls, self.effects, notes)
         self.labels = Labels(self.layout, self.mark)
@@ -123,8 +123,8 @@ class Picture:
             known = layout.bottom
         else:
             known = layout.middle(call.end.number) + (9 if call.is_answered() else 0)
-        strokes = [layout.ticks[it.number] + 8 for it in self.effects if it.call is not None and it.call.begin == call.begin]
-        return top, known, max([known, *strokes, layout.bottom if call.end is None else known])
+        stroke = layout.ticks.get(self.strokes.get(call.begin.number), top) + 8
+        return top, known, max(known, stroke, layout.bottom if call.end is None else known)
 
     def _piece(self, session, kind, top, bottom):
         return element("rect", {"class_": kind, "x": self.layout.bar(session), "y": top, "width": BAR, "height": bottom - top, "rx": CORNER})
