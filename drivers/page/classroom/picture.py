@@ -4,8 +4,8 @@ from xml.sax.saxutils import escape
 
 from .calls import calls_of, effects_of
 from .labels import Labels
-from .layout import BAR, EVENT, GUTTER, HEAD, LINE, Layout
-from .record_lines import EVENTS, LOSS, lines_of, read_lines
+from .layout import BAR, EVENT, HEAD, LINE, Layout
+from .record_lines import EVENTS, lines_of, read_lines
 from .svg import element, plain
 from .verdict import read_verdict
 
