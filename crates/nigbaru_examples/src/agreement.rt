@@ -3,7 +3,7 @@ ghost use Rattle.std.specs.Prelude.{◌≡◌, ◌<◌, ◌∷◌, [], IfOk, vec
 ghost use Rattle.nigbaru.specs.coordinator.Work.{IsRow};
 ghost use Rattle.nigbaru.specs.store.Passes.{log_of, identity_of};
 
-use crate::opened;
+use crate::meeting::opened;
 use anyhow::{Result, bail};
 use nigbaru::{
     Bytes, Coordinator, Decisions, Ending, Key, Log, Pass, Reply, Session, Speak, Statement, Store,
@@ -13,7 +13,7 @@ use std::alloc::Global;
 use std::sync::Wait;
 
 /// A text of one byte.
-fn text(byte: u8) -> Bytes
+pub fn text(byte: u8) -> Bytes
     ensures { result.items ≡ byte ∷ [] }
 {
     let mut text = Bytes::new();

@@ -2,7 +2,7 @@
 ghost use Rattle.std.specs.Prelude.{◌≡◌, IfOk};
 ghost use Rattle.nigbaru.specs.store.Passes.{log_of, identity_of};
 
-use crate::say;
+use crate::speech::say;
 use anyhow::{Result, bail};
 use nigbaru::history::Entry;
 use nigbaru::{Pass, Reply, Store};

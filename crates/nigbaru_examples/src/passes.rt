@@ -2,7 +2,8 @@
 ghost use Rattle.std.specs.Prelude.{◌≡◌};
 ghost use Rattle.nigbaru.specs.store.Passes.{log_of, identity_of};
 
-use crate::{opened, say};
+use crate::meeting::opened;
+use crate::speech::say;
 use anyhow::{Result, bail};
 use nigbaru::{Pass, Reply, Store};
 use std::alloc::Global;

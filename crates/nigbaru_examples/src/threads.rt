@@ -1,7 +1,7 @@
 //! Sessions of one store on threads of their own.
 ghost use Rattle.std.specs.Prelude.{◌≡◌};
 
-use crate::opened;
+use crate::meeting::opened;
 use anyhow::{Result, bail};
 use nigbaru::history::DecisionLog;
 use nigbaru::{

@@ -1,0 +1,52 @@
+//! Programs that embed a store: what docs/EMBEDDING.md shows, as it is proved. It prints what each comes to.
+#![tactic(auto)]
+
+mod agreement;
+mod kept;
+mod meeting;
+mod passes;
+mod printing;
+mod recovery;
+mod speech;
+mod statement;
+mod threads;
+mod turns;
+
+use anyhow::Result;
+use printing::{
+    show_ending, show_history, show_list, show_race, show_recovery, show_reply, show_statements,
+};
+use std::alloc::Global;
+use std::sync::Wait;
+use std::thread::Threads;
+
+/// What one thread does.
+fn show_sessions<R: Print + Wait>(rt: &R, alloc: Global) -> Result<()> {
+    show_reply(rt, "meet, and read", &meeting::read_elsewhere(rt, alloc)?)?;
+    show_reply(
+        rt,
+        "write in turn, meet, and read",
+        &turns::written_in_turn(rt, alloc)?,
+    )?;
+    show_history(rt, &meeting::written_down(rt, alloc)?)?;
+    show_reply(
+        rt,
+        "a pass after an error",
+        &passes::asked_again(rt, alloc)?,
+    )?;
+    show_ending(rt, &agreement::in_both(rt, alloc)?)?;
+    show_recovery(rt, &recovery::recovered(rt, alloc)?)
+}
+
+/// What several do.
+fn show_threads<R: Print + Threads + Wait + Sync>(rt: &R, alloc: Global) -> Result<()> {
+    show_race(rt, &threads::raced(rt, alloc)?)?;
+    show_list(rt, &threads::side_by_side(rt, alloc)?)
+}
+
+fn main(rt: HostRuntime) -> Result<()> {
+    let alloc = rt.alloc();
+    show_statements(&rt, alloc)?;
+    show_sessions(&rt, alloc)?;
+    show_threads(&rt, alloc)
+}
