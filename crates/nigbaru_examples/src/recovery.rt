@@ -48,10 +48,11 @@ fn decided<S: Speak + Drop, R: Wait>(
     };
     let put = Statement::Put(key, text(b'v'));
     let mut transaction = coordinator.begin(&mut decisions)?;
-    for store in 0..3 {
-        if !work(rt, &mut coordinator, &mut transaction, store, &put) {
-            bail!("a store has not done its work");
-        }
+    let worked = work(rt, &mut coordinator, &mut transaction, 0, &put)
+        && work(rt, &mut coordinator, &mut transaction, 1, &put)
+        && work(rt, &mut coordinator, &mut transaction, 2, &put);
+    if !worked {
+        bail!("a store has not done its work");
     }
     let Vote::Ready(prepared) = coordinator.prepare(rt, transaction) else {
         bail!("a store has not voted yes");
