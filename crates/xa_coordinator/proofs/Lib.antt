@@ -16,4 +16,5 @@ pub mod Works
 pub mod LettingGo
 pub mod Listed
 pub mod Settling
+pub mod Adding
 pub mod Recovering

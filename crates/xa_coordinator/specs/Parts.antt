@@ -12,7 +12,8 @@
 --     WorksWithin      what a row statement came to in an open branch
 --     total, counted   all that was counted;  with one branch more
 --     fault_by         the fault of a store, by its cause
-use Rattle.std.specs.Prelude.{◌≡◌, ◌≢◌, ◌+◌, ◌⊎◌, ℕ, Bool, true, false, List, [], ◌∷◌, ◌++◌, Option, Some, None, Result, Ok, Err}
+--     added_at         how many entries the session of a store has added
+use Rattle.std.specs.Prelude.{◌≡◌, ◌≢◌, ◌+◌, ◌⊎◌, ℕ, Bool, true, false, List, [], ◌∷◌, ◌++◌, length, slice_get, Option, Some, None, Result, Ok, Err}
 use Rattle.xa_coordinator.specs.Agreement.{AddsStatements}
 use Rattle.xa_coordinator.specs.Branch.{branch_xid}
 use Rattle.xa_coordinator.specs.Outcomes.{IsClosed, IsVoted, branch_of}
@@ -130,3 +131,12 @@ counted tally decided Missing = record tally { missing = tally.missing + 1 }
 abbrev pub fault_by : ℕ → Cause → RecoverFault
 fault_by store (CauseSession fault) = RecoverSession store fault
 fault_by store (CauseRefused error) = RecoverRefused store error
+
+-- how many entries a session has added; none where there is no session
+abbrev pub added_by : {S : Type 0} → (S → SessionView) → Option S → ℕ
+added_by view None = 0
+added_by view (Some session) = length (view session).known.mine
+
+-- how many entries the session of a store has added
+unfoldable pub added_at : {S : Type 0} → (S → SessionView) → List S → ℕ → ℕ
+added_at view stores store = added_by view (slice_get stores store)

@@ -1,10 +1,10 @@
 //! The branch of a transaction in one store, from its start to its end.
-ghost use Rattle.std.specs.Prelude.{◌≡◌, ◌<◌, Some, None, Err, true, false, IfErr, OnOk, OnErr, slice_get, vec_len};
+ghost use Rattle.std.specs.Prelude.{◌≡◌, ◌<◌, ◌≤◌, ◌+◌, Some, None, Err, true, false, IfErr, OnOk, OnErr, slice_get, vec_len};
 ghost use Rattle.xa_session.specs.View.{SessionView};
 ghost use Rattle.xa_coordinator.specs.Branch.{branch_xid};
 ghost use Rattle.xa_coordinator.specs.OpenBranches.{HasOpen, IsAsBeforeOrEnded, has_working_branch as is_working_in};
 ghost use Rattle.xa_coordinator.specs.Outcomes.{finish_statement, ends_first};
-ghost use Rattle.xa_coordinator.specs.Parts.{SaysAs, ClosesAs, PreparesAs, IsToldAs};
+ghost use Rattle.xa_coordinator.specs.Parts.{SaysAs, ClosesAs, PreparesAs, IsToldAs, added_at};
 ghost use Rattle.xa_coordinator.specs.Stores.{AtStore, ChangesAt};
 ghost use Rattle.xa_xid.specs.declared.statement.Statement.{Statement};
 ghost use Rattle.xa_xid.specs.declared.statement.Statement.TheVariants.{Start, End, Prepare, Rollback};
@@ -124,6 +124,7 @@ impl<S: Speak> Coordinator<S> {
         ensures free { slice_get self.old.branches store ≡ Some None → slice_get self.new.branches store ≡ Some None }
         ensures finishes { AtStore S.view store (SaysAs (finish_statement closing (branch_xid self.old.name.items number store)) result) self.old.stores.items
             self.new.stores.items }
+        ensures few { added_at S.view self.new.stores.items store ≤ added_at S.view self.old.stores.items store + 1 }
     {
         let statement = closing.statement(self.branch(number, store));
         found(self.execute_at(rt, store, &statement, None))

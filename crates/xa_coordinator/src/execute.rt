@@ -1,9 +1,9 @@
 //! Giving one statement to a session, or to the session of one store.
-ghost use Rattle.std.specs.Prelude.{◌≡◌, false, MatchOption, ◌<◌, Some, OnOk, OnErr, slice_get, vec_len};
+ghost use Rattle.std.specs.Prelude.{◌≡◌, false, MatchOption, ◌<◌, ◌≤◌, ◌+◌, Some, OnOk, OnErr, slice_get, vec_len};
 ghost use Rattle.xa_server.specs.Locks.{LockLaw};
 ghost use Rattle.xa_server.specs.Step.{is_refused};
 ghost use Rattle.xa_server.specs.declared.reply.Reply.TheVariants.{Refused};
-ghost use Rattle.xa_coordinator.specs.Parts.{IsOfBranch, IsToldAs, LeavesOpen};
+ghost use Rattle.xa_coordinator.specs.Parts.{IsOfBranch, IsToldAs, LeavesOpen, added_at};
 ghost use Rattle.xa_coordinator.specs.Branch.{branch_xid as xid_of_branch};
 ghost use Rattle.xa_coordinator.specs.Stores.{AtStore, ChangesAt};
 
@@ -75,6 +75,7 @@ impl<S: Speak> Coordinator<S> {
         ensures mark { OnOk result (slice_get self.new.branches store ≡ Some then) }
         ensures unsaid { OnErr result (self.new.branches ≡ self.old.branches) }
         ensures says { AtStore S.view store (IsToldAs statement.now result) self.old.stores.items self.new.stores.items }
+        ensures few { added_at S.view self.new.stores.items store ≤ added_at S.view self.old.stores.items store + 1 }
     {
         execute_on(rt, &mut self.stores[store as usize], statement)?;
         self.branches[store as usize] = then;

@@ -1,6 +1,7 @@
 //! What a recovery asks of a store: to let go of what is open, and to list what is prepared.
-ghost use Rattle.std.specs.Prelude.{◌≡◌, ◌<◌, Some, None, false, IfOk, IfErr, OnOk, OnErr, slice_get, vec_len};
+ghost use Rattle.std.specs.Prelude.{◌≡◌, ◌<◌, ◌≤◌, ◌+◌, Some, None, false, IfOk, IfErr, OnOk, OnErr, slice_get, vec_len};
 ghost use Rattle.xa_coordinator.specs.OpenBranches.{association_seen};
+ghost use Rattle.xa_coordinator.specs.Parts.{added_at};
 ghost use Rattle.xa_coordinator.specs.Stores.{AtStore, ChangesAt};
 ghost use Rattle.xa_coordinator.specs.Recovery.{IsDisconnected, ListsPrepared};
 ghost use Rattle.xa_coordinator.specs.Told.{IsUndone};
@@ -48,6 +49,7 @@ impl<S: Speak> Coordinator<S> {
         ensures done { OnOk result (AtStore S.view store IsDisconnected self.old.stores.items self.new.stores.items) }
         ensures undone { IfErr result
             (λ fault. AtStore S.view store (IsUndone DisconnectStatement (Cause.Session fault)) self.old.stores.items self.new.stores.items) }
+        ensures few { added_at S.view self.new.stores.items store ≤ added_at S.view self.old.stores.items store + 1 }
     {
         let_go(rt, &mut self.stores[store as usize])?;
         self.branches[store as usize] = None;
@@ -68,6 +70,7 @@ impl<S: Speak> Coordinator<S> {
         ensures quiet { OnOk result (AtStore S.view store (λ old new. new.known.mine ≡ old.known.mine) self.old.stores.items self.new.stores.items) }
         ensures undone { IfErr result
             (λ fault. AtStore S.view store (IsUndone (RecoverStatement false) (Cause.Session fault)) self.old.stores.items self.new.stores.items) }
+        ensures few { added_at S.view self.new.stores.items store ≤ added_at S.view self.old.stores.items store }
     {
         list_prepared(rt, &mut self.stores[store as usize])
     }

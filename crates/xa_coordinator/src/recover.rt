@@ -5,7 +5,7 @@ ghost use Rattle.xa_coordinator.specs.Decisions.{closed_of, is_decided, decision
 ghost use Rattle.xa_session.specs.View.{SessionView};
 ghost use Rattle.xa_coordinator.specs.Recovery.{IsDisconnected, IsFinished, IsSettled, IsClear, IsRecovered, IsCutOff, BreaksBy, BreaksHere, Recovers, BreaksOff};
 ghost use Rattle.xa_coordinator.specs.Recovery.{asked_by_fault};
-ghost use Rattle.xa_coordinator.specs.Parts.{fault_by};
+ghost use Rattle.xa_coordinator.specs.Parts.{added_at, fault_by, total};
 ghost use Rattle.xa_coordinator.specs.declared.branches.OpenBranch.{OpenBranch as OpenBranchOf};
 ghost use Rattle.xa_coordinator.specs.declared.report.Tally.{Tally as TallyOf};
 ghost use Rattle.xa_coordinator.specs.Stores.{AtStore, EachStore, ChangesAt};
@@ -46,6 +46,7 @@ impl<S: Speak> Coordinator<S> {
             (λ cause. AtStore S.view store
             (λ freed new. (old : SessionView) → IsDisconnected old freed → IsCutOff decisions.now self.old.name.items store old cause new) self.old.stores.items
             self.new.stores.items) }
+        ensures few { IfOk result (λ tally. added_at S.view self.new.stores.items store ≤ added_at S.view self.old.stores.items store + total tally) }
     {
         match self.prepared_in(rt, store) {
             Ok(found) => self.settle_each(rt, decisions, store, found.0.as_slice()),
@@ -70,6 +71,7 @@ impl<S: Speak> Coordinator<S> {
         ensures broken { IfErr result
             (λ cause. BreaksBy S.view decisions.now self.old.name.items store cause self.old.branches self.new.branches self.old.stores.items
             self.new.stores.items) }
+        ensures few { IfOk result (λ tally. added_at S.view self.new.stores.items store ≤ added_at S.view self.old.stores.items store + 1 + total tally) }
     {
         match self.disconnect(rt, store) {
             Ok(()) => self.list_and_finish(rt, decisions, store),
@@ -92,6 +94,7 @@ impl<S: Speak> Coordinator<S> {
             → length self.old.stores.items ≡ length before
             → AtStore S.view store (IsSettled decisions self.old.name.items store tally) before self.old.stores.items
             → BreaksHere S.view decisions self.old.name.items fault marks self.new.branches before self.new.stores.items) }
+        ensures few { added_at S.view self.new.stores.items store ≤ added_at S.view self.old.stores.items store }
     {
         let listed = self.prepared_in(rt, store);
         match listed {
@@ -120,6 +123,7 @@ impl<S: Speak> Coordinator<S> {
         ensures place { IfErr result (λ fault. asked_by_fault fault ≡ store + 1) }
         ensures fails { IfErr result
             (λ fault. BreaksHere S.view decisions.now self.old.name.items fault self.old.branches self.new.branches self.old.stores.items self.new.stores.items) }
+        ensures few { IfOk result (λ one. added_at S.view self.new.stores.items store ≤ added_at S.view self.old.stores.items store + 1 + total one.0) }
     {
         match self.finish_prepared(rt, decisions, store) {
             Ok(tally) => {

@@ -4,7 +4,7 @@ ghost use Rattle.std.specs.List.{list_any};
 ghost use Rattle.xa_xid.specs.Xid.{same_xid};
 ghost use Rattle.xa_coordinator.specs.Branch.{branch_xid};
 ghost use Rattle.xa_coordinator.specs.Recovery.{finish_decided as finish_by_decision, SettlesOne, Settled, IsUnsettled, StopsAmong};
-ghost use Rattle.xa_coordinator.specs.Parts.{counted, total};
+ghost use Rattle.xa_coordinator.specs.Parts.{added_at, counted, total};
 ghost use Rattle.xa_coordinator.specs.Stores.{AtStore, ChangesAt};
 
 use crate::branch_name::number_of_branch;
@@ -65,6 +65,8 @@ impl<S: Speak> Coordinator<S> {
         ensures marks { ChangesAt store self.old.branches self.new.branches }
         ensures free { slice_get self.new.branches store ≡ Some None }
         ensures more { IfOk result (λ after. total after ≤ total tally + 1) }
+        ensures few { IfOk result
+            (λ after. added_at S.view self.new.stores.items store + total tally ≤ added_at S.view self.old.stores.items store + total after) }
         ensures settled { IfOk result
             (λ after. AtStore S.view store (λ old new. SettlesOne decisions.now self.old.name.items store xid.now tally old after new) self.old.stores.items
             self.new.stores.items) }
@@ -98,6 +100,7 @@ impl<S: Speak> Coordinator<S> {
             self.new.stores.items) }
         ensures broken { IfErr result
             (λ cause. AtStore S.view store (StopsAmong decisions.now self.old.name.items store xids.now cause) self.old.stores.items self.new.stores.items) }
+        ensures few { IfOk result (λ tally. added_at S.view self.new.stores.items store ≤ added_at S.view self.old.stores.items store + total tally) }
     {
         let mut tally = Tally {
             committed: 0,

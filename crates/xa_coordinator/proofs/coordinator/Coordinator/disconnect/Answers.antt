@@ -1,4 +1,4 @@
-use Rattle.std.proofs.Common.{None}
+use Rattle.std.proofs.Common.{None, [], arith}
 use Rattle.std.proofs.lemmas.Result.{err_from_is_err_and}
 use Rattle.xa_xid.specs.declared.statement.Statement.TheVariants.{Disconnect}
 use Rattle.xa_coordinator.specs.Recovery.{IsDisconnected}
@@ -6,6 +6,7 @@ use Rattle.xa_coordinator.specs.Told.{IsUndone}
 use Rattle.xa_coordinator.specs.declared.fault.Cause.TheVariants.{Session}
 use Rattle.xa_coordinator.proofs.Keeping.{marked, unmarked, at_place, changes_at}
 use Rattle.xa_coordinator.proofs.Telling.{association_refused}
+use Rattle.xa_coordinator.proofs.Adding.{adds_so_many, disconnect_adds, added_next}
 use Rattle.xa_coordinator.proofs.coordinator.Coordinator.disconnect.Goals as goal
 
 pub invariant_of-self : goal.invariant_of-self
@@ -54,3 +55,13 @@ returns-in_err-let_go-clause-undone g c =
     (IsUndone Disconnect (Session c.in_err-let_go.field-0.0)) c.args.self.now.stores.items c.args.store c.index_mut.result.now c.let_go.new.session
     c.index_mut.ensures.value
     c.in_err-let_go.ensures.undone)
+
+pub returns-clause-few : goal.returns-clause-few
+returns-clause-few g c =
+    added_next g.S.Speak.view c.args.self.now.stores.items c.args.store 1 c.index_mut.result.now c.let_go.new.session c.index_mut.ensures.value
+    (omega (arith, c.requires)) (disconnect_adds _ _ c.in_ok-let_go.ensures.done)
+
+pub returns-in_err-let_go-clause-few : goal.returns-in_err-let_go-clause-few
+returns-in_err-let_go-clause-few g c =
+    added_next g.S.Speak.view c.args.self.now.stores.items c.args.store 1 c.index_mut.result.now c.let_go.new.session c.index_mut.ensures.value
+    (omega (arith, c.requires)) (omega (arith, adds_so_many [] _ _ c.in_err-let_go.ensures.undone.adds))

@@ -1,7 +1,9 @@
+use Rattle.std.proofs.Common.{[], ◌∷◌, arith}
 use Rattle.std.proofs.lemmas.Result.{err_from_is_err_and}
 use Rattle.xa_coordinator.specs.Told.{IsDone, IsUndone}
 use Rattle.xa_coordinator.proofs.Keeping.{marked, unmarked, at_place, changes_at, leaves_association}
 use Rattle.xa_coordinator.proofs.Telling.{association_refused}
+use Rattle.xa_coordinator.proofs.Adding.{adds_so_many, added_next}
 use Rattle.xa_coordinator.proofs.coordinator.Coordinator.execute_at.Goals as goal
 
 pub invariant_of-self : goal.invariant_of-self
@@ -54,3 +56,13 @@ returns-in_err-execute_on-clause-says g c =
     (at_place g.S.Speak.view c.args.self.now.name.items
     (IsUndone c.args.statement.now c.in_err-execute_on.field-0.0) c.args.self.now.stores.items c.args.store c.index_mut.result.now c.execute_on.new.session
     c.index_mut.ensures.value c.in_err-execute_on.ensures.says)
+
+pub returns-clause-few : goal.returns-clause-few
+returns-clause-few g c =
+    added_next g.S.Speak.view c.args.self.now.stores.items c.args.store 1 c.index_mut.result.now c.execute_on.new.session c.index_mut.ensures.value
+    (omega (arith, c.requires.store)) (adds_so_many (c.args.statement.now ∷ []) _ _ c.in_ok-execute_on.ensures.says.adds)
+
+pub returns-in_err-execute_on-clause-few : goal.returns-in_err-execute_on-clause-few
+returns-in_err-execute_on-clause-few g c =
+    added_next g.S.Speak.view c.args.self.now.stores.items c.args.store 1 c.index_mut.result.now c.execute_on.new.session c.index_mut.ensures.value
+    (omega (arith, c.requires.store)) (omega (arith, adds_so_many [] _ _ c.in_err-execute_on.ensures.says.adds))

@@ -1,4 +1,4 @@
-use Rattle.std.proofs.Common.{false}
+use Rattle.std.proofs.Common.{◌≤◌, ◌+◌, false, [], length, arith}
 use Rattle.std.specs.Prelude.{slice_set}
 use Rattle.std.proofs.lemmas.Result.{IfOk-weaker, IfErr-weaker}
 use Rattle.xa_xid.specs.declared.statement.Statement.TheVariants.{Recover}
@@ -7,6 +7,7 @@ use Rattle.xa_coordinator.specs.Stores.{AtStore}
 use Rattle.xa_coordinator.specs.Told.{IsUndone}
 use Rattle.xa_coordinator.specs.declared.fault.Cause.TheVariants.{Session}
 use Rattle.xa_coordinator.proofs.Keeping.{unmarked, at_place, changes_at}
+use Rattle.xa_coordinator.proofs.Adding.{adds_so_many, either_way, added_next}
 use Rattle.xa_coordinator.proofs.coordinator.Coordinator.prepared_in.Goals as goal
 
 pub invariant_of-self : goal.invariant_of-self
@@ -44,3 +45,16 @@ returns-clause-undone g c =
     (λ fault. AtStore view c.args.store (IsUndone (Recover false) (Session fault)) me.stores.items (slice_set me.stores.items c.args.store new))
     (λ fault is. at_place view me.name.items (IsUndone (Recover false) (Session fault)) me.stores.items c.args.store old new c.index_mut.ensures.value is)
     c.list_prepared.ensures.undone
+
+pub returns-clause-few : goal.returns-clause-few
+returns-clause-few g c =
+    let me = c.args.self.now in
+    let view = g.S.Speak.view in
+    let old = c.index_mut.result.now in
+    let new = c.list_prepared.new.session in
+    let few : length (view new).known.mine ≤ length (view old).known.mine + 0 =
+    either_way (length (view new).known.mine ≤ length (view old).known.mine + 0) c.list_prepared.result
+    (λ found. ListsPrepared found.0 found.1 (view old) (view new)) (λ fault. IsUndone (Recover false) (Session fault) (view old) (view new))
+    (λ found is. adds_so_many [] (view old) (view new) is.adds) (λ fault is. adds_so_many [] (view old) (view new) is.adds)
+    c.list_prepared.ensures.listed c.list_prepared.ensures.undone in
+    omega (arith, added_next view me.stores.items c.args.store 0 old new c.index_mut.ensures.value (omega (arith, c.requires)) few)

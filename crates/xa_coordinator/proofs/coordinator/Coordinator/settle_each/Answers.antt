@@ -19,6 +19,7 @@ loop-xid-init g c =
       marks = unchanged c.args.store me.branches;
       free = c.requires.free;
       few = omega arith;
+      added = omega arith;
       settled =
           at_same g.S.Speak.view c.args.store
           (λ old new. Settled c.args.decisions.now me.name.items c.args.store old [] (record { committed = 0; rolled_back = 0; missing = 0 }) new)
@@ -50,6 +51,7 @@ loop-xid-preserved g c =
       marks = changes_then store me.branches c.loop-xid.self.branches c.settle.new.self.branches so_far.marks c.in_ok-tally.ensures.marks;
       free = c.in_ok-tally.ensures.free;
       few = omega (arith, so_far.few, c.in_ok-tally.ensures.more);
+      added = omega (arith, so_far.added, c.in_ok-tally.ensures.few);
       settled = subst (λ (list : List Xid). AtStore view store (λ old new. Settled d n store old list after new) me.stores.items c.settle.new.self.stores.items)
           (sym (take_next xids i x (at_index xids i x c.xid-item.is c.loop-xid-test.true)))
           (at_then view store (λ a b. Settled d n store a (take i xids) before b) (λ a b. SettlesOne d n store x before a after b)
