@@ -85,6 +85,7 @@ impl<S: Speak> Coordinator<S> {
         requires free { slice_get self.old.branches store ≡ Some None }
         ensures name { self.new.name ≡ self.old.name }
         ensures frame { ChangesAt store self.old.stores.items self.new.stores.items }
+        ensures few { added_at S.view self.new.stores.items store ≤ added_at S.view self.old.stores.items store }
         ensures marks { self.new.branches ≡ self.old.branches }
         ensures clear { IfOk result (λ front. AtStore S.view store (IsClear self.old.name.items store front) self.old.stores.items self.new.stores.items) }
         ensures quiet { OnOk result (AtStore S.view store (λ old new. new.known.mine ≡ old.known.mine) self.old.stores.items self.new.stores.items) }
@@ -94,7 +95,6 @@ impl<S: Speak> Coordinator<S> {
             → length self.old.stores.items ≡ length before
             → AtStore S.view store (IsSettled decisions self.old.name.items store tally) before self.old.stores.items
             → BreaksHere S.view decisions self.old.name.items fault marks self.new.branches before self.new.stores.items) }
-        ensures few { added_at S.view self.new.stores.items store ≤ added_at S.view self.old.stores.items store }
     {
         let listed = self.prepared_in(rt, store);
         match listed {

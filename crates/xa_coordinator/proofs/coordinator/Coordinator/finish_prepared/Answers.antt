@@ -1,6 +1,5 @@
 use Rattle.std.proofs.Common.{List, Option, ap, subst, inl, arith}
 use Rattle.std.specs.Prelude.{IfOk, IfErr, slice_get}
-use Rattle.std.proofs.lemmas.Result.{IfOk-weaker}
 use Rattle.xa_xid.specs.Xid.{Text}
 use Rattle.xa_session.specs.View.{SessionView}
 use Rattle.xa_coordinator.specs.declared.branches.OpenBranch.{OpenBranch}
@@ -45,7 +44,3 @@ returns-in-Ok-clause-broken g c =
 pub returns-in-Err-clause-broken : goal.returns-in-Err-clause-broken
 returns-in-Err-clause-broken g c =
     inl (ap (λ (list : List (Option OpenBranch)). slice_get list c.args.store) c.in-Err.ensures.unsaid, c.in-Err.ensures.undone)
-
-pub returns-in-Ok-clause-few : goal.returns-in-Ok-clause-few
-returns-in-Ok-clause-few g c =
-    IfOk-weaker c.list_and_finish.result _ _ (λ tally is. omega (arith, is, c.in-Ok.ensures.few)) c.list_and_finish.ensures.few

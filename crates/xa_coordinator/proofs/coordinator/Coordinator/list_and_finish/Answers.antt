@@ -1,6 +1,5 @@
 use Rattle.std.proofs.Common.{ℕ, List, Option, false, ap, ◌∙◌, subst, arith}
 use Rattle.std.specs.Prelude.{slice_get, IfOk, IfErr}
-use Rattle.std.proofs.lemmas.Result.{IfOk-weaker}
 use Rattle.xa_xid.specs.declared.xid.Xid.{Xid}
 use Rattle.xa_session.specs.View.{SessionView}
 use Rattle.xa_xid.specs.Xid.{Text}
@@ -67,7 +66,3 @@ returns-in-Err-clause-broken g c =
     (λ freed b. (before : SessionView) → IsDisconnected before freed → IsCutOff d n c.args.store before (Session c.in-Err.fault) b)
     (λ freed b undone before disconnected. unlisted freed disconnected c.in-Err.fault b undone)
     c.args.self.now.stores.items c.prepared_in.new.self.stores.items c.in-Err.ensures.undone
-
-pub returns-in-Ok-clause-few : goal.returns-in-Ok-clause-few
-returns-in-Ok-clause-few g c =
-    IfOk-weaker c.settle_each.result _ _ (λ tally is. omega (arith, is, c.in-Ok.ensures.few)) c.settle_each.ensures.few
