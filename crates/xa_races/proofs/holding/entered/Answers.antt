@@ -52,9 +52,6 @@ returns-clause-sessions c =
     let count : length runs ≡ greatest = runs_count greatest passes taken runs kept c.truncate.ensures.items are in
     omega (arith, opened.sessions_is, c.max.ensures, count)
 
-pub returns-clause-room : goal.returns-clause-room
-returns-clause-room c = c.in-Ok.ensures.ok.capacity_is
-
 pub returns-clause-runs : goal.returns-clause-runs
 returns-clause-runs c = λ lines last given.
     let identity = identity_of c.in-Ok.store.log in
