@@ -1,3 +1,4 @@
 pub mod CommandFaults
+pub mod MannerFound
 pub mod NamedJobs
 pub mod Options

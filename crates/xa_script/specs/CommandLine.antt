@@ -29,6 +29,18 @@ number_rule name reads default = record (new_rule name) { long = Some name; valu
 abbrev pub flag_rule : Text → Rule
 flag_rule name = record (new_rule name) { long = Some name; action = Some SetTrue }
 
+-- `--file FILE`, any text
+abbrev pub file_rule : Rule
+file_rule = record (new_rule (codes "file")) { long = Some (codes "file"); value_names = 1 }
+
+-- `[--file FILE] [--verbose] [--strict]`, behind a subcommand's own options
+abbrev pub common_app : App → App
+common_app app = with_rule (with_rule (with_rule app file_rule) (flag_rule (codes "verbose"))) (flag_rule (codes "strict"))
+
+-- a subcommand that has these alone
+abbrev pub plain_app : Text → App
+plain_app name = common_app (new_app name)
+
 -- `--capacity N`, a number from 1 to 1024, and 1024 where it isn't given
 abbrev pub capacity_rule : Rule
 capacity_rule = number_rule (codes "capacity") (parser.Unsigned 1 1024) (codes "1024")
@@ -77,8 +89,9 @@ bare_app = on_top (λ shape. record shape { subcommand_required = true; has_vers
 abbrev pub script_app : App
 script_app =
     with_subcommand (with_subcommand
-    (with_subcommand (with_subcommand (with_subcommand (with_subcommand bare_app (new_app (codes "run")).top) race_app.top) coordinate_app.top)
-    (new_app (codes "serve")).top) (new_app (codes "show")).top) judge_app.top
+    (with_subcommand (with_subcommand
+    (with_subcommand (with_subcommand bare_app (plain_app (codes "run")).top) (common_app race_app).top) (common_app coordinate_app).top)
+    (plain_app (codes "serve")).top) (plain_app (codes "show")).top) (common_app judge_app).top
 
 -- the text of a value is this number, which a log can have as its capacity
 abbrev pub IsCapacityText : ℕ → Text → Type 0

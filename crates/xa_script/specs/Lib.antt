@@ -1,2 +1,4 @@
 pub mod CommandLine
+pub mod Manner
 pub mod Status
+pub mod Wanted

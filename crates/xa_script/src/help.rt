@@ -18,6 +18,22 @@ Statements:
   DISCONNECT               ends the session
 A text is 'abc', X'616263' or 0x616263. Blank lines have no answer.";
 
+/// What a race reads and prints, as its help shows it.
+pub const RACED: &str =
+    "A line is the number of a session, from 1 to 16, and a statement of that session, as for run:
+  1 XA START 'a'
+  2 XA START 'a'
+Where each line is read, the race prints one history of the statements that had an effect, each as place, session and
+statement, and then the answers of each session, each as session, how many entries of the history come before it, and
+reply:
+  HISTORY 1
+  0 1 XA START 0x61,X'',1
+  1 0 OK
+  2 1 ERROR 1440 (XAE08): XAER_DUPID xid already exists
+Replaying the history gives each answer. Another race of the same lines may print another one. Where lines aren't read,
+none is raced, and each of them is named:
+  LINE 2 ERROR 1064 (42000): syntax fault at byte 9";
+
 /// What is shown behind an answer, as the help shows it.
 pub const SHOWN: &str =
     "A line is the number of a session, from 1 to 16, and a statement of that session, as for serve:

@@ -11,22 +11,36 @@ ghost use Rattle.xa_script.specs.Status.{status_after};
 
 mod command;
 mod help;
+mod hint;
 mod jobs;
 mod judging;
+mod line_fault;
+mod line_kind;
+mod manner;
 mod racing;
 mod schedule;
+mod spoken;
 mod subcommands;
+mod wanted;
+mod watch;
 
 use clap::Error;
 use clap::error::ErrorKind;
 pub use command::{Job, read_command};
+use line_kind::LineKind;
+pub use manner::{Manner, read_manner};
 pub use schedule::Schedule;
 use std::alloc::Global;
 use std::env::Env;
+use std::fs::File;
+use std::io::Read;
 use std::process::ExitCode;
+use std::rt::Files;
 use std::sync::Wait;
 use std::thread::Threads;
 use std::{env, io};
+use watch::Watch;
+use xa_lines::LINE_BYTES;
 pub use xa_lines::{CutReader, CutWriter, ScriptFault, run_script};
 pub use xa_races::{race_script, race_script_in_rounds};
 
@@ -42,27 +56,43 @@ const COMMAND_FAULT: u8 = 2;
 /// The status where memory, the log, the gate or a thread gave out.
 const GAVE_OUT: u8 = 3;
 
+/// The status where a job was done and a line was a syntax fault, where that is asked.
+const UNREAD: u8 = 8;
+
 fn main(rt: HostRuntime) -> ExitCode {
     ExitCode::from(status(&rt))
 }
 
 /// Does what the command line asks for, and says how it went.
-fn status<R: Env + Input + Print + Eprint + Alloc<A = Global> + Threads + Wait + Sync>(
+fn status<R: Env + Files + Input + Print + Eprint + Alloc<A = Global> + Threads + Wait + Sync>(
     rt: &R,
 ) -> u8 {
     let words = match words(rt) {
         Ok(words) => words,
         Err(error) => return refuse_words(rt, &error),
     };
-    match read_command(rt.alloc(), words.as_slice()) {
-        Ok(job) => match carry_out(rt, job) {
-            Ok(status) => status,
-            Err(fault) => {
-                tell(rt, &fault);
-                status_of(fault)
+    let words = words.as_slice();
+    match (
+        read_command(rt.alloc(), words),
+        read_manner(rt.alloc(), words),
+    ) {
+        (Ok(job), Ok(manner)) => ended(rt, &manner, carry_out(rt, job, &manner)),
+        (Err(error), _) => refuse(rt, &error),
+        (_, Err(error)) => refuse(rt, &error),
+    }
+}
+
+/// Says how a job went, and gives the status.
+fn ended<R: Eprint>(rt: &R, manner: &Manner<'_>, done: Result<u8, ScriptFault>) -> u8 {
+    match done {
+        Ok(status) => status,
+        Err(fault) => {
+            tell(rt, &fault);
+            if manner.verbose && fault == ScriptFault::Full {
+                let _ = eprintln!(rt; "xa_script: --renew goes on where the log is full");
             }
-        },
-        Err(error) => refuse(rt, &error),
+            status_of(fault)
+        }
     }
 }
 
@@ -82,23 +112,83 @@ fn refuse_words<R: Eprint>(rt: &R, error: &io::Error) -> u8 {
 }
 
 /// Does a job, and gives the status.
-fn carry_out<R: Input + Print + Alloc<A = Global> + Threads + Wait + Sync>(
+fn carry_out<R: Files + Input + Print + Eprint + Alloc<A = Global> + Threads + Wait + Sync>(
     rt: &R,
     job: Job,
+    manner: &Manner<'_>,
+) -> Result<u8, ScriptFault>
+    requires { CanBeDone job }
+{
+    match manner.file {
+        None => carry_out_on(rt, rt.reader(), job, manner),
+        Some(name) => match File::open(rt, name) {
+            Ok(file) => carry_out_on(rt, file, job, manner),
+            Err(error) => Err(unopened(rt, name, &error, manner)),
+        },
+    }
+}
+
+/// Says that a file can't be opened.
+fn unopened<R: Eprint>(rt: &R, name: &str, error: &io::Error, manner: &Manner<'_>) -> ScriptFault {
+    if manner.verbose {
+        let _ = eprintln!(rt; "xa_script: can't open {name}: {error}");
+    } else {
+        let _ = eprintln!(rt; "xa_script: can't open {name}");
+    }
+    ScriptFault::Read
+}
+
+/// How a job reads its lines, and how long one may be.
+fn lines_of(job: Job) -> (LineKind, usize) {
+    match job {
+        Job::Run | Job::Race { .. } => (LineKind::Statement, usize::MAX),
+        Job::Coordinate { .. } => (LineKind::Call, LINE_BYTES),
+        Job::Serve => (LineKind::Statement, LINE_BYTES),
+        Job::Show => (LineKind::Shown, LINE_BYTES),
+        Job::Judge { .. } => (LineKind::Record, usize::MAX),
+    }
+}
+
+/// Does a job on what a reader gives, and gives the status.
+fn carry_out_on<I: Read + Drop, R: Print + Eprint + Alloc<A = Global> + Threads + Wait + Sync>(
+    rt: &R,
+    input: I,
+    job: Job,
+    manner: &Manner<'_>,
+) -> Result<u8, ScriptFault>
+    requires { CanBeDone job }
+{
+    let (kind, most) = lines_of(job);
+    let mut watch = Watch::new(rt, input, kind, most, manner.verbose, manner.strict);
+    let status = carry_out_job(rt, &mut watch, job, manner.verbose)?;
+    if watch.has_faults()? && manner.strict && status == DONE {
+        return Ok(UNREAD);
+    }
+    Ok(status)
+}
+
+/// Does a job on what a reader gives.
+fn carry_out_job<I: Read + Drop, R: Print + Eprint + Alloc<A = Global> + Threads + Wait + Sync>(
+    rt: &R,
+    input: I,
+    job: Job,
+    speaks: bool,
 ) -> Result<u8, ScriptFault>
     requires { CanBeDone job }
 {
     match job {
-        Job::Run => jobs::run(rt),
+        Job::Run => jobs::run(rt, input, speaks),
         Job::Race {
             capacity,
             schedule,
             renews,
-        } => jobs::race(rt, capacity, schedule, renews),
-        Job::Coordinate { stores, capacity } => jobs::coordinate(rt, stores, capacity),
-        Job::Serve => jobs::serve(rt),
-        Job::Show => jobs::show(rt),
-        Job::Judge { limit } => jobs::judge(rt, limit),
+        } => jobs::race(rt, input, speaks, capacity, schedule, renews),
+        Job::Coordinate { stores, capacity } => {
+            jobs::coordinate(rt, input, speaks, stores, capacity)
+        }
+        Job::Serve => jobs::serve(rt, input, speaks),
+        Job::Show => jobs::show(rt, input, speaks),
+        Job::Judge { limit } => jobs::judge(rt, input, speaks, limit),
     }
 }
 

@@ -1,13 +1,18 @@
 //! The command and its subcommands, as `clap` sees them.
 ghost use Rattle.std.specs.Prelude.{◌≡◌, false, IfOk, codes};
 ghost use Rattle.clap.specs.Words.{app_of, new_app, rule_of, with_subcommand};
-ghost use Rattle.xa_script.specs.CommandLine.{bare_app, race_app, coordinate_app, judge_app, IsLocal, capacity_rule, together_rule, shuffle_rule, renew_rule};
-ghost use Rattle.xa_script.specs.CommandLine.{stores_rule, limit_rule, number_rule, flag_rule, script_app};
+ghost use Rattle.xa_script.specs.CommandLine.{bare_app, plain_app, race_app, coordinate_app, judge_app, IsLocal, capacity_rule, together_rule, shuffle_rule};
+ghost use Rattle.xa_script.specs.CommandLine.{renew_rule, stores_rule, limit_rule, number_rule, flag_rule, file_rule, common_app, script_app};
 
-use crate::help::{CALLS, LINES, RECORDS, SHOWN, VERSION};
+use crate::help::{CALLS, LINES, RACED, RECORDS, SHOWN, VERSION};
 use clap::builder::ValueParser;
 use clap::{Arg, ArgAction, Command, value_parser};
 use std::alloc::{AllocError, Global};
+
+/// What `--shuffle` does.
+const SHUFFLED: &str =
+    "Does so, and lets sessions step aside before their lines by turns of this seed; the turns \
+are repeatable, and not what the race comes to";
 
 /// An option whose value this parser reads, and which has a default.
 fn number_option<'a>(
@@ -66,7 +71,7 @@ fn shuffle_option<'a>(alloc: Global) -> Arg<'a>
     Arg::new(alloc, "shuffle")
         .long("shuffle")
         .value_name("SEED")
-        .help("Does so, and lets sessions step aside before their lines by turns of this seed")
+        .help(SHUFFLED)
         .value_parser(value_parser!(u64))
 }
 
@@ -98,6 +103,31 @@ fn limit_option<'a>(alloc: Global) -> Arg<'a>
     number_option(alloc, "limit", help, parser, "100000")
 }
 
+/// The option that names a file in place.
+fn file_option<'a>(alloc: Global) -> Arg<'a>
+    ensures rule { rule_of result ≡ file_rule }
+    ensures global { result.global ≡ false }
+{
+    Arg::new(alloc, "file")
+        .long("file")
+        .value_name("FILE")
+        .help("Reads the file in place")
+}
+
+/// Adds the options that every job has.
+fn with_common<'a>(alloc: Global, command: Command<'a>) -> Result<Command<'a>, AllocError>
+    requires { IsLocal command }
+    ensures app { IfOk result (λ more. app_of more ≡ common_app (app_of command.entry)) }
+    ensures local { IfOk result IsLocal }
+{
+    let verbose = "Says on the standard error what to do about faults";
+    let strict = "Ends with status 8 where a line was a syntax fault and the status would be 0";
+    command
+        .arg(file_option(alloc))?
+        .arg(flag_option(alloc, "verbose", verbose))?
+        .arg(flag_option(alloc, "strict", strict))
+}
+
 /// A subcommand without options, with what its help shows behind them.
 fn plain_command<'a>(alloc: Global, name: &'a str, about: &'a str, help: &'a str) -> Command<'a>
     ensures app { app_of result ≡ new_app name.entry.now }
@@ -111,8 +141,8 @@ fn race_command<'a>(alloc: Global) -> Result<Command<'a>, AllocError>
     ensures app { IfOk result (λ command. app_of command ≡ race_app) }
     ensures local { IfOk result IsLocal }
 {
-    let about = "Races the script of the standard input, each session on a thread of its own";
-    plain_command(alloc, "race", about, LINES)
+    let about = "Races the script, each session on a thread of its own";
+    plain_command(alloc, "race", about, RACED)
         .arg(capacity_option(alloc))?
         .arg(together_option(alloc))?
         .arg(shuffle_option(alloc))?
@@ -124,8 +154,7 @@ fn coordinate_command<'a>(alloc: Global) -> Result<Command<'a>, AllocError>
     ensures app { IfOk result (λ command. app_of command ≡ coordinate_app) }
     ensures local { IfOk result IsLocal }
 {
-    let about =
-        "Carries the calls of the standard input out, by a coordinator over stores of its own";
+    let about = "Carries the calls out, by a coordinator over stores of its own";
     plain_command(alloc, "coordinate", about, CALLS)
         .arg(stores_option(alloc))?
         .arg(capacity_option(alloc))
@@ -136,8 +165,7 @@ fn judge_command<'a>(alloc: Global) -> Result<Command<'a>, AllocError>
     ensures app { IfOk result (λ command. app_of command ≡ judge_app) }
     ensures local { IfOk result IsLocal }
 {
-    let about =
-        "Judges the record of the standard input: whether some order explains what clients saw";
+    let about = "Judges the record: whether some order explains what clients saw";
     plain_command(alloc, "judge", about, RECORDS).arg(limit_option(alloc))
 }
 
@@ -160,44 +188,44 @@ fn with_plain<'a>(
     about: &'a str,
     help: &'a str,
 ) -> Result<Command<'a>, AllocError>
-    ensures { IfOk result (λ more. app_of more ≡ with_subcommand (app_of command.entry) (new_app name.entry.now).top) }
+    ensures { IfOk result (λ more. app_of more ≡ with_subcommand (app_of command.entry) (plain_app name.entry.now).top) }
 {
-    command.subcommand(plain_command(alloc, name, about, help))
+    command.subcommand(with_common(alloc, plain_command(alloc, name, about, help))?)
 }
 
 /// Adds the subcommand that runs a script.
 fn with_run<'a>(alloc: Global, command: Command<'a>) -> Result<Command<'a>, AllocError>
-    ensures { IfOk result (λ more. app_of more ≡ with_subcommand (app_of command.entry) (new_app (codes "run")).top) }
+    ensures { IfOk result (λ more. app_of more ≡ with_subcommand (app_of command.entry) (plain_app (codes "run")).top) }
 {
-    let about = "Runs the script of the standard input";
+    let about = "Runs the script";
     with_plain(command, alloc, "run", about, LINES)
 }
 
 /// Adds the subcommand that races a script.
 fn with_race<'a>(alloc: Global, command: Command<'a>) -> Result<Command<'a>, AllocError>
-    ensures { IfOk result (λ more. app_of more ≡ with_subcommand (app_of command.entry) race_app.top) }
+    ensures { IfOk result (λ more. app_of more ≡ with_subcommand (app_of command.entry) (common_app race_app).top) }
 {
-    command.subcommand(race_command(alloc)?)
+    command.subcommand(with_common(alloc, race_command(alloc)?)?)
 }
 
 /// Adds the subcommand that carries calls out.
 fn with_coordinate<'a>(alloc: Global, command: Command<'a>) -> Result<Command<'a>, AllocError>
-    ensures { IfOk result (λ more. app_of more ≡ with_subcommand (app_of command.entry) coordinate_app.top) }
+    ensures { IfOk result (λ more. app_of more ≡ with_subcommand (app_of command.entry) (common_app coordinate_app).top) }
 {
-    command.subcommand(coordinate_command(alloc)?)
+    command.subcommand(with_common(alloc, coordinate_command(alloc)?)?)
 }
 
 /// Adds the subcommand that serves whoever speaks.
 fn with_serve<'a>(alloc: Global, command: Command<'a>) -> Result<Command<'a>, AllocError>
-    ensures { IfOk result (λ more. app_of more ≡ with_subcommand (app_of command.entry) (new_app (codes "serve")).top) }
+    ensures { IfOk result (λ more. app_of more ≡ with_subcommand (app_of command.entry) (plain_app (codes "serve")).top) }
 {
-    let about = "Answers each line of the standard input before it reads more";
+    let about = "Answers each line before it reads more";
     with_plain(command, alloc, "serve", about, LINES)
 }
 
 /// Adds the subcommand that shows the store too.
 fn with_show<'a>(alloc: Global, command: Command<'a>) -> Result<Command<'a>, AllocError>
-    ensures { IfOk result (λ more. app_of more ≡ with_subcommand (app_of command.entry) (new_app (codes "show")).top) }
+    ensures { IfOk result (λ more. app_of more ≡ with_subcommand (app_of command.entry) (plain_app (codes "show")).top) }
 {
     let about = "Answers each line as serve does, and shows the store behind each answer";
     with_plain(command, alloc, "show", about, SHOWN)
@@ -205,9 +233,9 @@ fn with_show<'a>(alloc: Global, command: Command<'a>) -> Result<Command<'a>, All
 
 /// Adds the subcommand that judges a record.
 fn with_judge<'a>(alloc: Global, command: Command<'a>) -> Result<Command<'a>, AllocError>
-    ensures { IfOk result (λ more. app_of more ≡ with_subcommand (app_of command.entry) judge_app.top) }
+    ensures { IfOk result (λ more. app_of more ≡ with_subcommand (app_of command.entry) (common_app judge_app).top) }
 {
-    command.subcommand(judge_command(alloc)?)
+    command.subcommand(with_common(alloc, judge_command(alloc)?)?)
 }
 
 /// The command and its subcommands.

@@ -1,0 +1,18 @@
+//! Why a line isn't read.
+
+/// Why a line isn't read, for the job that reads it.
+#[derive(Clone, Copy, Debug, PartialEq, Eq)]
+pub enum LineFault<'a> {
+    /// It doesn't begin with the number of a session.
+    NoSession,
+    /// Its text isn't a statement, from this place on.
+    NoStatement(&'a [u8], u64),
+    /// It isn't a call.
+    NoCall,
+    /// It gives a statement that `WORK` doesn't give.
+    NoWork,
+    /// It isn't a line of a record.
+    NoRecord,
+    /// It is too long.
+    TooLong,
+}

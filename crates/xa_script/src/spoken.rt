@@ -1,0 +1,57 @@
+//! A writer that says why a write failed.
+ghost use Rattle.std.specs.Prelude.{◌≡◌};
+ghost use Rattle.std.specs.Io.{WritesAtMost};
+ghost use Rattle.std.specs.Io.KnownBytes.{WriteAppends, Keeps};
+
+use std::io;
+use std::io::Write;
+
+/// A writer that says why a write failed, once, where it is to speak.
+#[derive(Drop)]
+pub struct Spoken<'r, W: Write + Drop, R> {
+    inner: W,
+    rt: &'r R,
+    speaks: bool,
+}
+
+impl<'r, W: Write + Drop, R: Eprint> Spoken<'r, W, R> {
+    /// Writes to this writer.
+    ///
+    /// Takes no memory. Doesn't wait.
+    pub fn new(rt: &'r R, inner: W, speaks: bool) -> Spoken<'r, W, R>
+        ensures { result.inner ≡ inner }
+    {
+        Spoken { inner, rt, speaks }
+    }
+
+    /// Says why it failed, unless it said so before.
+    fn tell(&mut self, fault: &io::Error)
+        ensures { self.new.inner ≡ self.old.inner }
+    {
+        if self.speaks {
+            let _ = eprintln!(self.rt; "xa_script: writing: {fault}");
+            self.speaks = false;
+        }
+    }
+}
+
+impl<'r, W: Write + Drop, R: Eprint> Write for Spoken<'r, W, R> {
+    ghost contents = { λ writer. W.contents writer.inner };
+
+    fn write(&mut self, buf: &[u8]) -> io::Result<usize>
+        ensures bound { WritesAtMost result buf.now }
+        ensures bytes { WriteAppends (W.contents self.old.inner) (W.contents self.new.inner) result buf.now }
+    {
+        let written = self.inner.write(buf);
+        if let Err(fault) = &written {
+            self.tell(fault);
+        }
+        written
+    }
+
+    fn flush(&mut self) -> io::Result<()>
+        ensures { Keeps (W.contents self.old.inner) (W.contents self.new.inner) }
+    {
+        self.inner.flush()
+    }
+}

@@ -1,0 +1,92 @@
+//! What is wanted where a text stops being a statement.
+ghost use Rattle.std.specs.Prelude.{◌≡◌, ◌<◌, IfOk, vec_len};
+ghost use Rattle.xa_script.specs.Wanted.{takes_next};
+
+use std::alloc::Global;
+use xa_statement::read_statement;
+use xa_xid::NoMemory;
+
+/// Tokens of the grammar: one of each kind, and its name.
+const TOKENS: [(&[u8], &str); 24] = [
+    (b"XA", "XA"),
+    (b"GET", "GET"),
+    (b"PUT", "PUT"),
+    (b"DEL", "DEL"),
+    (b"DISCONNECT", "DISCONNECT"),
+    (b"START", "START"),
+    (b"BEGIN", "BEGIN"),
+    (b"END", "END"),
+    (b"PREPARE", "PREPARE"),
+    (b"COMMIT", "COMMIT"),
+    (b"ROLLBACK", "ROLLBACK"),
+    (b"RECOVER", "RECOVER"),
+    (b"'a'", "a quoted text or 0x.."),
+    (b"1", "a number below 2^64"),
+    (b",", "a comma"),
+    (b"ONE", "ONE"),
+    (b"PHASE", "PHASE"),
+    (b"JOIN", "JOIN"),
+    (b"RESUME", "RESUME"),
+    (b"SUSPEND", "SUSPEND"),
+    (b"FOR", "FOR"),
+    (b"MIGRATE", "MIGRATE"),
+    (b"CONVERT", "CONVERT"),
+    (b"XID", "XID"),
+];
+
+/// Whether some statement goes on with the token behind these.
+fn takes(alloc: Global, front: &[u8], token: &[u8]) -> Result<bool, NoMemory>
+    ensures { IfOk result (λ taken. taken ≡ takes_next front.now token.now) }
+{
+    let mut text = Vec::from_slice(alloc, front)?;
+    text.extend_from_slice(b" ")?;
+    let place = text.len() as u64;
+    text.extend_from_slice(token)?;
+    match read_statement(text.as_slice()) {
+        Ok(_) => Ok(true),
+        Err(fault) => Ok(fault.at != place),
+    }
+}
+
+/// The names of the tokens with which some statement goes on behind these, and of the end where they are a statement, or no statement goes on.
+fn names_behind(alloc: Global, front: &[u8]) -> Result<Vec<&'static str>, NoMemory>
+    ensures { IfOk result (λ names. 0 < vec_len names) }
+{
+    let mut names = Vec::new(alloc);
+    for (token, name) in TOKENS.iter() {
+        if takes(alloc, front, token)? {
+            names.push(*name)?;
+        }
+    }
+    if names.is_empty() || read_statement(front).is_ok() {
+        names.push("the end of the line")?;
+    }
+    Ok(names)
+}
+
+/// The names in one text.
+fn joined(alloc: Global, names: &[&str]) -> Result<String, NoMemory> {
+    let mut text = String::new(alloc);
+    for index in 0..names.len() {
+        if index > 0 {
+            let between = if index + 1 == names.len() {
+                " or "
+            } else {
+                ", "
+            };
+            text.push_str(between)?;
+        }
+        text.push_str(names[index])?;
+    }
+    Ok(text)
+}
+
+/// What is wanted at a place of a text: the tokens with which some statement goes on there.
+///
+/// Error: `NoMemory`. Doesn't wait.
+/// Own rule: docs/BEHAVIOR.md, 'The program'.
+pub fn wanted_at(alloc: Global, text: &[u8], at: usize) -> Result<String, NoMemory> {
+    let front = &text[..at.min(text.len())];
+    let names = names_behind(alloc, front)?;
+    joined(alloc, names.as_slice())
+}

@@ -1,0 +1,172 @@
+//! Watches what a job reads.
+ghost use Rattle.std.specs.Prelude.{◌≡◌, false};
+ghost use Rattle.std.specs.Io.{ReadsAtMost};
+
+use crate::hint::tell_line;
+use crate::line_fault::LineFault;
+use crate::line_kind::{LineKind, rows_behind};
+use std::alloc::Global;
+use std::io;
+use std::io::Read;
+use xa_lines::is_comment;
+use xa_xid::{NoMemory, skip_blanks};
+
+/// A reader whose lines are looked at as they are read.
+#[derive(Drop)]
+pub struct Watch<'r, I: Read + Drop, R> {
+    /// What is read.
+    inner: I,
+    /// Where it is said what is wanted.
+    rt: &'r R,
+    /// What the job reads its lines as.
+    kind: LineKind,
+    /// How long a line may be.
+    most: usize,
+    /// Whether lines are looked at.
+    looks: bool,
+    /// Whether it is said what is wanted.
+    speaks: bool,
+    /// What has come of the line.
+    line: Vec<u8>,
+    /// The line's number, from 1.
+    number: u64,
+    /// How many rows of a return are still to come.
+    rows: u64,
+    /// Whether a line wasn't read.
+    faulty: bool,
+    /// Whether memory was refused.
+    refused: bool,
+}
+
+impl<'r, I: Read + Drop, R: Eprint + Alloc<A = Global>> Watch<'r, I, R> {
+    /// Looks at the lines of a reader where it is to speak or to count.
+    ///
+    /// Takes no memory. Doesn't wait.
+    pub fn new(
+        rt: &'r R,
+        inner: I,
+        kind: LineKind,
+        most: usize,
+        speaks: bool,
+        counts: bool,
+    ) -> Watch<'r, I, R>
+        ensures reader { result.inner ≡ inner }
+        ensures fresh { result.faulty ≡ false }
+    {
+        Watch {
+            inner,
+            rt,
+            kind,
+            most,
+            looks: speaks || counts,
+            speaks,
+            line: Vec::new(rt.alloc()),
+            number: 1,
+            rows: 0,
+            faulty: false,
+            refused: false,
+        }
+    }
+
+    /// Whether a line was a syntax fault; `NoMemory` where memory was refused for looking.
+    ///
+    /// Takes no memory. Doesn't wait.
+    pub fn has_faults(&self) -> Result<bool, NoMemory> {
+        if self.refused {
+            return Err(std::alloc::AllocError);
+        }
+        Ok(self.faulty)
+    }
+
+    /// Says what the line that has come is no part of.
+    fn blame(&self, fault: LineFault<'_>) -> Result<(), NoMemory> {
+        if self.speaks {
+            tell_line(self.rt, self.number, fault)?;
+        }
+        Ok(())
+    }
+
+    /// Why the line that has come isn't read.
+    fn fault(&self) -> Option<LineFault<'_>> {
+        if self.line.len() > self.most {
+            return Some(LineFault::TooLong);
+        }
+        if self.rows > 0 {
+            return None;
+        }
+        self.kind.fault_in(self.line.as_slice())
+    }
+
+    /// Counts the rows that the line says are to come, or the line among them.
+    fn count_rows(&mut self) {
+        let line = self.line.as_slice();
+        if self.kind != LineKind::Record || skip_blanks(line).is_empty() || is_comment(line) {
+            return;
+        }
+        self.rows = if self.rows > 0 {
+            self.rows - 1
+        } else {
+            rows_behind(line)
+        };
+    }
+
+    /// Looks at the line that has come, and begins the next.
+    fn end_line(&mut self) -> Result<(), NoMemory> {
+        if let Some(fault) = self.fault() {
+            self.blame(fault)?;
+            self.faulty = true;
+        }
+        self.count_rows();
+        self.line.clear();
+        self.number = self.number.saturating_add(1);
+        Ok(())
+    }
+
+    /// Takes a byte. Of a line that is too long no more is kept than shows that.
+    fn take_byte(&mut self, byte: u8) -> Result<(), NoMemory> {
+        if byte == b'\n' {
+            return self.end_line();
+        }
+        if self.line.len() <= self.most {
+            self.line.push(byte)?;
+        }
+        Ok(())
+    }
+
+    /// Takes what was read; nothing is the end.
+    fn take(&mut self, bytes: &[u8]) -> Result<(), NoMemory> {
+        if bytes.is_empty() && !self.line.is_empty() {
+            return self.end_line();
+        }
+        for byte in bytes {
+            self.take_byte(*byte)?;
+        }
+        Ok(())
+    }
+
+    /// Looks at what was read, unless memory was refused before.
+    fn look(&mut self, bytes: &[u8]) {
+        if self.looks && !self.refused && self.take(bytes).is_err() {
+            self.refused = true;
+        }
+    }
+}
+
+impl<'r, I: Read + Drop, R: Eprint + Alloc<A = Global>> Read for Watch<'r, I, R> {
+    fn read(&mut self, buf: &mut [u8]) -> io::Result<usize>
+        ensures { ReadsAtMost result buf.new }
+    {
+        match self.inner.read(buf) {
+            Ok(count) => {
+                self.look(&buf[..count]);
+                Ok(count)
+            }
+            Err(fault) => {
+                if self.speaks {
+                    let _ = eprintln!(self.rt; "xa_script: reading: {fault}");
+                }
+                Err(fault)
+            }
+        }
+    }
+}
