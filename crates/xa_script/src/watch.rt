@@ -1,6 +1,7 @@
 //! Watches what a job reads.
 ghost use Rattle.std.specs.Prelude.{◌≡◌, false};
 ghost use Rattle.std.specs.Io.{ReadsAtMost};
+ghost use Rattle.std.specs.Io.KnownBytes.{ReadConsumes};
 
 use crate::hint::tell_line;
 use crate::line_fault::LineFault;
@@ -98,7 +99,9 @@ impl<'r, I: Read + Drop, R: Eprint + Alloc<A = Global>> Watch<'r, I, R> {
     }
 
     /// Counts the rows that the line says are to come, or the line among them.
-    fn count_rows(&mut self) {
+    fn count_rows(&mut self)
+        ensures { self.new.inner ≡ self.old.inner }
+    {
         let line = self.line.as_slice();
         if self.kind != LineKind::Record || skip_blanks(line).is_empty() || is_comment(line) {
             return;
@@ -111,7 +114,9 @@ impl<'r, I: Read + Drop, R: Eprint + Alloc<A = Global>> Watch<'r, I, R> {
     }
 
     /// Looks at the line that has come, and begins the next.
-    fn end_line(&mut self) -> Result<(), NoMemory> {
+    fn end_line(&mut self) -> Result<(), NoMemory>
+        ensures { self.new.inner ≡ self.old.inner }
+    {
         if let Some(fault) = self.fault() {
             self.blame(fault)?;
             self.faulty = true;
@@ -123,7 +128,9 @@ impl<'r, I: Read + Drop, R: Eprint + Alloc<A = Global>> Watch<'r, I, R> {
     }
 
     /// Takes a byte. Of a line that is too long no more is kept than shows that.
-    fn take_byte(&mut self, byte: u8) -> Result<(), NoMemory> {
+    fn take_byte(&mut self, byte: u8) -> Result<(), NoMemory>
+        ensures { self.new.inner ≡ self.old.inner }
+    {
         if byte == b'\n' {
             return self.end_line();
         }
@@ -133,32 +140,48 @@ impl<'r, I: Read + Drop, R: Eprint + Alloc<A = Global>> Watch<'r, I, R> {
         Ok(())
     }
 
-    /// Takes what was read; nothing is the end.
-    fn take(&mut self, bytes: &[u8]) -> Result<(), NoMemory> {
-        if bytes.is_empty() && !self.line.is_empty() {
-            return self.end_line();
+    /// Takes a byte, unless memory was refused before.
+    fn look_at(&mut self, byte: u8)
+        ensures { self.new.inner ≡ self.old.inner }
+    {
+        if !self.refused && self.take_byte(byte).is_err() {
+            self.refused = true;
         }
-        for byte in bytes {
-            self.take_byte(*byte)?;
-        }
-        Ok(())
     }
 
-    /// Looks at what was read, unless memory was refused before.
-    fn look(&mut self, bytes: &[u8]) {
-        if self.looks && !self.refused && self.take(bytes).is_err() {
-            self.refused = true;
+    /// Looks at what was read.
+    fn look_at_each(&mut self, bytes: &[u8])
+        ensures { self.new.inner ≡ self.old.inner }
+    {
+        for byte in bytes {
+            self.look_at(*byte);
+        }
+    }
+
+    /// Looks at what was read; nothing is the end.
+    fn look(&mut self, bytes: &[u8])
+        ensures { self.new.inner ≡ self.old.inner }
+    {
+        if !bytes.is_empty() {
+            self.look_at_each(bytes);
+        } else if !self.line.is_empty() {
+            self.look_at(b'\n');
         }
     }
 }
 
 impl<'r, I: Read + Drop, R: Eprint + Alloc<A = Global>> Read for Watch<'r, I, R> {
+    ghost remaining = { λ watch. I.remaining watch.inner };
+
     fn read(&mut self, buf: &mut [u8]) -> io::Result<usize>
-        ensures { ReadsAtMost result buf.new }
+        ensures bound { ReadsAtMost result buf.new }
+        ensures bytes { ReadConsumes (I.remaining self.old.inner) (I.remaining self.new.inner) result buf.new }
     {
         match self.inner.read(buf) {
             Ok(count) => {
-                self.look(&buf[..count]);
+                if self.looks {
+                    self.look(&buf[..count]);
+                }
                 Ok(count)
             }
             Err(fault) => {
