@@ -111,7 +111,7 @@ fn file_option<'a>(alloc: Global) -> Arg<'a>
     Arg::new(alloc, "file")
         .long("file")
         .value_name("FILE")
-        .help("Reads the file in place")
+        .help("Reads the file in place of the standard input")
 }
 
 /// Adds the options that every job has.
