@@ -33,9 +33,10 @@ flag_rule name = record (new_rule name) { long = Some name; action = Some SetTru
 abbrev pub file_rule : Rule
 file_rule = record (new_rule (codes "file")) { long = Some (codes "file"); value_names = 1 }
 
--- `[--file FILE] [--verbose] [--strict]`, behind a subcommand's own options
+-- `[--file FILE] [--verbose] [--strict] [--text]`, behind a subcommand's own options
 abbrev pub common_app : App → App
-common_app app = with_rule (with_rule (with_rule app file_rule) (flag_rule (codes "verbose"))) (flag_rule (codes "strict"))
+common_app app =
+    with_rule (with_rule (with_rule (with_rule app file_rule) (flag_rule (codes "verbose"))) (flag_rule (codes "strict"))) (flag_rule (codes "text"))
 
 -- a subcommand that has these alone
 abbrev pub plain_app : Text → App

@@ -1,4 +1,5 @@
 pub mod CommandLine
 pub mod Manner
 pub mod Status
+pub mod Texts
 pub mod Wanted

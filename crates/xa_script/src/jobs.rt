@@ -1,10 +1,13 @@
-//! The jobs, from a reader to the standard output. Each gives the exit status of what was done, or why it wasn't.
+//! The jobs, from a reader to a writer. Each gives the exit status of what was done, or why it wasn't.
 ghost use Rattle.decision_log.specs.Opens.{IsCapacity};
 ghost use Rattle.xa_script.specs.CommandLine.{IsLimit, IsStoreCount};
 
+use crate::advised::Advised;
 use crate::judging::judge_within;
+use crate::line_form::LineForm;
 use crate::racing::race_by;
 use crate::spoken::Spoken;
+use crate::texts::Texts;
 use crate::{DONE, Schedule};
 use std::alloc::Global;
 use std::io;
@@ -12,20 +15,38 @@ use std::io::{BufWriter, Printer, Read, Write};
 use std::sync::Wait;
 use std::thread::Threads;
 use xa_lines::{ScriptFault, Transport, run_script, serve_statements, show_statements};
-use xa_manager::{converse, open_stores};
+use xa_manager::{CallServer, manager_over, open_stores};
 
 /// The standard output, which gathers what is written.
-type Output<'r, R> = BufWriter<Spoken<'r, Printer<'r, R>, R>>;
+pub type Output<'r, R> = BufWriter<Spoken<'r, Printer<'r, R>, R>>;
 
-/// The standard output, which speaks of a fault where it is to.
-fn output<R: Print + Eprint + Alloc<A = Global>>(
+/// A writer that gathers what is written.
+fn gathered<R: Alloc<A = Global>, W: Write + Drop>(
     rt: &R,
-    speaks: bool,
-) -> Result<Output<'_, R>, ScriptFault> {
-    match BufWriter::new(rt.alloc(), Spoken::new(rt, io::writer(rt), speaks)) {
+    writer: W,
+) -> Result<BufWriter<W>, ScriptFault> {
+    match BufWriter::new(rt.alloc(), writer) {
         Ok(output) => Ok(output),
         Err(_) => Err(ScriptFault::NoMemory),
     }
+}
+
+/// The standard output, which speaks of a fault where it is to.
+pub fn output<R: Print + Eprint + Alloc<A = Global>>(
+    rt: &R,
+    speaks: bool,
+) -> Result<Output<'_, R>, ScriptFault> {
+    gathered(rt, Spoken::new(rt, io::writer(rt), speaks))
+}
+
+/// The standard output, on which literals of printable bytes stand as texts.
+pub fn text_output<R: Print + Eprint + Alloc<A = Global>>(
+    rt: &R,
+    speaks: bool,
+    form: LineForm,
+) -> Result<BufWriter<Texts<Output<'_, R>>>, ScriptFault> {
+    let texts = Texts::new(output(rt, speaks)?, form);
+    gathered(rt, texts)
 }
 
 /// Writes what was gathered, and says how the job ended: with a write fault where that fails, whatever it came to.
@@ -40,50 +61,48 @@ fn flushed<W: Write + Drop>(
 }
 
 /// Runs the script.
-pub fn run<I: Read + Drop, R: Print + Eprint + Alloc<A = Global>>(
+pub fn run<I: Read + Drop, W: Write + Drop, R: Alloc<A = Global>>(
     rt: &R,
     mut input: I,
-    speaks: bool,
+    mut output: BufWriter<W>,
 ) -> Result<u8, ScriptFault> {
-    let mut output = output(rt, speaks)?;
     let done = run_script(rt.alloc(), &mut input, &mut output);
     flushed(&mut output, done.and(Ok(DONE)))
 }
 
 /// Races the script.
-pub fn race<I: Read + Drop, R: Print + Eprint + Alloc<A = Global> + Threads + Wait + Sync>(
+pub fn race<I: Read + Drop, W: Write + Drop, R: Alloc<A = Global> + Threads + Wait + Sync>(
     rt: &R,
     mut input: I,
-    speaks: bool,
+    mut output: BufWriter<W>,
     capacity: u64,
     schedule: Schedule,
     renews: bool,
 ) -> Result<u8, ScriptFault>
     requires { IsCapacity capacity }
 {
-    let mut output = output(rt, speaks)?;
     let done = race_by(rt, &mut input, &mut output, capacity, schedule, renews);
     flushed(&mut output, done.and(Ok(DONE)))
 }
 
 /// Judges the record.
-pub fn judge<I: Read + Drop, R: Print + Eprint + Alloc<A = Global>>(
+pub fn judge<I: Read + Drop, W: Write + Drop, R: Alloc<A = Global>>(
     rt: &R,
     mut input: I,
-    speaks: bool,
+    mut output: BufWriter<W>,
     limit: u64,
 ) -> Result<u8, ScriptFault>
     requires { IsLimit limit }
 {
-    let mut output = output(rt, speaks)?;
     let done = judge_within(rt.alloc(), &mut input, &mut output, limit);
     flushed(&mut output, done)
 }
 
 /// Carries the calls out.
-pub fn coordinate<I: Read + Drop, R: Print + Eprint + Alloc<A = Global> + Wait>(
+pub fn coordinate<I: Read + Drop, W: Write + Drop, R: Eprint + Alloc<A = Global> + Wait>(
     rt: &R,
     input: I,
+    output: BufWriter<W>,
     speaks: bool,
     stores: u64,
     capacity: u64,
@@ -91,28 +110,32 @@ pub fn coordinate<I: Read + Drop, R: Print + Eprint + Alloc<A = Global> + Wait>(
     requires stores { IsStoreCount stores }
     requires capacity { IsCapacity capacity }
 {
-    let mut transport = Transport::new(input, output(rt, speaks)?);
+    let mut transport = Transport::new(input, output);
     let (stores, firsts, seconds) = open_stores(rt.alloc(), stores, capacity)?;
     let stores = stores.as_slice();
-    converse(rt, rt.alloc(), &mut transport, stores, firsts, seconds).and(Ok(DONE))
+    let manager = manager_over(rt.alloc(), stores, firsts, seconds)?;
+    let mut server = Advised::new(rt, CallServer::new(rt, manager), speaks);
+    xa_lines::serve(rt.alloc(), &mut server, &mut transport)?;
+    server.looked()?;
+    Ok(DONE)
 }
 
 /// Answers each line before it reads more.
-pub fn serve<I: Read + Drop, R: Print + Eprint + Alloc<A = Global>>(
+pub fn serve<I: Read + Drop, W: Write + Drop, R: Alloc<A = Global>>(
     rt: &R,
     input: I,
-    speaks: bool,
+    output: BufWriter<W>,
 ) -> Result<u8, ScriptFault> {
-    let mut transport = Transport::new(input, output(rt, speaks)?);
+    let mut transport = Transport::new(input, output);
     serve_statements(rt.alloc(), &mut transport).and(Ok(DONE))
 }
 
 /// Does so too, and shows the store behind each answer.
-pub fn show<I: Read + Drop, R: Print + Eprint + Alloc<A = Global>>(
+pub fn show<I: Read + Drop, W: Write + Drop, R: Alloc<A = Global>>(
     rt: &R,
     input: I,
-    speaks: bool,
+    output: BufWriter<W>,
 ) -> Result<u8, ScriptFault> {
-    let mut transport = Transport::new(input, output(rt, speaks)?);
+    let mut transport = Transport::new(input, output);
     show_statements(rt.alloc(), &mut transport).and(Ok(DONE))
 }

@@ -9,31 +9,38 @@ ghost use Rattle.std.specs.Prelude.{◌≡◌};
 ghost use Rattle.xa_script.specs.CommandLine.{CanBeDone};
 ghost use Rattle.xa_script.specs.Status.{status_after};
 
+mod advised;
 mod command;
 mod help;
 mod hint;
 mod jobs;
 mod judging;
 mod line_fault;
+mod line_form;
 mod line_kind;
 mod manner;
 mod racing;
 mod schedule;
 mod spoken;
+mod standing;
+mod standings;
 mod subcommands;
+mod text_line;
+mod texts;
 mod wanted;
 mod watch;
 
 use clap::Error;
 use clap::error::ErrorKind;
 pub use command::{Job, read_command};
+use line_form::LineForm;
 use line_kind::LineKind;
 pub use manner::{Manner, read_manner};
 pub use schedule::Schedule;
 use std::alloc::Global;
 use std::env::Env;
 use std::fs::File;
-use std::io::Read;
+use std::io::{BufWriter, Read, Write};
 use std::process::ExitCode;
 use std::rt::Files;
 use std::sync::Wait;
@@ -149,6 +156,15 @@ fn lines_of(job: Job) -> (LineKind, usize) {
     }
 }
 
+/// What a job writes its lines as.
+fn form_of(job: Job) -> LineForm {
+    match job {
+        Job::Run | Job::Race { .. } | Job::Coordinate { .. } | Job::Serve => LineForm::Answers,
+        Job::Show => LineForm::Shown,
+        Job::Judge { .. } => LineForm::Verdict,
+    }
+}
+
 /// Does a job on what a reader gives, and gives the status.
 fn carry_out_on<I: Read + Drop, R: Print + Eprint + Alloc<A = Global> + Threads + Wait + Sync>(
     rt: &R,
@@ -160,35 +176,46 @@ fn carry_out_on<I: Read + Drop, R: Print + Eprint + Alloc<A = Global> + Threads 
 {
     let (kind, most) = lines_of(job);
     let mut watch = Watch::new(rt, input, kind, most, manner.verbose, manner.strict);
-    let status = carry_out_job(rt, &mut watch, job, manner.verbose)?;
+    let status = if manner.text {
+        let output = jobs::text_output(rt, manner.verbose, form_of(job))?;
+        carry_out_job(rt, &mut watch, output, job, manner.verbose)?
+    } else {
+        let output = jobs::output(rt, manner.verbose)?;
+        carry_out_job(rt, &mut watch, output, job, manner.verbose)?
+    };
     if watch.has_faults()? && manner.strict && status == DONE {
         return Ok(UNREAD);
     }
     Ok(status)
 }
 
-/// Does a job on what a reader gives.
-fn carry_out_job<I: Read + Drop, R: Print + Eprint + Alloc<A = Global> + Threads + Wait + Sync>(
+/// Does a job on what a reader gives, and writes to a writer.
+fn carry_out_job<
+    I: Read + Drop,
+    W: Write + Drop,
+    R: Eprint + Alloc<A = Global> + Threads + Wait + Sync,
+>(
     rt: &R,
     input: I,
+    output: BufWriter<W>,
     job: Job,
     speaks: bool,
 ) -> Result<u8, ScriptFault>
     requires { CanBeDone job }
 {
     match job {
-        Job::Run => jobs::run(rt, input, speaks),
+        Job::Run => jobs::run(rt, input, output),
         Job::Race {
             capacity,
             schedule,
             renews,
-        } => jobs::race(rt, input, speaks, capacity, schedule, renews),
+        } => jobs::race(rt, input, output, capacity, schedule, renews),
         Job::Coordinate { stores, capacity } => {
-            jobs::coordinate(rt, input, speaks, stores, capacity)
+            jobs::coordinate(rt, input, output, speaks, stores, capacity)
         }
-        Job::Serve => jobs::serve(rt, input, speaks),
-        Job::Show => jobs::show(rt, input, speaks),
-        Job::Judge { limit } => jobs::judge(rt, input, speaks, limit),
+        Job::Serve => jobs::serve(rt, input, output),
+        Job::Show => jobs::show(rt, input, output),
+        Job::Judge { limit } => jobs::judge(rt, input, output, limit),
     }
 }
 

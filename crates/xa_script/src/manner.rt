@@ -19,6 +19,8 @@ pub struct Manner<'a> {
     pub verbose: bool,
     /// Whether the status tells of syntax faults.
     pub strict: bool,
+    /// Whether texts of printable bytes are written as texts.
+    pub text: bool,
 }
 
 /// Whether an option without a value is given.
@@ -31,12 +33,13 @@ fn flag_in(found: &ArgMatches<'_>, name: &str) -> bool
 /// The manner that was found.
 fn manner_in<'a>(found: &ArgMatches<'a>) -> Manner<'a>
     ensures { IsManner (first_value (found_of found.now) (codes "file")) (one_text (found_of found.now) (codes "verbose"))
-        (one_text (found_of found.now) (codes "strict")) result }
+        (one_text (found_of found.now) (codes "strict")) (one_text (found_of found.now) (codes "text")) result }
 {
     Manner {
         file: found.get_str("file"),
         verbose: flag_in(found, "verbose"),
         strict: flag_in(found, "strict"),
+        text: flag_in(found, "text"),
     }
 }
 

@@ -121,11 +121,13 @@ fn with_common<'a>(alloc: Global, command: Command<'a>) -> Result<Command<'a>, A
     ensures local { IfOk result IsLocal }
 {
     let verbose = "Says on the standard error what to do about faults";
+    let text = "Prints keys, values and identifiers of printable ASCII as 'text', others as 0x..";
     let strict = "Ends with status 8 where a line was a syntax fault and the status would be 0";
     command
         .arg(file_option(alloc))?
         .arg(flag_option(alloc, "verbose", verbose))?
-        .arg(flag_option(alloc, "strict", strict))
+        .arg(flag_option(alloc, "strict", strict))?
+        .arg(flag_option(alloc, "text", text))
 }
 
 /// A subcommand without options, with what its help shows behind them.

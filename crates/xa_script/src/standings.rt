@@ -1,0 +1,111 @@
+//! The transactions of a conversation, as calls and their answers tell of them.
+use crate::standing::Standing;
+use std::alloc::Global;
+use xa_manager::Call;
+use xa_xid::NoMemory;
+
+/// The transactions that were begun, 1, 2, .., and how far each has come.
+#[derive(Drop)]
+pub struct Standings {
+    standings: Vec<Standing>,
+}
+
+/// How an answer says that a transaction voted.
+fn voted(answer: &[u8]) -> Option<Standing> {
+    if answer == b"READY\n".as_slice() {
+        Some(Standing::Ready)
+    } else if answer == b"ONE PHASE\n".as_slice() {
+        Some(Standing::OnePhase)
+    } else if answer == b"NOTHING\n".as_slice() {
+        Some(Standing::Nothing)
+    } else if answer.starts_with(b"NO ") {
+        Some(Standing::No)
+    } else {
+        None
+    }
+}
+
+/// How a transaction then stands, where an answer says that it ended.
+fn ended(answer: &[u8], standing: Standing) -> Option<Standing> {
+    let has_ended = answer == b"COMMITTED\n".as_slice()
+        || answer == b"ROLLED BACK\n".as_slice()
+        || answer.starts_with(b"HAZARD ")
+        || answer.starts_with(b"UNFINISHED ");
+    if has_ended { Some(standing) } else { None }
+}
+
+/// What a call out of turn wants, and of which transaction.
+fn wanted_by(call: &Call) -> Option<(u64, &'static str)> {
+    match call {
+        Call::Work { number, .. } => Some((*number, "WORK wants one that takes work")),
+        Call::Prepare(number) => Some((*number, "PREPARE wants one that takes work")),
+        Call::Abandon(number) => Some((*number, "ABANDON wants one that takes work")),
+        Call::Decide(number) => Some((*number, "DECIDE wants one that has voted READY")),
+        Call::Finish(number) => Some((
+            *number,
+            "FINISH wants one that has voted READY, ONE PHASE or NO",
+        )),
+        _ => None,
+    }
+}
+
+impl Standings {
+    /// No transaction. Takes no memory.
+    pub fn new(alloc: Global) -> Standings {
+        Standings {
+            standings: Vec::new(alloc),
+        }
+    }
+
+    /// How far the transaction of this number has come, where it was begun.
+    fn of(&self, number: u64) -> Option<Standing> {
+        if number == 0 || number > self.standings.len() as u64 {
+            return None;
+        }
+        Some(self.standings[(number - 1) as usize])
+    }
+
+    /// Notes how far a transaction has come, where it was begun.
+    fn put(&mut self, number: u64, standing: Option<Standing>) {
+        if let Some(standing) = standing
+            && number != 0
+            && number <= self.standings.len() as u64
+        {
+            self.standings[(number - 1) as usize] = standing;
+        }
+    }
+
+    /// Takes note of a call and its answer.
+    ///
+    /// Error: `NoMemory`, where a transaction began. Doesn't wait.
+    pub fn note(&mut self, call: &Call, answer: &[u8]) -> Result<(), NoMemory> {
+        match call {
+            Call::Begin => {
+                if answer.starts_with(b"TRANSACTION ") {
+                    self.standings.push(Standing::Working)?;
+                }
+            }
+            Call::Prepare(number) => self.put(*number, voted(answer)),
+            Call::Finish(number) => self.put(*number, ended(answer, Standing::Finished)),
+            Call::Abandon(number) => self.put(*number, ended(answer, Standing::Abandoned)),
+            _ => {}
+        }
+        Ok(())
+    }
+
+    /// The transaction that a call out of turn is about, how far it has come, and what the call wants.
+    ///
+    /// None where the answer isn't that the call is out of turn. Takes no memory. Doesn't wait.
+    pub fn out_of_turn(
+        &self,
+        call: &Call,
+        answer: &[u8],
+    ) -> Option<(u64, Standing, &'static str)> {
+        if !answer.starts_with(b"WRONG STAGE ") {
+            return None;
+        }
+        let (number, wanted) = wanted_by(call)?;
+        let standing = self.of(number)?;
+        Some((number, standing, wanted))
+    }
+}

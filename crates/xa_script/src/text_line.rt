@@ -1,0 +1,137 @@
+//! A line whose literals are written as texts.
+ghost use Rattle.std.specs.Prelude.{◌≡◌, ◌++◌, ◌∷◌, [], ℕ, List, IsTrue, IfSome};
+ghost use Rattle.xa_script.specs.Texts.{is_printable, are_printable, between_quotes, quoted, word_text, is_between, texts_from, with_texts};
+
+use arrayvec::ArrayVec;
+use xa_xid::literal_of;
+
+/// Room for a line.
+pub type Room = ArrayVec<u8, 512>;
+
+/// The beginning of a line, as texts, and the bytes of the word that has come behind it.
+#[derive(Drop)]
+struct TextLine {
+    text: Room,
+    word: Room,
+}
+
+/// Whether a byte is printable ASCII.
+fn is_plain(byte: u8) -> bool
+    ensures { result ≡ is_printable byte }
+{
+    32 <= byte && byte <= 126
+}
+
+/// Whether all bytes are printable ASCII.
+fn are_plain(bytes: &[u8]) -> bool
+    ensures { result ≡ are_printable bytes.now }
+{
+    for byte in bytes {
+        if !is_plain(*byte) {
+            return false;
+        }
+    }
+    true
+}
+
+/// Puts a byte at the end, where there is room.
+fn put(text: &mut Room, byte: u8) -> Option<()>
+    ensures { IfSome result (λ _. text.new.items ≡ text.old.items ++ byte ∷ []) }
+{
+    if text.is_full() {
+        return None;
+    }
+    text.push(byte);
+    Some(())
+}
+
+/// Puts a word at the end as it stands, where there is room.
+fn put_word(text: &mut Room, word: &[u8]) -> Option<()>
+    ensures { IfSome result (λ _. text.new.items ≡ text.old.items ++ word.now) }
+{
+    match text.try_extend_from_slice(word) {
+        Ok(()) => Some(()),
+        Err(_) => None,
+    }
+}
+
+/// Puts bytes at the end as they stand between quotes, where there is room.
+fn put_between(text: &mut Room, bytes: &[u8]) -> Option<()>
+    ensures { IfSome result (λ _. text.new.items ≡ text.old.items ++ between_quotes bytes.now) }
+{
+    for byte in bytes {
+        if *byte == b'\'' || *byte == b'\\' {
+            put(text, *byte)?;
+        }
+        put(text, *byte)?;
+    }
+    Some(())
+}
+
+/// Puts bytes at the end as a text in quotes, where there is room.
+fn put_text(text: &mut Room, bytes: &[u8]) -> Option<()>
+    ensures { IfSome result (λ _. text.new.items ≡ text.old.items ++ quoted bytes.now) }
+{
+    put(text, b'\'')?;
+    put_between(text, bytes)?;
+    put(text, b'\'')
+}
+
+/// Puts a word at the end: a literal of printable bytes as a text in quotes, any other word as it stands. Nothing, where there is no room.
+fn put_written(text: &mut Room, word: &[u8]) -> Option<()>
+    ensures { IfSome result (λ _. text.new.items ≡ text.old.items ++ word_text word.now) }
+{
+    match literal_of(word) {
+        Ok((bytes, [])) => {
+            if are_plain(bytes.as_slice()) {
+                put_text(text, bytes.as_slice())
+            } else {
+                put_word(text, word)
+            }
+        }
+        Ok((_, [_, ..])) => put_word(text, word),
+        Err(_) => put_word(text, word),
+    }
+}
+
+/// Whether a byte stands between words: a space, a comma or the line feed.
+fn divides(byte: u8) -> bool
+    ensures { result ≡ is_between byte }
+{
+    byte == b' ' || byte == b',' || byte == b'\n'
+}
+
+impl TextLine {
+    /// Takes a byte of the line, where there is room.
+    fn take(&mut self, byte: u8) -> Option<()>
+        ensures { IfSome result (λ _. (rest : List ℕ)
+            → self.new.text.items ++ texts_from self.new.word.items rest ≡ self.old.text.items ++ texts_from self.old.word.items (byte ∷ rest)) }
+    {
+        if !divides(byte) {
+            return put(&mut self.word, byte);
+        }
+        put_written(&mut self.text, self.word.as_slice())?;
+        put(&mut self.text, byte)?;
+        self.word.clear();
+        Some(())
+    }
+}
+
+/// A line with its literals of printable bytes as texts in quotes.
+///
+/// None where there is no room for it. Takes no memory. Doesn't wait.
+/// Own rule: docs/BEHAVIOR.md, 'The program'.
+pub fn text_line(line: &[u8]) -> Option<Room>
+    ensures { IfSome result (λ text. text.items ≡ with_texts line.now) }
+{
+    let mut so_far = TextLine {
+        text: Room::new(),
+        word: Room::new(),
+    };
+    for byte in line {
+        so_far.take(*byte)?;
+    }
+    let TextLine { mut text, word } = so_far;
+    put_written(&mut text, word.as_slice())?;
+    Some(text)
+}
