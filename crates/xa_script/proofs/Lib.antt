@@ -2,3 +2,4 @@ pub mod CommandFaults
 pub mod MannerFound
 pub mod NamedJobs
 pub mod Options
+pub mod Owed

@@ -1,5 +1,6 @@
 pub mod CommandLine
 pub mod Manner
+pub mod Owing
 pub mod Status
 pub mod Texts
 pub mod Wanted

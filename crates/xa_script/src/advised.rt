@@ -43,7 +43,11 @@ impl<'r, S: LineServer + Drop, R: Eprint + Alloc<A = Global>> Advised<'r, S, R> 
 
     /// Error: `NoMemory`, where memory was refused for looking at the calls.
     pub fn looked(&self) -> Result<(), NoMemory> {
-        if self.refused { Err(AllocError) } else { Ok(()) }
+        if self.refused {
+            Err(AllocError)
+        } else {
+            Ok(())
+        }
     }
 
     /// Counts a line.

@@ -96,11 +96,7 @@ impl Standings {
     /// The transaction that a call out of turn is about, how far it has come, and what the call wants.
     ///
     /// None where the answer isn't that the call is out of turn. Takes no memory. Doesn't wait.
-    pub fn out_of_turn(
-        &self,
-        call: &Call,
-        answer: &[u8],
-    ) -> Option<(u64, Standing, &'static str)> {
+    pub fn out_of_turn(&self, call: &Call, answer: &[u8]) -> Option<(u64, Standing, &'static str)> {
         if !answer.starts_with(b"WRONG STAGE ") {
             return None;
         }

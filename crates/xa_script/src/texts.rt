@@ -1,18 +1,18 @@
 //! A writer of lines in which literals stand as texts.
-ghost use Rattle.std.specs.Prelude.{◌≡◌, ◌≤◌, length};
+ghost use Rattle.std.specs.Prelude.{◌≡◌, ◌≤◌, ◌<◌, true, false, ⊤, [], length, take, drop, IfOk, OnOk, OnErr};
 ghost use Rattle.std.specs.Io.{WritesAtMost};
+ghost use Rattle.std.specs.Io.KnownBytes.{Keeps, WriteAppends};
 
 use crate::line_form::{LineForm, is_whole_row};
 use crate::text_line::{Room, text_line};
-use std::io;
 use std::io::{ErrorKind, Write};
-use std::mem;
+use std::{io, mem};
 
 /// A writer of lines in which literals of printable bytes stand as texts in quotes.
 ///
 /// A line is written once it is whole. One that has no room here has no literals, and passes as it comes; so does what a flush cuts off.
 #[derive(Drop)]
-pub struct Texts<W: Write + Drop> {
+pub struct Texts<W> {
     /// What is written to.
     inner: W,
     /// What the lines are written as.
@@ -27,14 +27,36 @@ pub struct Texts<W: Write + Drop> {
     passes: bool,
     /// How many rows of a reply are still to come.
     rows: u64,
+    ghost within: { given ≤ length due.items },
+    ghost apart: { passes ≡ true → held.items ≡ [] },
+}
+
+/// How many bytes the first line has, with its line feed, or all of them.
+fn line_length(bytes: &[u8]) -> usize
+    ensures { result ≤ length bytes.now }
+{
+    match bytes.iter().position(|byte| *byte == b'\n') {
+        Some(place) => place + 1,
+        None => bytes.len(),
+    }
+}
+
+/// A line without its line feed.
+fn without_feed(line: &[u8]) -> &[u8] {
+    match line {
+        [front @ .., b'\n'] => front,
+        _ => line,
+    }
 }
 
 impl<W: Write + Drop> Texts<W> {
+    ghost use Rattle.xa_script.specs.Owing.{sent_of, known_of, IsWrittenAs, Takes};
+
     /// Writes to this writer.
     ///
     /// Takes no memory. Doesn't wait.
     pub fn new(inner: W, form: LineForm) -> Texts<W>
-        ensures { result.inner ≡ inner }
+        ensures { Keeps (W.contents inner) (known_of W.contents result) }
     {
         Texts {
             inner,
@@ -47,15 +69,16 @@ impl<W: Write + Drop> Texts<W> {
         }
     }
 
-    /// Whether all that is due is written.
-    fn is_given(&self) -> bool {
-        self.given >= self.due.len()
-    }
-
     /// Writes once of what is due.
-    fn give_some(&mut self) -> io::Result<()> {
-        let due = self.due.as_slice();
-        let count = self.inner.write(&due[self.given.min(due.len())..])?;
+    fn give_some(&mut self) -> io::Result<()>
+        requires { self.old.given < length self.old.due.items }
+        ensures sent { Keeps (sent_of W.contents self.old) (sent_of W.contents self.new) }
+        ensures held { self.new.held ≡ self.old.held }
+        ensures passes { self.new.passes ≡ self.old.passes }
+        ensures due { self.new.due ≡ self.old.due }
+        ensures more { OnOk result (self.old.given < self.new.given) }
+    {
+        let count = self.inner.write(&self.due.as_slice()[self.given..])?;
         if count == 0 {
             return Err(ErrorKind::WriteZero.into());
         }
@@ -64,53 +87,115 @@ impl<W: Write + Drop> Texts<W> {
     }
 
     /// Writes what is due.
-    fn give(&mut self) -> io::Result<()> {
-        while !self.is_given() {
+    fn give(&mut self) -> io::Result<()>
+        ensures sent { Keeps (sent_of W.contents self.old) (sent_of W.contents self.new) }
+        ensures kept { Keeps (known_of W.contents self.old) (known_of W.contents self.new) }
+        ensures held { self.new.held ≡ self.old.held }
+        ensures passes { self.new.passes ≡ self.old.passes }
+        ensures all { OnOk result (drop self.new.given self.new.due.items ≡ []) }
+    {
+        while self.given < self.due.len() {
             self.give_some()?;
         }
         Ok(())
     }
 
     /// Has this written before more is taken.
-    fn owe(&mut self, text: Room) {
-        self.due = text;
+    fn owe(&mut self, text: Room)
+        requires { drop self.old.given self.old.due.items ≡ [] }
+        ensures due { self.new.due ≡ text }
+        ensures given { self.new.given ≡ 0 }
+        ensures inner { self.new.inner ≡ self.old.inner }
+        ensures held { self.new.held ≡ self.old.held }
+        ensures passes { self.new.passes ≡ self.old.passes }
+    {
         self.given = 0;
+        self.due = text;
     }
 
     /// Lets what has come of the line, and the rest of it, pass as it stands.
-    fn let_pass(&mut self) -> io::Result<()> {
+    fn let_pass(&mut self) -> io::Result<()>
+        requires { drop self.old.given self.old.due.items ≡ [] }
+        ensures kept { Keeps (known_of W.contents self.old) (known_of W.contents self.new) }
+        ensures held { self.new.held.items ≡ [] }
+        ensures passes { self.new.passes ≡ true }
+        ensures all { OnOk result (drop self.new.given self.new.due.items ≡ []) }
+    {
         let held = mem::replace(&mut self.held, Room::new());
         self.owe(held);
         self.passes = true;
         self.give()
     }
 
+    /// Writes what is due, and what has come of the line.
+    fn settle(&mut self) -> io::Result<()>
+        ensures kept { Keeps (known_of W.contents self.old) (known_of W.contents self.new) }
+        ensures due { OnOk result (drop self.new.given self.new.due.items ≡ []) }
+        ensures held { OnOk result (self.new.held.items ≡ []) }
+    {
+        self.give()?;
+        if self.held.is_empty() {
+            return Ok(());
+        }
+        self.let_pass()
+    }
+
+    /// Writes what is due, and what has come of a line that has no room.
+    fn make_room(&mut self) -> io::Result<()>
+        ensures kept { Keeps (known_of W.contents self.old) (known_of W.contents self.new) }
+        ensures due { OnOk result (drop self.new.given self.new.due.items ≡ []) }
+        ensures sent { OnOk result (self.new.passes ≡ false → Keeps (sent_of W.contents self.old) (sent_of W.contents self.new)) }
+        ensures held { OnOk result (self.new.passes ≡ false → self.new.held ≡ self.old.held) }
+    {
+        self.give()?;
+        if self.held.is_full() {
+            return self.let_pass();
+        }
+        Ok(())
+    }
+
     /// Whether what has come, which ends in a line feed, is a whole line: a row may hold line feeds itself.
     fn is_whole(&self) -> bool {
-        let held = self.held.as_slice();
-        self.rows == 0 || is_whole_row(&held[..held.len().saturating_sub(1)])
+        self.rows == 0 || is_whole_row(without_feed(self.held.as_slice()))
+    }
+
+    /// What is written for a line, which ends in a line feed.
+    fn written(form: LineForm, line: Room) -> Room
+        ensures { IsWrittenAs line.items result.items }
+    {
+        if form.keeps(without_feed(line.as_slice())) {
+            return line;
+        }
+        match text_line(line.as_slice()) {
+            Some(text) => text,
+            None => line,
+        }
     }
 
     /// Takes the line that has come.
-    fn end_line(&mut self) {
+    fn end_line(&mut self)
+        requires { drop self.old.given self.old.due.items ≡ [] }
+        ensures written { IsWrittenAs self.old.held.items self.new.due.items }
+        ensures given { self.new.given ≡ 0 }
+        ensures held { self.new.held.items ≡ [] }
+        ensures inner { self.new.inner ≡ self.old.inner }
+    {
         let held = mem::replace(&mut self.held, Room::new());
         if self.rows > 0 {
             self.rows -= 1;
             self.owe(held);
-            return;
-        }
-        let line = &held.as_slice()[..held.len().saturating_sub(1)];
-        self.rows = self.form.rows_behind(line);
-        let keeps = self.form.keeps(line);
-        match text_line(held.as_slice()) {
-            Some(text) if !keeps => self.owe(text),
-            _ => self.owe(held),
+        } else {
+            self.rows = self.form.rows_behind(without_feed(held.as_slice()));
+            self.owe(Self::written(self.form, held));
         }
     }
 
     /// Takes of these bytes up to the end of a line, or as long as there is room, and says how many.
     fn take(&mut self, bytes: &[u8]) -> usize
-        ensures { result ≤ length bytes.now }
+        requires due { drop self.old.given self.old.due.items ≡ [] }
+        requires passes { self.old.passes ≡ false }
+        ensures bound { result ≤ length bytes.now }
+        ensures taken { Takes W.contents self.old (take result bytes.now) self.new }
     {
         let mut taken = 0;
         while taken < bytes.len() && !self.held.is_full() {
@@ -127,24 +212,32 @@ impl<W: Write + Drop> Texts<W> {
 
     /// Writes the rest of the line, or of these bytes, as it stands, and says how many were written.
     fn pass(&mut self, bytes: &[u8]) -> io::Result<usize>
-        ensures { WritesAtMost result bytes.now }
+        requires { self.old.passes ≡ true }
+        ensures bound { WritesAtMost result bytes.now }
+        ensures written { WriteAppends (W.contents self.old.inner) (W.contents self.new.inner) result bytes.now }
+        ensures due { self.new.due ≡ self.old.due }
+        ensures given { self.new.given ≡ self.old.given }
+        ensures held { self.new.held ≡ self.old.held }
     {
-        let end = bytes.iter().position(|byte| *byte == b'\n');
-        let count = match end {
-            Some(place) => self.inner.write(&bytes[..place + 1])?,
-            None => self.inner.write(bytes)?,
-        };
-        self.passes = end.is_none_or(|place| count <= place);
+        let line = &bytes[..line_length(bytes)];
+        let count = self.inner.write(line)?;
+        if count > 0 && bytes[count - 1] == b'\n' {
+            self.passes = false;
+        }
         Ok(count)
     }
 }
 
 impl<W: Write + Drop> Write for Texts<W> {
-    fn write(&mut self, buf: &[u8]) -> io::Result<usize> {
-        self.give()?;
-        if self.held.is_full() {
-            self.let_pass()?;
-        }
+    ghost use Rattle.xa_script.specs.Owing.{known_of, Takes};
+
+    fn write(&mut self, buf: &[u8]) -> io::Result<usize>
+        ensures bound { WritesAtMost result buf.now }
+        ensures bytes { ⊤ }
+        ensures taken { IfOk result (λ count. Takes W.contents self.old (take count buf.now) self.new) }
+        ensures kept { OnErr result (Keeps (known_of W.contents self.old) (known_of W.contents self.new)) }
+    {
+        self.make_room()?;
         if self.passes {
             self.pass(buf)
         } else {
@@ -152,11 +245,12 @@ impl<W: Write + Drop> Write for Texts<W> {
         }
     }
 
-    fn flush(&mut self) -> io::Result<()> {
-        self.give()?;
-        if !self.held.is_empty() {
-            self.let_pass()?;
-        }
+    fn flush(&mut self) -> io::Result<()>
+        ensures bytes { ⊤ }
+        ensures kept { OnErr result (Keeps (known_of W.contents self.old) (known_of W.contents self.new)) }
+        ensures all { OnOk result (Keeps (known_of W.contents self.old) (W.contents self.new.inner)) }
+    {
+        self.settle()?;
         self.inner.flush()
     }
 }

@@ -1,0 +1,15 @@
+use Rattle.std.proofs.Common.{◌≡◌, ◌≤◌, ◌-◌, ◌++◌, false, length, take}
+use Rattle.xa_script.proofs.texts.Texts.take.Given as goal
+
+abbrev pub invariant-loop-taken : goal.invariant-loop-taken
+invariant-loop-taken g l = record {
+  within : l.taken ≤ length l.bytes;
+  given : l.self.given ≡ l.fn.self.given;
+  due : l.self.due ≡ l.fn.self.due;
+  inner : l.self.inner ≡ l.fn.self.inner;
+  passes : l.self.passes ≡ false;
+  held : l.self.held.items ≡ l.fn.self.held.items ++ take l.taken l.bytes;
+}
+
+abbrev pub decreases-loop-taken : goal.decreases-loop-taken
+decreases-loop-taken g l = length l.bytes - l.taken

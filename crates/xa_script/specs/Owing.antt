@@ -1,0 +1,31 @@
+-- What a writer of texts has written, and has still to write.
+--     sent_of        what was written, and what is due
+--     known_of       the same, and what has come of the line
+--     IsWrittenAs    what is written for a line
+--     Takes          what a writer of texts does with the bytes that it takes
+use Rattle.std.specs.Prelude.{◌≡◌, ℕ, List, ◌++◌, ◌⊎◌, drop, Option}
+use Rattle.std.specs.Io.KnownBytes.{Appends, append_known}
+use Rattle.xa_script.specs.Texts.{with_texts}
+use Rattle.xa_script.specs.declared.texts.Texts.{Texts}
+
+-- what was written, and then what is due
+abbrev pub sent_of : {W : Type 0} → (W → Option (List ℕ)) → Texts W → Option (List ℕ)
+sent_of contents texts = append_known (contents texts.inner) (drop texts.given texts.due.items)
+
+-- what was written, then what is due, then what has come of the line
+abbrev pub known_of : {W : Type 0} → (W → Option (List ℕ)) → Texts W → Option (List ℕ)
+known_of contents texts = append_known (contents texts.inner) (drop texts.given texts.due.items ++ texts.held.items)
+
+-- a line is written as it stands, or with its literals as texts
+abbrev pub IsWrittenAs : (line text : List ℕ) → Type 0
+IsWrittenAs line text = (text ≡ line) ⊎ (text ≡ with_texts line)
+
+-- the bytes end a line, and what is written for it is due
+pub record Ends {W : Type 0} (contents : W → Option (List ℕ)) (old : Texts W) (bytes : List ℕ) (new : Texts W) : Type 0 where
+  pub text : List ℕ
+  pub written : IsWrittenAs (old.held.items ++ bytes) text
+  pub sent : Appends (sent_of contents old) (known_of contents new) text
+
+-- the bytes that are taken come behind those that are known, or end a line
+abbrev pub Takes : {W : Type 0} → (W → Option (List ℕ)) → Texts W → List ℕ → Texts W → Type 0
+Takes contents old bytes new = Appends (known_of contents old) (known_of contents new) bytes ⊎ Ends contents old bytes new
