@@ -3,3 +3,4 @@ pub mod MannerFound
 pub mod NamedJobs
 pub mod Options
 pub mod Owed
+pub mod TextsRead
