@@ -30,7 +30,7 @@ form_of (byte ∷ bytes) = form_more byte (byte == 39) (byte == 92) (between_quo
 
 -- a text in quotes, behind which no quote stands
 pub quoted_at : (bytes rest : List ℕ) → StartsNo (λ byte. byte == 39) rest → LiteralAt (quoted bytes ++ rest) bytes rest
-quoted_at bytes rest last = text_literal 39 tt (record { written = between_quotes bytes ++ 39 ∷ []; form = form_of bytes; cut = refl; last = last })
+quoted_at bytes rest last = text_literal 39 refl (record { written = between_quotes bytes ++ 39 ∷ []; form = form_of bytes; cut = refl; last = last })
 
 -- it is read as its bytes
 read_quoted : (text : Text) → length text.items ≤ 64
