@@ -1,7 +1,7 @@
 -- Which manner the matches of a command line give.
-use Rattle.std.proofs.Common.{◌≡◌, ◌∙◌, sym, subst, List, Option, Some, codes}
+use Rattle.std.proofs.Common.{◌≡◌, sym, subst, List, Option, Some, codes}
 use Rattle.std.specs.Option.{IsSomeAnd}
-use Rattle.clap.specs.Words.{App, Text, Row, HasMatchesOf, first_of, first_value, found_of, one_of, one_text, rows_of, subcommand_of, subcommand_rows_of}
+use Rattle.clap.specs.Words.{Text, Row, first_of, first_value, found_of, one_of, one_text, rows_of, subcommand_of}
 use Rattle.clap.specs.declared.parser.matches.ArgMatches.{ArgMatches}
 use Rattle.clap.proofs.WalkLemmas.{first_value-rows, one_text-rows}
 use Rattle.xa_script.specs.CommandLine.{script_app}

@@ -1,5 +1,5 @@
 -- Which job the matches of a command line name.
-use Rattle.std.proofs.Common.{◌≡◌, ◌∙◌, ℕ, [], ◌∷◌, refl, sym, ap, subst, List, Option, Some, None, option_map, codes, length, slice_index, arith}
+use Rattle.std.proofs.Common.{◌≡◌, ◌∙◌, ℕ, refl, sym, ap, subst, List, Option, Some, None, option_map, codes, length, slice_index, arith}
 use Rattle.std.specs.Prelude.{IfSome}
 use Rattle.std.specs.Option.{IsSomeAnd}
 use Rattle.clap.specs.Words.{Text, Row, one_of, one_text, found_of, rows_of, subcommand_name_of, subcommand_rows_of}

@@ -1,5 +1,5 @@
 -- What a writer of texts owes.
-use Rattle.std.proofs.Common.{◌≡◌, ◌∙◌, ◌+◌, ◌-◌, ◌++◌, ℕ, List, [], Option, Some, None, ap, ap₂, sym, append-nil, subst, refl, length, take, drop, Result, Ok, Err, inl, inr, ◌⊎◌}
+use Rattle.std.proofs.Common.{◌≡◌, ◌∙◌, ◌+◌, ◌-◌, ◌++◌, ℕ, List, [], Option, Some, None, ap, ap₂, sym, append-nil, subst, length, take, drop, Result, Ok, Err, inl, inr, ◌⊎◌}
 use Rattle.std.proofs.lemmas.List.{append_assoc, take_rest, take-append-drop, drop-drop}
 use Rattle.std.specs.Io.KnownBytes.{Appends, Keeps, WriteAppends, append_known}
 use Rattle.std.specs.Prelude.{IfOk, OnOk}

@@ -3,7 +3,7 @@ use Rattle.std.proofs.Common.{◌≡◌, ◌∙◌, ℕ, ◌≤◌, Bool, true, 
 use Rattle.std.proofs.lemmas.Bool.{eqb-true, eqb-false}
 use Rattle.xa_xid.specs.Bytes.{StartsNo}
 use Rattle.xa_xid.specs.Literal.{Reading, LiteralAt, text_literal, literal_ahead, kept, sized}
-use Rattle.xa_xid.specs.Quoted.{Quoted, close, doubled, escape, plain, QuotedAt, escaped}
+use Rattle.xa_xid.specs.Quoted.{Quoted, close, doubled, escape, plain, escaped}
 use Rattle.xa_xid.specs.Xid.{Text}
 use Rattle.xa_xid.proofs.Texts.{kept-fits}
 use Rattle.xa_script.specs.Texts.{between_quotes, quoted, are_printable, word_text, said_or}

@@ -1,5 +1,5 @@
-use Rattle.std.proofs.Common.{◌≡◌, ◌∙◌, ◌++◌, [], ℕ, ap, subst, take, drop}
-use Rattle.xa_script.specs.Owing.{sent_of, known_of, Takes, Ends}
+use Rattle.std.proofs.Common.{◌≡◌, ◌∙◌, ◌++◌, [], ap, take, drop}
+use Rattle.xa_script.specs.Owing.{known_of, Ends}
 use Rattle.xa_script.proofs.Owed.{passed_if, takes_behind, both_empty}
 use Rattle.xa_script.proofs.texts.TextsWrite.write.Goals as goal
 
