@@ -1,6 +1,7 @@
 -- What was said to sessions: nothing, another client's answer, and what each other client answered.
-use Rattle.std.proofs.Common.{◌≡◌, ◌∙◌, ◌+◌, ℕ, zero, suc, true, List, [], ◌∷◌, ◌++◌, length, get_or, map, ap, refl, sym, subst, Result, Ok, Err, Some, arith}
+use Rattle.std.proofs.Common.{◌≡◌, ◌∙◌, ◌+◌, ℕ, zero, suc, true, List, [], ◌∷◌, ◌++◌, length, take, get_or, map, ap, refl, sym, subst, Result, Ok, Err, Some, arith}
 use Rattle.std.proofs.lemmas.List.{length-map}
+use Rattle.std.proofs.Math.Seq.{take-append_seam}
 use Rattle.std.specs.Prelude.{IfOk, IfErr, slice_get, slice_set}
 use Rattle.xa_xid.specs.declared.statement.Statement.TheVariants.{Recover}
 use Rattle.xa_server.specs.declared.reply.Reply.{Reply}
@@ -14,23 +15,13 @@ use Rattle.xa_xid.specs.declared.statement.Statement.{Statement}
 use Rattle.xa_session.specs.declared.answer.Answer.{Answer}
 use Rattle.xa_session.specs.declared.fault.Fault.{Fault}
 use Rattle.xa_session.specs.Answer.{IsAnswered, Fails}
-use Rattle.xa_session.specs.View.{SessionView}
+use Rattle.xa_session.specs.View.{SessionView, StaysOfLog}
 use Rattle.xa_coordinator.specs.declared.fused.Fused.{Fused}
 use Rattle.xa_manager.specs.declared.call.Call.{Call}
 use Rattle.xa_manager.specs.declared.response.Response.{Response}
 use Rattle.xa_manager.specs.Whole.{Performs}
-use Rattle.xa_manager.specs.Said.{WholeManager, IsQuiet, StayOfLogs, RepliesAs, IsGiven, IsListed, reply_of}
-
-map-inner : {S : Type 0} (view : S → SessionView) (sessions : List (Fused S))
-    → map (λ (session : Fused S). view session.inner) sessions ≡ map view (map (λ (session : Fused S). session.inner) sessions)
-map-inner view [] = refl
-map-inner view (session ∷ sessions) = ap (λ rest. view session.inner ∷ rest) (map-inner view sessions)
-
--- sessions that only fail at another call
-pub quiet_inner : {S : Type 0} (view : S → SessionView) (old new : List (Fused S))
-    → map (λ (session : Fused S). session.inner) new ≡ map (λ (session : Fused S). session.inner) old
-    → IsQuiet (λ (session : Fused S). view session.inner) old new
-quiet_inner view old new same = map-inner view new ∙ ap (map view) same ∙ sym (map-inner view old)
+use Rattle.xa_manager.specs.Carried.{WholeManager}
+use Rattle.xa_manager.specs.Said.{RepliesAs, IsGiven, IsListed, reply_of}
 
 pub as_many : {S : Type 0} (old new : List (Fused S)) → map (λ (session : Fused S). session.inner) new ≡ map (λ (session : Fused S). session.inner) old
     → length new ≡ length old
@@ -46,7 +37,7 @@ replied_as statement (Err fault) old new answers fails = fails
 
 -- where a call added only what agrees with decisions, each session is of the log that it was of
 pub agreed_logs : {S : Type 0} (view : S → SessionView) (decisions : List Decision) (name : List ℕ) (old new : List S)
-    → EachStore view (Agrees decisions name) old new → StayOfLogs view old new
+    → EachStore view (Agrees decisions name) old new → EachStore view (λ store. StaysOfLog) old new
 agreed_logs view decisions name old new agrees = λ store before after is_before is_after. (agrees store before after is_before is_after).adds.log
 
 get_before : {A : Type 0} (xs : List A) (y : A) (place : ℕ) (x : A) → slice_get xs place ≡ Some x → slice_get (xs ++ y ∷ []) place ≡ Some x
@@ -74,6 +65,16 @@ listed_more {T} view answers answer place old now before after count so_far was 
     (λ store less a b is. record { answer = is.answer; there = get_before answers answer store is.answer is.there; given = is.given }) so_far)
     (changes_at now place after)
     (at_place view [] (IsListed more place) now place before after was (record { answer = answer; there = get_last answers answer place count; given = here }))
+
+-- a fact of each session of a list, of which a part was lent that was all of it
+pub each_lent : {T : Type 0} (view : T → SessionView) (fact : ℕ → SessionView → SessionView → Type 0) (items was now rest : List T) (count : ℕ)
+    → was ≡ items → count ≡ length items → length now ≡ length was → EachStore view fact was now → EachStore view fact items (take count (now ++ rest))
+each_lent {T} view fact items was now rest count all whole same each =
+    let as_long : count ≡ length now = whole ∙ sym (ap length all) ∙ sym same in
+    let back : take count (now ++ rest) ≡ now = ap (λ n. take n (now ++ rest)) as_long ∙ take-append_seam now rest in
+    let P : List T → Type 0 = λ list. EachStore view fact items list in
+    let Q : List T → Type 0 = λ list. EachStore view fact list now in
+    subst P (sym back) (subst Q all each)
 
 -- a call that was read from a line is what the line says
 pub performed : {S T : Type 0} (view : S → SessionView) (view' : T → SessionView) (old new : WholeManager (Fused S) T) (call said : Call) (response : Response)

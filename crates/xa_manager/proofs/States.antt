@@ -1,8 +1,9 @@
 -- A transaction manager, as contracts see it, in its parts.
-use Rattle.std.proofs.Common.{◌≡◌, ℕ, ◌∙◌, ◌+◌, ◌-◌, ◌++◌, ◌∷◌, [], List, length, ap, sym, subst, Result, Ok, Err, Some}
+use Rattle.std.proofs.Common.{◌≡◌, ℕ, ◌∙◌, ◌+◌, ◌-◌, ◌++◌, ◌∷◌, [], List, length, ap, sym, subst, Result, Ok, Err, Option, Some}
 use Rattle.std.specs.Prelude.{OnOk, OnErr}
 use Rattle.std.proofs.lemmas.List.{length-set}
 use Rattle.xa_session.specs.View.{SessionView}
+use Rattle.xa_coordinator.specs.declared.branches.OpenBranch.{OpenBranch}
 use Rattle.xa_coordinator.specs.declared.decisions.Decision.{Decision}
 use Rattle.xa_coordinator.specs.declared.decisions.Decision.TheVariants.{Decided}
 use Rattle.xa_coordinator.specs.Decisions.{with_decided}
@@ -16,14 +17,29 @@ use Rattle.xa_coordinator.specs.declared.vote.Vote.TheVariants.{Ready as VoteRea
 use Rattle.xa_manager.specs.declared.stage.Stage.{Stage}
 use Rattle.xa_manager.specs.declared.stage.Stage.TheVariants.{Working, Ready, Over}
 use Rattle.xa_manager.specs.Ledger.{IsTransactionOf, transaction_in, with_stage}
-use Rattle.xa_manager.specs.Answers.{ManagerState, stage_after}
+use Rattle.xa_manager.specs.Carried.{WholeManager, stage_after}
 use Rattle.xa_manager.proofs.Stages.{Kept, AllReady, with_stage-last}
 
-abbrev pub state : ℕ → List Decision → List Stage → ManagerState
-state stores decisions stages = record { stores = stores; decisions = decisions; stages = stages }
+abbrev pub whole : {C T : Type 0} → ℕ → List Decision → List Stage → List (Option OpenBranch) → List C → List T → WholeManager C T
+whole stores decisions stages branches sessions other_clients = record {
+  stores = stores;
+  decisions = decisions;
+  stages = stages;
+  branches = branches;
+  sessions = sessions;
+  other_clients = other_clients;
+}
 
-pub same_desk : (n m : ℕ) (d e : List Decision) (s t : List Stage) → n ≡ m → d ≡ e → s ≡ t → state n d s ≡ state m e t
-same_desk n m d e s t stores decisions stages = ap (λ k. state k d s) stores ∙ ap (λ list. state m list s) decisions ∙ ap (λ list. state m e list) stages
+-- the same stores, numbers and transactions, in the same sessions
+pub same_whole : {C T : Type 0} (n m : ℕ) (d e : List Decision) (s t : List Stage) (b : List (Option OpenBranch)) (xs : List C) (os : List T)
+    → n ≡ m → d ≡ e → s ≡ t → whole n d s b xs os ≡ whole m e t b xs os
+same_whole n m d e s t b xs os stores decisions stages =
+    ap (λ k. whole k d s b xs os) stores ∙ ap (λ list. whole m list s b xs os) decisions ∙ ap (λ list. whole m e list b xs os) stages
+
+-- as many stores, in which the same is open
+pub same_open : {C T : Type 0} (n m : ℕ) (d : List Decision) (s : List Stage) (b c : List (Option OpenBranch)) (xs : List C) (os : List T)
+    → n ≡ m → b ≡ c → whole n d s b xs os ≡ whole m d s c xs os
+same_open n m d s b c xs os stores branches = ap (λ k. whole k d s b xs os) stores ∙ ap (λ list. whole m d s list xs os) branches
 
 -- the same facts of the same stores and stages
 pub kept_as : (n m : ℕ) (s t : List Stage) → m ≡ n → t ≡ s → Kept n s → Kept m t

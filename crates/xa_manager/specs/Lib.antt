@@ -1,10 +1,11 @@
 pub mod Calls
 pub mod Texts
 pub mod Ledger
-pub mod Answers
+pub mod Refusals
 pub mod Passes
 pub mod Said
+pub mod Limits
+pub mod Carried
 pub mod Managed
 pub mod Whole
 pub mod Served
-pub mod Limits

@@ -1,18 +1,16 @@
 -- A transaction manager, as contracts see it.
---     state_of   its state
---     whole_of  its whole
+--     whole_of   its whole
 use Rattle.std.specs.Prelude.{vec_len}
 use Rattle.xa_coordinator.specs.declared.speak.Speak.{Ghosts as SpeakOf}
-use Rattle.xa_manager.specs.Answers.{ManagerState}
-use Rattle.xa_manager.specs.Said.{WholeManager}
+use Rattle.xa_manager.specs.Carried.{WholeManager}
 use Rattle.xa_manager.specs.declared.manager.Manager.{Manager}
 
-abbrev pub state_of : {C T : Type 0} {session : SpeakOf C} {other_client : SpeakOf T} → Manager C T session other_client → ManagerState
-state_of manager = record { stores = vec_len manager.coordinator.stores; decisions = manager.decisions; stages = manager.ledger }
-
+-- its stores are counted, all else is as it is
 abbrev pub whole_of : {C T : Type 0} {session : SpeakOf C} {other_client : SpeakOf T} → Manager C T session other_client → WholeManager C T
 whole_of manager = record {
-  state = state_of manager;
+  stores = vec_len manager.coordinator.stores;
+  decisions = manager.decisions;
+  stages = manager.ledger;
   branches = manager.coordinator.branches;
   sessions = manager.coordinator.stores.items;
   other_clients = manager.other_clients.items;

@@ -4,28 +4,24 @@
 --     has_few_words   a response whose words take no memory
 --     IsRefusedCall   memory was refused for a call or for its answer
 --     IsCallAnswer    how a line may be answered
-use Rattle.std.specs.Prelude.{◌≡◌, ◌⊎◌, ℕ, Bool, true, false, None, Result, Ok, Err, List, codes}
+use Rattle.std.specs.Prelude.{◌≡◌, ◌⊎◌, ℕ, Bool, true, false, None, Ok, Err, List, codes}
 use Rattle.xa_server.specs.declared.reply.Reply.{Reply}
 use Rattle.xa_server.specs.declared.reply.Reply.TheVariants.{Ok as Done, Value}
-use Rattle.xa_session.specs.declared.fault.Fault.{Fault}
 use Rattle.xa_session.specs.View.{SessionView}
 use Rattle.xa_coordinator.specs.declared.fused.Fused.{Fused}
-use Rattle.xa_coordinator.specs.declared.ending.Ending.{Ending}
 use Rattle.xa_coordinator.specs.declared.ending.Ending.TheVariants.{Committed, RolledBack}
-use Rattle.xa_coordinator.specs.declared.fault.WorkFault.{WorkFault}
 use Rattle.xa_coordinator.specs.declared.fault.WorkFault.TheVariants.{Lost}
 use Rattle.xa_lines.specs.Received.{Received, Whole, TooLong}
 use Rattle.xa_manager.specs.declared.call.Call.{Call}
 use Rattle.xa_manager.specs.declared.call.Call.TheVariants.{Silent, Unread}
-use Rattle.xa_manager.specs.declared.vote_answer.VoteAnswer.{VoteAnswer}
 use Rattle.xa_manager.specs.declared.vote_answer.VoteAnswer.TheVariants.{No}
 use Rattle.xa_manager.specs.declared.response.Response.{Response}
 use Rattle.xa_manager.specs.declared.response.Response.TheVariants.{Begun}
 use Rattle.xa_manager.specs.declared.response.Response.TheVariants.{NumbersSpent, Worked, Voted, Decided, Closed, Ended, Limited, Stopped, Replied}
 use Rattle.xa_manager.specs.Calls.{call_of}
 use Rattle.xa_manager.specs.Texts.{answer_text}
-use Rattle.xa_manager.specs.Said.{WholeManager}
-use Rattle.xa_manager.specs.Whole.{IsUnchanged, Performs}
+use Rattle.xa_manager.specs.Carried.{WholeManager}
+use Rattle.xa_manager.specs.Whole.{Performs}
 
 -- the call that a line is; one that is too long isn't read
 abbrev pub call_said : Received → Call
@@ -42,40 +38,21 @@ is_word Done = true
 is_word (Value None) = true
 is_word reply = false
 
--- what work came to, in words that are always the same
-abbrev pub is_plain_work : Result Reply WorkFault → Bool
-is_plain_work (Ok reply) = is_word reply
-is_plain_work (Err Lost) = true
-is_plain_work work = false
-
--- a vote, without a store and a cause
-abbrev pub is_plain_vote : VoteAnswer → Bool
-is_plain_vote (No store cause) = false
-is_plain_vote vote = true
-
--- an ending, without stores and a cause
-abbrev pub is_plain_ending : Ending → Bool
-is_plain_ending Committed = true
-is_plain_ending RolledBack = true
-is_plain_ending ending = false
-
--- what another client was answered, in a word
-abbrev pub is_plain_reply : Result Reply Fault → Bool
-is_plain_reply (Ok reply) = is_word reply
-is_plain_reply (Err fault) = false
-
--- a response to a call that was carried out whose words take no memory
+-- a response to a call that was carried out whose words take no memory: a fixed word or few, or TRANSACTION n
 abbrev pub has_few_words : Response → Bool
 has_few_words (Begun number) = true
 has_few_words NumbersSpent = true
-has_few_words (Worked worked) = is_plain_work worked
-has_few_words (Voted answer) = is_plain_vote answer
+has_few_words (Worked (Ok reply)) = is_word reply
+has_few_words (Worked (Err Lost)) = true
+has_few_words (Voted (No store cause)) = false
+has_few_words (Voted vote) = true
 has_few_words Decided = true
 has_few_words Closed = true
-has_few_words (Ended ending) = is_plain_ending ending
+has_few_words (Ended Committed) = true
+has_few_words (Ended RolledBack) = true
 has_few_words Limited = true
 has_few_words Stopped = true
-has_few_words (Replied convert answer) = is_plain_reply answer
+has_few_words (Replied convert (Ok reply)) = is_word reply
 has_few_words response = false
 
 -- memory was refused for a call, and nothing was said and nothing changed; or it was carried out, and memory was refused for what is
@@ -84,11 +61,11 @@ pub record IsRefusedCall {S T : Type 0} (view : S → SessionView) (view' : T �
     (new : WholeManager (Fused S) T) : Type 0 where
   pub speaks : call ≡ Silent → ⊥
   pub told : text ≡ refused_text
-  pub stands : IsUnchanged old new ⊎ ((response : Response) × (has_few_words response ≡ false) × Performs view view' old call response new)
+  pub stands : (new ≡ old) ⊎ ((response : Response) × (has_few_words response ≡ false) × Performs view view' old call response new)
 
 -- a call was refused or carried out, and what it came to is told; or memory was refused
 abbrev pub IsCallAnswer : {S T : Type 0} → (S → SessionView) → (T → SessionView) → WholeManager (Fused S) T → Received → List ℕ → WholeManager (Fused S) T
     → Type 0
 IsCallAnswer view view' old line text new =
-    ((response : Response) × Performs view view' old (call_said line) response new × (text ≡ answer_text new.state.decisions response))
+    ((response : Response) × Performs view view' old (call_said line) response new × (text ≡ answer_text new.decisions response))
     ⊎ IsRefusedCall view view' old (call_said line) text new

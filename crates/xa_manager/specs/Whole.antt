@@ -1,21 +1,19 @@
--- A transaction manager with its sessions: how it begins, and what a call does to it.
+-- A transaction manager: how it begins, and what a call does to it.
 --     IsPair           the two sessions of a store that holds nothing
 --     ManagerBegins    nothing has begun, and no session fails
---     IsUnchanged      nothing was said, and nothing changed
---     Performs         a call was refused, or carried out, and this was said for it
-use Rattle.std.specs.Prelude.{◌≡◌, ℕ, []}
+--     IsRefused        a call was refused, and nothing changed
+--     Performs         a call was refused or carried out
+use Rattle.std.specs.Prelude.{◌≡◌, ◌⊎◌, Some, []}
 use Rattle.std.specs.List.{AllZip}
 use Rattle.decision_log.specs.Known.{newcomer}
 use Rattle.xa_server.specs.State.{no_state}
 use Rattle.xa_session.specs.View.{SessionView}
 use Rattle.xa_coordinator.specs.declared.fused.Fused.{Fused}
 use Rattle.xa_manager.specs.declared.call.Call.{Call}
-use Rattle.xa_manager.specs.declared.call.Call.TheVariants.{Fail, Stop}
 use Rattle.xa_manager.specs.declared.response.Response.{Response}
-use Rattle.xa_manager.specs.declared.response.Response.TheVariants.{Limited}
-use Rattle.xa_manager.specs.Answers.{Answers}
-use Rattle.xa_manager.specs.Limits.{LimitsAlone, StartsAnew}
-use Rattle.xa_manager.specs.Said.{WholeManager, SaidFor, IsStill}
+use Rattle.xa_manager.specs.Carried.{WholeManager, Carries}
+use Rattle.xa_manager.specs.Limits.{StartsAnew}
+use Rattle.xa_manager.specs.Refusals.{refusal_of}
 
 -- sessions 1 and 2 of one store, which held nothing at first; neither has seen anything yet
 pub record IsPair (first second : SessionView) : Type 0 where
@@ -27,19 +25,16 @@ pub record IsPair (first second : SessionView) : Type 0 where
 
 -- no transaction was begun, nothing is open, no session fails, and the coordinator's session in each store and the other client's are a pair
 pub record ManagerBegins {S T : Type 0} (view : S → SessionView) (view' : T → SessionView) (manager : WholeManager (Fused S) T) : Type 0 where
-  pub decisions : manager.state.decisions ≡ []
-  pub stages : manager.state.stages ≡ []
+  pub decisions : manager.decisions ≡ []
+  pub stages : manager.stages ≡ []
   pub anew : StartsAnew manager.branches manager.sessions
   pub pairs : AllZip (λ session other. IsPair (view session.inner) (view' other)) manager.sessions manager.other_clients
 
--- nothing was said to any session, and neither the transactions nor the decisions nor what the sessions pass on changed
-abbrev pub IsUnchanged : {C T : Type 0} → WholeManager C T → WholeManager C T → Type 0
-IsUnchanged old new = (new.state ≡ old.state) × IsStill old new
+-- a call was refused by the table; nothing was said to any session, and nothing changed
+pub record IsRefused {C T : Type 0} (old : WholeManager C T) (call : Call) (response : Response) (new : WholeManager C T) : Type 0 where
+  pub told : refusal_of old.stores old.stages call ≡ Some response
+  pub stands : new ≡ old
 
--- a call was refused as it has to be and nothing changed, or it was carried out, and this is what was said to the sessions and what they pass on
-pub record Performs {S T : Type 0} (view : S → SessionView) (view' : T → SessionView) (old : WholeManager (Fused S) T) (call : Call) (response : Response)
-    (new : WholeManager (Fused S) T) : Type 0 where
-  pub answers : Answers old.state call response new.state
-  pub says : SaidFor (λ session. view session.inner) view' call response old new
-  pub limited : (store calls : ℕ) → call ≡ Fail store calls → response ≡ Limited → LimitsAlone store calls old.sessions new.sessions
-  pub anew : call ≡ Stop → StartsAnew new.branches new.sessions
+-- a call was refused as it has to be, or was carried out; a session that can be made to fail is seen as the one within
+abbrev pub Performs : {S T : Type 0} → (S → SessionView) → (T → SessionView) → WholeManager (Fused S) T → Call → Response → WholeManager (Fused S) T → Type 0
+Performs view view' old call response new = IsRefused old call response new ⊎ Carries (λ session. view session.inner) view' old call response new

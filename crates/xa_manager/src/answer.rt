@@ -1,11 +1,13 @@
 //! Calls, carried out.
-ghost use Rattle.std.specs.Prelude.{◌≡◌, ◌≤◌, ◌<◌, ◌-◌, ◌^◌, ℕ, Ok, true, nat_lt, IfOk, OnErr, vec_len, length, map};
-ghost use Rattle.xa_manager.specs.Answers.{Answers, vote_answer_of, stage_after as stage_with};
-ghost use Rattle.xa_manager.specs.Calls.{takes_rows, IsWritten};
-ghost use Rattle.xa_manager.specs.Limits.{Passes, LimitsAlone, StartsAnew};
-ghost use Rattle.xa_manager.specs.Managed.{state_of, whole_of};
-ghost use Rattle.xa_manager.specs.Said.{SaidFor, IsStill, IsGiven, IsListed, reply_of};
+ghost use Rattle.std.specs.Prelude.{◌≡◌, ◌≤◌, ◌<◌, ◌-◌, ◌^◌, ◌⊎◌, ℕ, true, nat_lt, IfOk, OnErr, vec_len, length, map};
 ghost use Rattle.xa_coordinator.specs.Stores.{EachStore};
+ghost use Rattle.xa_manager.specs.Calls.{takes_rows, IsWritten};
+ghost use Rattle.xa_manager.specs.Carried.{vote_answer_of, stage_after as stage_with, IsBegun, IsSpent, HasWorked, HasVoted, IsDecided, IsFinished};
+ghost use Rattle.xa_manager.specs.Carried.{IsAbandoned, IsLimited, IsStopped, HasRecovered, HasReplied, IsShown};
+ghost use Rattle.xa_manager.specs.Limits.{Passes};
+ghost use Rattle.xa_manager.specs.Managed.{whole_of};
+ghost use Rattle.xa_manager.specs.Said.{IsGiven, IsListed, reply_of};
+ghost use Rattle.xa_manager.specs.Whole.{IsRefused, Performs};
 
 use crate::{Call, Listing, Manager, Response, Stage, VoteAnswer};
 use std::alloc::{AllocError, Global};
@@ -103,13 +105,9 @@ impl<C: Speak, T: Speak> Manager<C, T> {
 
     /// Begins a transaction.
     fn begin(&mut self) -> Result<Response, NoMemory>
-        ensures answers { IfOk result (λ response. Answers (state_of self.old) (Call.Begin) response (state_of self.new)) }
-        ensures says { IfOk result (λ response. SaidFor C.view T.view (Call.Begin) response (whole_of self.old) (whole_of self.new)) }
-        ensures kept { OnErr result
-            ((vec_len self.new.coordinator.stores ≡ vec_len self.old.coordinator.stores)
-            × (self.new.decisions ≡ self.old.decisions)
-            × (self.new.ledger ≡ self.old.ledger)) }
-        ensures nothing { OnErr result (IsStill (whole_of self.old) (whole_of self.new)) }
+        ensures answers { IfOk result
+            (λ response. IsBegun (whole_of self.old) response (whole_of self.new) ⊎ IsSpent (whole_of self.old) response (whole_of self.new)) }
+        ensures nothing { OnErr result (whole_of self.new ≡ whole_of self.old) }
     {
         self.ledger.add(Stage::Over)?;
         match self.coordinator.begin(&mut self.decisions) {
@@ -128,8 +126,8 @@ impl<C: Speak, T: Speak> Manager<C, T> {
     /// Gives a row statement of a transaction to a store.
     fn work<R: Wait>(&mut self, rt: &R, number: u64, store: u64, statement: &Statement) -> Response
         requires { takes_rows statement.now ≡ true }
-        ensures answers { Answers (state_of self.old) (Call.Work number store statement.now) result (state_of self.new) }
-        ensures says { SaidFor C.view T.view (Call.Work number store statement.now) result (whole_of self.old) (whole_of self.new) }
+        ensures { IsRefused (whole_of self.old) (Call.Work number store statement.now) result (whole_of self.new)
+            ⊎ HasWorked C.view number store statement.now (whole_of self.old) result (whole_of self.new) }
     {
         if !self.has_store(store) {
             return Response::UnknownStore(store);
@@ -148,8 +146,8 @@ impl<C: Speak, T: Speak> Manager<C, T> {
 
     /// Has the stores of a transaction vote.
     fn prepare<R: Wait>(&mut self, rt: &R, number: u64) -> Response
-        ensures answers { Answers (state_of self.old) (Call.Prepare number) result (state_of self.new) }
-        ensures says { SaidFor C.view T.view (Call.Prepare number) result (whole_of self.old) (whole_of self.new) }
+        ensures { IsRefused (whole_of self.old) (Call.Prepare number) result (whole_of self.new)
+            ⊎ HasVoted C.view number (whole_of self.old) result (whole_of self.new) }
     {
         match self.ledger.take_working(number) {
             Ok(transaction) => {
@@ -164,8 +162,8 @@ impl<C: Speak, T: Speak> Manager<C, T> {
 
     /// Decides a transaction.
     fn decide(&mut self, number: u64) -> Response
-        ensures answers { Answers (state_of self.old) (Call.Decide number) result (state_of self.new) }
-        ensures says { SaidFor C.view T.view (Call.Decide number) result (whole_of self.old) (whole_of self.new) }
+        ensures { IsRefused (whole_of self.old) (Call.Decide number) result (whole_of self.new)
+            ⊎ IsDecided number (whole_of self.old) result (whole_of self.new) }
     {
         match self.ledger.take_ready(number) {
             Ok(prepared) => {
@@ -182,8 +180,8 @@ impl<C: Speak, T: Speak> Manager<C, T> {
 
     /// Finishes a transaction that was voted on.
     fn finish<R: Wait>(&mut self, rt: &R, number: u64) -> Response
-        ensures answers { Answers (state_of self.old) (Call.Finish number) result (state_of self.new) }
-        ensures says { SaidFor C.view T.view (Call.Finish number) result (whole_of self.old) (whole_of self.new) }
+        ensures { IsRefused (whole_of self.old) (Call.Finish number) result (whole_of self.new)
+            ⊎ IsFinished C.view number (whole_of self.old) result (whole_of self.new) }
     {
         match self.ledger.take_voted(number) {
             Ok(prepared) => {
@@ -195,8 +193,8 @@ impl<C: Speak, T: Speak> Manager<C, T> {
 
     /// Rolls a transaction back that wasn't voted on.
     fn abandon<R: Wait>(&mut self, rt: &R, number: u64) -> Response
-        ensures answers { Answers (state_of self.old) (Call.Abandon number) result (state_of self.new) }
-        ensures says { SaidFor C.view T.view (Call.Abandon number) result (whole_of self.old) (whole_of self.new) }
+        ensures { IsRefused (whole_of self.old) (Call.Abandon number) result (whole_of self.new)
+            ⊎ IsAbandoned C.view number (whole_of self.old) result (whole_of self.new) }
     {
         match self.ledger.take_working(number) {
             Ok(transaction) => Response::Ended(self.coordinator.abandon(rt, transaction)),
@@ -206,16 +204,15 @@ impl<C: Speak, T: Speak> Manager<C, T> {
 
     /// Has the coordinator recover.
     fn recover<R: Wait>(&mut self, rt: &R, alloc: Global) -> Response
-        ensures answers { Answers (state_of self.old) (Call.Recover) result (state_of self.new) }
-        ensures says { SaidFor C.view T.view (Call.Recover) result (whole_of self.old) (whole_of self.new) }
+        ensures { HasRecovered C.view (whole_of self.old) result (whole_of self.new) }
     {
         Response::Recovered(self.coordinator.recover(rt, alloc, &mut self.decisions))
     }
 
     /// Gives a statement of the other client to a store.
     fn at<R: Wait>(&mut self, rt: &R, store: u64, statement: &Statement) -> Response
-        ensures answers { Answers (state_of self.old) (Call.At store statement.now) result (state_of self.new) }
-        ensures says { SaidFor C.view T.view (Call.At store statement.now) result (whole_of self.old) (whole_of self.new) }
+        ensures { IsRefused (whole_of self.old) (Call.At store statement.now) result (whole_of self.new)
+            ⊎ HasReplied T.view store statement.now (whole_of self.old) result (whole_of self.new) }
     {
         if !self.has_store(store) {
             return Response::UnknownStore(store);
@@ -228,13 +225,8 @@ impl<C: Speak, T: Speak> Manager<C, T> {
 
     /// Has the other client of each store list what is prepared there.
     fn show<R: Wait>(&mut self, rt: &R, alloc: Global) -> Result<Response, NoMemory>
-        ensures answers { IfOk result (λ response. Answers (state_of self.old) (Call.Show) response (state_of self.new)) }
-        ensures says { IfOk result (λ response. SaidFor C.view T.view (Call.Show) response (whole_of self.old) (whole_of self.new)) }
-        ensures kept { OnErr result
-            ((vec_len self.new.coordinator.stores ≡ vec_len self.old.coordinator.stores)
-            × (self.new.decisions ≡ self.old.decisions)
-            × (self.new.ledger ≡ self.old.ledger)) }
-        ensures nothing { OnErr result (IsStill (whole_of self.old) (whole_of self.new)) }
+        ensures answers { IfOk result (λ response. IsShown T.view (whole_of self.old) response (whole_of self.new)) }
+        ensures nothing { OnErr result (whole_of self.new ≡ whole_of self.old) }
     {
         let answers = listed_by_each(rt, alloc, self.other_clients.as_mut_slice())?;
         Ok(Response::Shown(Listing { answers }))
@@ -244,9 +236,8 @@ impl<C: Speak, T: Speak> Manager<C, T> {
 impl<S: Speak, T: Speak> Manager<Fused<S>, T> {
     /// Limits the calls that the coordinator's session in a store answers.
     fn fail(&mut self, store: u64, calls: u64) -> Response
-        ensures answers { Answers (state_of self.old) (Call.Fail store calls) result (state_of self.new) }
-        ensures says { SaidFor (λ session. S.view session.inner) T.view (Call.Fail store calls) result (whole_of self.old) (whole_of self.new) }
-        ensures limited { result ≡ Response.Limited → LimitsAlone store calls self.old.coordinator.stores.items self.new.coordinator.stores.items }
+        ensures { IsRefused (whole_of self.old) (Call.Fail store calls) result (whole_of self.new)
+            ⊎ IsLimited store calls (whole_of self.old) result (whole_of self.new) }
     {
         if !self.has_store(store) {
             return Response::UnknownStore(store);
@@ -257,9 +248,7 @@ impl<S: Speak, T: Speak> Manager<Fused<S>, T> {
 
     /// A new coordinator of the name takes the place of the old one, over the same sessions, which no longer fail.
     fn stop(&mut self) -> Response
-        ensures answers { Answers (state_of self.old) (Call.Stop) result (state_of self.new) }
-        ensures says { SaidFor (λ session. S.view session.inner) T.view (Call.Stop) result (whole_of self.old) (whole_of self.new) }
-        ensures anew { StartsAnew self.new.coordinator.branches self.new.coordinator.stores.items }
+        ensures { IsStopped (whole_of self.old) result (whole_of self.new) }
     {
         allow_all(&mut self.coordinator, self.other_clients.len() as u8);
         self.coordinator.restart();
@@ -268,8 +257,8 @@ impl<S: Speak, T: Speak> Manager<Fused<S>, T> {
 
     /// Carries a call out, and gives what it is answered.
     ///
-    /// After `FAIL` the coordinator's session in that store passes so many calls on, and those of the other stores as many as before; after `STOP` each passes 2 ^ 64 - 1,
-    /// and nothing is open in any store.
+    /// After `FAIL` the coordinator's session in that store passes so many calls on, and those of the other stores as many as before; after `STOP` each
+    /// passes 2 ^ 64 - 1, and nothing is open in any store.
     /// Error: `NoMemory`, where a transaction can't be kept or a list of answers has no room; nothing was said to any session then, and nothing changed.
     /// May wait: no number of tries is promised.
     /// Own rule: docs/COORDINATOR.md, 'At the command line'.
@@ -280,18 +269,8 @@ impl<S: Speak, T: Speak> Manager<Fused<S>, T> {
         call: &Call,
     ) -> Result<Response, NoMemory>
         requires { IsWritten call.now }
-        ensures answers { IfOk result (λ response. Answers (state_of self.old) (call.now) response (state_of self.new)) }
-        ensures says { IfOk result (λ response. SaidFor (λ session. S.view session.inner) T.view (call.now) response (whole_of self.old) (whole_of self.new)) }
-        ensures limited { (store calls : ℕ)
-            → call.now ≡ Call.Fail store calls
-            → result ≡ Ok Response.Limited
-            → LimitsAlone store calls self.old.coordinator.stores.items self.new.coordinator.stores.items }
-        ensures anew { call.now ≡ Call.Stop → StartsAnew self.new.coordinator.branches self.new.coordinator.stores.items }
-        ensures kept { OnErr result
-            ((vec_len self.new.coordinator.stores ≡ vec_len self.old.coordinator.stores)
-            × (self.new.decisions ≡ self.old.decisions)
-            × (self.new.ledger ≡ self.old.ledger)) }
-        ensures nothing { OnErr result (IsStill (whole_of self.old) (whole_of self.new)) }
+        ensures answers { IfOk result (λ response. Performs S.view T.view (whole_of self.old) (call.now) response (whole_of self.new)) }
+        ensures nothing { OnErr result (whole_of self.new ≡ whole_of self.old) }
     {
         match call {
             Call::Silent => Ok(Response::Silent),

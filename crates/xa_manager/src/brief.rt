@@ -2,7 +2,7 @@
 ghost use Rattle.std.specs.Prelude.{◌≡◌, ◌≤◌, ◌++◌, Bool, List, None, IfSome, false, length, codes, decimal};
 ghost use Rattle.xa_lines.specs.Printed.{reply_text};
 ghost use Rattle.xa_lines.specs.Answer.{bytes_of};
-ghost use Rattle.xa_manager.specs.Served.{has_few_words, is_word, is_plain_vote, is_plain_ending};
+ghost use Rattle.xa_manager.specs.Served.{has_few_words, is_word};
 ghost use Rattle.xa_manager.specs.Texts.{answer_text, ending_text, vote_text};
 
 use crate::{Response, VoteAnswer};
@@ -49,7 +49,7 @@ fn word_of(reply: &Reply) -> Option<Answer>
 /// What is told of a vote without a cause.
 fn vote_of(vote: &VoteAnswer) -> Option<Answer>
     ensures words { IfSome result (λ answer. bytes_of answer ≡ vote_text vote.now ++ codes "\n") }
-    ensures none { result ≡ None → is_plain_vote vote.now ≡ false }
+    ensures none { result ≡ None → has_few_words (Response.Voted vote.now) ≡ false }
 {
     match vote {
         VoteAnswer::Ready => Some(short_answer(b"READY\n")),
@@ -62,7 +62,7 @@ fn vote_of(vote: &VoteAnswer) -> Option<Answer>
 /// What is told of an ending without stores and a cause.
 fn ending_of(ending: &Ending) -> Option<Answer>
     ensures words { IfSome result (λ answer. bytes_of answer ≡ ending_text ending.now ++ codes "\n") }
-    ensures none { result ≡ None → is_plain_ending ending.now ≡ false }
+    ensures none { result ≡ None → has_few_words (Response.Ended ending.now) ≡ false }
 {
     match ending {
         Ending::Committed => Some(short_answer(b"COMMITTED\n")),

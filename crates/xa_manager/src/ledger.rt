@@ -1,7 +1,7 @@
 //! The transactions that were begun.
 ghost use Rattle.std.specs.Prelude.{◌≡◌, ◌≢◌, ◌<◌, ◌+◌, ◌-◌, ◌++◌, ◌∷◌, [], ◌⊎◌, length, take, Some, None, OnOk, OnErr, IfOk, IfErr, IfSome};
 ghost use Rattle.xa_manager.specs.Ledger.{stage_of, with_stage};
-ghost use Rattle.xa_manager.specs.Answers.{refusal_of_work, refusal_of_decision, refusal_of_finish};
+ghost use Rattle.xa_manager.specs.Refusals.{refusal_in, takes_work, takes_decision, takes_finish};
 
 use crate::{Response, Stage};
 use std::alloc::Global;
@@ -107,7 +107,7 @@ impl Ledger {
     pub fn take_working(&mut self, number: u64) -> Result<Transaction, Response>
         ensures taken { IfOk result (λ transaction. stage_of self.old number ≡ Some (Stage.Working transaction)) }
         ensures over { OnOk result (self.new ≡ with_stage self.old number Stage.Over) }
-        ensures refused { IfErr result (λ refusal. refusal_of_work number (stage_of self.old number) ≡ Some refusal) }
+        ensures refused { IfErr result (λ refusal. refusal_in takes_work number (stage_of self.old number) ≡ Some refusal) }
         ensures kept { OnErr result (self.new ≡ self.old) }
     {
         match self.take(number) {
@@ -128,7 +128,7 @@ impl Ledger {
     pub fn take_ready(&mut self, number: u64) -> Result<Prepared, Response>
         ensures taken { IfOk result (λ prepared. stage_of self.old number ≡ Some (Stage.Ready prepared)) }
         ensures over { OnOk result (self.new ≡ with_stage self.old number Stage.Over) }
-        ensures refused { IfErr result (λ refusal. refusal_of_decision number (stage_of self.old number) ≡ Some refusal) }
+        ensures refused { IfErr result (λ refusal. refusal_in takes_decision number (stage_of self.old number) ≡ Some refusal) }
         ensures kept { OnErr result (self.new ≡ self.old) }
     {
         match self.take(number) {
@@ -150,7 +150,7 @@ impl Ledger {
         ensures taken { IfOk result
             (λ prepared. (stage_of self.old number ≡ Some (Stage.Ready prepared)) ⊎ (stage_of self.old number ≡ Some (Stage.Voted prepared))) }
         ensures over { OnOk result (self.new ≡ with_stage self.old number Stage.Over) }
-        ensures refused { IfErr result (λ refusal. refusal_of_finish number (stage_of self.old number) ≡ Some refusal) }
+        ensures refused { IfErr result (λ refusal. refusal_in takes_finish number (stage_of self.old number) ≡ Some refusal) }
         ensures kept { OnErr result (self.new ≡ self.old) }
     {
         match self.take(number) {

@@ -1,7 +1,7 @@
 //! Prints responses.
 ghost use Rattle.std.specs.Prelude.{◌≡◌, [], ◌++◌, false, OnOk, OnErr, IfOk, codes, decimal};
 ghost use Rattle.xa_lines.specs.Answer.{bytes_of};
-ghost use Rattle.xa_manager.specs.Served.{has_few_words, is_plain_work, is_plain_vote, is_plain_ending};
+ghost use Rattle.xa_manager.specs.Served.{has_few_words};
 ghost use Rattle.xa_lines.specs.Printed.{error_text};
 ghost use Rattle.xa_manager.specs.Texts.{fault_text, cause_text, stores_text, worked_text, vote_text, ending_text, recover_fault_text, report_text};
 ghost use Rattle.xa_manager.specs.Texts.{replied_text, store_text, stores_shown_text, stands_as, numbers_text, decisions_text, response_text, answer_text};
@@ -82,7 +82,7 @@ fn push_worked(
     text: &mut Vec<u8>,
     worked: &Result<Reply, WorkFault>,
 ) -> Result<(), NoMemory>
-    requires { is_plain_work worked.now ≡ false }
+    requires { has_few_words (Response.Worked worked.now) ≡ false }
     ensures { OnOk result (text.new.items ≡ text.old.items ++ worked_text worked.now) }
 {
     match worked {
@@ -101,7 +101,7 @@ fn push_worked(
 
 /// Appends a vote with its cause.
 fn push_vote(alloc: Global, text: &mut Vec<u8>, vote: &VoteAnswer) -> Result<(), NoMemory>
-    requires { is_plain_vote vote.now ≡ false }
+    requires { has_few_words (Response.Voted vote.now) ≡ false }
     ensures { OnOk result (text.new.items ≡ text.old.items ++ vote_text vote.now) }
 {
     match vote {
@@ -122,7 +122,7 @@ fn push_stores(text: &mut Vec<u8>, stores: &[u8]) -> Result<(), NoMemory>
 
 /// Appends an ending with its stores or its cause.
 fn push_ending(alloc: Global, text: &mut Vec<u8>, ending: &Ending) -> Result<(), NoMemory>
-    requires { is_plain_ending ending.now ≡ false }
+    requires { has_few_words (Response.Ended ending.now) ≡ false }
     ensures { OnOk result (text.new.items ≡ text.old.items ++ ending_text ending.now) }
 {
     match ending {

@@ -13,7 +13,7 @@ returns-in-Silent g c =
     rw said
     (inl (
       Silent,
-      record { answers = inr (refl, refl); says = (refl, refl, refl); limited = λ store calls is told. absurd (cc); anew = λ is. absurd (cc) },
+      inr (refl, refl),
       c.new.ensures,
     ))
 
@@ -26,7 +26,7 @@ returns-in-Ok-write_response g c =
       response,
       performed g.S.Speak.view g.T.Speak.view (whole_of c.args.self.now.manager) (whole_of c.answer.new.self) c.read_call-call.result (call_of c.args.line.now)
           response c.read_call-call.ensures.call
-          (record { answers = was.answers; says = was.says; limited = λ store calls is told. was.limited store calls is (cc); anew = was.anew }),
+          was.answers,
       c.in-Ok-write_response.ensures.text ∙ ap (λ decisions. answer_text decisions response) c.decisions.ensures,
     )
 
@@ -43,6 +43,6 @@ returns g c =
         c.in-Err.ensures.few,
         performed g.S.Speak.view g.T.Speak.view (whole_of c.args.self.now.manager) (whole_of c.answer.new.self) c.read_call-call.result (call_of c.args.line.now)
             response c.read_call-call.ensures.call
-            (record { answers = was.answers; says = was.says; limited = λ store calls is told. was.limited store calls is (cc); anew = was.anew }),
+            was.answers,
       );
     })

@@ -6,11 +6,6 @@ pub returns : goal.returns
 returns g c =
     inl (
       Unread 0,
-      record {
-        answers = inl (record { told = refl; stands = refl });
-        says = (refl, refl, refl);
-        limited = λ store calls is told. absurd (cc);
-        anew = λ is. absurd (cc);
-      },
+      inl (record { told = refl; stands = refl }),
       c.unread.ensures,
     )

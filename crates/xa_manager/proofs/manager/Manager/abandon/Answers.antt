@@ -1,7 +1,7 @@
 use Rattle.std.proofs.Common.{[], ◌∙◌, length, vec_len, ap, refl, sym, inr}
 use Rattle.xa_manager.specs.declared.stage.Stage.TheVariants.{Working, Over}
 use Rattle.xa_manager.proofs.Stages.{with_stage-length, kept_over, ready_over}
-use Rattle.xa_manager.proofs.States.{same_desk, kept_as, ready_as}
+use Rattle.xa_manager.proofs.States.{same_whole, kept_as, ready_as}
 use Rattle.xa_manager.proofs.Nothing.{none_decided}
 use Rattle.xa_manager.proofs.Said.{agreed_logs}
 use Rattle.xa_manager.proofs.manager.Manager.abandon.Goals as goal
@@ -27,27 +27,21 @@ invariant_of-self g c =
       ready = ready_as _ _ c.in-Ok.ensures.over (ready_over was.ledger c.args.number was.ready);
     }
 
-pub returns-in-Ok-clause-answers : goal.returns-in-Ok-clause-answers
-returns-in-Ok-clause-answers g c =
+pub returns-in-Ok : goal.returns-in-Ok
+returns-in-Ok g c =
+    let was = c.args.self.now in
     inr (record {
       before = c.in-Ok.transaction;
-      ending = c.abandon.result;
-      works = c.in-Ok.ensures.taken;
-      told = refl;
-      stands = same_desk _ _ _ _ _ _ c.abandon.ensures.count refl c.in-Ok.ensures.over;
+      working = c.in-Ok.ensures.taken;
+      ends = record {
+        ending = c.abandon.result;
+        told = refl;
+        ends = c.abandon.ensures.ends;
+        marks = c.abandon.ensures.elsewhere;
+        alone = record {
+          logs = agreed_logs g.C.Speak.view [] was.coordinator.name.items was.coordinator.stores.items c.abandon.new.self.stores.items
+              (c.abandon.ensures.agrees [] (none_decided c.in-Ok.transaction.number));
+          stands = same_whole _ _ _ _ _ _ _ _ _ c.abandon.ensures.count refl c.in-Ok.ensures.over;
+        };
+      };
     })
-
-pub returns-in-Ok-clause-says : goal.returns-in-Ok-clause-says
-returns-in-Ok-clause-says g c = (
-  inr (record {
-    number = c.args.number;
-    asked = refl;
-    before = c.in-Ok.transaction;
-    working = c.in-Ok.ensures.taken;
-    ends = c.abandon.ensures.ends;
-    logs = agreed_logs g.C.Speak.view [] c.args.self.now.coordinator.name.items c.args.self.now.coordinator.stores.items c.abandon.new.self.stores.items
-        (c.abandon.ensures.agrees [] (none_decided c.in-Ok.transaction.number));
-    marks = c.abandon.ensures.elsewhere;
-  }),
-  refl,
-)

@@ -1,10 +1,10 @@
-use Rattle.std.proofs.Common.{◌≡◌, ◌∙◌, ◌+◌, ◌∷◌, [], length, length-append, vec_len, ap, refl, sym, inl, inr}
+use Rattle.std.proofs.Common.{◌≡◌, ◌∙◌, ◌+◌, ◌∷◌, [], length, length-append, vec_len, ap, refl, sym, inl}
 use Rattle.xa_coordinator.specs.declared.decisions.Decision.TheVariants.{Undecided}
 use Rattle.xa_manager.specs.declared.stage.Stage.TheVariants.{Working}
 use Rattle.xa_manager.specs.declared.response.Response.TheVariants.{Begun}
 use Rattle.xa_manager.specs.Ledger.{IsTransactionOf}
 use Rattle.xa_manager.proofs.Stages.{kept_more, ready_more}
-use Rattle.xa_manager.proofs.States.{same_desk, kept_as, ready_as, working_kept, begun_on}
+use Rattle.xa_manager.proofs.States.{same_whole, kept_as, ready_as, working_kept, begun_on}
 use Rattle.xa_manager.proofs.manager.Manager.begin.Goals as goal
 
 pub invariant_of-self-in-Ok : goal.invariant_of-self-in-Ok
@@ -32,8 +32,9 @@ returns-in-Ok-clause-answers g c =
     let begun = Working c.in-Ok.transaction in
     let number : c.number-number.result ≡ length was.ledger + 1 = c.number-number.ensures ∙ c.in-Ok.ensures.number ∙ ap (λ n. n + 1) (sym was.counted) in
     let on = begun_on was.ledger c.number-number.result begun c.add.new.self c.put.new.self number c.in_ok-add.ensures.ok c.put.ensures in
-    inr (inl (record {
+    inl (record {
       transaction = c.in-Ok.transaction;
+      nobody = c.in-Ok.ensures.nobody;
       told = ap (λ n. Begun n) number;
-      stands = same_desk _ _ _ _ _ _ refl c.in-Ok.ensures.undecided on;
-    }))
+      stands = same_whole _ _ _ _ _ _ _ _ _ refl c.in-Ok.ensures.undecided on;
+    })

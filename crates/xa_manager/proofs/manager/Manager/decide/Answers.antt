@@ -1,7 +1,7 @@
 use Rattle.std.proofs.Common.{◌≡◌, ◌∙◌, length, ap, refl, sym, inl, inr}
 use Rattle.xa_manager.specs.declared.stage.Stage.TheVariants.{Ready, Over}
 use Rattle.xa_manager.proofs.Stages.{put_back}
-use Rattle.xa_manager.proofs.States.{same_desk, kept_as, ready_as, after_decision}
+use Rattle.xa_manager.proofs.States.{same_whole, kept_as, ready_as, after_decision}
 use Rattle.xa_manager.proofs.manager.Manager.decide.Goals as goal
 
 pub invariant_of-self : goal.invariant_of-self
@@ -20,8 +20,8 @@ invariant_of-self g c =
       ready = ready_as _ _ back was.ready;
     }
 
-pub returns-in-Ok-decided-clause-answers : goal.returns-in-Ok-decided-clause-answers
-returns-in-Ok-decided-clause-answers g c =
+pub returns-in-Ok-decided : goal.returns-in-Ok-decided
+returns-in-Ok-decided g c =
     let was = c.args.self.now in
     let back : c.put.new.self ≡ was.ledger =
     put_back was.ledger c.args.number Over
@@ -33,12 +33,12 @@ returns-in-Ok-decided-clause-answers g c =
       outcome = inl (
         rw (← is.number) c.in-Ok-decided.ensures.given,
         refl,
-        same_desk _ _ _ _ _ _ refl (rw (← is.number) c.in-Ok-decided.ensures.ok) back,
+        same_whole _ _ _ _ _ _ _ _ _ refl (rw (← is.number) c.in-Ok-decided.ensures.ok) back,
       );
     })
 
-pub returns-in-Err-decided-clause-answers : goal.returns-in-Err-decided-clause-answers
-returns-in-Err-decided-clause-answers g c =
+pub returns-in-Err-decided : goal.returns-in-Err-decided
+returns-in-Err-decided g c =
     let was = c.args.self.now in
     let back : c.put.new.self ≡ was.ledger =
     put_back was.ledger c.args.number Over
@@ -50,6 +50,6 @@ returns-in-Err-decided-clause-answers g c =
       outcome = inr (
         rw (← is.number) c.in-Err-decided.ensures.closed,
         refl,
-        same_desk _ _ _ _ _ _ refl c.in-Err-decided.ensures.err back,
+        same_whole _ _ _ _ _ _ _ _ _ refl c.in-Err-decided.ensures.err back,
       );
     })

@@ -1,7 +1,7 @@
-use Rattle.std.proofs.Common.{◌∙◌, length, vec_len, ap, refl, sym, inl, inr}
+use Rattle.std.proofs.Common.{◌∙◌, length, vec_len, ap, refl, sym, inr}
 use Rattle.xa_manager.specs.declared.stage.Stage.TheVariants.{Over}
 use Rattle.xa_manager.proofs.Stages.{with_stage-length, kept_over, ready_over, kept_voted}
-use Rattle.xa_manager.proofs.States.{same_desk, kept_as, ready_as}
+use Rattle.xa_manager.proofs.States.{same_whole, kept_as, ready_as}
 use Rattle.xa_manager.proofs.Said.{agreed_logs}
 use Rattle.xa_manager.proofs.manager.Manager.finish.Goals as goal
 
@@ -30,31 +30,23 @@ invariant_of-self g c =
       ready = ready_as _ _ c.in-Ok.ensures.over (ready_over was.ledger c.args.number was.ready);
     }
 
-pub returns-in-Ok-clause-answers : goal.returns-in-Ok-clause-answers
-returns-in-Ok-clause-answers g c =
+pub returns-in-Ok : goal.returns-in-Ok
+returns-in-Ok g c =
+    let was = c.args.self.now in
+    let is = kept_voted (vec_len was.coordinator.stores) was.ledger c.args.number c.in-Ok.prepared was.kept c.in-Ok.ensures.taken in
     inr (record {
       prepared = c.in-Ok.prepared;
-      ending = c.finish.result;
-      votes = c.in-Ok.ensures.taken;
-      told = refl;
-      stands = same_desk _ _ _ _ _ _ c.finish.ensures.count refl c.in-Ok.ensures.over;
-    })
-
-pub returns-in-Ok-clause-says : goal.returns-in-Ok-clause-says
-returns-in-Ok-clause-says g c =
-    let is =
-    kept_voted (vec_len c.args.self.now.coordinator.stores) c.args.self.now.ledger c.args.number c.in-Ok.prepared c.args.self.now.kept
-    c.in-Ok.ensures.taken in (
-      inl (record {
-        number = c.args.number;
-        asked = refl;
-        prepared = c.in-Ok.prepared;
-        voted = c.in-Ok.ensures.taken;
-        of_number = is.number;
+      voted = c.in-Ok.ensures.taken;
+      of_number = is.number;
+      ends = record {
+        ending = c.finish.result;
+        told = refl;
         ends = rw (← is.number) c.finish.ensures.ends;
-        logs = agreed_logs g.C.Speak.view c.args.self.now.decisions c.args.self.now.coordinator.name.items c.args.self.now.coordinator.stores.items
-            c.finish.new.self.stores.items c.finish.ensures.agrees;
         marks = c.finish.ensures.elsewhere;
-      }),
-      refl,
-    )
+        alone = record {
+          logs = agreed_logs g.C.Speak.view was.decisions was.coordinator.name.items was.coordinator.stores.items c.finish.new.self.stores.items
+              c.finish.ensures.agrees;
+          stands = same_whole _ _ _ _ _ _ _ _ _ c.finish.ensures.count refl c.in-Ok.ensures.over;
+        };
+      };
+    })

@@ -2,9 +2,9 @@ use Rattle.std.proofs.Common.{[], ◌≡◌, ◌∙◌, length, vec_len, ap, ref
 use Rattle.xa_manager.specs.declared.stage.Stage.TheVariants.{Working, Over}
 use Rattle.xa_manager.specs.declared.response.Response.TheVariants.{Voted as Told}
 use Rattle.xa_manager.specs.Ledger.{with_stage}
-use Rattle.xa_manager.specs.Answers.{stage_after}
+use Rattle.xa_manager.specs.Carried.{stage_after}
 use Rattle.xa_manager.proofs.Stages.{with_stage-length, kept_with, ready_with, put_on}
-use Rattle.xa_manager.proofs.States.{same_desk, kept_as, ready_as, voted_kept, voted_ready}
+use Rattle.xa_manager.proofs.States.{same_whole, kept_as, ready_as, voted_kept, voted_ready}
 use Rattle.xa_manager.proofs.Said.{agreed_logs}
 use Rattle.xa_manager.proofs.manager.Manager.prepare.Goals as goal
 
@@ -41,8 +41,8 @@ invariant_of-self g c =
           (voted_ready g.C.Speak.view c.in-Ok.transaction c.prepare-vote.result stores.items after c.prepare-vote.ensures.vote));
     }
 
-pub returns-in-Ok-clause-answers : goal.returns-in-Ok-clause-answers
-returns-in-Ok-clause-answers g c =
+pub returns-in-Ok : goal.returns-in-Ok
+returns-in-Ok g c =
     let was = c.args.self.now in
     let stage = stage_after c.prepare-vote.result in
     let put : c.put.new.self ≡ with_stage c.take_working.new.self c.args.number stage =
@@ -51,31 +51,14 @@ returns-in-Ok-clause-answers g c =
     inr (record {
       before = c.in-Ok.transaction;
       vote = c.prepare-vote.result;
-      works = c.in-Ok.ensures.taken;
+      working = c.in-Ok.ensures.taken;
       told = ap (λ answer. Told answer) c.told_of-answer.ensures.answer;
-      stands = same_desk _ _ _ _ _ _ c.prepare-vote.ensures.count refl on;
-    })
-
-pub returns-in-Ok-clause-says : goal.returns-in-Ok-clause-says
-returns-in-Ok-clause-says g c =
-    let was = c.args.self.now in
-    let stage = stage_after c.prepare-vote.result in
-    let put : c.put.new.self ≡ with_stage c.take_working.new.self c.args.number stage =
-    c.put.ensures ∙ ap (λ s. with_stage c.take_working.new.self c.args.number s) c.told_of-answer.ensures.stage in
-    let on = put_on was.ledger c.args.number Over stage c.take_working.new.self c.put.new.self c.in-Ok.ensures.over put in (
-      record {
-        number = c.args.number;
-        asked = refl;
-        before = c.in-Ok.transaction;
-        vote = c.prepare-vote.result;
-        working = c.in-Ok.ensures.taken;
-        told = c.told_of-answer.ensures.answer;
-        votes = c.prepare-vote.ensures.vote;
+      votes = c.prepare-vote.ensures.vote;
+      marks = c.prepare-vote.ensures.elsewhere;
+      marked_there = c.prepare-vote.ensures.cut;
+      alone = record {
         logs = agreed_logs g.C.Speak.view [] was.coordinator.name.items was.coordinator.stores.items c.prepare-vote.new.self.stores.items
             (c.prepare-vote.ensures.agrees []);
-        marks = c.prepare-vote.ensures.elsewhere;
-        marked_there = c.prepare-vote.ensures.cut;
-        stages = on;
-      },
-      refl,
-    )
+        stands = same_whole _ _ _ _ _ _ _ _ _ c.prepare-vote.ensures.count refl on;
+      };
+    })

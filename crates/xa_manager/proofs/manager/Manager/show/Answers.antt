@@ -1,4 +1,6 @@
-use Rattle.std.proofs.Common.{◌≡◌, length, vec_len, refl, inr}
+use Rattle.std.proofs.Common.{◌≡◌, length, vec_len, refl}
+use Rattle.xa_manager.specs.Said.{IsListed}
+use Rattle.xa_manager.proofs.Said.{each_lent}
 use Rattle.xa_manager.proofs.manager.Manager.show.Goals as goal
 
 pub returns-clause-answers : goal.returns-clause-answers
@@ -9,9 +11,12 @@ returns-clause-answers g c =
     let value = c.as_mut_slice.ensures.value in
     let other_clients = was.other_clients.ok.0 in
     let pairs = was.pairs in
-    inr (record {
-      answers = record { answers = c.in_ok-answers.answers };
-      each = (cc);
+    record {
+      listing = record { answers = c.in_ok-answers.answers };
+      count = (cc);
       told = refl;
+      each =
+          each_lent g.T.Speak.view (IsListed c.in_ok-answers.answers.items) was.other_clients.items c.as_mut_slice.result.now c.listed_by_each.new.other_clients
+          _ _ value other_clients c.listed_by_each.ensures.count c.in_ok-answers.ensures.listed;
       stands = refl;
-    })
+    }

@@ -1,7 +1,7 @@
 use Rattle.std.proofs.Common.{rules, [], ◌≡◌, ◌∙◌, length, vec_len, ap, refl, sym, inr}
 use Rattle.xa_manager.specs.declared.stage.Stage.TheVariants.{Working, Over}
 use Rattle.xa_manager.proofs.Stages.{with_stage-length, kept_with, ready_with, put_on}
-use Rattle.xa_manager.proofs.States.{same_desk, kept_as, ready_as, worked_kept}
+use Rattle.xa_manager.proofs.States.{same_whole, kept_as, ready_as, worked_kept}
 use Rattle.xa_manager.proofs.Said.{agreed_logs}
 use Rattle.xa_manager.proofs.manager.Manager.work.Goals as goal
 
@@ -33,8 +33,8 @@ invariant_of-self g c =
       ready = ready_as _ _ on (ready_with was.ledger c.args.number worked was.ready (λ prepared same. absurd (cc)));
     }
 
-pub returns-in-Ok-clause-answers : goal.returns-in-Ok-clause-answers
-returns-in-Ok-clause-answers g c =
+pub returns-in-Ok : goal.returns-in-Ok
+returns-in-Ok g c =
     let was = c.args.self.now in
     let worked = Working c.work-worked.new.transaction in
     let on = put_on was.ledger c.args.number Over worked c.take_working.new.self c.put.new.self c.in-Ok.ensures.over c.put.ensures in
@@ -45,30 +45,14 @@ returns-in-Ok-clause-answers g c =
       after = c.work-worked.new.transaction;
       answer = c.work-worked.result;
       known = search rules;
-      works = c.in-Ok.ensures.taken;
+      working = c.in-Ok.ensures.taken;
       told = refl;
-      stands = same_desk _ _ _ _ _ _ count refl on;
-    })
-
-pub returns-in-Ok-clause-says : goal.returns-in-Ok-clause-says
-returns-in-Ok-clause-says g c =
-    let was = c.args.self.now in
-    let worked = Working c.work-worked.new.transaction in
-    let on = put_on was.ledger c.args.number Over worked c.take_working.new.self c.put.new.self c.in-Ok.ensures.over c.put.ensures in (
-      record {
-        number = c.args.number;
-        store = c.args.store;
-        statement = c.args.statement.now;
-        asked = refl;
-        before = c.in-Ok.transaction;
-        after = c.work-worked.new.transaction;
-        working = c.in-Ok.ensures.taken;
-        works = c.work-worked.ensures.works;
-        others = c.work-worked.ensures.frame;
+      works = c.work-worked.ensures.works;
+      others = c.work-worked.ensures.frame;
+      marks = c.work-worked.ensures.marks;
+      alone = record {
         logs = agreed_logs g.C.Speak.view [] was.coordinator.name.items was.coordinator.stores.items c.work-worked.new.self.stores.items
             (c.work-worked.ensures.agrees []);
-        marks = c.work-worked.ensures.marks;
-        stages = on;
-      },
-      refl,
-    )
+        stands = same_whole _ _ _ _ _ _ _ _ _ count refl on;
+      };
+    })

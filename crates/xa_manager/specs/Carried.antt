@@ -1,0 +1,219 @@
+-- What each call of a transaction manager does, where it isn't refused: what it is answered, what was said to the sessions, and how all stands then.
+--     WholeManager     a transaction manager, as contracts see it
+--     SpeaksAlone      only the coordinator's sessions were spoken to
+--     vote_answer_of, stage_after     what is told of a vote;  how far the transaction has come then
+--     IsBegun, IsSpent                BEGIN: a transaction began;  no number is left
+--     HasWorked        WORK
+--     HasVoted         PREPARE
+--     IsDecided        DECIDE
+--     HasEnded         a transaction was ended by the coordinator
+--     IsFinished       FINISH
+--     IsAbandoned      ABANDON
+--     IsLimited        FAIL
+--     IsStopped        STOP
+--     HasRecovered     RECOVER
+--     HasReplied       AT
+--     IsShown          SHOW
+--     Carries          a call was carried out, by the call
+use Rattle.std.specs.Prelude.{◌≡◌, ◌⊎◌, ◌<◌, ◌≤◌, ◌+◌, ℕ, true, false, Option, Some, None, Result, IfOk, IfErr, OnOk, List, [], ◌∷◌, ◌++◌, length, map}
+use Rattle.std.specs.Prelude.{slice_get, codes}
+use Rattle.xa_xid.specs.declared.statement.Statement.{Statement}
+use Rattle.xa_server.specs.declared.reply.Reply.{Reply}
+use Rattle.xa_session.specs.declared.fault.Fault.{Fault}
+use Rattle.xa_session.specs.View.{SessionView, StaysOfLog}
+use Rattle.xa_coordinator.specs.declared.branches.OpenBranch.{OpenBranch}
+use Rattle.xa_coordinator.specs.declared.closing.Closing.{Closing}
+use Rattle.xa_coordinator.specs.declared.closing.Closing.TheVariants.{RollBack}
+use Rattle.xa_coordinator.specs.declared.decisions.Decision.{Decision}
+use Rattle.xa_coordinator.specs.declared.decisions.Decision.TheVariants.{Undecided}
+use Rattle.xa_coordinator.specs.declared.ending.Ending.{Ending}
+use Rattle.xa_coordinator.specs.declared.fault.RecoverFault.{RecoverFault}
+use Rattle.xa_coordinator.specs.declared.fault.WorkFault.{WorkFault}
+use Rattle.xa_coordinator.specs.declared.fused.Fused.{Fused}
+use Rattle.xa_coordinator.specs.declared.report.Report.{Report}
+use Rattle.xa_coordinator.specs.declared.transaction.Prepared.{Prepared}
+use Rattle.xa_coordinator.specs.declared.transaction.Transaction.{Transaction}
+use Rattle.xa_coordinator.specs.declared.vote.Vote.{Vote}
+use Rattle.xa_coordinator.specs.declared.vote.Vote.TheVariants.{Ready as VoteReady, OnePhase as VoteOnePhase, No as VoteNo, Nothing as VoteNothing}
+use Rattle.xa_coordinator.specs.Decisions.{closed_of, is_decided, may_be_decided, with_decided}
+use Rattle.xa_coordinator.specs.Limits.{most_numbers}
+use Rattle.xa_coordinator.specs.OpenBranches.{KeepsOpen}
+use Rattle.xa_coordinator.specs.Outcomes.{EndsAs, VotesAs, KeepsMark, finish_for, asked_by_vote, asked_by_ending}
+use Rattle.xa_coordinator.specs.Participants.{takes_part}
+use Rattle.xa_coordinator.specs.Recovery.{Recovers, BreaksOff, asked_by_fault}
+use Rattle.xa_coordinator.specs.Stores.{AtStore, EachStore, ChangesAt}
+use Rattle.xa_coordinator.specs.Work.{WorksAs}
+use Rattle.xa_lines.specs.Printed.{converts}
+use Rattle.xa_manager.specs.declared.call.Call.{Call}
+use Rattle.xa_manager.specs.declared.call.Call.TheVariants.{Silent as SilentCall, Unread, Begin, Work, Prepare, Decide, Finish, Abandon, Fail}
+use Rattle.xa_manager.specs.declared.call.Call.TheVariants.{Stop, Recover, At, Show}
+use Rattle.xa_manager.specs.declared.listing.Listing.{Listing}
+use Rattle.xa_manager.specs.declared.response.Response.{Response}
+use Rattle.xa_manager.specs.declared.response.Response.TheVariants.{Silent, Begun, NumbersSpent, Worked, Voted, Decided, Closed, Ended, Limited, Stopped}
+use Rattle.xa_manager.specs.declared.response.Response.TheVariants.{Recovered, Replied, Shown}
+use Rattle.xa_manager.specs.declared.stage.Stage.{Stage}
+use Rattle.xa_manager.specs.declared.stage.Stage.TheVariants.{Working, Ready, Voted as VotedStage, Over}
+use Rattle.xa_manager.specs.declared.vote_answer.VoteAnswer.{VoteAnswer}
+use Rattle.xa_manager.specs.declared.vote_answer.VoteAnswer.TheVariants.{Ready as ToldReady, OnePhase as ToldOnePhase, Nothing as ToldNothing, No as ToldNo}
+use Rattle.xa_manager.specs.Ledger.{stage_of, with_stage}
+use Rattle.xa_manager.specs.Limits.{LimitsAlone, StartsAnew}
+use Rattle.xa_manager.specs.Said.{IsGiven, IsListed}
+
+-- a transaction manager, as contracts see it: how many stores it has, how the numbers stand, how far each transaction has come, what the coordinator has
+-- open in each store, its session in each, and the other client's
+pub record WholeManager (C T : Type 0) : Type 0 where
+  pub stores : ℕ
+  pub decisions : List Decision
+  pub stages : List Stage
+  pub branches : List (Option OpenBranch)
+  pub sessions : List C
+  pub other_clients : List T
+
+-- only the coordinator's sessions were spoken to, each of them stays of its log, and the numbers and the transactions stand so now
+pub record SpeaksAlone {C T : Type 0} (view : C → SessionView) (decisions : List Decision) (stages : List Stage) (old new : WholeManager C T) : Type 0 where
+  pub logs : EachStore view (λ store. StaysOfLog) old.sessions new.sessions
+  pub stands : new ≡ record old { decisions = decisions; stages = stages; branches = new.branches; sessions = new.sessions }
+
+-- what is told of a vote
+abbrev pub vote_answer_of : Vote → VoteAnswer
+vote_answer_of (VoteReady prepared) = ToldReady
+vote_answer_of (VoteOnePhase prepared) = ToldOnePhase
+vote_answer_of (VoteNo prepared store cause) = ToldNo store cause
+vote_answer_of VoteNothing = ToldNothing
+
+-- how far a transaction has come with its vote
+abbrev pub stage_after : Vote → Stage
+stage_after (VoteReady prepared) = Ready prepared
+stage_after (VoteOnePhase prepared) = VotedStage prepared
+stage_after (VoteNo prepared store cause) = VotedStage prepared
+stage_after VoteNothing = Over
+
+-- a transaction of the next number was begun, in which no store takes part, and is undecided
+pub record IsBegun {C T : Type 0} (old : WholeManager C T) (response : Response) (new : WholeManager C T) : Type 0 where
+  pub transaction : Transaction
+  pub nobody : (store : ℕ) → takes_part transaction.participants store ≡ false
+  pub told : response ≡ Begun (length old.stages + 1)
+  pub stands : new ≡ record old { decisions = old.decisions ++ Undecided ∷ []; stages = old.stages ++ Working transaction ∷ [] }
+
+-- no number is left
+pub record IsSpent {C T : Type 0} (old : WholeManager C T) (response : Response) (new : WholeManager C T) : Type 0 where
+  pub all : length old.decisions ≡ most_numbers
+  pub told : response ≡ NumbersSpent
+  pub stands : new ≡ old
+
+-- a transaction that takes work worked in a store, and its work came to this; in the other stores nothing changed
+pub record HasWorked {C T : Type 0} (view : C → SessionView) (number store : ℕ) (statement : Statement) (old : WholeManager C T) (response : Response)
+    (new : WholeManager C T) : Type 0 where
+  pub before : Transaction
+  pub after : Transaction
+  pub answer : Result Reply WorkFault
+  pub known : store < old.stores
+  pub working : stage_of old.stages number ≡ Some (Working before)
+  pub told : response ≡ Worked answer
+  pub works : WorksAs view old.branches new.branches before after store statement answer old.sessions new.sessions
+  pub others : ChangesAt store old.sessions new.sessions
+  pub marks : ChangesAt store old.branches new.branches
+  pub alone : SpeaksAlone view old.decisions (with_stage old.stages number (Working after)) old new
+
+-- the stores of a transaction that takes work voted, and this is the vote, which is kept; what is open in the other stores stays so
+pub record HasVoted {C T : Type 0} (view : C → SessionView) (number : ℕ) (old : WholeManager C T) (response : Response) (new : WholeManager C T) : Type 0 where
+  pub before : Transaction
+  pub vote : Vote
+  pub working : stage_of old.stages number ≡ Some (Working before)
+  pub told : response ≡ Voted (vote_answer_of vote)
+  pub votes : VotesAs view before vote old.sessions new.sessions
+  pub marks : KeepsOpen before.participants (asked_by_vote vote) old.branches new.branches
+  pub marked_there : KeepsMark before vote old.branches new.branches
+  pub alone : SpeaksAlone view old.decisions (with_stage old.stages number (stage_after vote)) old new
+
+-- a transaction with a vote of Ready is decided, or its number is closed
+pub record IsDecided {C T : Type 0} (number : ℕ) (old : WholeManager C T) (response : Response) (new : WholeManager C T) : Type 0 where
+  pub prepared : Prepared
+  pub ready : stage_of old.stages number ≡ Some (Ready prepared)
+  pub outcome :
+      ((may_be_decided old.decisions number ≡ true) × (response ≡ Decided) × (new ≡ record old { decisions = with_decided old.decisions number }))
+      ⊎ ((may_be_decided old.decisions number ≡ false) × (response ≡ Closed) × (new ≡ old))
+
+-- the coordinator ended a transaction so that it closes as asked, and this is how it ended; what is open in the other stores stays so
+pub record HasEnded {C T : Type 0} (view : C → SessionView) (number : ℕ) (transaction : Transaction) (asked : Closing) (old : WholeManager C T)
+    (response : Response) (new : WholeManager C T) : Type 0 where
+  pub ending : Ending
+  pub told : response ≡ Ended ending
+  pub ends : EndsAs view old.branches transaction asked ending old.sessions new.sessions
+  pub marks : KeepsOpen transaction.participants (asked_by_ending ending) old.branches new.branches
+  pub alone : SpeaksAlone view old.decisions (with_stage old.stages number Over) old new
+
+-- a transaction that was voted on ended as the decisions say
+pub record IsFinished {C T : Type 0} (view : C → SessionView) (number : ℕ) (old : WholeManager C T) (response : Response)
+    (new : WholeManager C T) : Type 0 where
+  pub prepared : Prepared
+  pub voted : (stage_of old.stages number ≡ Some (Ready prepared)) ⊎ (stage_of old.stages number ≡ Some (VotedStage prepared))
+  pub of_number : prepared.transaction.number ≡ number
+  pub ends : HasEnded view number prepared.transaction (finish_for (is_decided old.decisions number) prepared.vote_kind) old response new
+
+-- a transaction that takes work was rolled back
+pub record IsAbandoned {C T : Type 0} (view : C → SessionView) (number : ℕ) (old : WholeManager C T) (response : Response)
+    (new : WholeManager C T) : Type 0 where
+  pub before : Transaction
+  pub working : stage_of old.stages number ≡ Some (Working before)
+  pub ends : HasEnded view number before RollBack old response new
+
+-- the coordinator's session in a store passes so many calls on
+pub record IsLimited {S T : Type 0} (store calls : ℕ) (old : WholeManager (Fused S) T) (response : Response) (new : WholeManager (Fused S) T) : Type 0 where
+  pub known : store < old.stores
+  pub told : response ≡ Limited
+  pub limited : LimitsAlone store calls old.sessions new.sessions
+  pub stands : new ≡ record old { sessions = new.sessions }
+
+-- a new coordinator took the place of the old one, over the same sessions, to which nothing was said
+pub record IsStopped {S T : Type 0} (old : WholeManager (Fused S) T) (response : Response) (new : WholeManager (Fused S) T) : Type 0 where
+  pub told : response ≡ Stopped
+  pub anew : StartsAnew new.branches new.sessions
+  pub within : map (λ (s : Fused S). s.inner) new.sessions ≡ map (λ (s : Fused S). s.inner) old.sessions
+  pub stands : new ≡ record old { branches = new.branches; sessions = new.sessions }
+
+-- the coordinator recovered by the decisions, of which none is undecided then, and this is what recovery came to; nothing is open then, or after a fault, in
+-- the stores that it didn't come to, what was
+pub record HasRecovered {C T : Type 0} (view : C → SessionView) (old : WholeManager C T) (response : Response) (new : WholeManager C T) : Type 0 where
+  pub outcome : Result Report RecoverFault
+  pub told : response ≡ Recovered outcome
+  pub done : IfOk outcome (λ report. Recovers view new.decisions (codes "c") report old.sessions new.sessions)
+  pub broken : IfErr outcome (λ fault. BreaksOff view new.decisions (codes "c") fault old.branches new.branches old.sessions new.sessions)
+  pub free : OnOk outcome ((store : ℕ) → store < new.stores → slice_get new.branches store ≡ Some None)
+  pub marks : IfErr outcome (λ fault. (store : ℕ) → asked_by_fault fault ≤ store → slice_get new.branches store ≡ slice_get old.branches store)
+  pub alone : SpeaksAlone view (map closed_of old.decisions) old.stages old new
+
+-- the other client's session in a store was given a statement, and this is what it answered; to no other session anything was said
+pub record HasReplied {C T : Type 0} (view : T → SessionView) (store : ℕ) (statement : Statement) (old : WholeManager C T) (response : Response)
+    (new : WholeManager C T) : Type 0 where
+  pub answer : Result Reply Fault
+  pub known : store < old.stores
+  pub told : response ≡ Replied (converts statement) answer
+  pub replies : AtStore view store (IsGiven statement answer) old.other_clients new.other_clients
+  pub others : ChangesAt store old.other_clients new.other_clients
+  pub stands : new ≡ record old { other_clients = new.other_clients }
+
+-- the other client's session in each store was given XA RECOVER CONVERT XID, and this is what each answered
+pub record IsShown {C T : Type 0} (view : T → SessionView) (old : WholeManager C T) (response : Response) (new : WholeManager C T) : Type 0 where
+  pub listing : Listing
+  pub count : length listing.answers.items ≡ old.stores
+  pub told : response ≡ Shown listing
+  pub each : EachStore view (IsListed listing.answers.items) old.other_clients new.other_clients
+  pub stands : new ≡ record old { other_clients = new.other_clients }
+
+-- a call was carried out, by the call
+abbrev pub Carries : {S T : Type 0} → (Fused S → SessionView) → (T → SessionView) → WholeManager (Fused S) T → Call → Response → WholeManager (Fused S) T
+    → Type 0
+Carries view view' old SilentCall response new = (response ≡ Silent) × (new ≡ old)
+Carries view view' old (Unread place) response new = ⊥
+Carries view view' old Begin response new = IsBegun old response new ⊎ IsSpent old response new
+Carries view view' old (Work number store statement) response new = HasWorked view number store statement old response new
+Carries view view' old (Prepare number) response new = HasVoted view number old response new
+Carries view view' old (Decide number) response new = IsDecided number old response new
+Carries view view' old (Finish number) response new = IsFinished view number old response new
+Carries view view' old (Abandon number) response new = IsAbandoned view number old response new
+Carries view view' old (Fail store calls) response new = IsLimited store calls old response new
+Carries view view' old Stop response new = IsStopped old response new
+Carries view view' old Recover response new = HasRecovered view old response new
+Carries view view' old (At store statement) response new = HasReplied view' store statement old response new
+Carries view view' old Show response new = IsShown view' old response new
