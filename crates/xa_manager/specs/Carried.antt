@@ -6,7 +6,7 @@
 --     HasWorked        WORK
 --     HasVoted         PREPARE
 --     IsDecided        DECIDE
---     HasEnded         a transaction was ended by the coordinator
+--     HasEnded         a transaction ended, by FINISH or ABANDON
 --     IsFinished       FINISH
 --     IsAbandoned      ABANDON
 --     IsLimited        FAIL
@@ -69,7 +69,7 @@ pub record WholeManager (C T : Type 0) : Type 0 where
   pub sessions : List C
   pub other_clients : List T
 
--- only the coordinator's sessions were spoken to, each of them stays of its log, and the numbers and the transactions stand so now
+-- only the coordinator's sessions were spoken to, and each stays of its log; the numbers and the transactions stand so now
 pub record SpeaksAlone {C T : Type 0} (view : C → SessionView) (decisions : List Decision) (stages : List Stage) (old new : WholeManager C T) : Type 0 where
   pub logs : EachStore view (λ store. StaysOfLog) old.sessions new.sessions
   pub stands : new ≡ record old { decisions = decisions; stages = stages; branches = new.branches; sessions = new.sessions }
@@ -134,12 +134,12 @@ pub record IsDecided {C T : Type 0} (number : ℕ) (old : WholeManager C T) (res
       ((may_be_decided old.decisions number ≡ true) × (response ≡ Decided) × (new ≡ record old { decisions = with_decided old.decisions number }))
       ⊎ ((may_be_decided old.decisions number ≡ false) × (response ≡ Closed) × (new ≡ old))
 
--- the coordinator ended a transaction so that it closes as asked, and this is how it ended; what is open in the other stores stays so
-pub record HasEnded {C T : Type 0} (view : C → SessionView) (number : ℕ) (transaction : Transaction) (asked : Closing) (old : WholeManager C T)
+-- a transaction was to end by this closing, and this is how it ended; what is open in the other stores stays so
+pub record HasEnded {C T : Type 0} (view : C → SessionView) (number : ℕ) (transaction : Transaction) (closing : Closing) (old : WholeManager C T)
     (response : Response) (new : WholeManager C T) : Type 0 where
   pub ending : Ending
   pub told : response ≡ Ended ending
-  pub ends : EndsAs view old.branches transaction asked ending old.sessions new.sessions
+  pub ends : EndsAs view old.branches transaction closing ending old.sessions new.sessions
   pub marks : KeepsOpen transaction.participants (asked_by_ending ending) old.branches new.branches
   pub alone : SpeaksAlone view old.decisions (with_stage old.stages number Over) old new
 
@@ -158,7 +158,7 @@ pub record IsAbandoned {C T : Type 0} (view : C → SessionView) (number : ℕ) 
   pub working : stage_of old.stages number ≡ Some (Working before)
   pub ends : HasEnded view number before RollBack old response new
 
--- the coordinator's session in a store passes so many calls on
+-- the coordinator's session in a store passes so many calls on, and nothing was said to any session
 pub record IsLimited {S T : Type 0} (store calls : ℕ) (old : WholeManager (Fused S) T) (response : Response) (new : WholeManager (Fused S) T) : Type 0 where
   pub known : store < old.stores
   pub told : response ≡ Limited
@@ -183,7 +183,7 @@ pub record HasRecovered {C T : Type 0} (view : C → SessionView) (old : WholeMa
   pub marks : IfErr outcome (λ fault. (store : ℕ) → asked_by_fault fault ≤ store → slice_get new.branches store ≡ slice_get old.branches store)
   pub alone : SpeaksAlone view (map closed_of old.decisions) old.stages old new
 
--- the other client's session in a store was given a statement, and this is what it answered; to no other session anything was said
+-- the other client's session in a store was given a statement, and this is what it answered; nothing was said to any other session
 pub record HasReplied {C T : Type 0} (view : T → SessionView) (store : ℕ) (statement : Statement) (old : WholeManager C T) (response : Response)
     (new : WholeManager C T) : Type 0 where
   pub answer : Result Reply Fault
