@@ -1,5 +1,7 @@
-//! What each fault, refusal and state reads, compared with a table.
+//! What each fault, refusal and state reads, and what a document names, compared with it.
 #![tactic(auto)]
 
+#[cfg(test)]
+mod named;
 #[cfg(test)]
 mod texts;
