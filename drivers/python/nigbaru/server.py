@@ -61,8 +61,9 @@ class Server:
         self._cause: Optional[str] = None  # why the store is gone
 
     def connect(self) -> Connection:
-        """A connection; OperationalError where 16 are open."""
+        """A connection; OperationalError where the store is known to be gone, or 16 are open."""
         with self._turn:
+            self._need_store()
             if not self._free:
                 raise OperationalError("16 sessions are open")
             return Connection(self, self._free.pop(0))
@@ -87,9 +88,12 @@ class Server:
             raise error
         return [first, *rows]
 
-    def _exchange(self, session: int, line: bytes) -> Tuple[str, List[str]]:
+    def _need_store(self) -> None:
         if self._cause is not None:
             raise OperationalError(f"the store is gone: {self._cause}")
+
+    def _exchange(self, session: int, line: bytes) -> Tuple[str, List[str]]:
+        self._need_store()
         deadline = Deadline(self._timeout)
         try:
             self._pipe.write(line, deadline)

@@ -116,6 +116,7 @@ class Calls(unittest.TestCase):
                 self.one.put("k", "v")
                 self.one.tpc_prepare()
                 ends(xid)
+                self.refused(nigbaru.ProgrammingError, None, None, None, self.one.get, "k")
                 self.refused(nigbaru.ProgrammingError, 1397, "XAE04", -4, call)
                 self.refused(nigbaru.ProgrammingError, None, None, None, call)
                 self.one.put("k", "w")
@@ -219,6 +220,15 @@ class Calls(unittest.TestCase):
         self.server.child.kill()
         self.assertRaises(nigbaru.OperationalError, self.one.get, "k")
         self.assertRaises(nigbaru.OperationalError, self.two.get, "k")
+        self.assertRaisesRegex(nigbaru.OperationalError, "the store is gone", self.server.connect)
+
+    def test_a_closed_store_has_no_connections(self):
+        server = nigbaru.Server(PROGRAM)
+        for _ in range(16):
+            server.connect()
+        self.assertRaisesRegex(nigbaru.OperationalError, "16 sessions are open", server.connect)
+        server.close()
+        self.assertRaisesRegex(nigbaru.OperationalError, "the store is gone: it was closed", server.connect)
 
     def test_a_gone_store_is_closed_without_a_word(self):
         self.one.tpc_begin(self.one.xid(1, "g", "b"))

@@ -32,7 +32,7 @@ class TimeOuts(unittest.TestCase):
         server = self.silent("exec sleep 60")
         one, two = server.connect(), server.connect()
         self.gone(one.get, "k")
-        for call in (lambda: one.get("k"), lambda: two.put("k", "v"), one.tpc_recover):
+        for call in (lambda: one.get("k"), lambda: two.put("k", "v"), one.tpc_recover, server.connect):
             with self.assertRaisesRegex(OperationalError, "the store is gone: no answer came within 0.2 seconds"):
                 call()
         one.close()
