@@ -59,6 +59,7 @@ class Server:
         self._turn = threading.Lock()
         self._free = list(SESSIONS)
         self._cause: Optional[str] = None  # why the store is gone
+        self._has_answered = False
 
     def connect(self) -> Connection:
         """A connection; OperationalError where the store is known to be gone, or 16 are open."""
@@ -98,6 +99,7 @@ class Server:
         try:
             self._pipe.write(line, deadline)
             first = self._line(f"{session} ", deadline)
+            self._has_answered = True
             count = int(first[5:]) if first.startswith("ROWS ") else 0
             return first, [self._line("", deadline) for _ in range(count)]
         except EOFError:
@@ -122,9 +124,10 @@ class Server:
         if self.child is None:
             return "it ended"
         try:
-            return f"{self.child.args!r} ended with status {self.child.wait(1)}; a command is wanted that serves, as [\"xa_script\", \"serve\"]"
+            ended = f"{self.child.args!r} ended with status {self.child.wait(1)}"
         except subprocess.TimeoutExpired:
             return "it closed its output"
+        return ended if self._has_answered else f'{ended}; a command is wanted that serves, as ["xa_script", "serve"]'
 
     def close(self) -> None:
         """Ends the input of the store; a child process then ends. One that doesn't within the time-out is killed."""

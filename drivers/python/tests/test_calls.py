@@ -222,6 +222,11 @@ class Calls(unittest.TestCase):
         self.assertRaises(nigbaru.OperationalError, self.two.get, "k")
         self.assertRaisesRegex(nigbaru.OperationalError, "the store is gone", self.server.connect)
 
+    def test_a_command_that_answers_nothing_is_told_what_serves(self):
+        for command in (["true"], ["false"]):
+            with nigbaru.Server(command) as server, self.assertRaisesRegex(nigbaru.OperationalError, "status [01]; a command is wanted that serves"):
+                server.connect().get("k")
+
     def test_a_closed_store_has_no_connections(self):
         server = nigbaru.Server(PROGRAM)
         for _ in range(16):
@@ -233,7 +238,7 @@ class Calls(unittest.TestCase):
     def test_a_gone_store_is_closed_without_a_word(self):
         self.one.tpc_begin(self.one.xid(1, "g", "b"))
         self.server.child.kill()
-        with self.assertRaisesRegex(nigbaru.OperationalError, "status -9"), self.one:
+        with self.assertRaisesRegex(nigbaru.OperationalError, "status -9$"), self.one:
             self.one.get("k")
         self.assertIn("gone", repr(self.two))
         self.two.close()
