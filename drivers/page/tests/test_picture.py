@@ -175,6 +175,7 @@ class Command(unittest.TestCase):
             record = Path(folder) / "a.record"
             record.write_bytes(DIRTY)
             for words, status, cause in [([Path(folder) / "none"], 1, b"No such file"), ([], 2, b"RECORD"), (["--lines", "9-3", record], 2, b"not lines"),
+                                         (["--lines", "400-410", record], 1, b"lines, and none from 400 on"),
                                          (["--limit", "0", record], 2, b"from 1 to 1000000"), (["--limit", "1000001", record], 2, b"from 1 to 1000000"),
                                          (["--program", "/nowhere", record], 1, b"/nowhere")]:
                 ran = self.run_it(*words)
