@@ -7,15 +7,13 @@ use xa_lines::{Answer, LineServer};
 use xa_manager::read_call;
 use xa_xid::NoMemory;
 
-/// A server of calls, beside which the standard error says what a call out of turn wants, where it is to speak.
+/// A server of calls, beside which the standard error says what a call out of turn wants.
 #[derive(Drop)]
 pub struct Advised<'r, S: LineServer + Drop, R> {
     /// What answers.
     inner: S,
     /// Where it is said what is wanted.
     rt: &'r R,
-    /// Whether it is said.
-    speaks: bool,
     /// The number of the last line, from 1.
     number: u64,
     /// How far each transaction has come.
@@ -28,13 +26,12 @@ impl<'r, S: LineServer + Drop, R: Eprint + Alloc<A = Global>> Advised<'r, S, R> 
     /// Answers as this server does.
     ///
     /// Takes no memory. Doesn't wait.
-    pub fn new(rt: &'r R, inner: S, speaks: bool) -> Advised<'r, S, R>
+    pub fn new(rt: &'r R, inner: S) -> Advised<'r, S, R>
         ensures { result.inner ≡ inner }
     {
         Advised {
             inner,
             rt,
-            speaks,
             number: 0,
             standings: Standings::new(rt.alloc()),
             refused: false,
@@ -61,7 +58,7 @@ impl<'r, S: LineServer + Drop, R: Eprint + Alloc<A = Global>> Advised<'r, S, R> 
     fn look(&mut self, line: &[u8], answer: &[u8])
         ensures { self.new.inner ≡ self.old.inner }
     {
-        if !self.speaks || self.refused {
+        if self.refused {
             return;
         }
         let call = read_call(line);

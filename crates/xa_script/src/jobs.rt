@@ -8,6 +8,7 @@ use crate::line_form::LineForm;
 use crate::racing::race_by;
 use crate::spoken::Spoken;
 use crate::texts::Texts;
+use crate::watch::Watch;
 use crate::{DONE, Schedule};
 use std::alloc::Global;
 use std::io;
@@ -15,7 +16,7 @@ use std::io::{BufWriter, Printer, Read, Write};
 use std::sync::Wait;
 use std::thread::Threads;
 use xa_lines::{ScriptFault, Transport, run_script, serve_statements, show_statements};
-use xa_manager::{CallServer, manager_over, open_stores};
+use xa_manager::{CallServer, converse, manager_over, open_stores};
 
 /// The standard output, which gathers what is written.
 pub type Output<'r, R> = BufWriter<Spoken<'r, Printer<'r, R>, R>>;
@@ -98,10 +99,10 @@ pub fn judge<I: Read + Drop, W: Write + Drop, R: Alloc<A = Global>>(
     flushed(&mut output, done)
 }
 
-/// Carries the calls out.
+/// Carries the calls out; where it speaks, the standard error says what a call out of turn wants.
 pub fn coordinate<I: Read + Drop, W: Write + Drop, R: Eprint + Alloc<A = Global> + Wait>(
     rt: &R,
-    input: I,
+    input: &mut Watch<'_, I, R>,
     output: BufWriter<W>,
     speaks: bool,
     stores: u64,
@@ -113,8 +114,11 @@ pub fn coordinate<I: Read + Drop, W: Write + Drop, R: Eprint + Alloc<A = Global>
     let mut transport = Transport::new(input, output);
     let (stores, firsts, seconds) = open_stores(rt.alloc(), stores, capacity)?;
     let stores = stores.as_slice();
+    if !speaks {
+        return converse(rt, rt.alloc(), &mut transport, stores, firsts, seconds).and(Ok(DONE));
+    }
     let manager = manager_over(rt.alloc(), stores, firsts, seconds)?;
-    let mut server = Advised::new(rt, CallServer::new(rt, manager), speaks);
+    let mut server = Advised::new(rt, CallServer::new(rt, manager));
     xa_lines::serve(rt.alloc(), &mut server, &mut transport)?;
     server.looked()?;
     Ok(DONE)

@@ -196,7 +196,13 @@ fn carry_out_job<
     I: Read + Drop,
     W: Write + Drop,
     R: Eprint + Alloc<A = Global> + Threads + Wait + Sync,
->(rt: &R, input: I, output: BufWriter<W>, job: Job, speaks: bool) -> Result<u8, ScriptFault>
+>(
+    rt: &R,
+    input: &mut Watch<'_, I, R>,
+    output: BufWriter<W>,
+    job: Job,
+    speaks: bool,
+) -> Result<u8, ScriptFault>
     requires { CanBeDone job }
 {
     match job {
