@@ -201,10 +201,12 @@ export class Race {
   }
 
   pick(found) {
+    const isAnother = this.picked !== found.key;
     this.picked = found.key;
     this.drawn = null;
     byId("one-history").hidden = false;
     this.drawBars();
+    if (isAnother) byId("history").scrollTop = 0;
   }
 
   // With which answers the picked history came, the most frequent first; the one that is drawn stays.

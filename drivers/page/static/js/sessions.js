@@ -124,6 +124,7 @@ export class Sessions {
       return el(`div.head.${sessionClass(session)}`, {}, el("strong", {}, `Session ${session}`), " ",
         own ? el("span.seat", {}, own.phase, " ", xidText(own.xid)) : el("span.seat", {}, "free"));
     }));
+    this.view.style.setProperty("--heads", `${byId("heads").offsetHeight}px`);
     const entry = byId("entry");
     if (entry.children.length === this.columns + 1) return;
     const kept = new Map([...entry.querySelectorAll("input")].map((input) => [input.name, input.value]));
