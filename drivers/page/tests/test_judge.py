@@ -46,7 +46,9 @@ class Verdicts(View):
         self.browser.push("#play-order")
         self.until(lambda: len(self.browser.all("#given > li")) == 3, "the order is played")
         self.assertEqual(self.browser.text("#printed"), "2 VALUE 0x76\n  ROW 0x6b VALUE 0x76\n")
-        self.assertEqual(self.browser.texts("#given .reply"), [line.split(" ", 1)[1] for line in says("run", order)[0].decode().splitlines()])
+        self.assertEqual(self.browser.texts("#given .statement"), ["GET 'k'", "PUT 'k','v'", "GET 'k'"])
+        self.assertEqual(self.browser.texts("#given .reply"), ["NONE", "OK", "VALUE 'v'"])
+        self.assertEqual(self.as_printed("#given .reply"), [line.split(" ", 1)[1] for line in says("run", order)[0].decode().splitlines()])
 
     def test_an_illegal_line_is_marked_with_what_could_have_been_answered(self):
         record = RECORDS["dirty_read"]

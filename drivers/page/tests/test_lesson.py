@@ -40,8 +40,7 @@ class Lesson(View):
         self.assertEqual(self.browser.text("#heads .s1 .seat"), "free")
         self.assertIn("'alice'", self.browser.text("#branches .card.prepared"), "it keeps its row")
         self.run_to("sessions", 10)
-        self.assertEqual(self.say(3, "GET 'alice'"), "VALUE 0x3930")
-        self.assertEqual(self.browser.texts("#given .answer .literal")[-1], "'90'")
+        self.assertEqual(self.say(3, "GET 'alice'"), "VALUE '90'")
         self.assertEqual(self.say(3, "GET 'bob'"), "NONE")
 
     def test_a_lock(self):
@@ -124,7 +123,7 @@ class Lesson(View):
         self.browser.push('#judge-form button[type="submit"]')
         self.until(lambda: self.browser.text("#verdict").startswith("LEGAL"), "the verdict")
         self.browser.push("#play-order")
-        self.until(lambda: self.browser.texts("#given .reply") == ["OK", "OK", "OK", "NONE", "OK", "VALUE 0x39"], "the order is played")
+        self.until(lambda: self.browser.texts("#given .reply") == ["OK", "OK", "OK", "NONE", "OK", "VALUE '9'"], "the order is played")
 
 
 if __name__ == "__main__":

@@ -9,9 +9,9 @@ from views import View, replies
 
 WRITERS = (ROOT / "drivers/page/races/two_writers.script").read_bytes()
 HUNG = """return [...document.querySelectorAll('#history .hung')].map((it) => [Number(it.dataset.session), Number(it.dataset.place),
-    it.querySelector('.statement').textContent, it.querySelector('.reply').textContent])"""
+    it.querySelector('.statement').textContent, it.querySelector('.reply').dataset.printed ?? it.querySelector('.reply').textContent])"""
 PLAYED = """return [...document.querySelectorAll('#given .cell')].map((it) =>
-    [Number(it.style.getPropertyValue('--column')), it.querySelector('.statement').textContent, it.querySelector('.reply').textContent])"""
+    [Number(it.style.getPropertyValue('--column')), it.querySelector('.statement').textContent, it.querySelector('.reply').dataset.printed ?? it.querySelector('.reply').textContent])"""
 ENTRIES = "return [...document.querySelectorAll('#history tr.entry')].map((it) => [Number(it.dataset.place), it.querySelector('.canonical').title])"
 
 
@@ -73,6 +73,16 @@ class Race(View):
             self.assertEqual([reply for _, _, reply in played], replies(says("run", order)[0].decode()))
             self.browser.run("history.back()")
             self.until(lambda: self.browser.run("return location.href") == address, "back at the race")
+
+    def test_a_history_stands_beside_its_bar(self):
+        """Also that of the last bar, which is far down."""
+        self.open(script=WRITERS, runs=40, go=1)
+        self.until(lambda: self.browser.text("#race-progress") == "40 of 40 runs", "all runs came back")
+        self.browser.push("#histories .history:last-child")
+        self.until(lambda: self.browser.all("#histories .history:last-child[aria-pressed=true]"), "it is picked")
+        places = """return ['#histories .history:last-child', '#history tbody tr'].map((it) => document.querySelector(it).getBoundingClientRect())
+            .map((it) => it.top >= 0 && it.top < innerHeight)"""
+        self.assertEqual(self.browser.run(places), [True, True])
 
     def test_one_session_has_one_history(self):
         """What enters nothing hangs before the entry at its place, and so it is played."""

@@ -4,6 +4,7 @@ import re
 import signal
 import unittest
 
+from browser import SIZE
 from selenium.webdriver.common.keys import Keys
 from support import ROOT, says
 from views import View, replies, shown_bytes
@@ -37,7 +38,7 @@ class Sessions(View):
         return len(self.browser.all("#given > li"))
 
     def answers(self):
-        return self.browser.texts("#given .reply")
+        return self.as_printed("#given .reply")
 
     def printed(self):
         return self.browser.text("#printed")
@@ -101,8 +102,19 @@ class Sessions(View):
         self.assertGreater(self.browser.run(size), before)
         self.browser.press(Keys.ARROW_RIGHT)
         self.until(lambda: self.given() > 0, "a step")
+        self.browser.driver.set_window_size(1280, 800)
+        self.addCleanup(self.browser.driver.set_window_size, *SIZE)
+        room = "const room = document.querySelector('.columns'); return room.scrollWidth - room.clientWidth"
+        self.until(lambda: self.browser.run(room) == 0, "all sessions are seen")
         self.browser.press("f")
         self.until(lambda: self.browser.one("#sessions .tools").is_displayed(), "the tools are back")
+
+    def test_a_story_opens_with_its_first_line_in_view(self):
+        self.open(script=STORY, at=0)
+        self.until(lambda: self.browser.all("#pending > li"), "the story waits")
+        edges = "return [document.querySelector('#entry').getBoundingClientRect().bottom, document.querySelector('#pending').getBoundingClientRect().top]"
+        box, first = self.browser.run(edges)
+        self.assertLessEqual(box, first, "the boxes hide nothing")
 
     def test_run_to_here_and_take_back(self):
         wanted = blocks(STORY)

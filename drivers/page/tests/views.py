@@ -40,11 +40,18 @@ class View(unittest.TestCase):
     def until(self, holds, what):
         self.browser.until(holds, what)
 
+    def as_printed(self, css):
+        """What the program printed for each element."""
+        return self.browser.run(f"return [...document.querySelectorAll(arguments[0])].map({PRINTED})", css)
+
     def pictures(self, height=1000):
         """The view as it is now, at two widths."""
         PICTURES.mkdir(parents=True, exist_ok=True)
         for name, size in [("wide", (1400, height)), ("narrow", NARROW)]:
             self.browser.picture(PICTURES / f"{self.view}-{name}.png", size)
+
+
+PRINTED = "(it) => it.dataset.printed ?? it.textContent"  # what the program printed for an element, which may be shown otherwise
 
 
 def shown_bytes(text):

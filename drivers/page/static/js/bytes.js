@@ -41,6 +41,15 @@ export function asLiteral(canonical) {
   return `'${text.replaceAll("\\", "\\\\").replaceAll("'", "''")}'`;
 }
 
+// A statement as the program prints it, with literals as a person would write them.
+export const readable = (printed) => printed.replace(/0x[0-9a-f]+/g, asLiteral);
+
+// The same of a reply that is a value, or null where nothing would be another.
+export function readableValue(reply) {
+  const read = /^VALUE 0x[0-9a-f]+$/.test(reply) ? readable(reply) : reply;
+  return read === reply ? null : read;
+}
+
 // An identifier in canonical form as a person would write it.
 export function asXid(canonical) {
   const [gtrid, bqual, format] = canonical.split(",");
@@ -51,8 +60,8 @@ export function asXid(canonical) {
 export function pieces(bytes) {
   const found = [];
   let text = "";
-  for (const [chunk, readable] of characters(bytes)) {
-    if (readable) {
+  for (const [chunk, isSeen] of characters(bytes)) {
+    if (isSeen) {
       text += chunk;
       continue;
     }

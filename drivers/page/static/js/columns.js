@@ -1,5 +1,5 @@
 // The lines of a script in a column for each session, each with its answer below it.
-import { asLiteral, isBlank } from "./bytes.js";
+import { isBlank, readableValue } from "./bytes.js";
 import { el, sessionClass, shown } from "./dom.js";
 import { ruleOf } from "./rules.js";
 
@@ -36,10 +36,10 @@ function ruleText(refusal, statement, state) {
     rule ? el("span.table", {}, `${rule.statement}, ${rule.state}: `, withCode(rule.cell)) : null);
 }
 
-function valueText(reply) {
-  const value = /^VALUE (\S+)$/.exec(reply);
-  const text = value ? asLiteral(value[1]) : null;
-  return text && text !== value[1] ? el("bdi.literal", {}, text) : null;
+// A reply, of which a value is written as a statement would have it; what was printed is below the pointer.
+function replySpan(reply) {
+  const read = readableValue(reply);
+  return read === null ? el("span.reply", {}, shown(reply)) : el("span.reply", { title: reply, "data-printed": reply }, el("bdi", {}, read));
 }
 
 // The state of the session that was answered, as it is listed behind the answer.
@@ -52,7 +52,7 @@ function replyText(answer, statement, state) {
   const { reply, rows, refusal } = answer;
   if (reply === null) return null;
   return el(refusal ? "div.answer.refused" : "div.answer", {},
-    el("span.reply", {}, shown(reply)), " ", valueText(reply),
+    replySpan(reply),
     rows ? el("pre.rows", {}, shown(rows.replace(/\n$/, ""))) : null,
     refusal ? ruleText(refusal, statement, state) : null);
 }

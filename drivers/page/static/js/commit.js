@@ -5,7 +5,7 @@ import { fromText, linesOf } from "./bytes.js";
 import { asksStores, lastBegun } from "./calls.js";
 import { enable, wire } from "./controls.js";
 import { bringIntoView, byId, el, fill, keepingFocus, options, printedInto } from "./dom.js";
-import { followed } from "./fuses.js";
+import { failing, followed } from "./fuses.js";
 import { callItem, doubtList, heads, isCaption } from "./lanes.js";
 import { Patch } from "./patch.js";
 import { readStores } from "./shown_stores.js";
@@ -178,11 +178,12 @@ export class Commit {
     const { lines, at } = this.tape;
     const said = saidToStores(lines.slice(0, at), answers.map(([answer]) => answer), this.read, followed(lines.slice(0, at), this.wanted));
     const captions = lines.filter(isCaption);
+    const isFailing = failing(lines);
     let captionsSoFar = 0;
     const entries = lines.map((line, place) => {
       const isRepeated = isCaption(line) && captions[captionsSoFar++ - 1] === line;
       const outcome = place < at
-        ? { answer: answers[place][0], behind: this.read[place], before: this.read[place - 1], stores: said[place] } : null;
+        ? { answer: answers[place][0], behind: this.read[place], before: this.read[place - 1], stores: said[place], isFailing: isFailing[place] } : null;
       const key = `${this.stores} ${place} ${isRepeated} ${line}`;
       return [key, outcome && [outcome.answer, outcome.before?.text, outcome.behind.text, JSON.stringify(outcome.stores)].join("\n"), () => {
         const item = callItem(line, place, outcome, this.stores, this.does, isRepeated);

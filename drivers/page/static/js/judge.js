@@ -1,7 +1,7 @@
 // The view of the judge: a record of what clients saw, and the program's verdict on it.
 import { whole } from "./address.js";
 import { ask, Failure } from "./api.js";
-import { fromText, linesOf, toText } from "./bytes.js";
+import { fromText, linesOf, readable, toText } from "./bytes.js";
 import { byId, el, fill, options, printedInto, sessionClass, shown, shownLines } from "./dom.js";
 import { endingText } from "./ending.js";
 import { drawInto, save } from "./picture.js";
@@ -32,7 +32,7 @@ export class Judge {
       if (event.target.id !== "record-example") this.app.keep("judge", this.asked(false));
     });
     byId("record-example").addEventListener("change", (event) => this.openExample(event.target.value));
-    byId("play-order").addEventListener("click", () => this.app.visit("sessions", { script: this.verdict.order.join("\n") }));
+    byId("play-order").addEventListener("click", () => this.app.visit("sessions", { script: fromText(readable(this.verdict.order.join("\n"))) }));
     byId("save-picture").addEventListener("click", () => save(this.picture));
   }
 

@@ -1,4 +1,5 @@
 // Draws calls and answers as arrows between lanes: the transaction manager, the coordinator, each store, and another client.
+import { readableValue } from "./bytes.js";
 import { isBad, readCall } from "./calls.js";
 import { xidText } from "./cards.js";
 import { el, fill, shown } from "./dom.js";
@@ -60,12 +61,14 @@ export function heads(room, stores) {
   fill(room, names.map((name, at) => placed(el("strong.lane-head", {}, name), at + 1)));
 }
 
-// A line of an answer. A session that was let fail is said to be stopped, and a branch is named by its transaction; what was printed is below the pointer.
+// A line of an answer. A session that was let fail is said to be stopped, a branch is named by its transaction, and a value is written as a statement would have
+// it; what was printed is below the pointer.
 function answerLine(line, isStopped) {
   const row = transactionInRow(line);
   if (row) return el("span.answer-line", { title: line, "data-printed": line }, branchText(row));
   if (isStopped && OF_A_SESSION.test(line)) return el("span.answer-line", { title: line, "data-printed": line }, shown(line.replace(OF_A_SESSION, " stopped")));
-  return el("span.answer-line", {}, shown(line));
+  const value = readableValue(line);
+  return value === null ? el("span.answer-line", {}, shown(line)) : el("span.answer-line", { title: line, "data-printed": line }, el("bdi.bytes", {}, value));
 }
 
 function answerLines(answer, isStopped) {
@@ -93,13 +96,13 @@ function captionItem(call, item, stores, behind, isRepeated) {
   return item;
 }
 
-// A call and its answer in one row where no store is asked for it.
+// A call and its answer in one row where no store is asked for it, or the program wasn't asked yet which are.
 function shortExchange(call, ways, outcome, stores, stop) {
-  const answer = arrow(ways[1], ways[0], answerLines(outcome.answer, false), isBad(outcome.answer) ? "answer.bad" : "answer", stop);
+  const answer = arrow(ways[1], ways[0], answerLines(outcome.answer, outcome.isFailing), isBad(outcome.answer) ? "answer.bad" : "answer", stop);
   return el("div.row.both", {}, lanes(stores, outcome.behind), arrow(ways[0], ways[1], shown(call.said), call.kind), answer);
 }
 
-// A call: `outcome` is {answer, behind, before, stores}, or null for a call that waits; `does` has what can be done at it. A caption that only
+// A call: `outcome` is {answer, behind, before, stores, isFailing}, or null for a call that waits; `does` has what can be done at it. A caption that only
 // says again what the one above it says isn't shown.
 export function callItem(line, place, outcome, stores, does, isRepeated) {
   const call = readCall(line);

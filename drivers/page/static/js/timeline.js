@@ -1,11 +1,8 @@
 // Draws a history as a line of entries, each answer at its place in its session's column.
-import { asLiteral } from "./bytes.js";
+import { readable } from "./bytes.js";
 import { spoken } from "./columns.js";
 import { el, fill, sessionClass } from "./dom.js";
 import { hungAt } from "./outcome.js";
-
-// A statement as the program prints it, with literals as a person would write them.
-export const readable = (statement) => statement.replace(/0x[0-9a-f]+/g, asLiteral);
 
 function answerBox(answer) {
   return el(`div.hung.${sessionClass(answer.session)}`, { "data-place": answer.place, "data-session": answer.session },
