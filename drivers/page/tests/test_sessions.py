@@ -109,6 +109,19 @@ class Sessions(View):
         self.browser.press("f")
         self.until(lambda: self.browser.one("#sessions .tools").is_displayed(), "the tools are back")
 
+    def test_a_story_that_a_pointer_chose_leaves_the_keys_to_the_projector(self):
+        self.open()
+        self.browser.run("""const list = document.querySelector('#story');
+            list.dispatchEvent(new PointerEvent('pointerdown', { bubbles: true }));
+            list.focus();
+            list.selectedIndex = 1;
+            list.dispatchEvent(new Event('change', { bubbles: true }));""")
+        self.until(lambda: self.browser.all("#pending > li"), "the story waits")
+        self.browser.press("f")
+        self.until(lambda: not self.browser.one("#sessions .tools").is_displayed(), "the tools are gone")
+        self.browser.press("f")
+        self.until(lambda: self.browser.one("#sessions .tools").is_displayed(), "the tools are back")
+
     def test_a_story_opens_with_its_first_line_in_view(self):
         self.open(script=STORY, at=0)
         self.until(lambda: self.browser.all("#pending > li"), "the story waits")
