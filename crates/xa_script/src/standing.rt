@@ -15,6 +15,8 @@ pub enum Standing {
     Nothing,
     /// It was finished.
     Finished,
+    /// A store was left to a recovery.
+    Unfinished,
     /// It was abandoned.
     Abandoned,
 }
@@ -29,6 +31,7 @@ impl Standing {
             Standing::No => "has voted NO",
             Standing::Nothing => "has voted NOTHING",
             Standing::Finished => "is finished",
+            Standing::Unfinished => "is unfinished, and RECOVER finishes it",
             Standing::Abandoned => "is abandoned",
         }
     }

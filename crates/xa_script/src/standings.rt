@@ -27,10 +27,12 @@ fn voted(answer: &[u8]) -> Option<Standing> {
 
 /// How a transaction then stands, where an answer says that it ended.
 fn ended(answer: &[u8], standing: Standing) -> Option<Standing> {
+    if answer.starts_with(b"UNFINISHED ") {
+        return Some(Standing::Unfinished);
+    }
     let has_ended = answer == b"COMMITTED\n".as_slice()
         || answer == b"ROLLED BACK\n".as_slice()
-        || answer.starts_with(b"HAZARD ")
-        || answer.starts_with(b"UNFINISHED ");
+        || answer.starts_with(b"HAZARD ");
     if has_ended { Some(standing) } else { None }
 }
 
