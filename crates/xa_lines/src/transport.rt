@@ -1,11 +1,11 @@
 //! A client over streams.
-ghost use Rattle.std.specs.Prelude.{◌≡◌, [], OnOk, OnErr};
+ghost use Rattle.std.specs.Prelude.{◌≡◌, [], take, MatchResult, OnOk, OnErr};
 ghost use Rattle.std.specs.Io.{ReadsAtMost, WritesAtMost};
 ghost use Rattle.std.specs.Io.KnownBytes.{Appends, Keeps, ReadConsumes, WriteAppends};
 ghost use Rattle.std.specs.Io.Buffered.{writer_buffer, writer_contents};
 ghost use Rattle.xa_lines.specs.Transcript.{AppendsPrefix};
 
-use crate::{Client, LineServer};
+use crate::{Client, LineServer, PieceReader};
 use std::io;
 use std::io::{BufWriter, ErrorKind, Read, Write};
 
@@ -68,13 +68,16 @@ impl<R: Read + Drop, W: Write + Drop> Transport<R, W> {
     }
 }
 
-impl<S: LineServer, R: Read + Drop, W: Write + Drop> Client<S> for Transport<R, W> {
+impl<S: LineServer, R: PieceReader + Drop, W: Write + Drop> Client<S> for Transport<R, W> {
     fn receive(&mut self, piece: &mut [u8]) -> io::Result<usize>
         ensures bound { ReadsAtMost result piece.new }
         ensures bytes { ReadConsumes (R.remaining self.old.reader) (R.remaining self.new.reader) result piece.new }
+        // It reads once: so the end is met once, too.
+        ensures once { MatchResult result (λ count. R.gives self.old.reader (take count piece.new) self.new.reader)
+            (λ _. R.fails self.old.reader self.new.reader) }
         ensures writer { self.new.writer ≡ self.old.writer }
     {
-        self.reader.read(piece)
+        self.reader.read_piece(piece)
     }
 
     fn tell(&mut self, text: &[u8]) -> io::Result<()>
