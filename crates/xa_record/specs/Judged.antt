@@ -1,10 +1,11 @@
 -- What judging a record comes to. All of it is our own: docs/JUDGE.md.
 --     record_bytes, record_reads     how long a record is at most;  how often it is read
 --     IsJudgement            some right verdict on what the lines say ends so, and this is written for it
+--     IsJudgedOf             so it is with lines of which none is faulty: where they say nothing there is no verdict
 --     IsJudged               a record of this text ends so, and this is written for it
 --     AppendsJudged          the writer got that
 --     AfterJudgeFault        what a fault leaves in the writer
-use Rattle.std.specs.Prelude.{◌≡◌, ℕ, Option, List, [], ◌∷◌, IfSome}
+use Rattle.std.specs.Prelude.{◌≡◌, ℕ, Option, List, [], ◌∷◌, IfSome, codes}
 use Rattle.std.specs.Io.KnownBytes.{Keeps, Appends}
 use Rattle.xa_server.specs.State.{no_state}
 use Rattle.xa_lines.specs.declared.script_fault.ScriptFault.{ScriptFault}
@@ -14,7 +15,7 @@ use Rattle.xa_judge.specs.declared.event.Event.{Event}
 use Rattle.xa_judge.specs.declared.verdict.Verdict.{Verdict}
 use Rattle.xa_judge.specs.Verdicts.{IsVerdict}
 use Rattle.xa_record.specs.declared.outcome.Outcome.{Outcome}
-use Rattle.xa_record.specs.declared.outcome.Outcome.TheVariants.{Faulty}
+use Rattle.xa_record.specs.declared.outcome.Outcome.TheVariants.{Faulty, Empty}
 use Rattle.xa_record.specs.Reading.{NumberedEvent, notes_of}
 use Rattle.xa_record.specs.Events.{AreEvents}
 use Rattle.xa_record.specs.VerdictText.{verdict_text, outcome_of}
@@ -35,9 +36,14 @@ pub record IsJudgement (numbered : List NumberedEvent) (limit : ℕ) (outcome : 
   pub outcome_is : outcome ≡ outcome_of verdict
   pub text_is : text ≡ verdict_text numbered verdict
 
--- with no faulty line there is a verdict; else the faulty lines stand there, and nothing else
+-- lines of which none is faulty are judged where something happens on them; else there is nothing to judge
+abbrev pub IsJudgedOf : List NumberedEvent → ℕ → Outcome → List ℕ → Type 0
+IsJudgedOf [] limit outcome text = (outcome ≡ Empty) × (text ≡ codes "EMPTY\n")
+IsJudgedOf (one ∷ more) limit outcome text = IsJudgement (one ∷ more) limit outcome text
+
+-- where a line is faulty, the faulty lines stand there, and nothing else
 abbrev pub IsJudgedWith : List ℕ → List NumberedEvent → ℕ → Outcome → List ℕ → Type 0
-IsJudgedWith [] numbered limit outcome text = IsJudgement numbered limit outcome text
+IsJudgedWith [] numbered limit outcome text = IsJudgedOf numbered limit outcome text
 IsJudgedWith (byte ∷ faults) numbered limit outcome text = (outcome ≡ Faulty) × (text ≡ byte ∷ faults)
 
 -- how judging a record ends, and what is written

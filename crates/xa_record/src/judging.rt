@@ -30,7 +30,7 @@ fn outcome_of(verdict: &Verdict) -> Outcome
     }
 }
 
-/// Judges the record of this text.
+/// Judges the record of this text. Where nothing happens in it there is no verdict.
 ///
 /// The server holds nothing at first. At most `limit` configurations are kept before a return.
 /// May answer `NoMemory`. Doesn't wait.
@@ -43,6 +43,12 @@ pub fn judge_text(alloc: Global, text: &[u8], limit: usize) -> Result<Judged, No
         return Ok(Judged {
             outcome: Outcome::Faulty,
             text: notes.faults,
+        });
+    }
+    if notes.numbered.is_empty() {
+        return Ok(Judged {
+            outcome: Outcome::Empty,
+            text: Vec::from_slice(alloc, b"EMPTY\n")?,
         });
     }
     let events = events_of(alloc, notes.numbered.as_slice())?;

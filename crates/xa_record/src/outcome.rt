@@ -11,4 +11,6 @@ pub enum Outcome {
     Undecided,
     /// Lines of it are faulty, and no verdict was given.
     Faulty,
+    /// Nothing happens in it, so there is nothing to judge.
+    Empty,
 }

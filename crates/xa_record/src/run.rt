@@ -30,7 +30,7 @@ fn write_judged<W: PieceWriter>(writer: &mut W, judged: &Judged) -> Result<Outco
     Ok(judged.outcome)
 }
 
-/// Judges a record: reads all of it, and writes the verdict, or its faulty lines.
+/// Judges a record: reads all of it, and writes the verdict, or its faulty lines, or that nothing happens in it.
 ///
 /// A record is at most 16,777,216 bytes, and takes at most 33,554,432 reads. The server holds nothing at first. At most `limit`
 /// configurations are kept before a return. What is written isn't flushed.
@@ -45,7 +45,7 @@ pub fn judge_record<R: PieceReader, W: PieceWriter>(
     writer: &mut W,
     limit: usize,
 ) -> Result<Outcome, ScriptFault>
-    // All was read, and what was written is a right verdict on it, or its faulty lines.
+    // All was read, and what was written is a right verdict on it, or its faulty lines, or that nothing happens in it.
     ensures read { OnOk result (IsAtEnd (R.remaining reader.new)) }
     ensures written { IfOk result
         (λ outcome. IfSome (R.remaining reader.old) (λ text. AppendsJudged limit outcome text (W.contents writer.old) (W.contents writer.new))) }

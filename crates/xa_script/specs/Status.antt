@@ -9,7 +9,7 @@ use Rattle.xa_lines.specs.declared.script_fault.ScriptFault.{ScriptFault}
 use Rattle.xa_lines.specs.declared.script_fault.ScriptFault.TheVariants.{Read, TooLong, Write, NoMemory, Full, GateShut, ThreadRefused}
 use Rattle.xa_record.specs.Judged.{AppendsJudged}
 use Rattle.xa_record.specs.declared.outcome.Outcome.{Outcome}
-use Rattle.xa_record.specs.declared.outcome.Outcome.TheVariants.{Legal, Illegal, Undecided, Faulty}
+use Rattle.xa_record.specs.declared.outcome.Outcome.TheVariants.{Legal, Illegal, Undecided, Faulty, Empty}
 
 -- 1 where the script can't be read or its answers can't be written, 3 where memory, the log, the gate or a thread gave out (own rule)
 abbrev pub status_after : ScriptFault → ℕ
@@ -21,12 +21,13 @@ status_after Full = 3
 status_after GateShut = 3
 status_after ThreadRefused = 3
 
--- 0 where an order explains the record, 4 where none does, 5 where the limit was passed, 6 where lines are faulty (own rule)
+-- 0 where an order explains the record, 4 where none does, 5 where the limit was passed, 6 where lines are faulty, 7 where nothing happens (own rule)
 abbrev pub status_for : Outcome → ℕ
 status_for Legal = 0
 status_for Illegal = 4
 status_for Undecided = 5
 status_for Faulty = 6
+status_for Empty = 7
 
 -- the writer got what is written for a record that ends so, and the status is for that end
 abbrev pub AppendsVerdict : (limit status : ℕ) → Option (List ℕ) → Option (List ℕ) → Option (List ℕ) → Type 0

@@ -85,4 +85,4 @@ Verdicts:
   ILLEGAL line l           no order explains the record up to this line, where it could be what the lines
                            below it say; the status is 4
   UNDECIDED line l         more than N configurations would have to be kept there; the status is 5
-Without a verdict each faulty line is named, LINE l: CAUSE; the status is 6.";
+Without a verdict each faulty line is named, LINE l: CAUSE; the status is 6. A record in which nothing happens is EMPTY; the status is 7.";

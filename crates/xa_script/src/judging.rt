@@ -21,6 +21,9 @@ const UNDECIDED: u8 = 5;
 /// The status of a record with faulty lines.
 const FAULTY: u8 = 6;
 
+/// The status of a record in which nothing happens.
+const EMPTY: u8 = 7;
+
 /// The status for how judging a record ended.
 fn status_of_outcome(outcome: Outcome) -> u8
     ensures { result ≡ status_for outcome }
@@ -30,6 +33,7 @@ fn status_of_outcome(outcome: Outcome) -> u8
         Outcome::Illegal => ILLEGAL,
         Outcome::Undecided => UNDECIDED,
         Outcome::Faulty => FAULTY,
+        Outcome::Empty => EMPTY,
     }
 }
 

@@ -5,7 +5,7 @@ from typing import Optional
 
 from .record_lines import lines_of
 
-FIRST = re.compile(rb"(LEGAL|ILLEGAL|UNDECIDED)(?: line (\d+))?")
+FIRST = re.compile(rb"(LEGAL|ILLEGAL|UNDECIDED|EMPTY)(?: line (\d+))?")
 FAULT = re.compile(rb"LINE (\d+): (.*)", re.S)
 EFFECT = re.compile(rb"(\d+) ?(.*)", re.S)
 COULD_BE = b"COULD BE "
@@ -13,7 +13,7 @@ COULD_BE = b"COULD BE "
 
 @dataclass
 class Verdict:
-    kind: Optional[str] = None                  # LEGAL, ILLEGAL, UNDECIDED or FAULTY; none where it is none of these
+    kind: Optional[str] = None                  # LEGAL, ILLEGAL, UNDECIDED, EMPTY or FAULTY; none where it is none of these
     line: Optional[int] = None                  # of ILLEGAL and UNDECIDED
     could: list = field(default_factory=list)   # what could have been answered there, each with its rows below it
     order: list = field(default_factory=list)   # of LEGAL: sessions and statements

@@ -71,6 +71,11 @@ class Verdicts(View):
         self.assertRegex(self.judge(b"1 > GET 'k'\n1 < NONE\n", b"UNDECIDED line 2\n", 5), "^UNDECIDED at line 2:")
         self.assertEqual(self.marked(), [2])
 
+    def test_a_record_in_which_nothing_happens_is_said_so(self):
+        self.assertRegex(self.judge(b"# nothing yet\n\n", b"EMPTY\n", 7), "^EMPTY: nothing happens")
+        self.assertEqual(self.marked(), [])
+        self.assertFalse(self.browser.one("#play-order").is_displayed())
+
     def test_faulty_lines_are_marked_with_their_causes(self):
         record = b"1 > GET 'k'\n1 > GET 'k'\nwhat <script>window.hacked=1</script>\n"
         got = self.judge(record, b"LINE 2: session 1 has an open call\nLINE 3: not a line of a record\n", 6)

@@ -9,7 +9,7 @@ import { follow, titleOf } from "./titles.js";
 import { readVerdict } from "./verdict.js";
 
 // The statuses of a verdict and of a faulty record; the others are faults of the program's.
-const JUDGED = [0, 4, 5, 6];
+const JUDGED = [0, 4, 5, 6, 7];
 const MISUSED = 2;
 
 const WORDS = {
@@ -17,6 +17,7 @@ const WORDS = {
   ILLEGAL: ({ line }) => `ILLEGAL at line ${line}: no order explains what was seen up to there.`,
   UNDECIDED: ({ line }) => `UNDECIDED at line ${line}: more configurations than allowed would have to be kept.`,
   FAULTY: () => "No verdict: the record has faulty lines.",
+  EMPTY: () => "EMPTY: nothing happens in the record, so there is nothing to judge.",
 };
 
 export class Judge {

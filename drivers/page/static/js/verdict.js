@@ -1,11 +1,11 @@
 // Reads what `xa_script judge` prints.
 import { linesOf } from "./bytes.js";
 
-// {kind, line, could, order, faults}: `kind` is "LEGAL", "ILLEGAL", "UNDECIDED", "FAULTY", or null where it is none of these.
+// {kind, line, could, order, faults}: `kind` is "LEGAL", "ILLEGAL", "UNDECIDED", "EMPTY", "FAULTY", or null where it is none of these.
 export function readVerdict(text) {
   const lines = linesOf(text);
   const found = { kind: null, line: null, could: [], order: [], faults: [] };
-  const first = /^(LEGAL|ILLEGAL|UNDECIDED)(?: line (\d+))?$/.exec(lines[0] ?? "");
+  const first = /^(LEGAL|ILLEGAL|UNDECIDED|EMPTY)(?: line (\d+))?$/.exec(lines[0] ?? "");
   if (first) {
     Object.assign(found, { kind: first[1], line: first[2] ? Number(first[2]) : null });
     if (found.kind === "LEGAL") found.order = lines.slice(1);
