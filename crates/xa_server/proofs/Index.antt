@@ -17,7 +17,7 @@ use Rattle.xa_server.specs.declared.branch.Phase.TheVariants.{Active as PhaseAct
 use Rattle.xa_server.specs.declared.association.Association.{Association}
 use Rattle.xa_server.specs.declared.association.Association.TheVariants.{Free, Active, Idle}
 use Rattle.xa_server.specs.State.{association_in}
-use Rattle.xa_server.specs.Tables.{BranchMap, owner_of, phase_in, opened_at, named_in, IsIndexed, with_record}
+use Rattle.xa_server.specs.Tables.{BranchMap, owner_of, phase_in, opened_at, named_in, idle_of, IsIndexed, with_record}
 use Rattle.xa_server.proofs.Maps.{get_view, same_or_apart, same_itself, get_inserted, get_inserted_apart, get_removed, get_removed_apart}
 use Rattle.xa_server.proofs.Records.{branches_in}
 
@@ -27,6 +27,12 @@ same_value x y e = cc
 
 pub not_none : {A : Type 0} (x : A) {P : Type 0} → None ≡ Some x → P
 not_none x e = cc
+
+-- once its work has ended, what names a branch is that branch, IDLE
+pub ended_named : (association : Association) (xid : Xid) → named_in association ≡ Some xid → idle_of association ≡ Idle xid
+ended_named Free xid e = not_none xid e
+ended_named (Active own) xid e = ap Idle (same_value own xid e)
+ended_named (Idle own) xid e = ap Idle (same_value own xid e)
 
 -- who owns the branch of a record, where there is one
 abbrev pub owner_in : Option BranchRecord → Option ℕ

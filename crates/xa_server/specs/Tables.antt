@@ -4,6 +4,7 @@
 --     phase_in               how far the branch of an identifier has come
 --     opened_at              what a session has open, by the index
 --     named_in               the branch that an association names
+--     idle_of                an association once its branch's work has ended
 --     with_record            the records with one changed, where there is one
 --     without_last           a list without its last element
 --     prepared_keys          the identifiers of the PREPARED branches in a list of records
@@ -40,6 +41,12 @@ abbrev pub named_in : Association → Option Xid
 named_in Free = None
 named_in (Active own) = Some own
 named_in (Idle own) = Some own
+
+-- an association once its branch's work has ended
+abbrev pub idle_of : Association → Association
+idle_of Free = Free
+idle_of (Active own) = Idle own
+idle_of (Idle own) = Idle own
 
 -- the index has exactly the branches that have owners, each at its owner's place and in its phase
 pub record IsIndexed (opened : List Association) (nothing : Association) (branches : BranchMap) : Type 0 where

@@ -6,9 +6,10 @@ ghost use Rattle.xa_server.specs.Step.{Step, after, effect, is_refused, makes_re
 ghost use Rattle.xa_xid.specs.declared.statement.Statement.TheVariants.{Get, Put, Del, Disconnect};
 
 use crate::association::Association;
+use crate::boxed_text::BoxedText;
 use crate::lock::Change;
 use crate::{Reply, Server};
-use xa_xid::{Bytes, Key, NoMemory, SessionNo, Statement, copy_of};
+use xa_xid::{Bytes, Key, NoMemory, SessionNo, Statement};
 
 impl Server {
     /// Has the session's branch share a row that it reads, where it doesn't hold it yet. After `NoMemory` the server is as before.
@@ -22,11 +23,11 @@ impl Server {
         let Association::Active(own) = self.association(session) else {
             return Ok(());
         };
-        if self.holds(own, key) {
+        if self.holds(own.xid(), key) {
             return Ok(());
         }
-        let own = own.copy();
-        self.share(&own, key)
+        let own = own.try_clone()?;
+        self.share(own.xid(), key)
     }
 
     /// Gives a row a value: at once, or in the session's branch. After `NoMemory` the server is as before.
@@ -39,8 +40,9 @@ impl Server {
         match self.association(session) {
             Association::Free => self.put_row(key, value),
             Association::Active(own) => {
-                let own = own.copy();
-                self.hold(&own, key, Change::Put(copy_of(value)))
+                let own = own.try_clone()?;
+                let value = BoxedText::of(self.alloc(), value)?;
+                self.hold(&own, key, Change::Put(value))
             }
             Association::Idle(_) => Ok(()),
         }
@@ -59,7 +61,7 @@ impl Server {
                 Ok(())
             }
             Association::Active(own) => {
-                let own = own.copy();
+                let own = own.try_clone()?;
                 self.hold(&own, key, Change::Delete)
             }
             Association::Idle(_) => Ok(()),
@@ -71,10 +73,16 @@ impl Server {
     fn disconnect(&mut self, session: SessionNo)
         ensures { self.new ≡ effect self.old session (association_of self.old session) Disconnect }
     {
-        match self.association(session).copy() {
+        match self.association(session) {
             Association::Free => {}
-            Association::Active(own) => self.end_branch(&own, false),
-            Association::Idle(own) => self.end_branch(&own, false),
+            Association::Active(own) => {
+                let own = own.xid().copy();
+                self.end_branch(&own, false);
+            }
+            Association::Idle(own) => {
+                let own = own.xid().copy();
+                self.end_branch(&own, false);
+            }
         }
     }
 

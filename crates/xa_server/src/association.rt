@@ -2,27 +2,32 @@
 ghost use Rattle.std.specs.Prelude.{◌≡◌};
 ghost use Rattle.xa_xid.specs.Xid.{same_xid};
 
+use crate::shared_xid::SharedXid;
 use std::alloc::AllocError;
 use xa_xid::Xid;
 
 /// What a session has open. A session that owns no branch is free.
 ///
 /// Source: MySQL 8.0 Reference Manual, 'XA Transaction States'.
-#[derive(Debug, Drop)]
+#[derive(Drop)]
 pub enum Association {
     /// No branch: the session is free, also right after its own `XA PREPARE`.
     Free,
     /// The ACTIVE branch of this identifier.
-    Active(Xid),
+    Active(SharedXid),
     /// The IDLE branch of this identifier.
-    Idle(Xid),
+    Idle(SharedXid),
 }
 
 impl Clone for Association {
     ghost is_clone = { λ association copy. copy ≡ association };
 
     fn clone(&self) -> Result<Association, AllocError> {
-        Ok(self.copy())
+        match self {
+            Association::Free => Ok(Association::Free),
+            Association::Active(own) => Ok(Association::Active(own.try_clone()?)),
+            Association::Idle(own) => Ok(Association::Idle(own.try_clone()?)),
+        }
     }
 }
 
@@ -35,15 +40,16 @@ pub fn is_same(left: &Xid, right: &Xid) -> bool
 
 impl Association {
     ghost use Rattle.xa_server.specs.Locks.{is_another as is_another_of};
+    ghost use Rattle.xa_server.specs.Tables.{idle_of};
 
-    /// The same association.
-    pub fn copy(&self) -> Association
-        ensures { result ≡ self.now }
+    /// What it is once the branch's work has ended.
+    pub fn ended(self) -> Association
+        ensures { result ≡ idle_of self }
     {
         match self {
             Association::Free => Association::Free,
-            Association::Active(own) => Association::Active(own.copy()),
-            Association::Idle(own) => Association::Idle(own.copy()),
+            Association::Active(own) => Association::Idle(own),
+            Association::Idle(own) => Association::Idle(own),
         }
     }
 
@@ -53,8 +59,8 @@ impl Association {
     {
         match self {
             Association::Free => true,
-            Association::Active(own) => !is_same(xid, own),
-            Association::Idle(own) => !is_same(xid, own),
+            Association::Active(own) => !is_same(xid, own.xid()),
+            Association::Idle(own) => !is_same(xid, own.xid()),
         }
     }
 }

@@ -6,13 +6,14 @@ ghost use Rattle.std.specs.FinMap as map;
 ghost use Rattle.xa_xid.specs.declared.xid.Xid.{Xid as XidSeen};
 ghost use Rattle.xa_xid.specs.Xid.{xid_cmp};
 ghost use Rattle.xa_server.specs.State.{association_in};
-ghost use Rattle.xa_server.specs.Tables.{opened_at as opened_in, prepared_keys, without_last};
+ghost use Rattle.xa_server.specs.Tables.{opened_at as opened_in, idle_of, prepared_keys, without_last};
 
 use crate::association::Association;
 use crate::branch::{self, BranchRecord, Phase};
 use crate::keys::Keys;
 use crate::lock::is_same_xid;
 use crate::overview::{BranchEntry, entries_in};
+use crate::shared_xid::SharedXid;
 use std::alloc::Global;
 use std::collections::BTreeMap;
 use std::marker::Model;
@@ -83,6 +84,15 @@ fn set_place(opened: &mut Vec<Association>, session: SessionNo, association: Ass
     ensures { opened.new.items ≡ slice_set opened.old.items session association }
 {
     opened[place_of(session)] = association;
+}
+
+/// Says of what a session has open, which has a place in the index, that its work has ended.
+fn end_place(opened: &mut Vec<Association>, session: SessionNo)
+    requires { session < length opened.old.items }
+    ensures { opened.new.items ≡ slice_set opened.old.items session (idle_of (opened_in opened.old.items session)) }
+{
+    let open = &mut opened[place_of(session)];
+    *open = std::mem::replace(open, Association::Free).ended();
 }
 
 /// Sets the phase of a branch to IDLE, where there is one, and answers who owns it.
@@ -251,6 +261,7 @@ impl BranchTable {
         ensures ok { OnOk result (self.new ≡ map.insert self.old xid.now (record { phase = Phase.Active; owner = Some session; held = [] })) }
         ensures err { OnErr result (self.new ≡ self.old) }
     {
+        let own = SharedXid::of(self.alloc, xid)?;
         make_place(&mut self.opened, session)?;
         let branch = BranchRecord {
             phase: Phase::Active,
@@ -258,7 +269,7 @@ impl BranchTable {
             held: Keys::new(self.alloc),
         };
         self.by_xid.insert(xid.copy(), branch)?;
-        set_place(&mut self.opened, session, Association::Active(xid.copy()));
+        set_place(&mut self.opened, session, Association::Active(own));
         Ok(())
     }
 
@@ -267,7 +278,7 @@ impl BranchTable {
         ensures { self.new ≡ with_record self.old xid.now (λ branch. record branch { phase = Phase.Idle }) }
     {
         if let Some(owner) = set_idle(&mut self.by_xid, xid) {
-            set_place(&mut self.opened, owner, Association::Idle(xid.copy()));
+            end_place(&mut self.opened, owner);
         }
     }
 

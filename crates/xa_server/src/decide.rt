@@ -56,7 +56,7 @@ impl Server {
     {
         match association {
             Association::Free => rmfail(BranchState::NonExisting),
-            Association::Active(own) => ok_if(is_same(xid, own), XaError::Nota),
+            Association::Active(own) => ok_if(is_same(xid, own.xid()), XaError::Nota),
             Association::Idle(_) => rmfail(BranchState::Idle),
         }
     }
@@ -69,7 +69,7 @@ impl Server {
         match association {
             Association::Free => rmfail(BranchState::NonExisting),
             Association::Active(_) => rmfail(BranchState::Active),
-            Association::Idle(own) => ok_if(is_same(xid, own), XaError::Nota),
+            Association::Idle(own) => ok_if(is_same(xid, own.xid()), XaError::Nota),
         }
     }
 
@@ -96,7 +96,7 @@ impl Server {
             Association::Active(_) => rmfail(BranchState::Active),
             Association::Idle(own) => {
                 if one_phase {
-                    ok_if(is_same(xid, own), XaError::Rmfail(BranchState::Idle))
+                    ok_if(is_same(xid, own.xid()), XaError::Rmfail(BranchState::Idle))
                 } else {
                     rmfail(BranchState::Idle)
                 }
@@ -112,7 +112,10 @@ impl Server {
         match association {
             Association::Free => ok_if(self.has_prepared(xid), XaError::Nota),
             Association::Active(_) => rmfail(BranchState::Active),
-            Association::Idle(own) => ok_if(is_same(xid, own), XaError::Rmfail(BranchState::Idle)),
+            Association::Idle(own) => ok_if(
+                is_same(xid, own.xid()),
+                XaError::Rmfail(BranchState::Idle),
+            ),
         }
     }
 
@@ -127,7 +130,7 @@ impl Server {
                 if self.is_locked_against(association, key) {
                     Ok(Reply::Refused(XaError::RowLocked))
                 } else {
-                    Ok(Reply::Value(self.value_within(own, key)))
+                    Ok(Reply::Value(self.value_within(own.xid(), key)))
                 }
             }
             Association::Idle(_) => rmfail(BranchState::Idle),
@@ -198,7 +201,7 @@ impl Server {
             Statement::Recover { convert: _ } => false,
             Statement::Unsupported => false,
             Statement::Get(key) => match association {
-                Association::Active(own) => !self.holds(own, key),
+                Association::Active(own) => !self.holds(own.xid(), key),
                 Association::Free => false,
                 Association::Idle(_) => false,
             },

@@ -39,11 +39,11 @@ fn hold_in(xid: &Xid, lock: &Lock) -> Option<Hold>
 {
     match lock {
         Lock::Exclusive { holder, change } => {
-            if !is_same(holder, xid) {
+            if !is_same(holder.xid(), xid) {
                 return None;
             }
             match change {
-                Change::Put(value) => Some(Hold::Put(copy_of(value))),
+                Change::Put(value) => Some(Hold::Put(copy_of(value.text()))),
                 Change::Delete => Some(Hold::Delete),
             }
         }

@@ -3,6 +3,7 @@
 
 mod apply;
 mod association;
+mod boxed_text;
 mod branch;
 mod branch_table;
 mod decide;
@@ -15,6 +16,7 @@ mod reply;
 mod row;
 mod row_table;
 mod server;
+mod shared_xid;
 mod sharers;
 mod xa_error;
 

@@ -5,15 +5,17 @@ ghost use Rattle.std.specs.Option.{option_map};
 ghost use Rattle.xa_server.specs.Rows.{write_of, write_in, mode_in, held_beside, locked_beside, with_sharer, freed_lock};
 
 use crate::association::{Association, is_same};
+use crate::boxed_text::BoxedText;
+use crate::shared_xid::SharedXid;
 use crate::sharers::Sharers;
 use std::alloc::Global;
-use xa_xid::{Bytes, NoMemory, Xid, copy_of};
+use xa_xid::{Bytes, NoMemory, Xid};
 
 /// What a branch that holds a row exclusively does to it at its commit.
 #[derive(Drop)]
 pub enum Change {
     /// The row gets this value.
-    Put(Bytes),
+    Put(BoxedText),
     /// The row loses its value.
     Delete,
 }
@@ -24,7 +26,7 @@ pub enum Lock {
     /// One branch holds it exclusively.
     Exclusive {
         /// The branch.
-        holder: Xid,
+        holder: SharedXid,
         /// Its newest write of the row.
         change: Change,
     },
@@ -48,12 +50,12 @@ pub fn is_same_text(left: &Bytes, right: &Bytes) -> bool
 
 impl Change {
     /// A copy of the change.
-    fn copy(&self) -> Change
-        ensures { result ≡ self.now }
+    fn copy(&self) -> Result<Change, NoMemory>
+        ensures { IfOk result (λ copy. copy ≡ self.now) }
     {
         match self {
-            Change::Put(value) => Change::Put(copy_of(value)),
-            Change::Delete => Change::Delete,
+            Change::Put(value) => Ok(Change::Put(value.copy()?)),
+            Change::Delete => Ok(Change::Delete),
         }
     }
 
@@ -63,7 +65,7 @@ impl Change {
     {
         match self {
             Change::Put(value) => match other {
-                Change::Put(another) => is_same_text(value, another),
+                Change::Put(another) => is_same_text(value.text(), another.text()),
                 Change::Delete => false,
             },
             Change::Delete => matches!(other, Change::Delete),
@@ -75,7 +77,7 @@ impl Change {
         ensures { result ≡ write_of self }
     {
         match self {
-            Change::Put(value) => Some(value),
+            Change::Put(value) => Some(value.into_text()),
             Change::Delete => None,
         }
     }
@@ -95,8 +97,8 @@ impl Lock {
     {
         match self {
             Lock::Exclusive { holder, change } => Ok(Lock::Exclusive {
-                holder: holder.copy(),
-                change: change.copy(),
+                holder: holder.try_clone()?,
+                change: change.copy()?,
             }),
             Lock::Shared(sharers) => Ok(Lock::Shared(sharers.copy()?)),
         }
@@ -111,7 +113,7 @@ impl Lock {
                 Lock::Exclusive {
                     holder: another,
                     change: other_change,
-                } => is_same_xid(holder, another) && change.is_same(other_change),
+                } => is_same_xid(holder.xid(), another.xid()) && change.is_same(other_change),
                 Lock::Shared(_) => false,
             },
             Lock::Shared(sharers) => match other {
@@ -129,7 +131,7 @@ impl Lock {
         ensures { result ≡ held_beside association.now self.now }
     {
         match self {
-            Lock::Exclusive { holder, change: _ } => association.is_another(holder),
+            Lock::Exclusive { holder, change: _ } => association.is_another(holder.xid()),
             Lock::Shared(sharers) => sharers.has_another(association),
         }
     }
@@ -139,7 +141,7 @@ impl Lock {
         ensures { result ≡ locked_beside association.now self.now }
     {
         match self {
-            Lock::Exclusive { holder, change: _ } => association.is_another(holder),
+            Lock::Exclusive { holder, change: _ } => association.is_another(holder.xid()),
             Lock::Shared(_) => false,
         }
     }
@@ -149,7 +151,7 @@ impl Lock {
         ensures { result ≡ is_some (mode_in xid.now self.now) }
     {
         match self {
-            Lock::Exclusive { holder, change: _ } => is_same(holder, xid),
+            Lock::Exclusive { holder, change: _ } => is_same(holder.xid(), xid),
             Lock::Shared(sharers) => sharers.contains(xid),
         }
     }
@@ -175,7 +177,7 @@ impl Lock {
     {
         match self {
             Lock::Exclusive { holder, change } => {
-                if is_same(&holder, xid) {
+                if is_same(holder.xid(), xid) {
                     (Lock::nobodys(alloc), Some(change))
                 } else {
                     (Lock::Exclusive { holder, change }, None)

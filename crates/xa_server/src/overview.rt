@@ -106,8 +106,8 @@ impl Server {
     {
         match self.association(session) {
             Association::Free => Ok(Vec::new(alloc)),
-            Association::Active(own) => self.keys_held(alloc, own),
-            Association::Idle(own) => self.keys_held(alloc, own),
+            Association::Active(own) => self.keys_held(alloc, own.xid()),
+            Association::Idle(own) => self.keys_held(alloc, own.xid()),
         }
     }
 

@@ -125,11 +125,11 @@ pub fn value_within(own: &Xid, row: Option<&RowRecord>) -> Option<Bytes>
     let Lock::Exclusive { holder, change } = &record.lock else {
         return copy_of_value(&record.committed);
     };
-    if !is_same(holder, own) {
+    if !is_same(holder.xid(), own) {
         return copy_of_value(&record.committed);
     }
     match change {
-        Change::Put(value) => Some(copy_of(value)),
+        Change::Put(value) => Some(copy_of(value.text())),
         Change::Delete => None,
     }
 }

@@ -12,6 +12,7 @@ use crate::hold::{HeldRow, held_in};
 use crate::keys::Keys;
 use crate::lock::{Change, Lock};
 use crate::row::{RowRecord, free};
+use crate::shared_xid::SharedXid;
 use std::alloc::Global;
 use std::collections::BTreeMap;
 use std::marker::Model;
@@ -127,6 +128,11 @@ impl RowTable {
         }
     }
 
+    /// Where its memory comes from.
+    pub fn alloc(&self) -> Global {
+        self.alloc
+    }
+
     /// Whether both are the same records.
     pub fn is_same(&self, other: &RowTable) -> bool
         ensures { result ≡ true → self.now ≡ other.now }
@@ -160,14 +166,11 @@ impl RowTable {
     }
 
     /// Has a branch hold a row exclusively, and do this to it. After `NoMemory` the records are as before.
-    pub fn hold(&mut self, key: &Key, xid: &Xid, change: Change) -> Result<(), NoMemory>
-        ensures ok { OnOk result (self.new ≡ map.insert self.old key.now (held_row xid.now change (map.get self.old key.now))) }
+    pub fn hold(&mut self, key: &Key, holder: SharedXid, change: Change) -> Result<(), NoMemory>
+        ensures ok { OnOk result (self.new ≡ map.insert self.old key.now (held_row holder change (map.get self.old key.now))) }
         ensures err { OnErr result (self.new ≡ self.old) }
     {
-        let lock = Lock::Exclusive {
-            holder: xid.copy(),
-            change,
-        };
+        let lock = Lock::Exclusive { holder, change };
         let Some(lock) = set_lock(&mut self.by_key, key, lock) else {
             return Ok(());
         };

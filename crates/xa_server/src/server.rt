@@ -10,6 +10,7 @@ use crate::lock::Change;
 use crate::overview::BranchEntry;
 use crate::reply::XidList;
 use crate::row_table::RowTable;
+use crate::shared_xid::SharedXid;
 use crate::{branch, row};
 use std::alloc::Global;
 use std::marker::Model;
@@ -107,6 +108,11 @@ impl Server {
         ensures { LockLaw self.now }
     {
         let _branches = &self.branches;
+    }
+
+    /// Where its memory comes from.
+    pub(crate) fn alloc(&self) -> Global {
+        self.rows.alloc()
     }
 
     /// What the session has open. Every server keeps the lock law.
@@ -216,18 +222,25 @@ impl Server {
 
     /// Has a branch hold a row exclusively that no other branch holds, and do this to it. A share of its own is raised.
     /// After `NoMemory` the server is as before.
-    pub(crate) fn hold(&mut self, own: &Xid, key: &Key, change: Change) -> Result<(), NoMemory>
+    pub(crate) fn hold(
+        &mut self,
+        own: &SharedXid,
+        key: &Key,
+        change: Change,
+    ) -> Result<(), NoMemory>
         requires known { is_known self.old own.now ≡ true }
         requires unheld { is_held_against_of self.old (Active own.now) key.now ≡ false }
         ensures ok { OnOk result (self.new ≡ with_changed self.old own.now (with_change key.now change)) }
         ensures err { OnErr result (self.new ≡ self.old) }
     {
-        if row::is_held_by(own, self.rows.row(key)) {
-            return self.rows.hold(key, own, change);
+        let xid = own.xid();
+        let holder = own.try_clone()?;
+        if row::is_held_by(xid, self.rows.row(key)) {
+            return self.rows.hold(key, holder, change);
         }
-        self.branches.list(own, key)?;
-        let held = self.rows.hold(key, own, change);
-        unlist_refused(&mut self.branches, own, &held);
+        self.branches.list(xid, key)?;
+        let held = self.rows.hold(key, holder, change);
+        unlist_refused(&mut self.branches, xid, &held);
         held
     }
 

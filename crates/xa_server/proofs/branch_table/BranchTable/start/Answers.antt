@@ -28,7 +28,7 @@ invariant_of-self c =
 pub invariant_of-self-2 : goal.invariant_of-self-2
 unfolding fresh
 invariant_of-self-2 c =
-    rw (c.set_place.ensures, c.copy-2.ensures, inserted c)
+    rw (c.set_place.ensures, c.in_ok-own.ensures, inserted c)
     (indexed_started c.make_place.new.opened.items c.self.inside.nothing (branches_in c.self.inside.by_xid) c.args.session c.args.xid.now
     (fresh c.args.session) c.in_ok-make_place.ensures.there
     (ap (option_and_then (λ (branch : BranchRecord). branch.owner)) (ap (λ m. map.get m c.args.xid.now) c.self.view_is ∙ c.requires.unknown))

@@ -5,6 +5,7 @@ use Rattle.std.specs.FinMap as map
 use Rattle.xa_xid.specs.declared.xid.Xid.{Xid}
 use Rattle.xa_server.specs.declared.association.Association.TheVariants.{Active}
 use Rattle.xa_server.specs.declared.lock.Change.{Change}
+use Rattle.xa_server.specs.declared.branch.BranchRecord.{BranchRecord}
 use Rattle.xa_server.specs.declared.row.RowRecord.{RowRecord}
 use Rattle.xa_server.specs.State.{State, is_known}
 use Rattle.xa_server.specs.Locks.{is_held_against}
@@ -17,9 +18,20 @@ use Rattle.xa_server.proofs.Holding
 use Rattle.xa_server.proofs.server.Server.hold.Goals as goal
 
 -- what a row's record says of the branch
-lock_in : (branches : BranchMap) (rows : RowMap) (own : Xid) (key : List ℕ) (found : Option RowRecord) (b : Bool) → found ≡ map.get rows key
-    → b ≡ is_some (option_and_then (lock_by own) found) → is_some (option_and_then (lock_by own) (map.get rows key)) ≡ b
-lock_in branches rows own key found b is told = ap (λ row. is_some (option_and_then (lock_by own) row)) (sym is) ∙ sym told
+lock_in : (branches : BranchMap) (rows : RowMap) (own named : Xid) (key : List ℕ) (found : Option RowRecord) (b : Bool) → found ≡ map.get rows key
+    → named ≡ own → b ≡ is_some (option_and_then (lock_by named) found) → is_some (option_and_then (lock_by own) (map.get rows key)) ≡ b
+lock_in branches rows own named key found b is same told =
+    ap (λ row. is_some (option_and_then (lock_by own) row)) (sym is) ∙ ap (λ xid. is_some (option_and_then (lock_by xid) found)) (sym same) ∙ sym told
+
+-- the rows, held by a name of the branch
+held_as : (rows new : RowMap) (own holder : Xid) (key : List ℕ) (change : Change) → holder ≡ own
+    → new ≡ map.insert rows key (held_row holder change (map.get rows key)) → new ≡ map.insert rows key (held_row own change (map.get rows key))
+held_as rows new own holder key change same is = is ∙ ap (λ xid. map.insert rows key (held_row xid change (map.get rows key))) same
+
+-- the branches, one of which was changed by its name
+changed_as : (branches new : BranchMap) (own named : Xid) (change : BranchRecord → BranchRecord) → named ≡ own
+    → new ≡ with_record branches named change → new ≡ with_record branches own change
+changed_as branches new own named change same is = is ∙ ap (λ xid. with_record branches xid change) same
 
 again : (branches : BranchMap) (rows : RowMap) (state : State) (own : Xid) (key : List ℕ) (change : Change) → state_of branches rows ≡ state
     → IsWhole branches rows → is_known state own ≡ true →
@@ -47,17 +59,17 @@ anew branches rows state own key change is whole known unheld none =
 pub invariant_of-self : goal.invariant_of-self
 invariant_of-self c =
     either_way c.hold.result c.hold.ensures.ok c.hold.ensures.err
-    (λ ok. rw ok (again c.self.inside.branches c.self.inside.rows c.args.self.now c.args.own.now c.args.key.now c.args.change c.self.view_is c.self.invariant
+    (λ ok. rw (held_as c.self.inside.rows _ c.args.own.now _ c.args.key.now c.args.change c.in_ok-holder.ensures ok) (again c.self.inside.branches c.self.inside.rows c.args.self.now c.args.own.now c.args.key.now c.args.change c.self.view_is c.self.invariant
     c.requires.known c.requires.unheld
-    (lock_in c.self.inside.branches c.self.inside.rows c.args.own.now c.args.key.now _ _ c.row.ensures c.if-is_held_by.ensures)).0)
+    (lock_in c.self.inside.branches c.self.inside.rows c.args.own.now c.xid-xid.result.now c.args.key.now _ _ c.row.ensures c.xid-xid.ensures c.if-is_held_by.ensures)).0)
     (λ err. rw err c.self.invariant)
 
 pub returns-then-is_held_by-clause-ok : goal.returns-then-is_held_by-clause-ok
 returns-then-is_held_by-clause-ok c = on_ok c.hold.result c.hold.ensures.ok (λ ok.
-    ap (state_of c.self.inside.branches) ok
+    ap (state_of c.self.inside.branches) (held_as c.self.inside.rows _ c.args.own.now _ c.args.key.now c.args.change c.in_ok-holder.ensures ok)
     ∙ (again c.self.inside.branches c.self.inside.rows c.args.self.now c.args.own.now c.args.key.now c.args.change c.self.view_is c.self.invariant
     c.requires.known c.requires.unheld
-    (lock_in c.self.inside.branches c.self.inside.rows c.args.own.now c.args.key.now _ _ c.row.ensures c.if-is_held_by.ensures)).1)
+    (lock_in c.self.inside.branches c.self.inside.rows c.args.own.now c.xid-xid.result.now c.args.key.now _ _ c.row.ensures c.xid-xid.ensures c.if-is_held_by.ensures)).1)
 
 -- the records once the key was taken out again
 back : (branches listed taken : BranchMap) (own : Xid) (key : List ℕ) → listed ≡ with_record branches own (Holding.longer key)
@@ -68,12 +80,12 @@ pub invariant_of-self-2 : goal.invariant_of-self-2
 unfolding Holding.longer Holding.shorter
 invariant_of-self-2 c =
     whichever c.hold-held.result c.hold-held.ensures.ok c.hold-held.ensures.err c.unlist_refused.ensures.held c.unlist_refused.ensures.refused
-    (λ ok kept. rw (kept ∙ c.in_ok-list.ensures.ok, ok)
+    (λ ok kept. rw (kept ∙ (changed_as c.self.inside.branches c.list.new.self c.args.own.now c.xid-xid.result.now (Holding.longer c.args.key.now) c.xid-xid.ensures c.in_ok-list.ensures.ok), (held_as c.self.inside.rows _ c.args.own.now _ c.args.key.now c.args.change c.in_ok-holder.ensures ok))
     (anew c.self.inside.branches c.self.inside.rows c.args.self.now c.args.own.now c.args.key.now c.args.change c.self.view_is c.self.invariant c.requires.known
     c.requires.unheld
-    (lock_in c.self.inside.branches c.self.inside.rows c.args.own.now c.args.key.now _ _ c.row.ensures c.if-is_held_by.ensures)).0)
+    (lock_in c.self.inside.branches c.self.inside.rows c.args.own.now c.xid-xid.result.now c.args.key.now _ _ c.row.ensures c.xid-xid.ensures c.if-is_held_by.ensures)).0)
     (λ err taken. rw (
-      back c.self.inside.branches c.list.new.self c.unlist_refused.new.branches c.args.own.now c.args.key.now c.in_ok-list.ensures.ok taken,
+      back c.self.inside.branches c.list.new.self c.unlist_refused.new.branches c.args.own.now c.args.key.now (changed_as c.self.inside.branches c.list.new.self c.args.own.now c.xid-xid.result.now (Holding.longer c.args.key.now) c.xid-xid.ensures c.in_ok-list.ensures.ok) (changed_as c.list.new.self c.unlist_refused.new.branches c.args.own.now c.xid-xid.result.now Holding.shorter c.xid-xid.ensures taken),
       err,
     ) c.self.invariant)
 
@@ -81,14 +93,14 @@ pub returns-clause-err : goal.returns-clause-err
 unfolding Holding.longer Holding.shorter
 returns-clause-err c = on_err_both c.hold-held.result c.hold-held.ensures.err c.unlist_refused.ensures.refused (λ err taken.
     ap (λ b. state_of b c.hold-held.new.self)
-    (back c.self.inside.branches c.list.new.self c.unlist_refused.new.branches c.args.own.now c.args.key.now c.in_ok-list.ensures.ok taken)
+    (back c.self.inside.branches c.list.new.self c.unlist_refused.new.branches c.args.own.now c.args.key.now (changed_as c.self.inside.branches c.list.new.self c.args.own.now c.xid-xid.result.now (Holding.longer c.args.key.now) c.xid-xid.ensures c.in_ok-list.ensures.ok) (changed_as c.list.new.self c.unlist_refused.new.branches c.args.own.now c.xid-xid.result.now Holding.shorter c.xid-xid.ensures taken))
     ∙ ap (state_of c.self.inside.branches) err ∙ c.self.view_is)
 
 pub returns-clause-ok : goal.returns-clause-ok
 unfolding Holding.longer
 returns-clause-ok c = on_ok_both c.hold-held.result c.hold-held.ensures.ok c.unlist_refused.ensures.held (λ ok kept.
-    ap (λ b. state_of b c.hold-held.new.self) (kept ∙ c.in_ok-list.ensures.ok)
-    ∙ ap (state_of (with_record c.self.inside.branches c.args.own.now (Holding.longer c.args.key.now))) ok
+    ap (λ b. state_of b c.hold-held.new.self) (kept ∙ (changed_as c.self.inside.branches c.list.new.self c.args.own.now c.xid-xid.result.now (Holding.longer c.args.key.now) c.xid-xid.ensures c.in_ok-list.ensures.ok))
+    ∙ ap (state_of (with_record c.self.inside.branches c.args.own.now (Holding.longer c.args.key.now))) (held_as c.self.inside.rows _ c.args.own.now _ c.args.key.now c.args.change c.in_ok-holder.ensures ok)
     ∙ (anew c.self.inside.branches c.self.inside.rows c.args.self.now c.args.own.now c.args.key.now c.args.change c.self.view_is c.self.invariant
     c.requires.known c.requires.unheld
-    (lock_in c.self.inside.branches c.self.inside.rows c.args.own.now c.args.key.now _ _ c.row.ensures c.if-is_held_by.ensures)).1)
+    (lock_in c.self.inside.branches c.self.inside.rows c.args.own.now c.xid-xid.result.now c.args.key.now _ _ c.row.ensures c.xid-xid.ensures c.if-is_held_by.ensures)).1)

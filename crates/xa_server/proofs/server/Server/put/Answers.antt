@@ -9,11 +9,11 @@ put_row-requires c =
 
 pub hold-requires-clause-known : goal.hold-requires-clause-known
 hold-requires-clause-known c =
-    rw c.copy-own.ensures
+    rw c.in_ok-own-in-Active.ensures
     (Accepted.known_active c.args.self.now c.args.session c.in-Active.own (sym c.association.ensures.association ∙ c.in-Active.is))
 
 pub hold-requires-clause-unheld : goal.hold-requires-clause-unheld
 hold-requires-clause-unheld c =
-    rw c.copy-own.ensures
+    rw c.in_ok-own-in-Active.ensures
     (Accepted.accepted_put c.args.self.now c.in-Active.own c.args.key.now c.args.value.now
     (Accepted.accepted_as c.args.self.now c.args.session _ _ (sym c.association.ensures.association ∙ c.in-Active.is) c.requires))

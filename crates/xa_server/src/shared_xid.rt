@@ -1,0 +1,52 @@
+//! An identifier with several owners.
+ghost use Rattle.std.specs.Prelude.{◌≡◌, IfOk};
+
+use std::alloc::Global;
+use std::marker::Model;
+use std::sync::Arc;
+use xa_xid::{NoMemory, Xid};
+
+/// An identifier that what its session has open and the rows that its branch holds own together, so that it is stored once. A contract
+/// sees the identifier.
+#[derive(Drop)]
+pub struct SharedXid {
+    shared: Arc<Xid>,
+}
+
+impl Model for SharedXid {
+    ghost use Rattle.xa_xid.specs.declared.xid.Xid.{Xid as XidSeen};
+    ghost use Rattle.xa_xid.specs.Xid.{coded_xid};
+
+    ghost Value = { XidSeen };
+
+    ghost coded = { coded_xid };
+
+    ghost view = { λ name. name.shared.value };
+}
+
+impl SharedXid {
+    /// An identifier with one owner.
+    pub fn of(alloc: Global, xid: &Xid) -> Result<SharedXid, NoMemory>
+        ensures { IfOk result (λ name. name ≡ xid.now) }
+    {
+        Ok(SharedXid {
+            shared: Arc::new(alloc, xid.copy())?,
+        })
+    }
+
+    /// One more owner. May answer `NoMemory`, though it takes none, once there are too many to be counted.
+    pub fn try_clone(&self) -> Result<SharedXid, NoMemory>
+        ensures { IfOk result (λ name. name ≡ self.now) }
+    {
+        Ok(SharedXid {
+            shared: Arc::try_clone(&self.shared)?,
+        })
+    }
+
+    /// The identifier.
+    pub fn xid(&self) -> &Xid
+        ensures { result.now ≡ self.now }
+    {
+        &self.shared
+    }
+}
