@@ -1,6 +1,7 @@
 //! What a session has open.
 ghost use Rattle.std.specs.Prelude.{◌≡◌};
-ghost use Rattle.xa_xid.specs.Xid.{same_xid};
+ghost use Rattle.std.specs.Ordering.{eq_by_cmp};
+ghost use Rattle.xa_xid.specs.Xid.{bytes_cmp, same_xid};
 
 use crate::shared_xid::SharedXid;
 use std::alloc::AllocError;
@@ -31,11 +32,20 @@ impl Clone for Association {
     }
 }
 
-/// Whether two identifiers are one.
+/// Whether two texts have the same bytes.
+fn is_same_bytes(left: &[u8], right: &[u8]) -> bool
+    ensures { result ≡ eq_by_cmp bytes_cmp left.now right.now }
+{
+    left == right
+}
+
+/// Whether two identifiers are one. That two are is told sooner than how they are ordered.
 pub fn is_same(left: &Xid, right: &Xid) -> bool
     ensures { result ≡ same_xid left.now right.now }
 {
-    left.cmp(right).is_eq()
+    left.format_id == right.format_id
+        && is_same_bytes(&left.gtrid, &right.gtrid)
+        && is_same_bytes(&left.bqual, &right.bqual)
 }
 
 impl Association {
