@@ -29,14 +29,16 @@ pub fn converts(statement: &Statement) -> bool
     }
 }
 
+// The functions `put_..` write an answer over what a text held before, so that one text can take one answer after another, and keeps
+// its memory.
+
 /// The session to whom an answer is, at the front of it.
-fn begin_answer(alloc: Global, session: SessionNo) -> Result<Vec<u8>, NoMemory>
-    ensures { IfOk result (λ text. text.items ≡ decimal session ++ codes " ") }
+fn put_session(answer: &mut Vec<u8>, session: SessionNo) -> Result<(), NoMemory>
+    ensures { OnOk result (answer.new.items ≡ decimal session ++ codes " ") }
 {
-    let mut answer = Vec::new(alloc);
-    push_number(&mut answer, session.get())?;
-    answer.extend_from_slice(b" ")?;
-    Ok(answer)
+    answer.clear();
+    push_number(answer, session.get())?;
+    answer.extend_from_slice(b" ")
 }
 
 /// Carries out a statement of which the reply is known, where it enters the history; else it changes nothing.
@@ -61,60 +63,108 @@ pub(crate) fn carry_out(
 
 /// Answers a statement of which the reply is known, and carries it out. So many bytes more can be appended to the answer without
 /// memory.
-pub(crate) fn answer_reply(
+pub(crate) fn put_reply(
     alloc: Global,
+    answer: &mut Vec<u8>,
     server: &mut Server,
     session: SessionNo,
     statement: &Statement,
     reply: &Reply,
     enters: bool,
     spare: usize,
-) -> Result<Vec<u8>, NoMemory>
+) -> Result<(), NoMemory>
     requires reply { reply.now ≡ reply_to server.old session statement.now }
     requires enters { enters ≡ enters_at server.old session statement.now }
-    ensures answer { IfOk result (λ answer. answer.items ≡ answer_to server.old session (Ok statement.now)) }
+    ensures answer { OnOk result (answer.new.items ≡ answer_to server.old session (Ok statement.now)) }
     ensures after { OnOk result (server.new ≡ state_then server.old session (Ok statement.now)) }
     ensures unchanged { OnErr result (server.new ≡ server.old) }
-    ensures room { IfOk result (λ answer. vec_len answer + spare ≤ vec_capacity answer) }
+    ensures room { OnOk result (vec_len answer.new + spare ≤ vec_capacity answer.new) }
 {
-    let mut answer = begin_answer(alloc, session)?;
-    push_reply(alloc, &mut answer, converts(statement), reply)?;
+    put_session(answer, session)?;
+    push_reply(alloc, answer, converts(statement), reply)?;
     answer.extend_from_slice(b"\n")?;
     answer.reserve(spare)?;
-    carry_out(server, session, statement, enters)?;
-    Ok(answer)
+    carry_out(server, session, statement, enters)
 }
 
 /// Answers a statement that was read, and carries it out.
-fn answer_read(
+fn put_read(
     alloc: Global,
+    answer: &mut Vec<u8>,
     server: &mut Server,
     session: SessionNo,
     statement: &Statement,
-) -> Result<Vec<u8>, NoMemory>
-    ensures answer { IfOk result (λ answer. answer.items ≡ answer_to server.old session (Ok statement.now)) }
+) -> Result<(), NoMemory>
+    ensures answer { OnOk result (answer.new.items ≡ answer_to server.old session (Ok statement.now)) }
     ensures after { OnOk result (server.new ≡ state_then server.old session (Ok statement.now)) }
     ensures unchanged { OnErr result (server.new ≡ server.old) }
 {
     let (reply, enters) = server.reply(session, statement)?;
-    answer_reply(alloc, server, session, statement, &reply, enters, 0)
+    put_reply(alloc, answer, server, session, statement, &reply, enters, 0)
 }
 
 /// Answers a text that isn't a statement, with the place where it goes wrong. So many bytes more can be appended without memory.
-pub(crate) fn answer_unread(
-    alloc: Global,
+pub(crate) fn put_unread(
+    answer: &mut Vec<u8>,
     session: SessionNo,
     place: u64,
     spare: usize,
-) -> Result<Vec<u8>, NoMemory>
-    ensures answer { IfOk result (λ answer. answer.items ≡ answer_text (decimal session) (syntax_text place)) }
-    ensures room { IfOk result (λ answer. vec_len answer + spare ≤ vec_capacity answer) }
+) -> Result<(), NoMemory>
+    ensures answer { OnOk result (answer.new.items ≡ answer_text (decimal session) (syntax_text place)) }
+    ensures room { OnOk result (vec_len answer.new + spare ≤ vec_capacity answer.new) }
 {
-    let mut answer = begin_answer(alloc, session)?;
-    push_syntax_fault(&mut answer, place)?;
+    put_session(answer, session)?;
+    push_syntax_fault(answer, place)?;
     answer.extend_from_slice(b"\n")?;
-    answer.reserve(spare)?;
-    Ok(answer)
+    answer.reserve(spare)
+}
+
+/// Gives the statement of the text to the server, and answers it.
+fn put_statement(
+    alloc: Global,
+    answer: &mut Vec<u8>,
+    server: &mut Server,
+    session: SessionNo,
+    text: &[u8],
+) -> Result<(), NoMemory>
+    ensures answer { OnOk result (answer.new.items ≡ answer_to server.old session (read_of text.now)) }
+    ensures after { OnOk result (server.new ≡ state_then server.old session (read_of text.now)) }
+    ensures unchanged { OnErr result (server.new ≡ server.old) }
+{
+    match read_statement(text) {
+        Ok(statement) => put_read(alloc, answer, server, session, &statement),
+        Err(fault) => put_unread(answer, session, fault.at, 0),
+    }
+}
+
+/// Answers a bad line.
+fn put_bad(answer: &mut Vec<u8>) -> Result<(), NoMemory>
+    ensures { OnOk result (answer.new.items ≡ answer_text (codes "-") (syntax_text 0)) }
+{
+    answer.clear();
+    answer.extend_from_slice(bad_line().as_slice())
+}
+
+/// Gives the line's statement to the server, where it has one, and answers the line.
+#[tactic(auto, unfolding(crate::specs::Transcript::answer_of, crate::specs::Transcript::state_after_line))]
+pub(crate) fn put_line(
+    alloc: Global,
+    answer: &mut Vec<u8>,
+    server: &mut Server,
+    line: &[u8],
+) -> Result<(), NoMemory>
+    ensures answer { OnOk result (answer.new.items ≡ answer_of server.old (line_of line.now)) }
+    ensures after { OnOk result (server.new ≡ state_after_line server.old (line_of line.now)) }
+    ensures unchanged { OnErr result (server.new ≡ server.old) }
+{
+    match read_line(line) {
+        ScriptLine::Blank => {
+            answer.clear();
+            Ok(())
+        }
+        ScriptLine::Bad => put_bad(answer),
+        ScriptLine::Given(session, text) => put_statement(alloc, answer, server, session, text),
+    }
 }
 
 /// Gives the statement of the text to the server, and answers it.
@@ -133,10 +183,9 @@ pub fn answer_statement(
     ensures after { OnOk result (server.new ≡ state_then server.old session (read_of text.now)) }
     ensures unchanged { OnErr result (server.new ≡ server.old) }
 {
-    match read_statement(text) {
-        Ok(statement) => answer_read(alloc, server, session, &statement),
-        Err(fault) => answer_unread(alloc, session, fault.at, 0),
-    }
+    let mut answer = Vec::new(alloc);
+    put_statement(alloc, &mut answer, server, session, text)?;
+    Ok(answer)
 }
 
 /// Gives the line's statement to the server, where it has one, and answers the line.
@@ -145,15 +194,12 @@ pub fn answer_statement(
 /// Errors: `NoMemory` where an allocation failed; then the server is as before.
 /// Takes memory for the answer. Doesn't wait.
 /// Own rule: docs/BEHAVIOR.md, 'Scripts'.
-#[tactic(auto, unfolding(crate::specs::Transcript::answer_of, crate::specs::Transcript::state_after_line))]
 pub fn answer_line(alloc: Global, server: &mut Server, line: &[u8]) -> Result<Vec<u8>, NoMemory>
     ensures answer { IfOk result (λ answer. answer.items ≡ answer_of server.old (line_of line.now)) }
     ensures after { OnOk result (server.new ≡ state_after_line server.old (line_of line.now)) }
     ensures unchanged { OnErr result (server.new ≡ server.old) }
 {
-    match read_line(line) {
-        ScriptLine::Blank => Ok(Vec::new(alloc)),
-        ScriptLine::Bad => Vec::from_slice(alloc, bad_line().as_slice()),
-        ScriptLine::Given(session, text) => answer_statement(alloc, server, session, text),
-    }
+    let mut answer = Vec::new(alloc);
+    put_line(alloc, &mut answer, server, line)?;
+    Ok(answer)
 }

@@ -5,6 +5,7 @@ ghost use Rattle.xa_xid.specs.Limits.{text_bytes};
 ghost use Rattle.xa_xid.specs.XidText.{part_text};
 ghost use Rattle.xa_lines.specs.Printed.{row_data, row_text, rows_text, error_text, reply_text, syntax_text};
 
+use itoa::Buffer;
 use std::alloc::{AllocError, Global};
 use std::io::Write;
 use std::mem;
@@ -18,7 +19,8 @@ use xa_xid::{NoMemory, Xid, with_part};
 pub fn push_number(text: &mut Vec<u8>, number: u64) -> Result<(), NoMemory>
     ensures { OnOk result (text.new.items ≡ text.old.items ++ decimal number) }
 {
-    write!(text, "{number}").map_err(|_| AllocError)
+    let mut buffer = Buffer::new();
+    text.extend_from_slice(buffer.format(number).as_bytes())
 }
 
 /// Appends `0x` and two digits for each byte.

@@ -5,7 +5,7 @@ ghost use Rattle.xa_lines.specs.Calls.{HasReadAll, StopsReading, HasWritten};
 ghost use Rattle.xa_lines.specs.Limits.{script_bytes, script_reads};
 ghost use Rattle.xa_lines.specs.Transcript.{AppendsPrefix, ConsumesMoreThan, AfterFault, IsOfRun, IsOfReading, StopsAnswering, StopsRun, transcript};
 
-use crate::line_answer::answer_line;
+use crate::line_answer::put_line;
 use crate::lines::split_line;
 use crate::streams::{read_all, write_whole};
 use crate::{PieceReader, PieceWriter, ScriptFault};
@@ -25,10 +25,11 @@ fn run_lines<W: PieceWriter>(
     ensures cause { IfErr result (λ fault. StopsAnswering W.takes W.refuses fault writer.old (transcript script.now) writer.new) }
 {
     let mut server = Server::new(alloc);
+    let mut answer = Vec::new(alloc);
     let mut rest = script;
     while !rest.is_empty() {
         let (line, lines) = split_line(rest);
-        let answer = answer_line(alloc, &mut server, line)?;
+        put_line(alloc, &mut answer, &mut server, line)?;
         write_whole(writer, answer.as_slice())?;
         rest = lines;
     }

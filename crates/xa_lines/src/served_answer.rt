@@ -1,21 +1,22 @@
 //! Answers statements as serving does: that memory was refused is answered too, and an answer of one word takes none.
-ghost use Rattle.std.specs.Prelude.{◌≡◌, ◌≤◌, ◌⊎◌, ◌++◌, Bool, true, false, None, Ok, Err, IfSome, length, decimal};
+ghost use Rattle.std.specs.Prelude.{◌≡◌, ◌≤◌, ◌⊎◌, ◌+◌, ◌++◌, Bool, true, false, None, Ok, Err, IfSome, IfOk, OnOk, OnErr, length, decimal, vec_len, vec_capacity};
 ghost use Rattle.xa_server.specs.Replies.{reply_to};
 ghost use Rattle.xa_server.specs.Step.{after, enters as enters_at, may_take_memory};
 ghost use Rattle.xa_lines.specs.Answer.{bytes_of, HasRoom};
-ghost use Rattle.xa_lines.specs.Printed.{answer_text, reply_text};
+ghost use Rattle.xa_lines.specs.Printed.{answer_text, reply_text, syntax_text};
 ghost use Rattle.xa_lines.specs.Script.{Given};
+ghost use Rattle.xa_lines.specs.Transcript.{answer_to, state_then};
 ghost use Rattle.xa_lines.specs.Statements.{refused_text, is_word, IsStatementAnswer, IsAnswerTo};
 
 use crate::Answer;
-use crate::line_answer::{answer_reply, answer_unread, carry_out};
+use crate::line_answer::{carry_out, put_reply, put_unread};
 use crate::short_answer::{answer_or_refusal, refusal};
 use arrayvec::ArrayVec;
 use itoa::Buffer;
 use std::alloc::Global;
 use xa_server::{Reply, Server};
 use xa_statement::read_statement;
-use xa_xid::{SessionNo, Statement};
+use xa_xid::{NoMemory, SessionNo, Statement};
 
 /// How many bytes more an answer has room for.
 const SPARE_BYTES: usize = 16;
@@ -68,6 +69,37 @@ fn carried_out(
     }
 }
 
+/// Answers a statement of which the reply is known, by a text of its own, and carries it out. 16 bytes more can be appended to the
+/// answer without memory.
+fn answer_reply(
+    alloc: Global,
+    server: &mut Server,
+    session: SessionNo,
+    statement: &Statement,
+    reply: &Reply,
+    enters: bool,
+) -> Result<Vec<u8>, NoMemory>
+    requires reply { reply.now ≡ reply_to server.old session statement.now }
+    requires enters { enters ≡ enters_at server.old session statement.now }
+    ensures answer { IfOk result (λ answer. answer.items ≡ answer_to server.old session (Ok statement.now)) }
+    ensures after { OnOk result (server.new ≡ state_then server.old session (Ok statement.now)) }
+    ensures unchanged { OnErr result (server.new ≡ server.old) }
+    ensures room { IfOk result (λ answer. vec_len answer + 16 ≤ vec_capacity answer) }
+{
+    let mut answer = Vec::new(alloc);
+    put_reply(
+        alloc,
+        &mut answer,
+        server,
+        session,
+        statement,
+        reply,
+        enters,
+        SPARE_BYTES,
+    )?;
+    Ok(answer)
+}
+
 /// Answers a statement of which the reply is known.
 fn serve_reply(
     alloc: Global,
@@ -85,15 +117,7 @@ fn serve_reply(
     match word_of(session, reply) {
         Some(word) => carried_out(server, session, statement, enters, word),
         None => {
-            let answered = answer_reply(
-                alloc,
-                server,
-                session,
-                statement,
-                reply,
-                enters,
-                SPARE_BYTES,
-            );
+            let answered = answer_reply(alloc, server, session, statement, reply, enters);
             answer_or_refusal(session, answered)
         }
     }
@@ -115,13 +139,23 @@ pub(crate) fn serve_read(
     }
 }
 
+/// Answers a text that isn't a statement, by a text of its own. 16 bytes more can be appended to the answer without memory.
+fn answer_unread(alloc: Global, session: SessionNo, place: u64) -> Result<Vec<u8>, NoMemory>
+    ensures answer { IfOk result (λ answer. answer.items ≡ answer_text (decimal session) (syntax_text place)) }
+    ensures room { IfOk result (λ answer. vec_len answer + 16 ≤ vec_capacity answer) }
+{
+    let mut answer = Vec::new(alloc);
+    put_unread(&mut answer, session, place, SPARE_BYTES)?;
+    Ok(answer)
+}
+
 /// Answers a text that isn't a statement. 16 bytes more can be appended to the answer without memory.
 pub(crate) fn serve_unread(alloc: Global, server: &Server, session: SessionNo, place: u64) -> Answer
     ensures answered { IsStatementAnswer server.now session (Err place) (bytes_of result) server.now }
     ensures room { HasRoom 16 result }
 {
     let _server = server;
-    let answered = answer_unread(alloc, session, place, SPARE_BYTES);
+    let answered = answer_unread(alloc, session, place);
     answer_or_refusal(session, answered)
 }
 

@@ -6,24 +6,24 @@ use Rattle.xa_lines.proofs.Calls.{written_none as calls_none, written_so, writte
 use Rattle.xa_lines.proofs.Transcript.{written_none, prefix_written, prefix_more, written_more, written_as, written_whole, run_text-line, run_text-end, on_err}
 use Rattle.xa_lines.proofs.run.run_lines.Goals as goal
 
-pub returns-in_err-answer-clause-prefix : goal.returns-in_err-answer-clause-prefix
-returns-in_err-answer-clause-prefix g c = on_err c.from_residual.result (prefix_written _ _ _ _ c.loop-rest.invariant.known)
+pub returns-in_err-put_line-clause-prefix : goal.returns-in_err-put_line-clause-prefix
+returns-in_err-put_line-clause-prefix g c = on_err c.from_residual.result (prefix_written _ _ _ _ c.loop-rest.invariant.known)
 
 pub returns-in_err-write_whole-clause-prefix : goal.returns-in_err-write_whole-clause-prefix
 returns-in_err-write_whole-clause-prefix g c =
     let line =
-    run_text-line c.loop-rest.server c.answer_line.new.server c.loop-rest.rest.now c.split_line.result.0.now c.split_line.result.1.now c.as_slice.result.now
+    run_text-line c.loop-rest.server c.put_line.new.server c.loop-rest.rest.now c.split_line.result.0.now c.split_line.result.1.now c.as_slice.result.now
     c.split_line.ensures.lines
-    (c.as_slice.ensures.value ∙ c.in_ok-answer.ensures.answer) c.in_ok-answer.ensures.after in
+    (c.as_slice.ensures.value ∙ c.in_ok-put_line.ensures.answer) c.in_ok-put_line.ensures.after in
     on_err c.from_residual-in_err-write_whole.result
     (prefix_more _ _ _ _ c.as_slice.result.now _ (written_as _ _ _ _ _ line c.loop-rest.invariant.known) c.in_err-write_whole.ensures.prefix)
 
 pub loop-rest-preserved : goal.loop-rest-preserved
 loop-rest-preserved g c =
     let line =
-    run_text-line c.loop-rest.server c.answer_line.new.server c.loop-rest.rest.now c.split_line.result.0.now c.split_line.result.1.now c.as_slice.result.now
+    run_text-line c.loop-rest.server c.put_line.new.server c.loop-rest.rest.now c.split_line.result.0.now c.split_line.result.1.now c.as_slice.result.now
     c.split_line.ensures.lines
-    (c.as_slice.ensures.value ∙ c.in_ok-answer.ensures.answer) c.in_ok-answer.ensures.after in
+    (c.as_slice.ensures.value ∙ c.in_ok-put_line.ensures.answer) c.in_ok-put_line.ensures.after in
     record {
       known = written_more _ _ _ _ c.as_slice.result.now _ (written_as _ _ _ _ _ line c.loop-rest.invariant.known) c.in_ok-write_whole.ensures.all;
       calls = written_then g.W.PieceWriter.takes _ _ _ _ c.as_slice.result.now _
@@ -49,9 +49,9 @@ loop-rest-init g c =
 pub returns-in_err-write_whole-clause-cause : goal.returns-in_err-write_whole-clause-cause
 returns-in_err-write_whole-clause-cause g c =
     let line =
-    run_text-line c.loop-rest.server c.answer_line.new.server c.loop-rest.rest.now c.split_line.result.0.now c.split_line.result.1.now c.as_slice.result.now
+    run_text-line c.loop-rest.server c.put_line.new.server c.loop-rest.rest.now c.split_line.result.0.now c.split_line.result.1.now c.as_slice.result.now
     c.split_line.ensures.lines
-    (c.as_slice.ensures.value ∙ c.in_ok-answer.ensures.answer) c.in_ok-answer.ensures.after in
+    (c.as_slice.ensures.value ∙ c.in_ok-put_line.ensures.answer) c.in_ok-put_line.ensures.after in
     let p = err_from_is_err_and c.from_residual-in_err-write_whole.result c.from_residual-in_err-write_whole.ensures.1 in
     answers_stopped g.W.PieceWriter.takes g.W.PieceWriter.refuses c.from_residual-in_err-write_whole.result p.0 _ _ _ _ p.1 p.2 c.in_err-write_whole.ensures.fault
     (stopped_then g.W.PieceWriter.takes g.W.PieceWriter.refuses _ _ _ _ c.as_slice.result.now _
