@@ -115,10 +115,13 @@ fn last_word(text: &[u8], place: usize) -> u64
     ])
 }
 
-/// A text as eight words.
+/// A text as eight words. Most texts fill no more than the first.
 pub(crate) fn text_words(text: &[u8]) -> [u64; 8]
     ensures { result ≡ text_words text.now }
 {
+    if text.len() <= 8 {
+        return [text_word(text, 0), 0, 0, 0, 0, 0, 0, 0];
+    }
     [
         text_word(text, 0),
         text_word(text, 8),
