@@ -14,6 +14,7 @@ use Rattle.chain_log.specs.Columns.{HasColumns}
 use Rattle.chain_log.specs.ChainPass.{identity_of, log_of}
 use Rattle.chain_log.specs.ChainTransitions.{won}
 use Rattle.chain_log.proofs.KeptColumns.{columns_longer, columns_more}
+use Rattle.chain_log.proofs.Names.{length_by_newest, length_by_zero}
 
 -- a count is what a name says of how many entries there are
 abbrev pub CountsBy : ℕ → ℕ → ℕ → Type 0
@@ -26,6 +27,23 @@ seen_count log pass count belongs counts =
     let h = pass_view pass.seat in
     let sessions = ap (λ (identity : LogIdentity). identity.sessions) belongs in
     counts h.known.seen (subst (λ n. AllOf n h.known.seen) sessions pass.state.among) (pass.named ∙ ap (λ n. newest_of n h.known.seen) sessions)
+
+-- one name counts the same entries in every history
+same_count : (sessions newest : ℕ) (xs ys : List Entry) → AllOf sessions xs → newest ≡ newest_of sessions xs → AllOf sessions ys
+    → newest ≡ newest_of sessions ys → length xs ≡ length ys
+same_count sessions newest xs ys x xn y yn =
+    dite (ℕ_discrete newest 0)
+    (λ none. sym (length_by_zero sessions newest xs x xn none) ∙ length_by_zero sessions newest ys y yn none)
+    (λ some. sym (length_by_newest sessions newest xs x xn some) ∙ length_by_newest sessions newest ys y yn some)
+
+-- what a pass counts is what the name of its last cell says
+pub own_count : (log : ChainLog) (pass : ChainPass) → log_of pass ≡ identity_of log → CountsBy log.sessions pass.newest pass.count
+own_count log pass belongs seen all same =
+    let h = pass_view pass.seat in
+    let sessions = ap (λ (identity : LogIdentity). identity.sessions) belongs in
+    pass.state.measured
+    ∙ same_count log.sessions pass.newest h.known.seen seen (subst (λ n. AllOf n h.known.seen) sessions pass.state.among)
+    (pass.named ∙ ap (λ n. newest_of n h.known.seen) sessions) all same
 
 -- after a step that saw more, the table has the rows that were seen before
 pub kept_before : (log : ChainLog) (pass : ChainPass) (at after : PassView) (count : ℕ) → at ≡ after → log_of pass ≡ identity_of log

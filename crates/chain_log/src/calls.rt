@@ -5,7 +5,7 @@ ghost use Rattle.decision_log.specs.Calls.{Adds};
 ghost use Rattle.chain_log.specs.ChainPass.{identity_of, log_of, known_of};
 ghost use Rattle.chain_log.specs.Tries.{TriesOnce};
 
-use crate::layout::{cell_name, row_count};
+use crate::layout::{cell_name, count_from, row_count};
 use crate::{ChainLog, ChainPass};
 use decision_log::{AddFault, DecisionLog};
 use xa_words::Entry;
@@ -40,15 +40,17 @@ impl DecisionLog for ChainLog {
     }
 
     fn length(&self, pass: &ChainPass) -> u64 {
-        row_count(self.sessions, pass.newest)
+        pass.count
     }
 
     fn look(&self, pass: &mut ChainPass) -> u64 {
-        let first = row_count(self.sessions, pass.newest);
+        let first = pass.count;
         let newest = self.load_newest(&mut pass.seat);
-        self.fill(&mut pass.seat, &mut pass.columns, first, newest);
+        let count = count_from(self.sessions, pass.newest, first, newest);
+        self.fill(&mut pass.seat, &mut pass.columns, first, count, newest);
         pass.newest = newest;
-        row_count(self.sessions, newest)
+        pass.count = count;
+        count
     }
 
     fn entry(&self, pass: &mut ChainPass, at: u64) -> Entry {
@@ -63,7 +65,7 @@ impl DecisionLog for ChainLog {
         ensures added { Adds false (identity_of self.now).capacity entry.now result (known_of pass.old) (known_of pass.new) }
         ensures once { TriesOnce result (known_of pass.old) (known_of pass.new) }
     {
-        let row = row_count(self.sessions, pass.newest);
+        let row = pass.count;
         // The history only grows, so a log that was seen full is still full.
         if row == self.capacity {
             return Err(AddFault::Full);
@@ -73,23 +75,33 @@ impl DecisionLog for ChainLog {
         // Others may have added since `pass.newest` was loaded: the exchange tests it.
         let found = self.exchange(&mut pass.seat, pass.newest, own, entry);
         if found != pass.newest {
-            self.fill(&mut pass.seat, &mut pass.columns, row, found);
-            pass.newest = found;
             let front = row_count(self.sessions, found);
+            self.fill(&mut pass.seat, &mut pass.columns, row, front, found);
+            pass.newest = found;
+            pass.count = front;
             return Err(AddFault::Overtaken { front });
         }
         pass.columns[row as usize] = pass.number.get() as u8;
         pass.newest = own;
+        pass.count = row + 1;
         Ok(())
     }
 
     fn meet(&self, first: &mut ChainPass, second: &mut ChainPass) {
         let newest = self.table.meet(&mut first.seat, &mut second.seat);
-        let second_count = row_count(self.sessions, second.newest);
-        if second_count < row_count(self.sessions, first.newest) {
+        let first_unseen = second.count;
+        if first_unseen < first.count {
             // `newest` was loaded where both passes are known, so what the second has seen ends there.
-            self.fill(&mut second.seat, &mut second.columns, second_count, newest);
+            let count = row_count(self.sessions, newest);
+            self.fill(
+                &mut second.seat,
+                &mut second.columns,
+                first_unseen,
+                count,
+                newest,
+            );
             second.newest = newest;
+            second.count = count;
         }
     }
 

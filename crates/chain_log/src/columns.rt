@@ -1,12 +1,14 @@
 //! The table of columns: for each row that a pass has seen, in whose column the row's cell stands.
-ghost use Rattle.std.specs.Prelude.{◌≡◌, ◌<◌, ◌+◌, length};
+ghost use Rattle.std.specs.Prelude.{◌≡◌, ◌<◌, ◌+◌, List, length};
+ghost use Rattle.xa_words.specs.Entry.{Entry};
+ghost use Rattle.decision_log.specs.Known.{AllOf};
 ghost use Rattle.decision_log.specs.Seats.{pass_view};
 ghost use Rattle.chain_log.specs.Cells.{name_before, newest_of};
 ghost use Rattle.chain_log.specs.ChainPass.{identity_of, log_of, known_of};
 ghost use Rattle.chain_log.specs.ChainSeat.{IsSeat, IsOurs};
 ghost use Rattle.chain_log.specs.Columns.{HasColumns};
 
-use crate::layout::{cell_column, cell_name, row_count};
+use crate::layout::{cell_column, cell_name};
 use crate::{ChainLog, ChainPass};
 use atomic_table::Seat;
 use decision_log::SeatView;
@@ -22,23 +24,24 @@ impl ChainLog {
         cell_name(self.sessions, row, u64::from(pass.columns[row as usize]))
     }
 
-    /// Fills the table for the rows from `first` on, from the newest cell back along the links.
+    /// Fills the table for the rows from `first` to `count`, from the newest cell back along the links.
     pub(crate) fn fill(
         &self,
         seat: &mut Seat<Entry, SeatView>,
         columns: &mut Vec<u8>,
         first: u64,
+        count: u64,
         newest: u64,
     )
         requires seat { IsSeat self.now seat.old }
         requires ours { IsOurs self.now (pass_view seat.old) }
         requires newest { newest ≡ newest_of (pass_view seat.old).sessions (pass_view seat.old).known.seen }
+        requires counted { (seen : List Entry) → AllOf self.now.sessions seen → newest ≡ newest_of self.now.sessions seen → count ≡ length seen }
         requires kept { HasColumns (pass_view seat.old).capacity first (pass_view seat.old).known.seen columns.old.items }
         ensures seat { IsSeat self.now seat.new }
         ensures same { pass_view seat.new ≡ pass_view seat.old }
         ensures kept { HasColumns (pass_view seat.old).capacity (length (pass_view seat.old).known.seen) (pass_view seat.old).known.seen columns.new.items }
     {
-        let count = row_count(self.sessions, newest);
         let mut name = newest;
         for row in (first..count).rev() {
             columns[row as usize] = cell_column(self.sessions, name);

@@ -60,3 +60,15 @@ pub(crate) fn row_count(sessions: u64, newest: u64) -> u64
     }
     (newest - 1) / sessions + 1
 }
+
+/// The same where it is known for another name, which most often is the same name.
+pub(crate) fn count_from(sessions: u64, known: u64, count: u64, newest: u64) -> u64
+    requires sessions { 1 ≤ sessions }
+    requires counted { (seen : List Entry) → AllOf sessions seen → known ≡ newest_of sessions seen → count ≡ length seen }
+    ensures { (seen : List Entry) → AllOf sessions seen → newest ≡ newest_of sessions seen → result ≡ length seen }
+{
+    if newest == known {
+        return count;
+    }
+    row_count(sessions, newest)
+}

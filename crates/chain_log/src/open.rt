@@ -56,6 +56,7 @@ impl SeatedPass for ChainPass {
             seat,
             number,
             newest: 0,
+            count: 0,
             columns,
         })
     }

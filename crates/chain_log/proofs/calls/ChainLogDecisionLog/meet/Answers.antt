@@ -1,7 +1,7 @@
 use Rattle.std.proofs.Common.{refl}
 use Rattle.decision_log.specs.Seats.{pass_view}
 use Rattle.decision_log.specs.Observed.{met}
-use Rattle.chain_log.proofs.PassColumns.{kept_before}
+use Rattle.chain_log.proofs.PassColumns.{own_count, kept_before}
 use Rattle.chain_log.proofs.ChainSeats.{keeps_seats}
 use Rattle.chain_log.proofs.calls.ChainLogDecisionLog.meet.Goals as goal
 
@@ -13,5 +13,5 @@ fill-requires-clause-kept c =
     let pass = c.args.second.now in
     let told = c.meet-newest.ensures.met in
     kept_before c.args.self.now pass (pass_view c.meet-newest.new.second)
-    (met (pass_view pass.seat) told.0) c.row_count-second_count.result told.1 c.requires.second
-    c.row_count-second_count.ensures refl told.3.begins
+    (met (pass_view pass.seat) told.0) pass.count told.1 c.requires.second
+    (own_count c.args.self.now pass c.requires.second) refl told.3.begins

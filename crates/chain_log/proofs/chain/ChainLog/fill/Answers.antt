@@ -42,14 +42,14 @@ linked at h link row same is = is ∙ ap (λ h. name_before h.sessions h.known.s
 pub loop-row-init : goal.loop-row-init
 loop-row-init c =
     let h = pass_view c.args.seat.now in
-    let count : c.row_count-count.result ≡ length h.known.seen =
-    counted c.args.self.now h c.args.newest c.row_count-count.result c.requires.ours c.row_count-count.ensures c.requires.newest in
+    let count : c.args.count ≡ length h.known.seen =
+    counted c.args.self.now h c.args.newest c.args.count c.requires.ours c.requires.counted c.requires.newest in
     record {
       seat = c.requires.seat;
       same = refl;
       count = count;
       name = c.requires.newest ∙ ap (name_before h.sessions h.known.seen) (sym count);
-      filling = filling_first h.capacity c.args.first c.row_count-count.result h.known.seen c.args.columns.now.items (omega (arith, count)) c.requires.kept;
+      filling = filling_first h.capacity c.args.first c.args.count h.known.seen c.args.columns.now.items (omega (arith, count)) c.requires.kept;
     }
 
 pub cell_column-requires-clause-name : goal.cell_column-requires-clause-name
