@@ -26,13 +26,14 @@ impl<'a, L: DecisionLog> Session<'a, L> {
         self.replica.replay(&entry)
     }
 
-    /// Has the replica stand for all that is seen: it replays the entries that it hasn't replayed.
-    fn catch_up(&mut self) -> Result<(), NoMemory>
+    /// Has the replica stand for all that is seen, so many entries: it replays those that it hasn't replayed.
+    fn catch_up(&mut self, count: u64) -> Result<(), NoMemory>
+        requires { count ≡ length (L.known self.old.pass).seen }
         ensures stays { Stays self.old self.new }
         ensures known { L.known self.new.pass ≡ L.known self.old.pass }
         ensures catches_up { CatchesUp result self.new.replica (L.known self.new.pass) }
     {
-        for _ in self.replica.replayed..self.log.length(&self.pass) {
+        for _ in self.replica.replayed..count {
             self.replay_next()?;
         }
         Ok(())
@@ -46,7 +47,7 @@ impl<'a, L: DecisionLog> Session<'a, L> {
         ensures catches_up { CatchesUp result self.new.replica (L.known self.new.pass) }
     {
         let count = self.look();
-        self.catch_up()?;
+        self.catch_up(count)?;
         Ok(count)
     }
 
