@@ -1,5 +1,5 @@
 //! What a coordinator asks of a session.
-ghost use Rattle.std.specs.Prelude.{◌≡◌, ◌≤◌, ◌<◌, ◌+◌, ⊤, Result, IfOk, IfErr};
+ghost use Rattle.std.specs.Prelude.{◌≡◌, ◌≤◌, ◌<◌, ◌+◌, ⊤, [], Result, IfOk, IfErr};
 ghost use Rattle.decision_log.specs.History.{entries_of};
 ghost use Rattle.xa_server.specs.Locks.{LockLaw};
 ghost use Rattle.xa_session.specs.Answer.{IsAnswered, Fails, IsFinal, WantsMemory};
@@ -51,7 +51,7 @@ pub trait Speak {
 }
 
 impl<'a, L: DecisionLog> Speak for Session<'a, L> {
-    ghost view = { λ session. record { identity = L.belongs_to session.pass; turns = L.TURNS; base = session.base.now; known = L.known session.pass } };
+    ghost view = { λ session. record { identity = L.belongs_to session.pass; turns = L.TURNS; base = session.base.now; known = L.known session.pass; beside = [] } };
 
     // a session looks at each attempt, and there is no memory only for a list, or for a replica that hasn't replayed all that is seen
     ghost attempts = { λ old statement result new. ((L.known old.pass).looks < (L.known new.pass).looks)

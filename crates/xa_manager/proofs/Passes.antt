@@ -35,7 +35,7 @@ own_at stores passes place other store pass same all below is is' =
 
 -- a session of a pass, whose history begins in this state
 abbrev pub seen_as : Bool → Pass → State → SessionView
-seen_as turns pass base = record { identity = log_of pass; turns = turns; base = base; known = known_of pass }
+seen_as turns pass base = record { identity = log_of pass; turns = turns; base = base; known = known_of pass; beside = [] }
 
 -- sessions of the passes of new stores are pairs
 pub pairs_of : {S T : Type 0} (turns : Bool) (stores : List Store) (sessions : List S) (others : List T) (pass : S → Pass) (base : S → State)

@@ -1,7 +1,7 @@
 -- What a contract sees of a session, or of whatever else answers statements as one.
---     SessionView      the log that it is of, whether the log has turns, the state in which its history begins, and what it knows
---     StaysOfLog       it is of the log that it was of
-use Rattle.std.specs.Prelude.{◌≡◌, Bool}
+--     SessionView      the log that it is of, whether the log has turns, the state in which its history begins, what it knows, and what sessions beside it know
+--     StaysOfLog       it is of the log that it was of, and was alone with it
+use Rattle.std.specs.Prelude.{◌≡◌, Bool, List}
 use Rattle.xa_server.specs.State.{State}
 use Rattle.decision_log.specs.Known.{LogIdentity}
 use Rattle.decision_log.specs.declared.known.Known.{Known}
@@ -12,9 +12,11 @@ pub record SessionView : Type 0 where
   pub turns : Bool
   pub base : State
   pub known : Known
+  pub beside : List Known
 
--- the log is the same, and its history begins in the same state
+-- the log is the same, its history begins in the same state, and sessions that one value holds beside it know what they knew
 pub record StaysOfLog (old new : SessionView) : Type 0 where
   pub identity : new.identity ≡ old.identity
   pub turns : new.turns ≡ old.turns
   pub base : new.base ≡ old.base
+  pub beside : new.beside ≡ old.beside
