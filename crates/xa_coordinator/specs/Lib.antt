@@ -12,3 +12,4 @@ pub mod Recovery
 pub mod Faults
 pub mod Fusing
 pub mod Parts
+pub mod Beside

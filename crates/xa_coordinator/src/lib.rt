@@ -1,6 +1,8 @@
 //! Two-phase commit over several stores, with presumed abort.
 #![tactic(auto)]
 
+mod aside;
+mod beside;
 mod branch_name;
 mod branches;
 mod closing;
@@ -22,6 +24,7 @@ mod transaction;
 mod vote;
 mod work;
 
+pub use beside::Beside;
 pub use branch_name::{FORMAT_ID, branch_xid as xid_of_branch};
 pub use closing::Closing;
 pub use coordinator::Coordinator;

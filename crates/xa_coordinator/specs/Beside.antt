@@ -1,0 +1,25 @@
+-- Two sessions of a store that one value holds.
+--     IsLeftAlone      a session that wasn't spoken to
+--     IsAnsweredSo     a session was given a statement, and answered it so, or didn't for a fault
+use Rattle.std.specs.Prelude.{◌≡◌, Result, Ok, Err}
+use Rattle.xa_xid.specs.declared.statement.Statement.{Statement}
+use Rattle.xa_session.specs.Answer.{IsAnswered, Fails}
+use Rattle.xa_session.specs.View.{SessionView, StaysOfLog}
+use Rattle.xa_session.specs.declared.answer.Answer.{Answer}
+use Rattle.xa_session.specs.declared.fault.Fault.{Fault}
+
+-- it knows what it knew, in the log that it was of
+pub record IsLeftAlone (old new : SessionView) : Type 0 where
+  pub identity : new.identity ≡ old.identity
+  pub turns : new.turns ≡ old.turns
+  pub base : new.base ≡ old.base
+  pub known : new.known ≡ old.known
+
+abbrev pub AnswersSo : Statement → Result Answer Fault → SessionView → SessionView → Type 0
+AnswersSo statement (Ok answer) old new = IsAnswered old.base statement answer old.known new.known
+AnswersSo statement (Err fault) old new = Fails old.turns old.identity.capacity old.base statement fault old.known new.known
+
+-- it was given the statement, in the log that it was of, and answered so, or didn't for this fault
+pub record IsAnsweredSo (statement : Statement) (answered : Result Answer Fault) (old new : SessionView) : Type 0 where
+  pub log : StaysOfLog old new
+  pub answers : AnswersSo statement answered old new
