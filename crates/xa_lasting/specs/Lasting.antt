@@ -3,11 +3,15 @@
 --     no_log           what stands for the log of a store that has none
 --     own_view, other_view     its own session, of number 1;  the other client's, of number 2
 --     IsAnsweredBeside         a session of it answered a statement
+--     other_alone      the other client's session by itself
+--     other-steady     it stays as it was where the store's own session is spoken to
 use Rattle.std.specs.Prelude.{◌≡◌, false, List, [], ◌∷◌, map}
+use Rattle.std.proofs.Common.{ap, ◌∙◌}
 use Rattle.xa_words.specs.Entry.{Entry}
 use Rattle.xa_xid.specs.declared.statement.Statement.{Statement}
 use Rattle.decision_log.specs.Known.{LogIdentity}
 use Rattle.decision_log.specs.declared.known.Known.{Known}
+use Rattle.xa_server.specs.State.{State}
 use Rattle.xa_session.specs.Answer.{IsAnswered}
 use Rattle.xa_session.specs.View.{SessionView, StaysOfLog}
 use Rattle.xa_session.specs.declared.answer.Answer.{Answer}
@@ -50,3 +54,19 @@ other_view store = record {
 pub record IsAnsweredBeside (statement : Statement) (old new : SessionView) (answer : Answer) : Type 0 where
   pub stays : StaysOfLog old new
   pub answered : IsAnswered old.base statement answer old.known new.known
+
+-- a session of no log that is alone
+abbrev alone_at : State → Known → SessionView
+alone_at base known = record { identity = no_log; turns = false; base = base; known = known; beside = [] }
+
+-- the other client's session by itself
+abbrev pub other_alone : LastingStore → SessionView
+other_alone store = alone_at store.first.value (known_by 2 store.other (history_of store))
+
+head_is : (known known' : Known) → known ∷ [] ≡ known' ∷ [] → known ≡ known'
+head_is known known' is = cc
+
+-- whoever speaks as its own session leaves the other client's as it was
+pub other-steady : (old new : LastingStore) → StaysOfLog (own_view old) (own_view new) → other_alone new ≡ other_alone old
+other-steady old new stays =
+    ap (λ base. alone_at base (known_by 2 new.other (history_of new))) stays.base ∙ ap (alone_at old.first.value) (head_is _ _ stays.beside)

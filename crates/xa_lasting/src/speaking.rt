@@ -2,7 +2,7 @@
 
 use crate::LastingStore;
 use std::sync::Wait;
-use xa_coordinator::Speak;
+use xa_coordinator::{Beside, Speak};
 use xa_session::{Answer, Fault};
 use xa_xid::Statement;
 
@@ -31,6 +31,21 @@ impl Speak for LastingStore {
 
     fn execute<R: Wait>(&mut self, _rt: &R, statement: &Statement) -> Result<Answer, Fault> {
         match self.answer_own(statement) {
+            Ok(answer) => Ok(answer),
+            Err(fault) => Err(fault),
+        }
+    }
+}
+
+impl Beside for LastingStore {
+    ghost use Rattle.xa_lasting.specs.Lasting.{other_alone, other-steady};
+
+    ghost other = { other_alone };
+
+    ghost steady = { other-steady };
+
+    fn execute_other<R: Wait>(&mut self, _rt: &R, statement: &Statement) -> Result<Answer, Fault> {
+        match self.answer_other(statement) {
             Ok(answer) => Ok(answer),
             Err(fault) => Err(fault),
         }
