@@ -3,6 +3,7 @@
 #include <pthread.h>
 #include <stdatomic.h>
 #include <stdlib.h>
+#include <string.h>
 
 #define SEATS 16
 #define LONGEST 512 /* bytes of a statement in canonical form, at most */
@@ -29,9 +30,10 @@ struct nigbaru_shared {
 uint32_t nigbaru_shared_open(uint64_t capacity, uint64_t sessions, nigbaru_listener *listener, void *context, nigbaru_shared **shared) {
   if (shared == NULL)
     return NIGBARU_NO_POINTER;
-  nigbaru_shared *made = calloc(1, sizeof *made);
+  nigbaru_shared *made = malloc(sizeof *made);
   if (made == NULL)
     return NIGBARU_NO_MEMORY;
+  memset(made, 0, sizeof *made);
   const nigbaru_store closed = NIGBARU_EMPTY;
   made->store = closed;
   made->capacity = capacity;

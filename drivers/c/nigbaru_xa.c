@@ -39,6 +39,11 @@ static pthread_once_t key_once = PTHREAD_ONCE_INIT;
 static pthread_key_t openings_key;
 static int has_key;
 
+static void *zeroed(size_t size) {
+  void *memory = malloc(size);
+  return memory == NULL ? NULL : memset(memory, 0, size);
+}
+
 /* ---- what a thread of control has open ---- */
 
 /* Gives the session back, rolls back what isn't prepared, and frees the opening. Without memory for that nothing is done. */
@@ -228,7 +233,7 @@ static int find_or_open(const struct wanted *wanted, struct named_store **found)
     *found = it;
     return it->capacity == wanted->capacity && it->sessions == wanted->sessions ? XA_OK : XAER_INVAL;
   }
-  it = calloc(1, sizeof *it);
+  it = zeroed(sizeof *it);
   if (it == NULL)
     return XAER_RMERR;
   uint32_t status = nigbaru_shared_open(wanted->capacity, wanted->sessions, NULL, NULL, &it->shared);
@@ -264,7 +269,7 @@ static int xa_open_here(char *info, int rmid, long flags) {
     return XAER_INVAL;
   if (opening_of(rmid) != NULL)
     return XA_OK;
-  struct opening *it = has_key ? calloc(1, sizeof *it) : NULL;
+  struct opening *it = has_key ? zeroed(sizeof *it) : NULL;
   if (it == NULL)
     return XAER_RMERR;
   it->rmid = rmid;
@@ -338,7 +343,7 @@ static uint32_t list_prepared(struct opening *it, XID **listed, size_t *count) {
   nigbaru_answer answer;
   size_t room = 16;
   for (;;) {
-    XID *xids = calloc(room, sizeof *xids);
+    XID *xids = zeroed(room * sizeof *xids);
     if (xids == NULL)
       return NIGBARU_NO_MEMORY;
     uint32_t status = nigbaru_seat_run(it->seat, text, sizeof text - 1, &answer, (nigbaru_xid *)xids, room);

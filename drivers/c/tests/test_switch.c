@@ -462,7 +462,7 @@ static void recovery(void) {
 
 /* More branches than a history has room for: the list is asked for again. */
 static void long_list(void) {
-  char text[] = "store=long,capacity=8,sessions=1", name[8];
+  char text[] = "store=long,capacity=8,sessions=1", name[16];
   static XID listed[40];
   SAME(xa->xa_open_entry(text, RM, TMNOFLAGS), XA_OK);
   for (int index = 0; index < 40; index++) {
@@ -483,7 +483,7 @@ static void long_list(void) {
 static int put_rows(void) {
   SAME(open_here(), XA_OK);
   for (int turn = 0; turn < 500; turn++) {
-    char value[8];
+    char value[16];
     int length = sprintf(value, "%d", turn);
     SAME(nigbaru_xa_put(RM, "theirs", 6, value, (size_t)length), NIGBARU_OK);
   }
@@ -539,7 +539,7 @@ static long committed[4];
 
 static void *race(void *at) {
   long *count = at;
-  char name[16], own[8];
+  char name[32], own[16];
   int own_length = sprintf(own, "row%d", (int)(count - committed));
   SAME(xa->xa_open_entry(racing_info, RM, TMNOFLAGS), XA_OK);
   for (int turn = 0; turn < 100; turn++) {
