@@ -14,6 +14,7 @@ struct nigbaru_seat {
   uint64_t renewals; /* of the store that the session was taken from */
   nigbaru_session session;
   int taken;
+  char apart[128]; /* so that no two threads' seats share a line of the cache */
 };
 
 /* store, seats' taken, and each change of renewals are the mutex'. Only the thread that has a seat uses its session and its renewals. */
