@@ -5,11 +5,13 @@ mod answer;
 mod attempt;
 mod execute;
 mod fault;
+mod pausing;
 mod replica;
 mod session;
 mod whole;
 
 pub use answer::Answer;
 pub use fault::Fault;
+pub use replica::Replica;
 pub use session::Session;
 pub use whole::replayed;
