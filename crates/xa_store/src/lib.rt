@@ -5,6 +5,7 @@ mod answering;
 mod carrying;
 mod closing;
 mod first_fault;
+mod following;
 mod gate;
 mod growing;
 mod held;
