@@ -6,8 +6,8 @@ use std::marker::Model;
 use std::sync::Arc;
 use xa_xid::{NoMemory, Xid};
 
-/// An identifier that what its session has open and the rows that its branch holds own together, so that it is stored once. A contract
-/// sees the identifier.
+/// An identifier that several own together: what its session has open, and the rows that its branch holds exclusively. A contract sees the
+/// identifier.
 #[derive(Drop)]
 pub struct SharedXid {
     shared: Arc<Xid>,
