@@ -1,5 +1,5 @@
 //! The cells, read and written.
-ghost use Rattle.std.specs.Prelude.{◌≡◌, ◌<◌, ◌+◌, ℕ, ◌∷◌, length, slice_get, Some};
+ghost use Rattle.std.specs.Prelude.{◌≡◌, ◌<◌, ◌+◌, ℕ, ◌∷◌, length, slice_get, slice_index, Some};
 ghost use Rattle.xa_words.specs.Entry.{Entry, IsEntry};
 ghost use Rattle.xa_words.specs.Words.{words_of};
 ghost use Rattle.decision_log.specs.Draft.{with_draft};
@@ -10,9 +10,40 @@ ghost use Rattle.chain_log.specs.ChainSeat.{IsSeat, IsOurs};
 use crate::ChainLog;
 use atomic_table::Seat;
 use decision_log::SeatView;
-use xa_words::{Entry, WORDS, decode, encode};
+use xa_words::{Entry, WORDS, decode, encode, is_behind_text};
 
 impl ChainLog {
+    /// The entry's word at `index` in the cell of an entry that was seen, where the words before it are known. One behind the end of
+    /// its text isn't loaded: others' cells are far, and most texts are short.
+    fn read_word(
+        &self,
+        seat: &mut Seat<Entry, SeatView>,
+        name: u64,
+        index: usize,
+        words: &[u64; WORDS],
+    ) -> u64
+        requires seat { IsSeat self.now seat.old }
+        requires ours { IsOurs self.now (pass_view seat.old) }
+        requires index { index < 21 }
+        requires named { (row : ℕ)
+            × (row < length (pass_view seat.old).known.seen)
+            × (name ≡ name_before (pass_view seat.old).sessions (pass_view seat.old).known.seen (row + 1)) }
+        ensures seat { IsSeat self.now seat.new }
+        ensures same { pass_view seat.new ≡ pass_view seat.old }
+        ensures read { (row : ℕ) (entry : Entry)
+            → name ≡ name_before (pass_view seat.old).sessions (pass_view seat.old).known.seen (row + 1)
+            → slice_get (pass_view seat.old).known.seen row ≡ Some entry
+            → (0 < index → IsEntry entry)
+            → ((place : ℕ) → place < index → slice_index words.now place ≡ slice_index (words_of entry) place)
+            → IsEntry entry × (result ≡ slice_index (words_of entry) index) }
+    {
+        if is_behind_text(words, index) {
+            return 0;
+        }
+        // The cell isn't written between these loads, so the words are those of one entry.
+        self.load_word(seat, name, 1 + index)
+    }
+
     /// The entry's words in the cell of an entry that was seen.
     fn read_cell(&self, seat: &mut Seat<Entry, SeatView>, name: u64) -> [u64; WORDS]
         requires seat { IsSeat self.now seat.old }
@@ -29,8 +60,7 @@ impl ChainLog {
     {
         let mut words = [0; WORDS];
         for index in 0..WORDS {
-            // The cell isn't written between these loads, so the words are those of one entry.
-            words[index] = self.load_word(seat, name, 1 + index);
+            words[index] = self.read_word(seat, name, index, &words);
         }
         words
     }

@@ -1,3 +1,4 @@
 pub mod Texts
 pub mod KindTable
 pub mod Spelling
+pub mod Behind

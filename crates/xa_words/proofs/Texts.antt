@@ -20,7 +20,8 @@ below_eight P a b c d e f g h (suc (suc (suc (suc (suc (suc zero)))))) l = g
 below_eight P a b c d e f g h (suc (suc (suc (suc (suc (suc (suc zero))))))) l = h
 below_eight P a b c d e f g h (suc (suc (suc (suc (suc (suc (suc (suc n)))))))) l = absurd (omega arith)
 
-word_at : (text : List ℕ) (index : ℕ) → index < 8 → get_or (text_words text) index 0 ≡ text_word text (8 * index)
+-- a word of a text among its eight
+pub word_at : (text : List ℕ) (index : ℕ) → index < 8 → get_or (text_words text) index 0 ≡ text_word text (8 * index)
 word_at text = below_eight (λ n. get_or (text_words text) n 0 ≡ text_word text (8 * n)) refl refl refl refl refl refl refl refl
 
 byte_at : (text : List ℕ) (place index : ℕ) → index < 8 → get_or (eight_bytes text place) index 0 ≡ get_or text (place + index) 0

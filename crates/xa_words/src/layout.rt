@@ -1,6 +1,7 @@
 //! What the words of an entry hold, and where.
-ghost use Rattle.std.specs.Prelude.{◌≡◌, ◌<◌, length, slice_index};
-ghost use Rattle.xa_words.specs.Words.{parts_of, text_word, text_words};
+ghost use Rattle.std.specs.Prelude.{◌≡◌, ◌<◌, ℕ, length, slice_index, IsTrue};
+ghost use Rattle.xa_words.specs.Entry.{Entry};
+ghost use Rattle.xa_words.specs.Words.{parts_of, text_word, text_words, words_of};
 
 use xa_xid::{Key, Statement, Xid};
 
@@ -132,4 +133,26 @@ pub(crate) fn text_words(text: &[u8]) -> [u64; 8]
         text_word(text, 48),
         text_word(text, 56),
     ]
+}
+
+/// Whether the word of an entry at `index`, in `[0, 20]`, is 0 since its text ends before it, as the words before it tell.
+///
+/// Takes no memory. Doesn't wait.
+/// Own rule: docs/LOG.md, 'The words of an entry'.
+pub fn is_behind_text(words: &[u64; WORDS], index: usize) -> bool
+    requires { index < 21 }
+    ensures behind { IsTrue result → 4 < index }
+    ensures zero { IsTrue result
+        → (entry : Entry)
+        → ((place : ℕ) → place < index → slice_index words.now place ≡ slice_index (words_of entry) place)
+        → slice_index (words_of entry) index ≡ 0 }
+{
+    if index < 5 {
+        return false;
+    }
+    if index < 13 {
+        words[2] <= 8 * (index as u64 - 5)
+    } else {
+        words[3] <= 8 * (index as u64 - 13)
+    }
 }

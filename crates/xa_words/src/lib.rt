@@ -13,4 +13,4 @@ mod limits;
 pub use decoding::decode;
 pub use encoding::encode;
 pub use entry::Entry;
-pub use layout::WORDS;
+pub use layout::{WORDS, is_behind_text};

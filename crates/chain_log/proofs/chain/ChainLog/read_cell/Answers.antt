@@ -8,12 +8,8 @@ use Rattle.decision_log.proofs.Drafts.{one_more}
 use Rattle.chain_log.specs.Cells.{name_before}
 use Rattle.chain_log.proofs.chain.ChainLog.read_cell.Goals as goal
 
--- the words of a cell behind its link
-behind_link : (link : ℕ) (words : List ℕ) (index : ℕ) → slice_index (link ∷ words) (1 + index) ≡ get_or words index 0
-behind_link link words index = ap (λ n. get_or (link ∷ words) n 0) (one-add index)
-
-pub load_word-requires-clause-named : goal.load_word-requires-clause-named
-load_word-requires-clause-named c =
+pub read_word-requires-clause-named : goal.read_word-requires-clause-named
+read_word-requires-clause-named c =
     subst (λ h. (row : ℕ) × (row < length h.known.seen) × (c.args.name ≡ name_before h.sessions h.known.seen (row + 1)))
     (sym c.loop-index.invariant.same) c.requires.named
 
@@ -21,20 +17,20 @@ pub loop-index-preserved : goal.loop-index-preserved
 loop-index-preserved c =
     let inv = c.loop-index.invariant in
     record {
-      seat = c.load_word.ensures.seat;
-      sized = length-set c.loop-index.words c.loop-index.index c.load_word.result ∙ inv.sized;
-      same = c.load_word.ensures.same ∙ inv.same;
+      seat = c.read_word.ensures.seat;
+      sized = length-set c.loop-index.words c.loop-index.index c.read_word.result ∙ inv.sized;
+      same = c.read_word.ensures.same ∙ inv.same;
       read =
           λ row entry named is.
           let h = pass_view c.loop-index.seat in
           let there : slice_get h.known.seen row ≡ Some entry = ap (λ h. slice_get h.known.seen row) inv.same ∙ is in
           let name : c.args.name ≡ name_before h.sessions h.known.seen (row + 1) =
           named ∙ ap (λ h. name_before h.sessions h.known.seen (row + 1)) (sym inv.same) in
-          let told = c.load_word.ensures.read row entry name there in
-          let before = inv.read row entry named is in (
+          let before = inv.read row entry named is in
+          let told = c.read_word.ensures.read row entry name there before.0 before.1 in (
             (λ p. told.0),
-            one_more c.loop-index.words (words_of entry) c.loop-index.index c.load_word.result (omega (arith, inv.sized, c.loop-index-test.true))
-                (told.1 ∙ behind_link (name_before h.sessions h.known.seen row) (words_of entry) c.loop-index.index) before.1,
+            one_more c.loop-index.words (words_of entry) c.loop-index.index c.read_word.result (omega (arith, inv.sized, c.loop-index-test.true))
+                told.1 before.1,
           );
     }
 
