@@ -131,9 +131,8 @@ fn put_statement(
     ensures after { OnOk result (server.new ≡ state_then server.old session (read_of text.now)) }
     ensures unchanged { OnErr result (server.new ≡ server.old) }
 {
-    // The statement stays where it was read: moving it costs as much as reading it.
-    match &read_statement(text) {
-        Ok(statement) => put_read(alloc, answer, server, session, statement),
+    match read_statement(text) {
+        Ok(statement) => put_read(alloc, answer, server, session, &statement),
         Err(fault) => put_unread(answer, session, fault.at, 0),
     }
 }

@@ -168,8 +168,8 @@ pub(crate) fn serve_given(
 ) -> Answer
     ensures { IsAnswerTo server.old (Given session text.now) (bytes_of result) server.new }
 {
-    match &read_statement(text) {
-        Ok(statement) => serve_read(alloc, server, session, statement),
+    match read_statement(text) {
+        Ok(statement) => serve_read(alloc, server, session, &statement),
         Err(fault) => serve_unread(alloc, server, session, fault.at),
     }
 }
