@@ -4,4 +4,5 @@ pub mod Printing
 pub mod Said
 pub mod Stages
 pub mod Limits
+pub mod Besides
 mod Nothing

@@ -40,12 +40,12 @@ pub agreed_logs : {S : Type 0} (view : S → SessionView) (decisions : List Deci
     → EachStore view (Agrees decisions name) old new → EachStore view (λ store. StaysOfLog) old new
 agreed_logs view decisions name old new agrees = λ store before after is_before is_after. (agrees store before after is_before is_after).adds.log
 
-get_before : {A : Type 0} (xs : List A) (y : A) (place : ℕ) (x : A) → slice_get xs place ≡ Some x → slice_get (xs ++ y ∷ []) place ≡ Some x
+pub get_before : {A : Type 0} (xs : List A) (y : A) (place : ℕ) (x : A) → slice_get xs place ≡ Some x → slice_get (xs ++ y ∷ []) place ≡ Some x
 get_before [] y place x is = absurd (cc)
 get_before (z ∷ zs) y zero x is = is
 get_before (z ∷ zs) y (suc place) x is = get_before zs y place x is
 
-get_last : {A : Type 0} (xs : List A) (y : A) (place : ℕ) → length xs ≡ place → slice_get (xs ++ y ∷ []) place ≡ Some y
+pub get_last : {A : Type 0} (xs : List A) (y : A) (place : ℕ) → length xs ≡ place → slice_get (xs ++ y ∷ []) place ≡ Some y
 get_last [] y zero is = refl
 get_last [] y (suc place) is = absurd (cc)
 get_last (z ∷ zs) y zero is = absurd (omega arith)

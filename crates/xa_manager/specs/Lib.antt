@@ -9,3 +9,4 @@ pub mod Carried
 pub mod Managed
 pub mod Whole
 pub mod Served
+pub mod Beside

@@ -19,7 +19,7 @@ use xa_session::{Answer, Fault};
 use xa_xid::{NoMemory, Statement};
 
 /// The reply of an answer.
-fn reply_in(answered: Result<Answer, Fault>) -> Result<Reply, Fault>
+pub(crate) fn reply_in(answered: Result<Answer, Fault>) -> Result<Reply, Fault>
     ensures { result ≡ reply_of answered }
 {
     let answer = answered?;
@@ -97,7 +97,7 @@ fn allow_all<S: Speak>(coordinator: &mut Coordinator<Fused<S>>, count: u8)
 
 impl<C: Speak, T: Speak> Manager<C, T> {
     /// Whether there is a store of this number.
-    fn has_store(&self, store: u64) -> bool
+    pub(crate) fn has_store(&self, store: u64) -> bool
         ensures { result ≡ nat_lt store (vec_len self.now.coordinator.stores) }
     {
         store < self.other_clients.len() as u64

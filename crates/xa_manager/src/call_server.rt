@@ -13,17 +13,17 @@ use xa_coordinator::{Fused, Speak};
 use xa_lines::{Answer, LineServer};
 
 /// Room for what most calls are told, in bytes. It is taken before a call is carried out; only values and lists need more.
-const ANSWER_ROOM: usize = 256;
+pub(crate) const ANSWER_ROOM: usize = 256;
 
 /// What is told where memory is refused.
-fn refusal() -> Answer
+pub(crate) fn refusal() -> Answer
     ensures { bytes_of result ≡ refused_text }
 {
     short_answer(b"ERROR 1037 (HY001): out of memory\n")
 }
 
 /// What is told of a line that isn't read as a call.
-fn unread() -> Answer
+pub(crate) fn unread() -> Answer
     ensures { bytes_of result ≡ syntax_text 0 ++ codes "\n" }
 {
     short_answer(b"ERROR 1064 (42000): syntax fault at byte 0\n")

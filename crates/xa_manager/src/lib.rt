@@ -2,9 +2,12 @@
 #![tactic(auto)]
 
 mod answer;
+mod beside;
+mod beside_server;
 mod brief;
 mod call;
 mod call_server;
+mod lasting;
 mod ledger;
 mod listing;
 mod manager;
@@ -15,8 +18,10 @@ mod run;
 mod stage;
 mod vote_answer;
 
+pub use beside_server::BesideServer;
 pub use call::Call;
 pub use call_server::CallServer;
+pub use lasting::{converse_lasting, lasting_manager};
 pub use ledger::Ledger;
 pub use listing::Listing;
 pub use manager::Manager;

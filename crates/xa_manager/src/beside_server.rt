@@ -1,0 +1,59 @@
+//! A transaction manager that answers lines, whose sessions hold the other clients' beside them.
+
+ghost use Rattle.std.specs.Prelude.{◌≡◌};
+
+use crate::call_server::{ANSWER_ROOM, refusal, unread};
+use crate::{Call, Manager, read_call, write_response};
+use arrayvec::ArrayVec;
+use std::alloc::Global;
+use std::sync::Wait;
+use xa_coordinator::{Beside, Fused, Speak};
+use xa_lines::{Answer, LineServer};
+
+/// A transaction manager that answers lines, each of which is a call, by `Manager::answer_beside`.
+#[derive(Drop)]
+pub struct BesideServer<'r, C: Speak, T: Speak, R: Wait> {
+    manager: Manager<C, T>,
+    rt: &'r R,
+}
+
+impl<'r, C: Speak, T: Speak, R: Wait> BesideServer<'r, C, T, R> {
+    /// A server by this manager.
+    ///
+    /// Takes no memory. Doesn't wait.
+    pub fn new(rt: &'r R, manager: Manager<C, T>) -> BesideServer<'r, C, T, R>
+        ensures { result.manager ≡ manager }
+    {
+        BesideServer { manager, rt }
+    }
+}
+
+impl<'r, S: Beside, T: Speak, R: Wait> LineServer for BesideServer<'r, Fused<S>, T, R> {
+    ghost use Rattle.xa_manager.specs.Beside.{BeginsBeside, IsBesideAnswer};
+    ghost use Rattle.xa_manager.specs.Managed.{whole_of};
+
+    ghost begins = { λ server. BeginsBeside S.view S.other (whole_of server.manager) };
+
+    ghost answers = { λ old line text new. IsBesideAnswer S.view S.other T.view (whole_of old.manager) line text (whole_of new.manager) };
+
+    fn answer(&mut self, alloc: Global, line: &[u8]) -> Answer {
+        let call = read_call(line);
+        if let Call::Silent = call {
+            return Answer::Short(ArrayVec::new());
+        }
+        let Ok(room) = Vec::with_capacity(alloc, ANSWER_ROOM) else {
+            return refusal();
+        };
+        let Ok(response) = self.manager.answer_beside(self.rt, alloc, &call) else {
+            return refusal();
+        };
+        match write_response(alloc, room, self.manager.decisions(), &response) {
+            Ok(answer) => answer,
+            Err(_) => refusal(),
+        }
+    }
+
+    fn answer_long(&mut self) -> Answer {
+        unread()
+    }
+}

@@ -1,0 +1,82 @@
+//! Calls of a coordinator over stores of its own that are never full, line by line.
+ghost use Rattle.std.specs.Prelude.{◌≡◌, ◌≤◌, ◌<◌, ◌-◌, ◌^◌, ℕ, All, length, vec_len, IfOk, IfErr, IfSome, OnOk};
+ghost use Rattle.xa_lines.specs.Exchange.{IsFresh};
+ghost use Rattle.xa_lines.specs.Served.{IsServed, AfterServing};
+ghost use Rattle.xa_lasting.specs.Lasting.{own_view, other_alone};
+ghost use Rattle.xa_manager.specs.Beside.{BeginsBeside};
+ghost use Rattle.xa_manager.specs.Limits.{Passes};
+ghost use Rattle.xa_manager.specs.Managed.{whole_of};
+ghost use Rattle.xa_manager.specs.Whole.{IsPair};
+
+use crate::{BesideServer, Manager};
+use std::alloc::Global;
+use std::sync::Wait;
+use xa_coordinator::{Beside, Fused, Speak};
+use xa_lasting::LastingStore;
+use xa_lines::{Client, LineServer, ScriptFault, serve};
+use xa_server::Server;
+use xa_xid::NoMemory;
+
+/// So many stores that hold nothing, none of which fails, and as many more to which nobody speaks.
+fn open_each(
+    alloc: Global,
+    count: u64,
+) -> Result<(Vec<Fused<LastingStore>>, Vec<LastingStore>), NoMemory>
+    ensures count { IfOk result (λ opened. vec_len opened.0 ≡ count) }
+    ensures nobody { IfOk result (λ opened. vec_len opened.1 ≡ count) }
+    ensures pairs { IfOk result (λ opened. All (λ session. IsPair (own_view session.inner) (other_alone session.inner)) opened.0.items) }
+    ensures passes { IfOk result (λ opened. (store : ℕ) → store < length opened.0.items → Passes store (2 ^ 64 - 1) opened.0.items) }
+{
+    let mut sessions = Vec::new(alloc);
+    let mut nobody = Vec::new(alloc);
+    while (sessions.len() as u64) < count {
+        let store = LastingStore::new(alloc, Server::new(alloc));
+        sessions.push(Fused::new(store, u64::MAX))?;
+        nobody.push(LastingStore::new(alloc, Server::new(alloc)))?;
+    }
+    Ok((sessions, nobody))
+}
+
+/// A manager over 1 to 16 stores that hold nothing and are never full: nothing has begun, nothing is open, and no session fails.
+///
+/// Error: `NoMemory`.
+/// May return `NoMemory`. Never waits.
+/// Own rule: docs/COORDINATOR.md, 'At the command line'.
+pub fn lasting_manager(
+    alloc: Global,
+    count: u64,
+) -> Result<Manager<Fused<LastingStore>, LastingStore>, NoMemory>
+    requires some { 1 ≤ count }
+    requires most { count ≤ 16 }
+    ensures stores { IfOk result (λ manager. vec_len manager.coordinator.stores ≡ count) }
+    ensures begins { IfOk result
+        (λ manager. BeginsBeside ⟦<LastingStore as Speak>⟧.view ⟦<LastingStore as Beside>⟧.other (whole_of manager)) }
+{
+    let (sessions, nobody) = open_each(alloc, count)?;
+    Ok(Manager::new(alloc, sessions, nobody))
+}
+
+/// Carries a client's calls out as `converse` does, over 1 to 16 stores that hold nothing and are never full.
+///
+/// Errors: those of `converse`.
+/// May wait, for the client too.
+/// Own rule: docs/COORDINATOR.md, 'At the command line'.
+pub fn converse_lasting<'a, R: Wait, P: Client<BesideServer<'a, Fused<LastingStore>, LastingStore, R>>>(
+    rt: &'a R,
+    alloc: Global,
+    client: &mut P,
+    count: u64,
+) -> Result<(), ScriptFault>
+    requires some { 1 ≤ count }
+    requires most { count ≤ 16 }
+    requires fresh { IfSome (P.exchange client.old) IsFresh }
+    ensures told { OnOk result (IfSome (P.exchange client.new)
+        (IsServed ⟦<BesideServer<'a, Fused<LastingStore>, LastingStore, R> as LineServer>⟧.begins
+        ⟦<BesideServer<'a, Fused<LastingStore>, LastingStore, R> as LineServer>⟧.answers)) }
+    ensures fault { IfErr result (λ fault. IfSome (P.exchange client.new)
+        (AfterServing ⟦<BesideServer<'a, Fused<LastingStore>, LastingStore, R> as LineServer>⟧.begins
+        ⟦<BesideServer<'a, Fused<LastingStore>, LastingStore, R> as LineServer>⟧.answers fault)) }
+{
+    let manager = lasting_manager(alloc, count)?;
+    serve(alloc, &mut BesideServer::new(rt, manager), client)
+}
