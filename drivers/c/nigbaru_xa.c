@@ -47,7 +47,7 @@ static void *zeroed(size_t size) {
 /* ---- what a thread of control has open ---- */
 
 /* Gives the session back, rolls back what isn't prepared, and frees the opening. Without memory for that nothing is done. */
-static int end_opening(struct opening *it) {
+static uint32_t end_opening(struct opening *it) {
   uint32_t status = nigbaru_seat_leave(it->seat);
   if (status != NIGBARU_OK)
     return status;

@@ -5,7 +5,7 @@
 //! happens by itself. What a statement is, and what it is answered: docs/STATEMENTS.md and docs/BEHAVIOR.md. The library is proved, this file is tested.
 use std::ffi::c_void;
 use std::fmt;
-use std::os::raw::{c_char, c_long};
+use std::os::raw::c_char;
 use std::ptr;
 use std::sync::atomic::{AtomicU64, Ordering};
 use std::sync::{Arc, Mutex};
@@ -35,9 +35,9 @@ struct RawAnswer {
 #[repr(C)]
 #[derive(Clone)]
 struct RawXid {
-    format_id: c_long,
-    gtrid_length: c_long,
-    bqual_length: c_long,
+    format_id: i64,
+    gtrid_length: i64,
+    bqual_length: i64,
     data: [c_char; 128],
 }
 
@@ -291,5 +291,5 @@ impl Drop for Session {
 fn xid_of(raw: &RawXid) -> Xid {
     let bytes: Vec<u8> = raw.data.iter().map(|byte| *byte as u8).collect();
     let (gtrid, bqual) = (raw.gtrid_length as usize, raw.bqual_length as usize);
-    Xid { format_id: raw.format_id as i64, gtrid: bytes[..gtrid].to_vec(), bqual: bytes[gtrid..gtrid + bqual].to_vec() }
+    Xid { format_id: raw.format_id, gtrid: bytes[..gtrid].to_vec(), bqual: bytes[gtrid..gtrid + bqual].to_vec() }
 }
