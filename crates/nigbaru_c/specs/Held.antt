@@ -1,0 +1,28 @@
+-- What a handle owns.
+use Rattle.std.specs.Prelude.{◌≡◌}
+use base.Fml.{Fml, ftrue, fex}
+use base.Stored.{Coded}
+use denote.RawPtr.{Ptr, null_ptr}
+use Rattle.std.specs.Box.Ownership.{box_owns}
+use Rattle.std.specs.Coded.{coded_option}
+use Rattle.std.specs.declared.option.Option.{Option}
+use Rattle.std.specs.declared.option.Option.TheVariants.{None, Some}
+use Rattle.std.specs.Global.{Global}
+use Rattle.std.specs.contracts.impls.GlobalAllocator.TheImpl.{ghosts}
+use Rattle.nigbaru_c.specs.contracts.chair.Chair.{the_row}
+
+-- the C library's heap, of which there is one
+abbrev pub heap : Global
+heap = record { memory = record { seal = tt } }
+
+-- what a box of a chair owns
+abbrev pub boxed : Ptr → the_row.Denot → Fml
+boxed = box_owns (ghosts.dealloc_token heap) the_row
+
+-- a box's value and the right to free it, or nothing at null
+abbrev pub holds : Ptr → Option the_row.Denot → Fml
+holds at None = fex (at ≡ null_ptr) (λ _. ftrue)
+holds at (Some chair) = boxed at chair
+
+abbrev pub held_coded : Coded (Option the_row.Denot)
+held_coded = coded_option the_row.coded

@@ -1,0 +1,4 @@
+pub mod Held
+pub mod Outcome
+pub mod Stands
+pub mod Telling

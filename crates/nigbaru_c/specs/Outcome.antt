@@ -1,0 +1,96 @@
+-- What comes of a text that C gives to a session.
+--     seat_of          the session that a handle holds, if it holds one
+--     status_of        the number that C is answered
+--     Fits             what X/Open's layout can hold of a statement's identifier
+--     Goes             what each outcome says of the session
+--     Comes            the same, of what a handle holds
+use Rattle.std.specs.Prelude.{◌≡◌, ◌<◌, ◌^◌, ℕ, false, List, Option, None, Some}
+use Rattle.xa_xid.specs.declared.statement.Statement.{Statement}
+use Rattle.xa_xid.specs.declared.statement.Statement.TheVariants.{Start, End, Prepare, Commit, Rollback, Recover, Unsupported, Get, Put, Del, Disconnect}
+use Rattle.xa_statement.specs.Grammar.{Spells}
+use Rattle.xa_statement.specs.FaultPlace.{FaultAt}
+use Rattle.xa_server.specs.declared.reply.Reply.{Reply}
+use Rattle.xa_server.specs.declared.reply.Reply.TheVariants.{Ok as Accepted, Value, Recovered, Refused}
+use Rattle.xa_session.specs.Answer.{IsAnswered, Fails}
+use Rattle.xa_session.specs.declared.fault.Fault.{Fault}
+use Rattle.xa_session.specs.declared.fault.Fault.TheVariants.{Overtaken, Full, NoMemory, Busy}
+use Rattle.xa_store.specs.Passes.{log_of, known_of}
+use Rattle.nigbaru_c.specs.declared.chair.Chair.{Chair}
+use Rattle.nigbaru_c.specs.declared.hold.Hold.{Hold}
+use Rattle.nigbaru_c.specs.declared.hold.Hold.TheVariants.{Store, Session}
+use Rattle.nigbaru_c.specs.declared.seat.Seat.{Seat}
+use Rattle.nigbaru_c.specs.declared.outcome.Outcome.{Outcome}
+use Rattle.nigbaru_c.specs.declared.outcome.Outcome.TheVariants.{Vacant, Misspelled, OutOfRange, Answered, Unanswered}
+
+-- the session that is held, if one is
+abbrev pub seat_in : Option Hold → Option Seat
+seat_in None = None
+seat_in (Some (Store stand)) = None
+seat_in (Some (Session seat)) = Some seat
+
+-- the same, of what a handle leads to
+abbrev pub seat_of : Option Chair → Option Seat
+seat_of None = None
+seat_of (Some chair) = seat_in chair.hold
+
+-- the number of a reply
+abbrev pub status_of_reply : Reply → ℕ
+status_of_reply Accepted = 0
+status_of_reply (Value (Some value)) = 1
+status_of_reply (Value None) = 2
+status_of_reply (Recovered xids) = 3
+status_of_reply (Refused error) = 4
+
+-- the number of a fault: where another has the turn, trying again helps as where others were faster
+abbrev pub status_of_fault : Fault → ℕ
+status_of_fault (Overtaken front) = 5
+status_of_fault Full = 6
+status_of_fault NoMemory = 7
+status_of_fault Busy = 5
+
+-- the number that C is answered
+abbrev pub status_of : Outcome → ℕ
+status_of (Answered answer) = status_of_reply answer.reply
+status_of (Unanswered fault) = status_of_fault fault
+status_of (Misspelled fault) = 8
+status_of Vacant = 9
+status_of OutOfRange = 10
+
+-- a formatID is below 2^63
+abbrev pub Fits : Statement → Type 0
+Fits (Start xid) = xid.format_id < 2 ^ 63
+Fits (End xid) = xid.format_id < 2 ^ 63
+Fits (Prepare xid) = xid.format_id < 2 ^ 63
+Fits (Commit xid one_phase) = xid.format_id < 2 ^ 63
+Fits (Rollback xid) = xid.format_id < 2 ^ 63
+Fits (Recover convert) = Unit {0}
+Fits Unsupported = Unit {0}
+Fits (Get key) = Unit {0}
+Fits (Put key value) = Unit {0}
+Fits (Del key) = Unit {0}
+Fits Disconnect = Unit {0}
+
+-- the session is of the store that it was of
+pub record Stays (old new : Seat) : Type 0 where
+  pub store : new.store.value ≡ old.store.value
+  pub belongs : log_of new.pass ≡ log_of old.pass
+
+-- one try at a statement: its answer, or why there is none
+abbrev pub Tried : Statement → Outcome → Seat → Seat → Type 0
+Tried statement (Answered answer) old new = Stays old new × IsAnswered old.store.value.base statement answer (known_of old.pass) (known_of new.pass)
+Tried statement (Unanswered fault) old new = Stays old new
+    × Fails false (log_of old.pass).capacity old.store.value.base statement fault (known_of old.pass) (known_of new.pass)
+Tried statement (Misspelled fault) old new = ⊥
+Tried statement Vacant old new = ⊥
+Tried statement OutOfRange old new = (Fits statement → ⊥) × (new ≡ old)
+
+-- the text's statement was tried, or it spells none
+abbrev pub Goes : List ℕ → Outcome → Seat → Seat → Type 0
+Goes text (Misspelled fault) old new = FaultAt text fault.at × (new ≡ old)
+Goes text outcome old new = (statement : Statement) × Spells text statement × Tried statement outcome old new
+
+-- the same, of what a handle holds; without a session nothing changes
+abbrev pub Comes : List ℕ → Outcome → Option Seat → Option Seat → Type 0
+Comes text Vacant None None = Unit {0}
+Comes text outcome (Some old) (Some new) = Goes text outcome old new
+Comes text outcome old new = ⊥

@@ -1,0 +1,80 @@
+//! Handles.
+ghost use Rattle.std.specs.Prelude.{◌≡◌, Some, None};
+ghost use Rattle.std.specs.declared.option.Option.{Option};
+ghost use Rattle.std.specs.Option.{MatchOption};
+ghost use Rattle.nigbaru_c.specs.declared.chair.Chair.{Chair as ChairOf};
+ghost use Rattle.nigbaru_c.specs.Held.{held_coded, holds};
+
+use crate::chair::Chair;
+use crate::parts::Parts;
+use std::alloc::Global;
+use std::marker::Model;
+use std::mem::replace;
+use std::ptr::null_mut;
+
+/// A pointer that C keeps. It is null, or owns a chair. One that is dropped lets its chair be.
+#[repr(C)]
+#[derive(Drop)]
+pub struct Handle {
+    at: *mut u8,
+    pub ghost held: { Option ChairOf } by { held_coded },
+}
+
+impl Model for Handle {
+    ghost also_owns = { λ h. holds h.at h.held };
+}
+
+impl Handle {
+    /// The handle that holds nothing.
+    pub(crate) fn none() -> Handle
+        ensures { result.held ≡ None }
+    {
+        Handle { at: null_mut() }
+    }
+
+    /// The handle of a box's parts.
+    fn of_parts(parts: Parts<Chair, Global>) -> Handle
+        ensures { result.held ≡ Some parts.value }
+    {
+        let Parts { ptr, alloc: _ } = parts;
+        Handle { at: ptr as *mut u8 }
+    }
+
+    /// What the handle holds, as the box's parts.
+    fn into_parts(self, alloc: Global) -> Option<Parts<Chair, Global>>
+        ensures { MatchOption result (self.held ≡ None) (λ parts. self.held ≡ Some parts.value) }
+    {
+        let Handle { at } = self;
+        if at.is_null() {
+            None
+        } else {
+            Some(Parts {
+                ptr: at as *mut Chair,
+                alloc,
+            })
+        }
+    }
+}
+
+impl Handle {
+    /// Puts a chair where nothing is held.
+    pub(crate) fn fill(&mut self, chair: Box<Chair>)
+        requires { self.old.held ≡ None }
+        ensures { self.new.held ≡ Some chair.value }
+    {
+        *self = Handle::of_parts(Parts::of(chair));
+    }
+
+    /// Takes what is held. Then nothing is.
+    pub(crate) fn empty(&mut self, alloc: Global) -> Option<Box<Chair>>
+        ensures taken { MatchOption result (self.old.held ≡ None) (λ chair. self.old.held ≡ Some chair.value) }
+        ensures left { self.new.held ≡ None }
+    {
+        match replace(self, Handle::none()).into_parts(alloc) {
+            Some(parts) => Some(parts.into_box()),
+            None => None,
+        }
+    }
+}
+
+unsafe impl Send for Handle {}

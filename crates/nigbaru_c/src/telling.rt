@@ -1,0 +1,108 @@
+//! What C is told of an outcome.
+ghost use Rattle.std.specs.Prelude.{◌≡◌, ◌≤◌, length, take};
+ghost use Rattle.nigbaru_c.specs.Telling.{Tells, TellsReply};
+
+use crate::{Outcome, Told, XidPart};
+use xa_server::Reply;
+use xa_session::Answer;
+use xa_xid::{Bytes, Xid};
+
+/// Writes bytes to the front, as many as there is room for.
+pub(crate) fn copy_front(target: &mut [u8], source: &[u8])
+    ensures room { length target.new ≡ length target.old }
+    ensures whole { length source.now ≤ length target.old → take (length source.now) target.new ≡ source.now }
+{
+    let count = source.len().min(target.len());
+    target[..count].copy_from_slice(&source[..count]);
+}
+
+impl Told {
+    /// Nothing but a place.
+    fn at(place: u64) -> Told
+        ensures { (result.place ≡ place) × (result.length ≡ 0) × (result.count ≡ 0) × (result.error ≡ 0) }
+    {
+        Told {
+            place,
+            length: 0,
+            count: 0,
+            error: 0,
+            value: [0; 64],
+        }
+    }
+
+    /// A value.
+    fn of_value(place: u64, bytes: &Bytes) -> Told
+        ensures { (result.place ≡ place) × (result.length ≡ length bytes.now.items) × (take result.length result.value ≡ bytes.now.items)
+            × (result.count ≡ 0) × (result.error ≡ 0) }
+    {
+        let mut value = [0; 64];
+        copy_front(&mut value, bytes.as_slice());
+        Told {
+            place,
+            length: bytes.len() as u64,
+            count: 0,
+            error: 0,
+            value,
+        }
+    }
+
+    /// What is told of an answer.
+    fn of_answer(answer: &Answer) -> Told
+        ensures { (result.place ≡ answer.now.place) × TellsReply answer.now.reply result }
+    {
+        match &answer.reply {
+            Reply::Ok | Reply::Value(None) => Told::at(answer.place),
+            Reply::Value(Some(value)) => Told::of_value(answer.place, value),
+            Reply::Recovered(xids) => Told {
+                count: xids.as_slice().len() as u64,
+                ..Told::at(answer.place)
+            },
+            Reply::Refused(error) => Told {
+                error: error.number() as u32,
+                ..Told::at(answer.place)
+            },
+        }
+    }
+
+    /// What is told of an outcome.
+    pub(crate) fn of(outcome: &Outcome) -> Told
+        ensures { Tells outcome.now result }
+    {
+        match outcome {
+            Outcome::Answered(answer) => Told::of_answer(answer),
+            Outcome::Misspelled(fault) => Told::at(fault.at),
+            Outcome::Vacant | Outcome::OutOfRange | Outcome::Unanswered(_) => Told::at(0),
+        }
+    }
+}
+
+impl XidPart {
+    /// An identifier, as X/Open lays it out. A formatID above 2^63-1 is written as that of no identifier, -1.
+    fn of(xid: &Xid) -> XidPart {
+        let mut data = [0; 128];
+        let gtrid = xid.gtrid.as_slice();
+        copy_front(&mut data, gtrid);
+        copy_front(&mut data[gtrid.len()..], xid.bqual.as_slice());
+        XidPart {
+            format_id: i64::try_from(xid.format_id).unwrap_or(-1),
+            gtrid_length: gtrid.len() as i64,
+            bqual_length: xid.bqual.len() as i64,
+            data,
+        }
+    }
+}
+
+/// Writes the identifiers of an answer, as many as there is room for.
+pub(crate) fn list(outcome: &Outcome, parts: &mut [XidPart]) {
+    if let Outcome::Answered(
+        Answer {
+            reply: Reply::Recovered(xids),
+            ..
+        },
+    ) = outcome
+    {
+        for (part, xid) in parts.iter_mut().zip(xids.as_slice()) {
+            *part = XidPart::of(xid);
+        }
+    }
+}

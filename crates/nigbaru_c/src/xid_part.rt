@@ -1,0 +1,17 @@
+//! An identifier as X/Open lays it out.
+
+/// An identifier as X/Open lays it out.
+///
+/// Source: X/Open C193, the structure `XID`.
+#[repr(C)]
+#[derive(Drop)]
+pub struct XidPart {
+    /// Which convention the bytes follow.
+    pub format_id: i64,
+    /// How many bytes are the gtrid's.
+    pub gtrid_length: i64,
+    /// How many bytes behind them are the bqual's.
+    pub bqual_length: i64,
+    /// The bytes.
+    pub data: [u8; 128],
+}
