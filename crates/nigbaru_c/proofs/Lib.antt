@@ -1,1 +1,2 @@
 mod Holding
+mod Laying

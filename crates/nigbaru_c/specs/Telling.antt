@@ -1,10 +1,14 @@
 -- What C is told of an outcome.
 --     Tells            the place, the counts and the bytes
-use Rattle.std.specs.Prelude.{◌≡◌, length, take, None, Some}
+--     IsLaid           an identifier as X/Open lays it out
+--     Lists            the identifiers of an answer, as many as there is room for
+use Rattle.std.specs.Prelude.{◌≡◌, ◌<◌, ◌+◌, ◌^◌, ◌++◌, ℕ, pos, List, length, take, slice_index_or, Option, None, Some}
+use Rattle.xa_xid.specs.declared.xid.Xid.{Xid}
 use Rattle.xa_server.specs.declared.reply.Reply.{Reply}
 use Rattle.xa_server.specs.declared.reply.Reply.TheVariants.{Ok as Accepted, Value, Recovered, Refused}
 use Rattle.xa_server.specs.Errors.{number_of}
 use Rattle.nigbaru_c.specs.declared.told.Told.{Told}
+use Rattle.nigbaru_c.specs.declared.xid_part.XidPart.{XidPart}
 use Rattle.nigbaru_c.specs.declared.outcome.Outcome.{Outcome}
 use Rattle.nigbaru_c.specs.declared.outcome.Outcome.TheVariants.{Vacant, Misspelled, OutOfRange, Answered, Unanswered}
 
@@ -23,3 +27,29 @@ Tells (Misspelled fault) told = (told.place ≡ fault.at)
 Tells (Unanswered fault) told = (told.place ≡ 0)
 Tells Vacant told = (told.place ≡ 0)
 Tells OutOfRange told = (told.place ≡ 0)
+
+-- X/Open's parts: the formatID, the two lengths, and the bytes of the gtrid with those of the bqual behind them
+pub record IsLaid (xid : Xid) (part : XidPart) : Type 0 where
+  pub format : xid.format_id < 2 ^ 63 → part.format_id ≡ pos xid.format_id
+  pub gtrid : part.gtrid_length ≡ pos (length xid.gtrid.items)
+  pub bqual : part.bqual_length ≡ pos (length xid.bqual.items)
+  pub bytes : take (length (xid.gtrid.items ++ xid.bqual.items)) part.data ≡ xid.gtrid.items ++ xid.bqual.items
+
+-- each identifier for which there is room, at its place
+abbrev pub LaidOut : List Xid → List XidPart → Type 0
+LaidOut xids parts = (k : ℕ) (d : Xid) (e : XidPart) → k < length xids → k < length parts → IsLaid (slice_index_or xids k d) (slice_index_or parts k e)
+
+-- the identifiers of a list, and of no other reply
+abbrev pub ListsReply : Reply → List XidPart → Type 0
+ListsReply (Recovered xids) parts = LaidOut xids parts
+ListsReply Accepted parts = Unit {0}
+ListsReply (Value value) parts = Unit {0}
+ListsReply (Refused error) parts = Unit {0}
+
+-- the same, of an outcome
+abbrev pub Lists : Outcome → List XidPart → Type 0
+Lists (Answered answer) parts = ListsReply answer.reply parts
+Lists (Misspelled fault) parts = Unit {0}
+Lists (Unanswered fault) parts = Unit {0}
+Lists Vacant parts = Unit {0}
+Lists OutOfRange parts = Unit {0}

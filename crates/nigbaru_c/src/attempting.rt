@@ -1,7 +1,7 @@
 //! Statements of C.
 ghost use Rattle.std.specs.Prelude.{◌≡◌, Some};
 ghost use Rattle.nigbaru_c.specs.Outcome.{seat_in, seat_of, status_of, Comes};
-ghost use Rattle.nigbaru_c.specs.Telling.{Tells};
+ghost use Rattle.nigbaru_c.specs.Telling.{Tells, Lists};
 ghost use Rattle.nigbaru_c.specs.declared.outcome.Outcome.{Outcome as OutcomeOf};
 
 use crate::telling::list;
@@ -50,7 +50,7 @@ pub extern "C" fn nigbaru_raw_attempt(
     told: &mut Told,
     xids: &mut [XidPart],
 ) -> u32
-    ensures { (outcome : OutcomeOf) × (result ≡ status_of outcome) × Tells outcome told.new × Comes text.now outcome (seat_of session.old.held) (seat_of session.new.held) }
+    ensures { (outcome : OutcomeOf) × (result ≡ status_of outcome) × Tells outcome told.new × Lists outcome xids.new × Comes text.now outcome (seat_of session.old.held) (seat_of session.new.held) }
 {
     let outcome = answer(alloc, session, text);
     *told = Told::of(&outcome);

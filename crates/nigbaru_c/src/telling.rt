@@ -1,8 +1,9 @@
 //! What C is told of an outcome.
 ghost use Rattle.std.specs.Prelude.{◌≡◌, ◌≤◌, length, take};
-ghost use Rattle.nigbaru_c.specs.Telling.{Tells, TellsReply};
+ghost use Rattle.nigbaru_c.specs.Telling.{Tells, TellsReply, IsLaid, LaidOut, Lists, ListsReply};
 
 use crate::{Outcome, Told, XidPart};
+use arrayvec::ArrayVec;
 use xa_server::Reply;
 use xa_session::Answer;
 use xa_xid::{Bytes, Xid};
@@ -78,31 +79,59 @@ impl Told {
 
 impl XidPart {
     /// An identifier, as X/Open lays it out. A formatID above 2^63-1 is written as that of no identifier, -1.
-    fn of(xid: &Xid) -> XidPart {
+    fn of(xid: &Xid) -> XidPart
+        ensures { IsLaid xid.now result }
+    {
+        let mut bytes = ArrayVec::<u8, 128>::new();
+        bytes
+            .try_extend_from_slice(xid.gtrid.as_slice())
+            .unwrap();
+        bytes
+            .try_extend_from_slice(xid.bqual.as_slice())
+            .unwrap();
         let mut data = [0; 128];
-        let gtrid = xid.gtrid.as_slice();
-        copy_front(&mut data, gtrid);
-        copy_front(&mut data[gtrid.len()..], xid.bqual.as_slice());
+        copy_front(&mut data, bytes.as_slice());
         XidPart {
-            format_id: i64::try_from(xid.format_id).unwrap_or(-1),
-            gtrid_length: gtrid.len() as i64,
+            format_id: if xid.format_id < 1 << 63 {
+                xid.format_id as i64
+            } else {
+                -1
+            },
+            gtrid_length: xid.gtrid.len() as i64,
             bqual_length: xid.bqual.len() as i64,
             data,
         }
     }
 }
 
+/// Lays identifiers out, as many as there is room for.
+fn lay_out(parts: &mut [XidPart], xids: &[Xid])
+    ensures { LaidOut xids.now parts.new }
+{
+    for index in 0..parts.len().min(xids.len()) {
+        parts[index] = XidPart::of(&xids[index]);
+    }
+}
+
+/// Writes the identifiers of a reply, as many as there is room for.
+fn list_reply(reply: &Reply, parts: &mut [XidPart])
+    ensures { ListsReply reply.now parts.new }
+{
+    match reply {
+        Reply::Recovered(xids) => lay_out(parts, xids.as_slice()),
+        Reply::Ok | Reply::Value(_) | Reply::Refused(_) => {}
+    }
+}
+
 /// Writes the identifiers of an answer, as many as there is room for.
-pub(crate) fn list(outcome: &Outcome, parts: &mut [XidPart]) {
-    if let Outcome::Answered(
-        Answer {
-            reply: Reply::Recovered(xids),
-            ..
-        },
-    ) = outcome
-    {
-        for (part, xid) in parts.iter_mut().zip(xids.as_slice()) {
-            *part = XidPart::of(xid);
-        }
+pub(crate) fn list(outcome: &Outcome, parts: &mut [XidPart])
+    ensures { Lists outcome.now parts.new }
+{
+    match outcome {
+        Outcome::Answered(answer) => list_reply(&answer.reply, parts),
+        Outcome::Vacant
+        | Outcome::OutOfRange
+        | Outcome::Misspelled(_)
+        | Outcome::Unanswered(_) => {}
     }
 }
