@@ -83,12 +83,8 @@ impl XidPart {
         ensures { IsLaid xid.now result }
     {
         let mut bytes = ArrayVec::<u8, 128>::new();
-        bytes
-            .try_extend_from_slice(xid.gtrid.as_slice())
-            .unwrap();
-        bytes
-            .try_extend_from_slice(xid.bqual.as_slice())
-            .unwrap();
+        bytes.try_extend_from_slice(xid.gtrid.as_slice()).unwrap();
+        bytes.try_extend_from_slice(xid.bqual.as_slice()).unwrap();
         let mut data = [0; 128];
         copy_front(&mut data, bytes.as_slice());
         XidPart {
@@ -129,9 +125,7 @@ pub(crate) fn list(outcome: &Outcome, parts: &mut [XidPart])
 {
     match outcome {
         Outcome::Answered(answer) => list_reply(&answer.reply, parts),
-        Outcome::Vacant
-        | Outcome::OutOfRange
-        | Outcome::Misspelled(_)
-        | Outcome::Unanswered(_) => {}
+        Outcome::Vacant | Outcome::OutOfRange | Outcome::Misspelled(_) | Outcome::Unanswered(_) =>
+            {}
     }
 }
