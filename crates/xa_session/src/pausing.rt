@@ -24,12 +24,7 @@ impl<'a, L: DecisionLog> Session<'a, L> {
     ///
     /// Takes no memory. Doesn't wait.
     /// Own rule: docs/BEHAVIOR.md, 'Sessions'.
-    pub fn resume(
-        log: &'a L,
-        pass: L::Pass,
-        base: &'a Server,
-        replica: Replica,
-    ) -> Session<'a, L>
+    pub fn resume(log: &'a L, pass: L::Pass, base: &'a Server, replica: Replica) -> Session<'a, L>
         requires belongs { L.belongs_to pass ≡ L.identity log.now }
         requires stands { Stands base.now (L.known pass).seen replica }
         ensures pass { result.pass ≡ pass }

@@ -14,7 +14,11 @@ use xa_xid::NoMemory;
 
 impl Store {
     /// The server that the last pass's history leaves, and an empty log with its passes.
-    pub(crate) fn onward(&self, alloc: Global, last: &mut Pass) -> Result<(Store, Vec<Pass>), NoMemory>
+    pub(crate) fn onward(
+        &self,
+        alloc: Global,
+        last: &mut Pass,
+    ) -> Result<(Store, Vec<Pass>), NoMemory>
         requires { log_of last.old ≡ identity_of self.now.log }
         ensures belongs { log_of last.new ≡ log_of last.old }
         ensures same { known_of last.new ≡ known_of last.old }
