@@ -1,0 +1,80 @@
+-- Lists one or each two of which are so, and orders that precede others.
+use Rattle.std.proofs.Common.{◌≡◌, ◌⊎◌, ℕ, zero, suc, ◌+◌, ◌<◌, ◌≤◌, Some, List, [], ◌∷◌, ◌++◌, length, get_or, take, refl, sym, ap, ◌∙◌, inl, inr, arith}
+use Rattle.std.specs.Prelude.{slice_get}
+use Rattle.std.specs.List.{All}
+use Rattle.std.proofs.lemmas.Option.{none-some, same_Some}
+use Rattle.std.proofs.Common.{subst}
+use Rattle.std.proofs.lemmas.List.Elements.{All-nil, All-cons, All-head, All-tail, All-push}
+use Rattle.xa_orders.specs.Orders.{Precedes, AtMost, Pairwise, Any}
+
+module _ {A : Type 0} where
+  pub any_left : (P : A → Type 0) (xs ys : List A) → Any P xs → Any P (xs ++ ys)
+  any_left P [] ys any = absurd any
+  any_left P (x ∷ xs) ys (inl p) = inl p
+  any_left P (x ∷ xs) ys (inr any) = inr (any_left P xs ys any)
+
+  pub any_push : (P : A → Type 0) (xs : List A) (y : A) → P y → Any P (xs ++ y ∷ [])
+  any_push P [] y p = inl p
+  any_push P (x ∷ xs) y p = inr (any_push P xs y p)
+
+  pub any_weaker : (P Q : A → Type 0) → ((x : A) → P x → Q x) → (xs : List A) → Any P xs → Any Q xs
+  any_weaker P Q weaker [] any = absurd any
+  any_weaker P Q weaker (x ∷ xs) (inl p) = inl (weaker x p)
+  any_weaker P Q weaker (x ∷ xs) (inr any) = inr (any_weaker P Q weaker xs any)
+
+  -- what follows of one that is so, where all are as well
+  pub any_with : (P Q : A → Type 0) (R : Type 0) → ((x : A) → P x → Q x → R) → (xs : List A) → All P xs → Any Q xs → R
+  any_with P Q R by [] all any = absurd any
+  any_with P Q R by (x ∷ xs) all (inl q) = by x (All-head P x xs all) q
+  any_with P Q R by (x ∷ xs) all (inr any) = any_with P Q R by xs (All-tail P x xs all) any
+
+  pub any_at : (P : A → Type 0) (xs : List A) (i : ℕ) (x : A) → slice_get xs i ≡ Some x → P x → Any P xs
+  any_at P [] i x found p = absurd (none-some x found)
+  any_at P (y ∷ xs) zero x found p = inl (subst P (sym (same_Some y x found)) p)
+  any_at P (y ∷ xs) (suc i) x found p = inr (any_at P xs i x found p)
+
+  -- one more at the end
+  pub pairwise_push : (R : A → A → Type 0) (xs : List A) (y : A) → Pairwise R xs → All (λ x. R x y) xs → Pairwise R (xs ++ y ∷ [])
+  pairwise_push R [] y pairs all = (All-nil (R y), tt)
+  pairwise_push R (x ∷ xs) y pairs all =
+      (All-push (R x) xs y pairs.0 (All-head (λ z. R z y) x xs all), pairwise_push R xs y pairs.1 (All-tail (λ z. R z y) x xs all))
+
+  -- those before a place, and the one there
+  pub pairwise_front : (R : A → A → Type 0) (xs : List A) (i : ℕ) (d : A) → i < length xs → Pairwise R xs → All (λ x. R x (get_or xs i d)) (take i xs)
+  pairwise_front R [] i d below pairs = absurd (omega (arith, below))
+  pairwise_front R (x ∷ xs) zero d below pairs = All-nil (λ z. R z x)
+  pairwise_front R (x ∷ xs) (suc i) d below pairs =
+      All-cons (λ z. R z (get_or xs i d)) x (take i xs) (pairs.0 i d (omega (arith, below))) (pairwise_front R xs i d (omega (arith, below)) pairs.1)
+
+  -- the last one of a list that has one
+  pub split_last : (x : A) (xs : List A) → (ys : List A) × (y : A) × (x ∷ xs ≡ ys ++ y ∷ [])
+  split_last x [] = ([], x, refl)
+  split_last x (y ∷ zs) = let rest = split_last y zs in (x ∷ rest.0, rest.1, ap (λ l. x ∷ l) rest.2)
+
+pub precedes_trans : (a b c : List ℕ) → Precedes a b → Precedes b c → Precedes a c
+precedes_trans [] b c p q = absurd p
+precedes_trans (x ∷ a) [] c p q = absurd p
+precedes_trans (x ∷ a) (y ∷ b) [] p q = absurd q
+precedes_trans (x ∷ a) (y ∷ b) (z ∷ c) (inl p) (inl q) = inl (omega (arith, p, q))
+precedes_trans (x ∷ a) (y ∷ b) (z ∷ c) (inl p) (inr q) = inl (omega (arith, p, q.0))
+precedes_trans (x ∷ a) (y ∷ b) (z ∷ c) (inr p) (inl q) = inl (omega (arith, p.0, q))
+precedes_trans (x ∷ a) (y ∷ b) (z ∷ c) (inr p) (inr q) = inr (p.0 ∙ q.0, precedes_trans a b c p.1 q.1)
+
+pub precedes_append : (a b c d : List ℕ) → Precedes a b → Precedes (a ++ c) (b ++ d)
+precedes_append [] b c d p = absurd p
+precedes_append (x ∷ a) [] c d p = absurd p
+precedes_append (x ∷ a) (y ∷ b) c d (inl p) = inl p
+precedes_append (x ∷ a) (y ∷ b) c d (inr p) = inr (p.0, precedes_append a b c d p.1)
+
+pub precedes_last : (a : List ℕ) (s t : ℕ) → s < t → Precedes (a ++ s ∷ []) (a ++ t ∷ [])
+precedes_last [] s t below = inl below
+precedes_last (x ∷ a) s t below = inr (refl, precedes_last a s t below)
+
+pub at_most_append : (a b c : List ℕ) → AtMost a b → AtMost (a ++ c) (b ++ c)
+at_most_append a b c (inl same) = inl (ap (λ l. l ++ c) same)
+at_most_append a b c (inr less) = inr (precedes_append a b c c less)
+
+pub at_most_trans : (a b c : List ℕ) → AtMost a b → AtMost b c → AtMost a c
+at_most_trans a b c (inl same) other = subst (λ l. AtMost l c) (sym same) other
+at_most_trans a b c (inr less) (inl same) = inr (subst (Precedes a) same less)
+at_most_trans a b c (inr less) (inr more) = inr (precedes_trans a b c less more)
