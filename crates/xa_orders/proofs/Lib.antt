@@ -1,2 +1,5 @@
 pub mod Lists
 pub mod Levels
+pub mod Texts
+pub mod Ends
+pub mod Scripts

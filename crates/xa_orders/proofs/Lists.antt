@@ -2,7 +2,7 @@
 use Rattle.std.proofs.Common.{◌≡◌, ◌⊎◌, ℕ, zero, suc, ◌+◌, ◌<◌, ◌≤◌, Some, List, [], ◌∷◌, ◌++◌, length, get_or, take, refl, sym, ap, ◌∙◌, inl, inr, arith}
 use Rattle.std.specs.Prelude.{slice_get}
 use Rattle.std.specs.List.{All}
-use Rattle.std.proofs.lemmas.Option.{none-some, same_Some}
+use Rattle.std.proofs.lemmas.Option.{none-some, same_Some, slice_get_read}
 use Rattle.std.proofs.Common.{subst}
 use Rattle.std.proofs.lemmas.List.Elements.{All-nil, All-cons, All-head, All-tail, All-push}
 use Rattle.xa_orders.specs.Orders.{Precedes, AtMost, Pairwise, Any}
@@ -28,10 +28,24 @@ module _ {A : Type 0} where
   any_with P Q R by (x ∷ xs) all (inl q) = by x (All-head P x xs all) q
   any_with P Q R by (x ∷ xs) all (inr any) = any_with P Q R by xs (All-tail P x xs all) any
 
+  pub any_both : (P Q S : A → Type 0) → ((x : A) → P x → Q x → S x) → (xs : List A) → All P xs → Any Q xs → Any S xs
+  any_both P Q S by [] all any = absurd any
+  any_both P Q S by (x ∷ xs) all (inl q) = inl (by x (All-head P x xs all) q)
+  any_both P Q S by (x ∷ xs) all (inr any) = inr (any_both P Q S by xs (All-tail P x xs all) any)
+
+  pub any_front : (P : A → Type 0) (n : ℕ) (xs : List A) → Any P (take n xs) → Any P xs
+  any_front P zero xs any = absurd any
+  any_front P (suc n) [] any = absurd any
+  any_front P (suc n) (x ∷ xs) (inl p) = inl p
+  any_front P (suc n) (x ∷ xs) (inr any) = inr (any_front P n xs any)
+
   pub any_at : (P : A → Type 0) (xs : List A) (i : ℕ) (x : A) → slice_get xs i ≡ Some x → P x → Any P xs
   any_at P [] i x found p = absurd (none-some x found)
   any_at P (y ∷ xs) zero x found p = inl (subst P (sym (same_Some y x found)) p)
   any_at P (y ∷ xs) (suc i) x found p = inr (any_at P xs i x found p)
+
+  pub any_read : (P : A → Type 0) (xs : List A) (i : ℕ) (x : A) → i < length xs → x ≡ get_or xs i x → P x → Any P xs
+  any_read P xs i x below at p = any_at P xs i x (slice_get_read xs (length xs) i x refl below at) p
 
   -- one more at the end
   pub pairwise_push : (R : A → A → Type 0) (xs : List A) (y : A) → Pairwise R xs → All (λ x. R x y) xs → Pairwise R (xs ++ y ∷ [])

@@ -5,10 +5,12 @@
 --     IsLevel              the ways that have carried out so many lines: each place once, by the least order
 --     IsTurn, IsNextOf     a way is another and a turn more;  ways are all turns more of others, each place once
 --     IsTurnAdded          what a session's turn leads to is added
+--     IsWideNext, IsWide   one turn more leads to more ways than allowed;  orders do
 use Rattle.std.specs.Prelude.{◌≡◌, ◌⊎◌, ℕ, ◌<◌, Some, None, List, [], ◌∷◌, ◌++◌, length}
 use Rattle.std.specs.List.{All}
 use Rattle.xa_orders.specs.declared.way.Way.{Way}
-use Rattle.xa_orders.specs.Orders.{Told, Config, turn, IsSession, LeadsTo, Precedes, AtMost, Any, IsAscending}
+use Rattle.xa_server.specs.State.{State}
+use Rattle.xa_orders.specs.Orders.{Told, Config, opening, turn, IsSession, LeadsTo, Precedes, AtMost, Any, IsAscending}
 
 -- where the way has come
 abbrev pub config_of : Way → Config
@@ -62,3 +64,19 @@ AddsUnlessThere old one new = (Any (λ way. config_of way ≡ config_of one) old
 abbrev pub IsTurnAdded : List Told → Way → ℕ → List Way → List Way → Type 0
 IsTurnAdded lines way session old new =
     ((IsSession session → turn lines (config_of way) session ≡ None) × (new ≡ old)) ⊎ ((next : Way) × IsTurn lines session way next × AddsUnlessThere old next new)
+
+-- the one way before all lines
+abbrev pub IsOpening : List Told → State → List Way → Type 0
+IsOpening lines state ways = (one : Way) × (ways ≡ one ∷ []) × (config_of one ≡ opening lines state) × (one.order.items ≡ [])
+
+-- one turn more leads to more ways than allowed
+abbrev pub IsWideNext : List Told → List Way → ℕ → Type 0
+IsWideNext lines ways limit =
+    (many : List Way) × (limit < length many) × All (λ new. Any (λ way. (session : ℕ) × IsTurn lines session way new) ways) many
+
+-- orders of some length lead to more ways than allowed
+pub record IsWide (lines : List Told) (base : Config) (limit : ℕ) : Type 0 where
+  pub count : ℕ
+  pub many : List Way
+  pub over : limit < length many
+  pub reached : All (IsReached lines base count) many

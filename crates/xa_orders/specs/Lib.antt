@@ -1,2 +1,5 @@
 pub mod Orders
 pub mod Found
+pub mod Ends
+pub mod Scripts
+pub mod Kept

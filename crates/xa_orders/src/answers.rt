@@ -1,8 +1,9 @@
 //! What lines were answered.
-ghost use Rattle.std.specs.Prelude.{◌≡◌, ◌<◌, ◌++◌, ◌∷◌, [], true, length, replicate, slice_set, map, IfOk, OnOk, IfSome};
-ghost use Rattle.std.specs.List.{concat};
+ghost use Rattle.std.specs.Prelude.{◌≡◌, ◌≢◌, ◌<◌, ◌==◌, ◌&&◌, ◌++◌, ◌∷◌, [], true, false, length, replicate, slice_set, map, position, IfOk, OnOk, IfSome};
+ghost use Rattle.std.specs.List.{concat, zip};
 ghost use Rattle.xa_orders.specs.Orders.{next_place as place_of_next};
 
+use crate::fingerprint_index::with_text;
 use crate::line::Line;
 use std::alloc::Global;
 use std::marker::Model;
@@ -22,9 +23,9 @@ impl Model for Answers {
     ghost view = { λ answers. map (λ text. text.items) answers.texts.items };
 }
 
-/// The place of the session's first line that wasn't carried out.
-fn next_place(lines: &[Line<'_>], texts: &[Vec<u8>], session: SessionNo) -> Option<usize>
-    ensures place { result ≡ place_of_next session lines.now (map (λ text. text.items) texts.now) }
+/// The place of the session's first line that has no text.
+fn first_left(lines: &[Line<'_>], texts: &[Vec<u8>], session: SessionNo) -> Option<usize>
+    ensures place { result ≡ position (λ pair. (pair.0.session == session) && (length pair.1.items == 0)) (zip lines.now texts.now) }
     ensures line { IfSome result (λ place. place < length lines.now) }
     ensures text { IfSome result (λ place. place < length texts.now) }
 {
@@ -32,6 +33,23 @@ fn next_place(lines: &[Line<'_>], texts: &[Vec<u8>], session: SessionNo) -> Opti
         .iter()
         .zip(texts.iter())
         .position(|(line, text)| line.session() == session && text.is_empty())
+}
+
+/// The place of the session's first line that wasn't carried out.
+fn next_place(lines: &[Line<'_>], texts: &[Vec<u8>], session: SessionNo) -> Option<usize>
+    ensures place { result ≡ place_of_next session lines.now (map (λ text. text.items) texts.now) }
+    ensures line { IfSome result (λ place. place < length lines.now) }
+    ensures text { IfSome result (λ place. place < length texts.now) }
+{
+    first_left(lines, texts, session)
+}
+
+/// Whether two texts are the same.
+pub fn is_same_text(left: &[u8], right: &[u8]) -> bool
+    ensures same { result ≡ true → left.now ≡ right.now }
+    ensures other { result ≡ false → left.now ≢ right.now }
+{
+    left == right
 }
 
 /// Whether two lists have the same texts.
@@ -42,7 +60,7 @@ fn is_same_texts(left: &[Vec<u8>], right: &[Vec<u8>]) -> bool
         return false;
     }
     for place in 0..left.len() {
-        if left[place].as_slice() != right[place].as_slice() {
+        if !is_same_text(left[place].as_slice(), right[place].as_slice()) {
             return false;
         }
     }
@@ -87,6 +105,15 @@ impl Answers {
         ensures { result ≡ true → self.now ≡ other.now }
     {
         is_same_texts(self.texts.as_slice(), other.texts.as_slice())
+    }
+
+    /// A number made of the texts.
+    pub fn mark(&self) -> u64 {
+        let mut fingerprint = 0;
+        for text in &self.texts {
+            fingerprint = with_text(fingerprint, text.as_slice());
+        }
+        fingerprint
     }
 
     /// The place of the session's first line that wasn't carried out.

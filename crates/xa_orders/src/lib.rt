@@ -2,10 +2,22 @@
 #![tactic(auto)]
 
 mod answers;
+mod ended;
+mod explored_text;
+mod exploring;
+mod fingerprint_index;
 mod line;
 mod outcome;
+mod outcomes;
+mod run;
+mod script;
+mod searching;
+mod stage;
 mod way;
+mod ways;
 
+pub use ended::Ended;
+pub use exploring::explore;
 pub use line::Line;
 pub use outcome::Outcome;
-pub use way::Way;
+pub use run::{Explored, explore_script, explore_text};

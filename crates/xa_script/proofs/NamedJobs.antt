@@ -7,9 +7,9 @@ use Rattle.clap.specs.declared.parser.matches.ArgMatches.{ArgMatches}
 use Rattle.clap.specs.declared.parser.matches.ArgMatches.TheViews.{out-ArgMatches, out-SubCommand}
 use Rattle.clap.proofs.WalkLemmas.{one_text-rows}
 use Rattle.std.specs.Box.{box_value}
-use Rattle.xa_script.specs.CommandLine.{IsCapacityText, IsStoresText, IsLimitText, IsRaceOf, IsCoordinateOf, IsJudgeOf, IsJob}
+use Rattle.xa_script.specs.CommandLine.{IsCapacityText, IsStoresText, IsLimitText, IsRaceOf, IsCoordinateOf, IsJudgeOf, IsExploreOf, IsJob}
 use Rattle.xa_script.specs.declared.command.Job.{Job}
-use Rattle.xa_script.specs.declared.command.Job.TheVariants.{Run, Race, Coordinate, Serve, Show, Judge}
+use Rattle.xa_script.specs.declared.command.Job.TheVariants.{Run, Race, Coordinate, Serve, Show, Judge, Explore}
 
 map_first : {S A B : Type 0} (f : S → A) (g : S → B) (s : Option S)
     → option_map f s ≡ option_map (λ p. p.0) (let pairs : Option (A × B) = option_map (λ b. (f b, g b)) s in pairs)
@@ -61,6 +61,7 @@ races m found name (Race capacity schedule renews) is race of =
     subst P (sym is) (race, subst D (one_text-rows (found_of found) (codes "renew")) three)
 races m found name (Coordinate stores capacity) is race of = absurd of
 races m found name (Judge limit) is race of = absurd of
+races m found name (Explore limit) is race of = absurd of
 
 at_found : (m : ArgMatches) (name : Text) (rows : List Row) (job : Job) → subcommand_rows_of m ≡ Some (name, rows)
     → IsSomeAnd (subcommand_rows_of m) (IsJob job) → IsJob job (name, rows)
@@ -93,6 +94,9 @@ no_race m found name is race none (Coordinate stores capacity) h =
 no_race m found name is race none (Judge limit) h =
     let e : codes "race" ≡ codes "judge" = sym race ∙ (at_found m name (rows_of (found_of found)) (Judge limit) is h).0 in
     absurd (omega (arith, ap length e))
+no_race m found name is race none (Explore limit) h =
+    let e : codes "race" ≡ codes "explore" = sym race ∙ (at_found m name (rows_of (found_of found)) (Explore limit) is h).0 in
+    absurd (omega (arith, ap length e))
 
 pub races_if : (m found : ArgMatches) (name : Text) (r : Option Job) → subcommand_rows_of m ≡ Some (name, rows_of (found_of found)) → name ≡ codes "race"
     → IfSome r (RaceFound found) → IfSome r (λ job. IsSomeAnd (subcommand_rows_of m) (IsJob job))
@@ -108,6 +112,7 @@ coordinates m found name Serve is named of = absurd of
 coordinates m found name Show is named of = absurd of
 coordinates m found name (Race capacity schedule renews) is named of = absurd of
 coordinates m found name (Judge limit) is named of = absurd of
+coordinates m found name (Explore limit) is named of = absurd of
 coordinates m found name (Coordinate stores capacity) is named of =
     let P : Option (Text × List Row) → Type 0 = λ s. IsSomeAnd s (IsJob (Coordinate stores capacity)) in
     let Q : Option Text → Type 0 = λ t. IsSomeAnd t (IsCapacityText capacity) in
@@ -140,6 +145,9 @@ no_coordinates m found name is named none (Race capacity schedule renews) h =
 no_coordinates m found name is named none (Judge limit) h =
     let e : codes "coordinate" ≡ codes "judge" = sym named ∙ (at_found m name (rows_of (found_of found)) (Judge limit) is h).0 in
     absurd (omega (arith, ap length e))
+no_coordinates m found name is named none (Explore limit) h =
+    let e : codes "coordinate" ≡ codes "explore" = sym named ∙ (at_found m name (rows_of (found_of found)) (Explore limit) is h).0 in
+    absurd (omega (arith, ap length e))
 no_coordinates m found name is named none (Coordinate stores capacity) h =
     let Q : Option Text → Type 0 = λ t. IsSomeAnd t (IsCapacityText capacity) in
     let R : Option Text → Type 0 = λ t. IsSomeAnd t (IsStoresText stores) in
@@ -155,6 +163,7 @@ judges m found name Serve is named of = absurd of
 judges m found name Show is named of = absurd of
 judges m found name (Race capacity schedule renews) is named of = absurd of
 judges m found name (Coordinate stores capacity) is named of = absurd of
+judges m found name (Explore limit) is named of = absurd of
 judges m found name (Judge limit) is named of =
     let P : Option (Text × List Row) → Type 0 = λ s. IsSomeAnd s (IsJob (Judge limit)) in
     let Q : Option Text → Type 0 = λ t. IsSomeAnd t (IsLimitText limit) in
@@ -183,6 +192,53 @@ no_judge m found name is named none (Race capacity schedule renews) h =
 no_judge m found name is named none (Coordinate stores capacity) h =
     let e : codes "judge" ≡ codes "coordinate" = sym named ∙ (at_found m name (rows_of (found_of found)) (Coordinate stores capacity) is h).0 in
     absurd (omega (arith, ap length e))
+no_judge m found name is named none (Explore limit) h =
+    let e : codes "judge" ≡ codes "explore" = sym named ∙ (at_found m name (rows_of (found_of found)) (Explore limit) is h).0 in
+    absurd (omega (arith, ap length e))
 no_judge m found name is named none (Judge limit) h =
     let Q : Option Text → Type 0 = λ t. IsSomeAnd t (IsLimitText limit) in
     none (Judge limit) (subst Q (sym (one_text-rows (found_of found) (codes "limit"))) (at_found m name (rows_of (found_of found)) (Judge limit) is h).1)
+
+-- exploring with the limit that a value's text says
+explores : (m found : ArgMatches) (name : Text) (job : Job) → subcommand_rows_of m ≡ Some (name, rows_of (found_of found)) → name ≡ codes "explore"
+    → IsExploreOf (one_text (found_of found) (codes "limit")) job → IsSomeAnd (subcommand_rows_of m) (IsJob job)
+explores m found name Run is named of = absurd of
+explores m found name Serve is named of = absurd of
+explores m found name Show is named of = absurd of
+explores m found name (Race capacity schedule renews) is named of = absurd of
+explores m found name (Coordinate stores capacity) is named of = absurd of
+explores m found name (Judge limit) is named of = absurd of
+explores m found name (Explore limit) is named of =
+    let P : Option (Text × List Row) → Type 0 = λ s. IsSomeAnd s (IsJob (Explore limit)) in
+    let Q : Option Text → Type 0 = λ t. IsSomeAnd t (IsLimitText limit) in
+    subst P (sym is) (named, subst Q (one_text-rows (found_of found) (codes "limit")) of)
+
+pub explores_if : (m found : ArgMatches) (name : Text) (r : Option Job) → subcommand_rows_of m ≡ Some (name, rows_of (found_of found)) → name ≡ codes "explore"
+    → IfSome r (IsExploreOf (one_text (found_of found) (codes "limit"))) → IfSome r (λ job. IsSomeAnd (subcommand_rows_of m) (IsJob job))
+explores_if m found name None is named of = tt
+explores_if m found name (Some job) is named of = explores m found name job is named of
+
+-- exploring with no limit
+pub no_explore : (m found : ArgMatches) (name : Text) → subcommand_rows_of m ≡ Some (name, rows_of (found_of found)) → name ≡ codes "explore"
+    → ((job : Job) → IsExploreOf (one_text (found_of found) (codes "limit")) job → ⊥) → (job : Job) → IsSomeAnd (subcommand_rows_of m) (IsJob job) → ⊥
+no_explore m found name is named none Run h =
+    let e : codes "explore" ≡ codes "run" = sym named ∙ at_found m name (rows_of (found_of found)) Run is h in
+    absurd (omega (arith, ap length e))
+no_explore m found name is named none Serve h =
+    let e : codes "explore" ≡ codes "serve" = sym named ∙ at_found m name (rows_of (found_of found)) Serve is h in
+    absurd (omega (arith, ap length e))
+no_explore m found name is named none Show h =
+    let e : codes "explore" ≡ codes "show" = sym named ∙ at_found m name (rows_of (found_of found)) Show is h in
+    absurd (omega (arith, ap length e))
+no_explore m found name is named none (Race capacity schedule renews) h =
+    let e : codes "explore" ≡ codes "race" = sym named ∙ (at_found m name (rows_of (found_of found)) (Race capacity schedule renews) is h).0 in
+    absurd (omega (arith, ap length e))
+no_explore m found name is named none (Coordinate stores capacity) h =
+    let e : codes "explore" ≡ codes "coordinate" = sym named ∙ (at_found m name (rows_of (found_of found)) (Coordinate stores capacity) is h).0 in
+    absurd (omega (arith, ap length e))
+no_explore m found name is named none (Judge limit) h =
+    let e : codes "explore" ≡ codes "judge" = sym named ∙ (at_found m name (rows_of (found_of found)) (Judge limit) is h).0 in
+    absurd (omega (arith, ap length e))
+no_explore m found name is named none (Explore limit) h =
+    let Q : Option Text → Type 0 = λ t. IsSomeAnd t (IsLimitText limit) in
+    none (Explore limit) (subst Q (sym (one_text-rows (found_of found) (codes "limit"))) (at_found m name (rows_of (found_of found)) (Explore limit) is h).1)

@@ -19,7 +19,7 @@ use Rattle.decision_log.specs.Opens.{IsCapacity}
 use Rattle.xa_script.specs.declared.schedule.Schedule.{Schedule}
 use Rattle.xa_script.specs.declared.schedule.Schedule.TheVariants.{Freely, Together, Shuffled}
 use Rattle.xa_script.specs.declared.command.Job.{Job}
-use Rattle.xa_script.specs.declared.command.Job.TheVariants.{Run, Race, Coordinate, Serve, Show, Judge}
+use Rattle.xa_script.specs.declared.command.Job.TheVariants.{Run, Race, Coordinate, Serve, Show, Judge, Explore}
 
 -- `--NAME N`, which this parser reads, with a default
 abbrev pub number_rule : Text → ValueParser → Text → Rule
@@ -78,6 +78,10 @@ limit_rule = number_rule (codes "limit") (parser.Unsigned 1 1000000) (codes "100
 abbrev pub judge_app : App
 judge_app = with_rule (new_app (codes "judge")) limit_rule
 
+-- `explore [--limit N]`
+abbrev pub explore_app : App
+explore_app = with_rule (new_app (codes "explore")) limit_rule
+
 -- no option of the command is one of its subcommands too
 abbrev pub IsLocal : Command → Type 0
 IsLocal command = (out-Command command).has_globals ≡ false
@@ -86,13 +90,13 @@ IsLocal command = (out-Command command).has_globals ≡ false
 abbrev pub bare_app : App
 bare_app = on_top (λ shape. record shape { subcommand_required = true; has_version = true }) (new_app (codes "xa_script"))
 
--- `xa_script run`, `race`, `coordinate`, `serve`, `show` and `judge`
+-- `xa_script run`, `race`, `coordinate`, `serve`, `show`, `judge` and `explore`
 abbrev pub script_app : App
 script_app =
-    with_subcommand (with_subcommand
+    with_subcommand (with_subcommand (with_subcommand
     (with_subcommand (with_subcommand
     (with_subcommand (with_subcommand bare_app (plain_app (codes "run")).top) (common_app race_app).top) (common_app coordinate_app).top)
-    (plain_app (codes "serve")).top) (plain_app (codes "show")).top) (common_app judge_app).top
+    (plain_app (codes "serve")).top) (plain_app (codes "show")).top) (common_app judge_app).top) (common_app explore_app).top
 
 -- the text of a value is this number, which a log can have as its capacity
 abbrev pub IsCapacityText : ℕ → Text → Type 0
@@ -106,7 +110,7 @@ IsStoreCount stores = (1 ≤ stores) × (stores ≤ 16)
 abbrev pub IsStoresText : ℕ → Text → Type 0
 IsStoresText stores text = IsNumeral 10 (without_leading_plus text) × (stores ≡ digits_value 10 (without_leading_plus text)) × IsStoreCount stores
 
--- from 1 to 1,000,000 configurations (own rule)
+-- from 1 to 1,000,000 configurations or ways (own rule)
 abbrev pub IsLimit : ℕ → Type 0
 IsLimit limit = (1 ≤ limit) × (limit ≤ 1000000)
 
@@ -142,6 +146,7 @@ IsRaceOf capacity together shuffle renew (Coordinate stores room) = ⊥
 IsRaceOf capacity together shuffle renew Serve = ⊥
 IsRaceOf capacity together shuffle renew Show = ⊥
 IsRaceOf capacity together shuffle renew (Judge limit) = ⊥
+IsRaceOf capacity together shuffle renew (Explore limit) = ⊥
 
 -- the job is of calls over as many stores, with as much room in each, as two values' texts are
 abbrev pub IsCoordinateOf : (stores capacity : Option Text) → Job → Type 0
@@ -150,6 +155,7 @@ IsCoordinateOf stores capacity Serve = ⊥
 IsCoordinateOf stores capacity Show = ⊥
 IsCoordinateOf stores capacity (Race room schedule renews) = ⊥
 IsCoordinateOf stores capacity (Judge limit) = ⊥
+IsCoordinateOf stores capacity (Explore limit) = ⊥
 IsCoordinateOf stores capacity (Coordinate count room) = IsSomeAnd stores (IsStoresText count) × IsSomeAnd capacity (IsCapacityText room)
 
 -- the job is to judge, with the limit that a value's text is
@@ -160,6 +166,17 @@ IsJudgeOf limit Show = ⊥
 IsJudgeOf limit (Race room schedule renews) = ⊥
 IsJudgeOf limit (Coordinate count room) = ⊥
 IsJudgeOf limit (Judge kept) = IsSomeAnd limit (IsLimitText kept)
+IsJudgeOf limit (Explore kept) = ⊥
+
+-- the job is to explore, with the limit that a value's text is
+abbrev pub IsExploreOf : (limit : Option Text) → Job → Type 0
+IsExploreOf limit Run = ⊥
+IsExploreOf limit Serve = ⊥
+IsExploreOf limit Show = ⊥
+IsExploreOf limit (Race room schedule renews) = ⊥
+IsExploreOf limit (Coordinate count room) = ⊥
+IsExploreOf limit (Judge kept) = ⊥
+IsExploreOf limit (Explore kept) = IsSomeAnd limit (IsLimitText kept)
 
 -- the job of a subcommand, with what `clap` found for its arguments
 abbrev pub IsJob : Job → Text × List Row → Type 0
@@ -173,6 +190,7 @@ IsJob (Race capacity schedule renews) found =
 IsJob (Coordinate stores capacity) found =
     (found.0 ≡ codes "coordinate") × IsCoordinateOf (one_of (codes "stores") found.1) (one_of (codes "capacity") found.1) (Coordinate stores capacity)
 IsJob (Judge limit) found = (found.0 ≡ codes "judge") × IsJudgeOf (one_of (codes "limit") found.1) (Judge limit)
+IsJob (Explore limit) found = (found.0 ≡ codes "explore") × IsExploreOf (one_of (codes "limit") found.1) (Explore limit)
 
 -- the words name this job, as `clap` matches them
 abbrev pub Names : List Text → Job → Type 0
@@ -192,3 +210,4 @@ CanBeDone (Coordinate stores capacity) = IsStoreCount stores × IsCapacity capac
 CanBeDone Serve = Unit {0}
 CanBeDone Show = Unit {0}
 CanBeDone (Judge limit) = IsLimit limit
+CanBeDone (Explore limit) = IsLimit limit

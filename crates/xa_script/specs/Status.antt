@@ -2,11 +2,16 @@
 --     status_after     the exit status after a fault
 --     status_for       the exit status for how judging a record ended
 --     AppendsVerdict   the writer got what is written for a record, and the status is for how judging it ended
+--     status_of_end    the exit status for how exploring a script ended
+--     AppendsOutcomes  the writer got what is written for a script that is explored, and the status is for how that ended
 --     AppendsRaceBy    the writer got what is written for a race
 use Rattle.std.specs.Prelude.{◌≡◌, ℕ, Bool, true, false, Option, Some, None, List, IfSome}
 use Rattle.xa_races.specs.Outcome.{AppendsRace}
 use Rattle.xa_lines.specs.declared.script_fault.ScriptFault.{ScriptFault}
 use Rattle.xa_lines.specs.declared.script_fault.ScriptFault.TheVariants.{Read, TooLong, Write, NoMemory, Full, GateShut, ThreadRefused}
+use Rattle.xa_orders.specs.Scripts.{AppendsExplored}
+use Rattle.xa_orders.specs.declared.ended.Ended.{Ended}
+use Rattle.xa_orders.specs.declared.ended.Ended.TheVariants.{Done, Undecided as TooMany, Faulty as FaultyLines}
 use Rattle.xa_record.specs.Judged.{AppendsJudged}
 use Rattle.xa_record.specs.declared.outcome.Outcome.{Outcome}
 use Rattle.xa_record.specs.declared.outcome.Outcome.TheVariants.{Legal, Illegal, Undecided, Faulty, Empty}
@@ -33,6 +38,17 @@ status_for Empty = 7
 abbrev pub AppendsVerdict : (limit status : ℕ) → Option (List ℕ) → Option (List ℕ) → Option (List ℕ) → Type 0
 AppendsVerdict limit status input old new =
     (outcome : Outcome) × (status ≡ status_for outcome) × IfSome input (λ text. AppendsJudged limit outcome text old new)
+
+-- 0 where all outcomes or faulty lines were listed, 5 where the limit was passed (own rule)
+abbrev pub status_of_end : Ended → ℕ
+status_of_end Done = 0
+status_of_end TooMany = 5
+status_of_end FaultyLines = 0
+
+-- the writer got what is written for a script whose exploring ends so, and the status is for that end
+abbrev pub AppendsOutcomes : (limit status : ℕ) → Option (List ℕ) → Option (List ℕ) → Option (List ℕ) → Type 0
+AppendsOutcomes limit status input old new =
+    (ended : Ended) × (status ≡ status_of_end ended) × IfSome input (λ script. AppendsExplored limit ended script old new)
 
 -- the writer got what a race of the script writes: in rounds where it renews, else in one history of at most this capacity
 abbrev pub AppendsRaceBy : Bool → (capacity : ℕ) → List ℕ → Option (List ℕ) → Option (List ℕ) → Type 0

@@ -3,7 +3,7 @@ ghost use Rattle.std.specs.Prelude.{◌≡◌, ◌≢◌, ℕ, Some, None, IfOk,
 ghost use Rattle.std.specs.Option.{IsSomeAnd};
 ghost use Rattle.clap.specs.Words.{app_of, found_of, one_text, subcommand_rows_of};
 ghost use Rattle.xa_script.specs.CommandLine.{IsCapacityText, IsSeedText, IsStoresText, IsLimitText, HasNoSeed, IsScheduleOf, IsRenewalOf, IsRaceOf};
-ghost use Rattle.xa_script.specs.CommandLine.{IsCoordinateOf, IsJudgeOf, IsJob, Names, CanBeDone, ReadsCommand, script_app};
+ghost use Rattle.xa_script.specs.CommandLine.{IsCoordinateOf, IsJudgeOf, IsExploreOf, IsJob, Names, CanBeDone, ReadsCommand, script_app};
 
 use crate::Schedule;
 use crate::subcommands::script_command;
@@ -40,6 +40,11 @@ pub enum Job {
     /// Judges the record of the standard input.
     Judge {
         /// How many configurations may be kept before a return, in `[1, 1_000_000]`.
+        limit: u64,
+    },
+    /// Explores the orders of the script of the standard input.
+    Explore {
+        /// How many ways may be kept at once, in `[1, 1_000_000]`.
         limit: u64,
     },
 }
@@ -159,6 +164,17 @@ fn judge_in(found: &ArgMatches<'_>) -> Option<Job>
     }
 }
 
+/// The exploring with the limit that was found.
+fn explore_in(found: &ArgMatches<'_>) -> Option<Job>
+    ensures some { IfSome result (λ job. IsExploreOf (one_text (found_of found.now) (codes "limit")) job) }
+    ensures none { result ≡ None → (job : Job) → IsExploreOf (one_text (found_of found.now) (codes "limit")) job → ⊥ }
+{
+    match limit_in(found) {
+        Some(limit) => Some(Job::Explore { limit }),
+        None => None,
+    }
+}
+
 /// The job of the subcommand that was found.
 fn job_in(matches: &ArgMatches<'_>) -> Option<Job>
     ensures some { IfSome result (λ job. IsSomeAnd (subcommand_rows_of matches.now) (IsJob job)) }
@@ -179,6 +195,8 @@ fn job_in(matches: &ArgMatches<'_>) -> Option<Job>
         Some(Job::Show)
     } else if name == "judge" {
         judge_in(found)
+    } else if name == "explore" {
+        explore_in(found)
     } else {
         None
     }

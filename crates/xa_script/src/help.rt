@@ -63,6 +63,28 @@ Blank lines, and lines that begin with #, have no answer. A call and its answer:
   WORK 1 0 PUT 'k','v'
   OK";
 
+/// What `explore` reads and prints, as its help shows it.
+pub const EXPLORED: &str =
+    "A line is the number of a session, from 1 to 16, and a statement of that session, as for run. Lines before a line
+BESIDE are carried out first, lines behind a line AFTER last, and those between in every order of sessions, each
+session's in its own order. Without BESIDE all lines up to AFTER stand side by side:
+  1 XA START 'a'
+  2 XA START 'a'
+Each outcome is what all lines are answered, and the least order of sessions that gives it:
+  OUTCOMES 2
+  OUTCOME 1
+  1 OK
+  2 ERROR 1440 (XAE08): XAER_DUPID xid already exists
+  ORDER 1 2
+  OUTCOME 2
+  1 ERROR 1440 (XAE08): XAER_DUPID xid already exists
+  2 OK
+  ORDER 2 1
+Where more than N ways would have to be kept at once, it prints UNDECIDED; the status is 5. Where lines aren't read, none is
+carried out, and each of them is named:
+  LINE 2 ERROR 1064 (42000): syntax fault at byte 9
+Blank lines, and lines that begin with #, say nothing.";
+
 /// The lines of a record that `judge` reads, as its help shows them.
 pub const RECORDS: &str =
     "A record is what clients of a server saw, in that order. Its lines; n is the number of a session, from 1 to 16:

@@ -3,6 +3,7 @@ ghost use Rattle.decision_log.specs.Opens.{IsCapacity};
 ghost use Rattle.xa_script.specs.CommandLine.{IsLimit, IsStoreCount};
 
 use crate::advised::Advised;
+use crate::exploring::explore_within;
 use crate::judging::judge_within;
 use crate::line_form::LineForm;
 use crate::racing::race_by;
@@ -96,6 +97,19 @@ pub fn judge<I: Read + Drop, W: Write + Drop, R: Alloc<A = Global>>(
     requires { IsLimit limit }
 {
     let done = judge_within(rt.alloc(), &mut input, &mut output, limit);
+    flushed(&mut output, done)
+}
+
+/// Explores the script.
+pub fn explore<I: Read + Drop, W: Write + Drop, R: Alloc<A = Global>>(
+    rt: &R,
+    mut input: I,
+    mut output: BufWriter<W>,
+    limit: u64,
+) -> Result<u8, ScriptFault>
+    requires { IsLimit limit }
+{
+    let done = explore_within(rt.alloc(), &mut input, &mut output, limit);
     flushed(&mut output, done)
 }
 

@@ -12,6 +12,8 @@ pub enum LineKind {
     Statement,
     /// Statements of sessions, and comments.
     Shown,
+    /// Statements of sessions, comments, and the words that part a script.
+    Explored,
     /// Calls of a transaction manager.
     Call,
     /// What clients saw.
@@ -33,6 +35,13 @@ fn script_fault(line: &[u8]) -> Option<LineFault<'_>> {
         ScriptLine::Bad => Some(LineFault::NoSession),
         ScriptLine::Given(_, text) => statement_fault(text),
     }
+}
+
+/// Whether a line is one of the words that part a script to be explored.
+fn parts(line: &[u8]) -> bool {
+    let (word, rest) = split_word(skip_blanks(line));
+    let is_word = word == b"BESIDE".as_slice() || word == b"AFTER".as_slice();
+    is_word && skip_blanks(rest).is_empty()
 }
 
 /// The text behind so many words.
@@ -104,6 +113,7 @@ impl LineKind {
         match self {
             LineKind::Statement => script_fault(line),
             LineKind::Shown => { if silent { None } else { script_fault(line) } }
+            LineKind::Explored => { if silent || parts(line) { None } else { script_fault(line) } }
             LineKind::Call => match read_call(line) {
                 Call::Unread(_) => Some(call_fault(line)),
                 _ => None,

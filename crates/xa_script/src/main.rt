@@ -3,6 +3,7 @@
 //! `xa_script coordinate` carries the calls of a transaction manager out, over stores of its own.
 //! `xa_script serve` answers each line of the standard input before it reads more; `xa_script show` does so too, and shows the store
 //! behind each answer. `xa_script judge` says whether some order explains what clients of a server saw.
+//! `xa_script explore` carries a script out in every order of its sessions, and lists each outcome once.
 #![tactic(auto)]
 
 ghost use Rattle.std.specs.Prelude.{◌≡◌};
@@ -11,6 +12,7 @@ ghost use Rattle.xa_script.specs.Status.{status_after};
 
 mod advised;
 mod command;
+mod exploring;
 mod help;
 mod hint;
 mod jobs;
@@ -155,13 +157,16 @@ fn lines_of(job: Job) -> (LineKind, usize) {
         Job::Serve => (LineKind::Statement, LINE_BYTES),
         Job::Show => (LineKind::Shown, LINE_BYTES),
         Job::Judge { .. } => (LineKind::Record, usize::MAX),
+        Job::Explore { .. } => (LineKind::Explored, usize::MAX),
     }
 }
 
 /// What a job writes its lines as.
 fn form_of(job: Job) -> LineForm {
     match job {
-        Job::Run | Job::Race { .. } | Job::Coordinate { .. } | Job::Serve => LineForm::Answers,
+        Job::Run | Job::Race { .. } | Job::Coordinate { .. } | Job::Serve | Job::Explore { .. } => {
+            LineForm::Answers
+        }
         Job::Show => LineForm::Shown,
         Job::Judge { .. } => LineForm::Verdict,
     }
@@ -218,6 +223,7 @@ fn carry_out_job<
         Job::Serve => jobs::serve(rt, input, output),
         Job::Show => jobs::show(rt, input, output),
         Job::Judge { limit } => jobs::judge(rt, input, output, limit),
+        Job::Explore { limit } => jobs::explore(rt, input, output, limit),
     }
 }
 

@@ -1,10 +1,10 @@
 //! The command and its subcommands, as `clap` sees them.
 ghost use Rattle.std.specs.Prelude.{◌≡◌, false, IfOk, codes};
 ghost use Rattle.clap.specs.Words.{app_of, new_app, rule_of, with_subcommand};
-ghost use Rattle.xa_script.specs.CommandLine.{bare_app, plain_app, race_app, coordinate_app, judge_app, IsLocal, capacity_rule, together_rule, shuffle_rule};
+ghost use Rattle.xa_script.specs.CommandLine.{bare_app, plain_app, race_app, coordinate_app, judge_app, explore_app, IsLocal, capacity_rule, together_rule, shuffle_rule};
 ghost use Rattle.xa_script.specs.CommandLine.{renew_rule, stores_rule, limit_rule, number_rule, flag_rule, file_rule, common_app, script_app};
 
-use crate::help::{CALLS, LINES, RACED, RECORDS, SHOWN, VERSION};
+use crate::help::{CALLS, EXPLORED, LINES, RACED, RECORDS, SHOWN, VERSION};
 use clap::builder::ValueParser;
 use clap::{Arg, ArgAction, Command, value_parser};
 use std::alloc::{AllocError, Global};
@@ -93,12 +93,11 @@ fn stores_option<'a>(alloc: Global) -> Arg<'a>
     number_option(alloc, "stores", "How many stores there are", parser, "3")
 }
 
-/// The option that says how many configurations may be kept.
-fn limit_option<'a>(alloc: Global) -> Arg<'a>
+/// The option that says how many configurations, or ways, may be kept.
+fn limit_option<'a>(alloc: Global, help: &'a str) -> Arg<'a>
     ensures rule { rule_of result ≡ limit_rule }
     ensures global { result.global ≡ false }
 {
-    let help = "How many configurations may be kept before a return";
     let parser = value_parser!(u64).range(1..=1_000_000);
     number_option(alloc, "limit", help, parser, "100000")
 }
@@ -168,7 +167,18 @@ fn judge_command<'a>(alloc: Global) -> Result<Command<'a>, AllocError>
     ensures local { IfOk result IsLocal }
 {
     let about = "Judges the record: whether some order explains what clients saw";
-    plain_command(alloc, "judge", about, RECORDS).arg(limit_option(alloc))
+    let help = "How many configurations may be kept before a return";
+    plain_command(alloc, "judge", about, RECORDS).arg(limit_option(alloc, help))
+}
+
+/// The subcommand that explores a script.
+fn explore_command<'a>(alloc: Global) -> Result<Command<'a>, AllocError>
+    ensures app { IfOk result (λ command. app_of command ≡ explore_app) }
+    ensures local { IfOk result IsLocal }
+{
+    let about = "Carries the script out in every order of its sessions, and lists each outcome once";
+    let help = "How many ways may be kept at once";
+    plain_command(alloc, "explore", about, EXPLORED).arg(limit_option(alloc, help))
 }
 
 /// The command without its subcommands, one of which is required, unless the version is asked for.
@@ -240,6 +250,13 @@ fn with_judge<'a>(alloc: Global, command: Command<'a>) -> Result<Command<'a>, Al
     command.subcommand(with_common(alloc, judge_command(alloc)?)?)
 }
 
+/// Adds the subcommand that explores a script.
+fn with_explore<'a>(alloc: Global, command: Command<'a>) -> Result<Command<'a>, AllocError>
+    ensures { IfOk result (λ more. app_of more ≡ with_subcommand (app_of command.entry) (common_app explore_app).top) }
+{
+    command.subcommand(with_common(alloc, explore_command(alloc)?)?)
+}
+
 /// The command and its subcommands.
 pub fn script_command<'a>(alloc: Global) -> Result<Command<'a>, AllocError>
     ensures { IfOk result (λ command. app_of command ≡ script_app) }
@@ -249,5 +266,6 @@ pub fn script_command<'a>(alloc: Global) -> Result<Command<'a>, AllocError>
     let command = with_coordinate(alloc, command)?;
     let command = with_serve(alloc, command)?;
     let command = with_show(alloc, command)?;
-    with_judge(alloc, command)
+    let command = with_judge(alloc, command)?;
+    with_explore(alloc, command)
 }

@@ -1,7 +1,7 @@
 use Rattle.std.proofs.Common.{sym, codes}
 use Rattle.std.proofs.lemmas.Slice.Eq.{bytes_eq-Decides}
 use Rattle.clap.specs.Words.{found_of, rows_of}
-use Rattle.xa_script.proofs.NamedJobs.{rows_are, races_if, no_race, coordinates_if, no_coordinates, judges_if, no_judge}
+use Rattle.xa_script.proofs.NamedJobs.{rows_are, races_if, no_race, coordinates_if, no_coordinates, judges_if, no_judge, explores_if, no_explore}
 use Rattle.xa_script.proofs.command.job_in.Goals as goal
 
 pub returns-then-eq-2-clause-some : goal.returns-then-eq-2-clause-some
@@ -39,3 +39,15 @@ returns-then-eq-6-clause-none c none =
     let named = (bytes_eq-Decides c.in-Some.name.now (codes "judge")).0 (sym c.if-eq-6.ensures) in
     let rows = rows_are c.args.matches.now c.in-Some.name.now (rows_of (found_of c.in-Some.found.now)) c.in-Some.ensures.name c.in-Some.ensures.rows in
     no_judge c.args.matches.now c.in-Some.found.now c.in-Some.name.now rows named (c.judge_in.ensures.none none)
+
+pub returns-then-eq-7-clause-some : goal.returns-then-eq-7-clause-some
+returns-then-eq-7-clause-some c =
+    let named = (bytes_eq-Decides c.in-Some.name.now (codes "explore")).0 (sym c.if-eq-7.ensures) in
+    let rows = rows_are c.args.matches.now c.in-Some.name.now (rows_of (found_of c.in-Some.found.now)) c.in-Some.ensures.name c.in-Some.ensures.rows in
+    explores_if c.args.matches.now c.in-Some.found.now c.in-Some.name.now c.explore_in.result rows named c.explore_in.ensures.some
+
+pub returns-then-eq-7-clause-none : goal.returns-then-eq-7-clause-none
+returns-then-eq-7-clause-none c none =
+    let named = (bytes_eq-Decides c.in-Some.name.now (codes "explore")).0 (sym c.if-eq-7.ensures) in
+    let rows = rows_are c.args.matches.now c.in-Some.name.now (rows_of (found_of c.in-Some.found.now)) c.in-Some.ensures.name c.in-Some.ensures.rows in
+    no_explore c.args.matches.now c.in-Some.found.now c.in-Some.name.now rows named (c.explore_in.ensures.none none)

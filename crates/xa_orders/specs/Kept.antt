@@ -1,0 +1,8 @@
+-- How the program keeps what it reads.
+--     read_kept     what was read of a script
+use Rattle.xa_orders.specs.declared.script.Script.{Script}
+use Rattle.xa_orders.specs.Scripts.{Reading}
+
+abbrev pub read_kept : Script → Reading
+read_kept script =
+    record { stage = script.stage; before = script.before.items; beside = script.beside.items; later = script.later.items; faults = script.faults.items }

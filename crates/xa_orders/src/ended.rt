@@ -1,0 +1,12 @@
+//! How exploring a script ends.
+
+/// How exploring a script ends.
+#[derive(Clone, Copy, Debug, PartialEq, Eq)]
+pub enum Ended {
+    /// All outcomes are written.
+    Done,
+    /// More ways were found than are allowed.
+    Undecided,
+    /// Lines are faulty.
+    Faulty,
+}

@@ -1,0 +1,47 @@
+//! Carries lines out in every order.
+ghost use Rattle.std.specs.Prelude.{◌≡◌, None, length, IfOk, IfSome};
+ghost use Rattle.xa_orders.specs.Orders.{opening};
+ghost use Rattle.xa_orders.specs.Found.{IsLevel, IsWide, IsOpening};
+
+use crate::fingerprint_index::FingerprintIndex;
+use crate::line::Line;
+use crate::way::Way;
+use crate::ways::next_level;
+use std::alloc::Global;
+use xa_server::Server;
+use xa_xid::{Key, NoMemory};
+
+/// The one way before all lines.
+fn opening_ways(
+    alloc: Global,
+    lines: &[Line<'_>],
+    server: Server,
+) -> Result<Vec<Way>, NoMemory>
+    ensures { IfOk result (λ ways. IsOpening lines.now server ways.items) }
+{
+    let mut ways = Vec::new(alloc);
+    ways.push(Way::opening(alloc, lines, server)?)?;
+    Ok(ways)
+}
+
+/// The ways that have carried out all lines, each place once, by the least order; or none, where more than `limit` were found.
+pub fn every_way(
+    alloc: Global,
+    lines: &[Line<'_>],
+    written: Vec<Key>,
+    server: Server,
+    limit: usize,
+) -> Result<Option<Vec<Way>>, NoMemory>
+    ensures level { IfOk result (λ found. IfSome found (λ ways. IsLevel lines.now (opening lines.now server) (length lines.now) ways.items)) }
+    ensures wide { IfOk result (λ found. found ≡ None → IsWide lines.now (opening lines.now server) limit) }
+{
+    let mut index = FingerprintIndex::new(alloc, written);
+    let mut ways = opening_ways(alloc, lines, server)?;
+    for _ in 0..lines.len() {
+        match next_level(alloc, &mut index, lines, ways.as_slice(), limit)? {
+            None => return Ok(None),
+            Some(next) => ways = next,
+        }
+    }
+    Ok(Some(ways))
+}

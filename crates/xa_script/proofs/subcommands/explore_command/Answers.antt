@@ -1,0 +1,12 @@
+use Rattle.std.proofs.Common.{ap₂, ◌∙◌, rules}
+use Rattle.std.proofs.lemmas.Result.{IfOk-weaker}
+use Rattle.clap.specs.Words.{with_rule}
+use Rattle.xa_script.proofs.subcommands.explore_command.Goals as goal
+
+pub returns-clause-app : goal.returns-clause-app
+returns-clause-app c =
+    IfOk-weaker c.arg.result _ _
+    (λ command added. added.shape c.limit_option.ensures.global ∙ ap₂ with_rule c.plain_command.ensures.app c.limit_option.ensures.rule) c.arg.ensures
+
+pub returns-clause-local : goal.returns-clause-local
+returns-clause-local c = IfOk-weaker c.arg.result _ _ (λ command added. search rules) c.arg.ensures

@@ -1,0 +1,47 @@
+//! Explores a script, and gives the exit status for how that ended.
+ghost use Rattle.std.specs.Prelude.{◌≡◌, IfOk, IfErr};
+ghost use Rattle.xa_orders.specs.Scripts.{AfterExploreFault};
+ghost use Rattle.xa_script.specs.CommandLine.{IsLimit};
+ghost use Rattle.xa_script.specs.Status.{status_of_end as status_of, AppendsOutcomes};
+
+use std::alloc::Global;
+use std::io::{Read, Write};
+use xa_lines::ScriptFault;
+use xa_orders::{Ended, explore_script};
+
+/// The status where all outcomes were listed, or faulty lines were.
+const LISTED: u8 = 0;
+
+/// The status where the limit was passed.
+const UNDECIDED: u8 = 5;
+
+/// The status for how exploring a script ended.
+fn status_of_end(ended: Ended) -> u8
+    ensures { result ≡ status_of ended }
+{
+    match ended {
+        Ended::Done => LISTED,
+        Ended::Undecided => UNDECIDED,
+        Ended::Faulty => LISTED,
+    }
+}
+
+/// Explores a script, writes its outcomes or its faulty lines, and gives the exit status for it.
+///
+/// A limit is in `[1, 1_000_000]`.
+/// Errors: those of `explore_script`. After `Write` a prefix of the text was written, after any other nothing.
+/// May answer `NoMemory`. Doesn't wait, unless the reader or the writer does.
+/// Own rule: docs/ORDERS.md.
+pub fn explore_within<R: Read, W: Write>(
+    alloc: Global,
+    reader: &mut R,
+    writer: &mut W,
+    limit: u64,
+) -> Result<u8, ScriptFault>
+    requires { IsLimit limit }
+    ensures explored { IfOk result (λ status. AppendsOutcomes limit status (R.remaining reader.old) (W.contents writer.old) (W.contents writer.new)) }
+    ensures fault { IfErr result (λ fault. AfterExploreFault limit fault (R.remaining reader.old) (W.contents writer.old) (W.contents writer.new)) }
+{
+    let ended = explore_script(alloc, reader, writer, limit as usize)?;
+    Ok(status_of_end(ended))
+}
