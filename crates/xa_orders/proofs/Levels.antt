@@ -135,9 +135,10 @@ module _ (lines : List Told) (front : List Way) (way : Way) (number : ℕ) (old 
           → HasBy (old ++ next ∷ []) config (way.order.items ++ session ∷ [])
       by session config is at (inl less) = kept config (way.order.items ++ session ∷ []) (half.own session config less is at)
       by session config is at (inr same) =
-          any_push (λ one. (config_of one ≡ config) × AtMost one.order.items (way.order.items ++ session ∷ [])) old next
-          (same_Some (config_of next) config (sym is_turn.leads ∙ ap (turn lines (config_of way)) (sym same) ∙ at),
-          inl (is_turn.order_is ∙ ap (λ n. way.order.items ++ n ∷ []) (sym same)))
+          any_push (λ one. (config_of one ≡ config) × AtMost one.order.items (way.order.items ++ session ∷ [])) old next (
+            same_Some (config_of next) config (sym is_turn.leads ∙ ap (turn lines (config_of way)) (sym same) ∙ at),
+            inl (is_turn.order_is ∙ ap (λ n. way.order.items ++ n ∷ []) (sym same)),
+          )
 
   pub halfway_more : (new : List Way) → AllPrecede front way → IsTurnAdded lines way number old new → IsHalfway lines front way (number + 1) new
   halfway_more new precede (inl none) = subst (IsHalfway lines front way (number + 1)) (sym none.1) (halfway_none none.0)
@@ -207,8 +208,11 @@ level_next lines base count ways list level next = record {
         (λ way covers came.
         any_weaker (λ one. (config_of one ≡ config) × AtMost one.order.items (way.order.items ++ session ∷ []))
         (λ one. (config_of one ≡ config) × AtMost one.order.items (front ++ session ∷ []))
-        (λ one there. (there.0, at_most_trans one.order.items (way.order.items ++ session ∷ []) (front ++ session ∷ []) there.1
-        (at_most_append way.order.items front (session ∷ []) came.1)))
+        (λ one there. (
+          there.0,
+          at_most_trans one.order.items (way.order.items ++ session ∷ []) (front ++ session ∷ []) there.1
+              (at_most_append way.order.items front (session ∷ []) came.1),
+        ))
         list (covers session config (omega (arith, last.2.1)) last.2 (ap (λ c. turn lines c session) came.0 ∙ last.3)))
         ways next.all (level.all front last.0 size last.1)
 

@@ -29,10 +29,8 @@ fn first_left(lines: &[Line<'_>], texts: &[Vec<u8>], session: SessionNo) -> Opti
     ensures line { IfSome result (λ place. place < length lines.now) }
     ensures text { IfSome result (λ place. place < length texts.now) }
 {
-    lines
-        .iter()
-        .zip(texts.iter())
-        .position(|(line, text)| line.session() == session && text.is_empty())
+    lines.iter().zip(texts.iter()).position(|(line, text)| line.session() == session
+        && text.is_empty())
 }
 
 /// The place of the session's first line that wasn't carried out.

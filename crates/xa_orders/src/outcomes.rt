@@ -34,12 +34,7 @@ pub fn push_told(
 }
 
 /// What all lines are answered on this way, those behind included.
-fn text_of(
-    alloc: Global,
-    first: &[u8],
-    way: &Way,
-    later: &[Line<'_>],
-) -> Result<Vec<u8>, NoMemory>
+fn text_of(alloc: Global, first: &[u8], way: &Way, later: &[Line<'_>]) -> Result<Vec<u8>, NoMemory>
     ensures { IfOk result (λ text. text.items ≡ text_from first.now later.now way.now) }
 {
     let mut text = Vec::from_slice(alloc, first)?;

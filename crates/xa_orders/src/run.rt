@@ -57,10 +57,7 @@ pub fn explore_text(alloc: Global, text: &[u8], limit: usize) -> Result<Explored
 }
 
 /// Writes what is written for a script, and gives how exploring it ended.
-fn write_explored<W: PieceWriter>(
-    writer: &mut W,
-    explored: &Explored,
-) -> Result<Ended, ScriptFault>
+fn write_explored<W: PieceWriter>(writer: &mut W, explored: &Explored) -> Result<Ended, ScriptFault>
     ensures ended { IfOk result (λ ended. ended ≡ explored.now.ended) }
     ensures all { OnOk result (Appends (W.contents writer.old) (W.contents writer.new) explored.now.text.items) }
     ensures fault { IfErr result (λ fault. fault ≡ ScriptFault.Write) }

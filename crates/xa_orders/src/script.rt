@@ -133,7 +133,12 @@ impl<'a> Script<'a> {
     }
 
     /// Takes the line of a session.
-    fn take_given(&mut self, number: u64, session: SessionNo, text: &'a [u8]) -> Result<(), NoMemory>
+    fn take_given(
+        &mut self,
+        number: u64,
+        session: SessionNo,
+        text: &'a [u8],
+    ) -> Result<(), NoMemory>
         ensures { OnOk result
             (read_kept self.new
             ≡ with_statement (read_kept self.old) number (record { session = session; text = text.entry.now }) (read_of text.entry.now)) }

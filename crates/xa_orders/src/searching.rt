@@ -12,11 +12,7 @@ use xa_server::Server;
 use xa_xid::{Key, NoMemory};
 
 /// The one way before all lines.
-fn opening_ways(
-    alloc: Global,
-    lines: &[Line<'_>],
-    server: Server,
-) -> Result<Vec<Way>, NoMemory>
+fn opening_ways(alloc: Global, lines: &[Line<'_>], server: Server) -> Result<Vec<Way>, NoMemory>
     ensures { IfOk result (λ ways. IsOpening lines.now server ways.items) }
 {
     let mut ways = Vec::new(alloc);

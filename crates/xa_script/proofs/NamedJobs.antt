@@ -7,7 +7,7 @@ use Rattle.clap.specs.declared.parser.matches.ArgMatches.{ArgMatches}
 use Rattle.clap.specs.declared.parser.matches.ArgMatches.TheViews.{out-ArgMatches, out-SubCommand}
 use Rattle.clap.proofs.WalkLemmas.{one_text-rows}
 use Rattle.std.specs.Box.{box_value}
-use Rattle.xa_script.specs.CommandLine.{IsCapacityText, IsStoresText, IsLimitText, IsRaceOf, IsCoordinateOf, IsJudgeOf, IsExploreOf, IsJob}
+use Rattle.xa_script.specs.CommandLine.{IsCapacityText, IsStoresText, IsLimitText, IsRaceOf, IsCoordinateOf, IsFixedOf, IsJudgeOf, IsExploreOf, IsJob}
 use Rattle.xa_script.specs.declared.command.Job.{Job}
 use Rattle.xa_script.specs.declared.command.Job.TheVariants.{Run, Race, Coordinate, Serve, Show, Judge, Explore}
 
@@ -59,7 +59,7 @@ races m found name (Race capacity schedule renews) is race of =
     let two = subst B (one_text-rows (found_of found) (codes "together")) one in
     let three = subst C (one_text-rows (found_of found) (codes "shuffle")) two in
     subst P (sym is) (race, subst D (one_text-rows (found_of found) (codes "renew")) three)
-races m found name (Coordinate stores capacity) is race of = absurd of
+races m found name (Coordinate stores capacity fixed) is race of = absurd of
 races m found name (Judge limit) is race of = absurd of
 races m found name (Explore limit) is race of = absurd of
 
@@ -88,8 +88,8 @@ no_race m found name is race none (Race capacity schedule renews) h =
     let Q : Option Text → Type 0 = λ t. IsSomeAnd t (IsCapacityText capacity) in
     none capacity (subst Q (sym (one_text-rows (found_of found) (codes "capacity")))
     (at_found m name (rows_of (found_of found)) (Race capacity schedule renews) is h).1.0)
-no_race m found name is race none (Coordinate stores capacity) h =
-    let e : codes "race" ≡ codes "coordinate" = sym race ∙ (at_found m name (rows_of (found_of found)) (Coordinate stores capacity) is h).0 in
+no_race m found name is race none (Coordinate stores capacity fixed) h =
+    let e : codes "race" ≡ codes "coordinate" = sym race ∙ (at_found m name (rows_of (found_of found)) (Coordinate stores capacity fixed) is h).0 in
     absurd (omega (arith, ap length e))
 no_race m found name is race none (Judge limit) h =
     let e : codes "race" ≡ codes "judge" = sym race ∙ (at_found m name (rows_of (found_of found)) (Judge limit) is h).0 in
@@ -105,7 +105,7 @@ races_if m found name (Some job) is race of = races m found name job is race of
 
 -- the calls over as many stores, with as much room, as two values' texts say
 pub coordinates : (m found : ArgMatches) (name : Text) (job : Job) → subcommand_rows_of m ≡ Some (name, rows_of (found_of found)) → name ≡ codes "coordinate"
-    → IsCoordinateOf (one_text (found_of found) (codes "stores")) (one_text (found_of found) (codes "capacity")) job
+    → IsCoordinateOf (one_text (found_of found) (codes "stores")) (one_text (found_of found) (codes "capacity")) (one_text (found_of found) (codes "fixed")) job
     → IsSomeAnd (subcommand_rows_of m) (IsJob job)
 coordinates m found name Run is named of = absurd of
 coordinates m found name Serve is named of = absurd of
@@ -113,22 +113,23 @@ coordinates m found name Show is named of = absurd of
 coordinates m found name (Race capacity schedule renews) is named of = absurd of
 coordinates m found name (Judge limit) is named of = absurd of
 coordinates m found name (Explore limit) is named of = absurd of
-coordinates m found name (Coordinate stores capacity) is named of =
-    let P : Option (Text × List Row) → Type 0 = λ s. IsSomeAnd s (IsJob (Coordinate stores capacity)) in
+coordinates m found name (Coordinate stores capacity fixed) is named of =
+    let P : Option (Text × List Row) → Type 0 = λ s. IsSomeAnd s (IsJob (Coordinate stores capacity fixed)) in
     let Q : Option Text → Type 0 = λ t. IsSomeAnd t (IsCapacityText capacity) in
     let R : Option Text → Type 0 = λ t. IsSomeAnd t (IsStoresText stores) in
-    subst P (sym is) (named, (subst R (one_text-rows (found_of found) (codes "stores")) of.0, subst Q (one_text-rows (found_of found) (codes "capacity")) of.1))
+    let F : Option Text → Type 0 = λ t. IsFixedOf t fixed in
+    subst P (sym is) (named, (subst R (one_text-rows (found_of found) (codes "stores")) of.0, subst Q (one_text-rows (found_of found) (codes "capacity")) of.1, subst F (one_text-rows (found_of found) (codes "fixed")) of.2))
 
 pub coordinates_if : (m found : ArgMatches) (name : Text) (r : Option Job) → subcommand_rows_of m ≡ Some (name, rows_of (found_of found))
     → name ≡ codes "coordinate"
-    → IfSome r (IsCoordinateOf (one_text (found_of found) (codes "stores")) (one_text (found_of found) (codes "capacity")))
+    → IfSome r (IsCoordinateOf (one_text (found_of found) (codes "stores")) (one_text (found_of found) (codes "capacity")) (one_text (found_of found) (codes "fixed")))
     → IfSome r (λ job. IsSomeAnd (subcommand_rows_of m) (IsJob job))
 coordinates_if m found name None is named of = tt
 coordinates_if m found name (Some job) is named of = coordinates m found name job is named of
 
 -- calls over no number of stores, or with no room
 pub no_coordinates : (m found : ArgMatches) (name : Text) → subcommand_rows_of m ≡ Some (name, rows_of (found_of found)) → name ≡ codes "coordinate"
-    → ((job : Job) → IsCoordinateOf (one_text (found_of found) (codes "stores")) (one_text (found_of found) (codes "capacity")) job → ⊥) → (job : Job)
+    → ((job : Job) → IsCoordinateOf (one_text (found_of found) (codes "stores")) (one_text (found_of found) (codes "capacity")) (one_text (found_of found) (codes "fixed")) job → ⊥) → (job : Job)
     → IsSomeAnd (subcommand_rows_of m) (IsJob job) → ⊥
 no_coordinates m found name is named none Run h =
     let e : codes "coordinate" ≡ codes "run" = sym named ∙ at_found m name (rows_of (found_of found)) Run is h in
@@ -148,12 +149,13 @@ no_coordinates m found name is named none (Judge limit) h =
 no_coordinates m found name is named none (Explore limit) h =
     let e : codes "coordinate" ≡ codes "explore" = sym named ∙ (at_found m name (rows_of (found_of found)) (Explore limit) is h).0 in
     absurd (omega (arith, ap length e))
-no_coordinates m found name is named none (Coordinate stores capacity) h =
+no_coordinates m found name is named none (Coordinate stores capacity fixed) h =
     let Q : Option Text → Type 0 = λ t. IsSomeAnd t (IsCapacityText capacity) in
     let R : Option Text → Type 0 = λ t. IsSomeAnd t (IsStoresText stores) in
-    let parts = (at_found m name (rows_of (found_of found)) (Coordinate stores capacity) is h).1 in
-    none (Coordinate stores capacity)
-    (subst R (sym (one_text-rows (found_of found) (codes "stores"))) parts.0, subst Q (sym (one_text-rows (found_of found) (codes "capacity"))) parts.1)
+    let F : Option Text → Type 0 = λ t. IsFixedOf t fixed in
+    let parts = (at_found m name (rows_of (found_of found)) (Coordinate stores capacity fixed) is h).1 in
+    none (Coordinate stores capacity fixed)
+    (subst R (sym (one_text-rows (found_of found) (codes "stores"))) parts.0, subst Q (sym (one_text-rows (found_of found) (codes "capacity"))) parts.1, subst F (sym (one_text-rows (found_of found) (codes "fixed"))) parts.2)
 
 -- judging with the limit that a value's text says
 judges : (m found : ArgMatches) (name : Text) (job : Job) → subcommand_rows_of m ≡ Some (name, rows_of (found_of found)) → name ≡ codes "judge"
@@ -162,7 +164,7 @@ judges m found name Run is named of = absurd of
 judges m found name Serve is named of = absurd of
 judges m found name Show is named of = absurd of
 judges m found name (Race capacity schedule renews) is named of = absurd of
-judges m found name (Coordinate stores capacity) is named of = absurd of
+judges m found name (Coordinate stores capacity fixed) is named of = absurd of
 judges m found name (Explore limit) is named of = absurd of
 judges m found name (Judge limit) is named of =
     let P : Option (Text × List Row) → Type 0 = λ s. IsSomeAnd s (IsJob (Judge limit)) in
@@ -189,8 +191,8 @@ no_judge m found name is named none Show h =
 no_judge m found name is named none (Race capacity schedule renews) h =
     let e : codes "judge" ≡ codes "race" = sym named ∙ (at_found m name (rows_of (found_of found)) (Race capacity schedule renews) is h).0 in
     absurd (omega (arith, ap length e))
-no_judge m found name is named none (Coordinate stores capacity) h =
-    let e : codes "judge" ≡ codes "coordinate" = sym named ∙ (at_found m name (rows_of (found_of found)) (Coordinate stores capacity) is h).0 in
+no_judge m found name is named none (Coordinate stores capacity fixed) h =
+    let e : codes "judge" ≡ codes "coordinate" = sym named ∙ (at_found m name (rows_of (found_of found)) (Coordinate stores capacity fixed) is h).0 in
     absurd (omega (arith, ap length e))
 no_judge m found name is named none (Explore limit) h =
     let e : codes "judge" ≡ codes "explore" = sym named ∙ (at_found m name (rows_of (found_of found)) (Explore limit) is h).0 in
@@ -206,7 +208,7 @@ explores m found name Run is named of = absurd of
 explores m found name Serve is named of = absurd of
 explores m found name Show is named of = absurd of
 explores m found name (Race capacity schedule renews) is named of = absurd of
-explores m found name (Coordinate stores capacity) is named of = absurd of
+explores m found name (Coordinate stores capacity fixed) is named of = absurd of
 explores m found name (Judge limit) is named of = absurd of
 explores m found name (Explore limit) is named of =
     let P : Option (Text × List Row) → Type 0 = λ s. IsSomeAnd s (IsJob (Explore limit)) in
@@ -233,8 +235,8 @@ no_explore m found name is named none Show h =
 no_explore m found name is named none (Race capacity schedule renews) h =
     let e : codes "explore" ≡ codes "race" = sym named ∙ (at_found m name (rows_of (found_of found)) (Race capacity schedule renews) is h).0 in
     absurd (omega (arith, ap length e))
-no_explore m found name is named none (Coordinate stores capacity) h =
-    let e : codes "explore" ≡ codes "coordinate" = sym named ∙ (at_found m name (rows_of (found_of found)) (Coordinate stores capacity) is h).0 in
+no_explore m found name is named none (Coordinate stores capacity fixed) h =
+    let e : codes "explore" ≡ codes "coordinate" = sym named ∙ (at_found m name (rows_of (found_of found)) (Coordinate stores capacity fixed) is h).0 in
     absurd (omega (arith, ap length e))
 no_explore m found name is named none (Judge limit) h =
     let e : codes "explore" ≡ codes "judge" = sym named ∙ (at_found m name (rows_of (found_of found)) (Judge limit) is h).0 in

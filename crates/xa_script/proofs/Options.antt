@@ -4,7 +4,7 @@ use Rattle.std.specs.Prelude.{◌≢◌, IfSome, Result, Ok, Err, unwrap_or}
 use Rattle.std.specs.Option.{IsSomeAnd}
 use Rattle.std.specs.Str.Parse.{ParsesUnsigned, ParsesBool, true_text, false_text}
 use Rattle.clap.specs.Words.{Text, ReadsOne}
-use Rattle.xa_script.specs.CommandLine.{IsSeedText, HasNoSeed, IsRenewalOf}
+use Rattle.xa_script.specs.CommandLine.{IsSeedText, HasNoSeed, IsRenewalOf, IsFixedOf}
 
 some_is : {text other : Text} → Some text ≡ Some other → text ≡ other
 some_is e = cc
@@ -50,6 +50,12 @@ no_flag_read gives parses (Some text) (Some false) none value is same =
 no_flag_read gives parses (Some text) None none value is same =
     let failed = value text refl in
     absurd ((parses text (Err failed.0) failed.1).0 (some_is same))
+
+-- histories end where the flag is given
+pub fixed_of : (fixed : Option Text) (ends : Bool) → (ends ≡ true → fixed ≡ Some (codes "true")) → (ends ≡ false → fixed ≢ Some (codes "true"))
+    → IsFixedOf fixed ends
+fixed_of fixed true given absent = given refl
+fixed_of fixed false given absent = absent refl
 
 -- a race goes on where the flag is given
 pub renewal_of : (renew : Option Text) (renews : Bool) → (renews ≡ true → renew ≡ Some (codes "true")) → (renews ≡ false → renew ≢ Some (codes "true"))

@@ -66,9 +66,13 @@ race_app = with_rule (with_rule (with_rule (with_rule (new_app (codes "race")) c
 abbrev pub stores_rule : Rule
 stores_rule = number_rule (codes "stores") (parser.Unsigned 1 16) (codes "3")
 
--- `coordinate [--stores N] [--capacity C]`
+-- `--fixed`, which has no value
+abbrev pub fixed_rule : Rule
+fixed_rule = flag_rule (codes "fixed")
+
+-- `coordinate [--stores N] [--capacity C] [--fixed]`
 abbrev pub coordinate_app : App
-coordinate_app = with_rule (with_rule (new_app (codes "coordinate")) stores_rule) capacity_rule
+coordinate_app = with_rule (with_rule (with_rule (new_app (codes "coordinate")) stores_rule) capacity_rule) fixed_rule
 
 -- `--limit N`, a number from 1 to 1,000,000, and 100,000 where it isn't given
 abbrev pub limit_rule : Rule
@@ -142,21 +146,27 @@ abbrev pub IsRaceOf : (capacity together shuffle renew : Option Text) → Job �
 IsRaceOf capacity together shuffle renew Run = ⊥
 IsRaceOf capacity together shuffle renew (Race room schedule renews) =
     IsSomeAnd capacity (IsCapacityText room) × IsScheduleOf together shuffle schedule × IsRenewalOf renew renews
-IsRaceOf capacity together shuffle renew (Coordinate stores room) = ⊥
+IsRaceOf capacity together shuffle renew (Coordinate stores room fixed) = ⊥
 IsRaceOf capacity together shuffle renew Serve = ⊥
 IsRaceOf capacity together shuffle renew Show = ⊥
 IsRaceOf capacity together shuffle renew (Judge limit) = ⊥
 IsRaceOf capacity together shuffle renew (Explore limit) = ⊥
 
--- the job is of calls over as many stores, with as much room in each, as two values' texts are
-abbrev pub IsCoordinateOf : (stores capacity : Option Text) → Job → Type 0
-IsCoordinateOf stores capacity Run = ⊥
-IsCoordinateOf stores capacity Serve = ⊥
-IsCoordinateOf stores capacity Show = ⊥
-IsCoordinateOf stores capacity (Race room schedule renews) = ⊥
-IsCoordinateOf stores capacity (Judge limit) = ⊥
-IsCoordinateOf stores capacity (Explore limit) = ⊥
-IsCoordinateOf stores capacity (Coordinate count room) = IsSomeAnd stores (IsStoresText count) × IsSomeAnd capacity (IsCapacityText room)
+-- whether a store keeps its history until it is full, by the value of `--fixed`
+abbrev pub IsFixedOf : (fixed : Option Text) → Bool → Type 0
+IsFixedOf fixed true = fixed ≡ Some (codes "true")
+IsFixedOf fixed false = fixed ≢ Some (codes "true")
+
+-- the job is of calls over as many stores, with as much room in each, as two values' texts are, and with histories that end there where a third says so
+abbrev pub IsCoordinateOf : (stores capacity fixed : Option Text) → Job → Type 0
+IsCoordinateOf stores capacity fixed Run = ⊥
+IsCoordinateOf stores capacity fixed Serve = ⊥
+IsCoordinateOf stores capacity fixed Show = ⊥
+IsCoordinateOf stores capacity fixed (Race room schedule renews) = ⊥
+IsCoordinateOf stores capacity fixed (Judge limit) = ⊥
+IsCoordinateOf stores capacity fixed (Explore limit) = ⊥
+IsCoordinateOf stores capacity fixed (Coordinate count room ends) =
+    IsSomeAnd stores (IsStoresText count) × IsSomeAnd capacity (IsCapacityText room) × IsFixedOf fixed ends
 
 -- the job is to judge, with the limit that a value's text is
 abbrev pub IsJudgeOf : (limit : Option Text) → Job → Type 0
@@ -164,7 +174,7 @@ IsJudgeOf limit Run = ⊥
 IsJudgeOf limit Serve = ⊥
 IsJudgeOf limit Show = ⊥
 IsJudgeOf limit (Race room schedule renews) = ⊥
-IsJudgeOf limit (Coordinate count room) = ⊥
+IsJudgeOf limit (Coordinate count room fixed) = ⊥
 IsJudgeOf limit (Judge kept) = IsSomeAnd limit (IsLimitText kept)
 IsJudgeOf limit (Explore kept) = ⊥
 
@@ -174,7 +184,7 @@ IsExploreOf limit Run = ⊥
 IsExploreOf limit Serve = ⊥
 IsExploreOf limit Show = ⊥
 IsExploreOf limit (Race room schedule renews) = ⊥
-IsExploreOf limit (Coordinate count room) = ⊥
+IsExploreOf limit (Coordinate count room fixed) = ⊥
 IsExploreOf limit (Judge kept) = ⊥
 IsExploreOf limit (Explore kept) = IsSomeAnd limit (IsLimitText kept)
 
@@ -187,8 +197,9 @@ IsJob (Race capacity schedule renews) found =
     (found.0 ≡ codes "race")
     × IsRaceOf (one_of (codes "capacity") found.1) (one_of (codes "together") found.1) (one_of (codes "shuffle") found.1) (one_of (codes "renew") found.1)
     (Race capacity schedule renews)
-IsJob (Coordinate stores capacity) found =
-    (found.0 ≡ codes "coordinate") × IsCoordinateOf (one_of (codes "stores") found.1) (one_of (codes "capacity") found.1) (Coordinate stores capacity)
+IsJob (Coordinate stores capacity fixed) found =
+    (found.0 ≡ codes "coordinate")
+    × IsCoordinateOf (one_of (codes "stores") found.1) (one_of (codes "capacity") found.1) (one_of (codes "fixed") found.1) (Coordinate stores capacity fixed)
 IsJob (Judge limit) found = (found.0 ≡ codes "judge") × IsJudgeOf (one_of (codes "limit") found.1) (Judge limit)
 IsJob (Explore limit) found = (found.0 ≡ codes "explore") × IsExploreOf (one_of (codes "limit") found.1) (Explore limit)
 
@@ -206,7 +217,7 @@ ReadsCommand words answer =
 abbrev pub CanBeDone : Job → Type 0
 CanBeDone Run = Unit {0}
 CanBeDone (Race capacity schedule renews) = IsCapacity capacity
-CanBeDone (Coordinate stores capacity) = IsStoreCount stores × IsCapacity capacity
+CanBeDone (Coordinate stores capacity fixed) = IsStoreCount stores × IsCapacity capacity
 CanBeDone Serve = Unit {0}
 CanBeDone Show = Unit {0}
 CanBeDone (Judge limit) = IsLimit limit

@@ -3,7 +3,7 @@ ghost use Rattle.std.specs.Prelude.{◌≡◌, ◌≢◌, ℕ, Some, None, IfOk,
 ghost use Rattle.std.specs.Option.{IsSomeAnd};
 ghost use Rattle.clap.specs.Words.{app_of, found_of, one_text, subcommand_rows_of};
 ghost use Rattle.xa_script.specs.CommandLine.{IsCapacityText, IsSeedText, IsStoresText, IsLimitText, HasNoSeed, IsScheduleOf, IsRenewalOf, IsRaceOf};
-ghost use Rattle.xa_script.specs.CommandLine.{IsCoordinateOf, IsJudgeOf, IsExploreOf, IsJob, Names, CanBeDone, ReadsCommand, script_app};
+ghost use Rattle.xa_script.specs.CommandLine.{IsCoordinateOf, IsFixedOf, IsJudgeOf, IsExploreOf, IsJob, Names, CanBeDone, ReadsCommand, script_app};
 
 use crate::Schedule;
 use crate::subcommands::script_command;
@@ -32,6 +32,8 @@ pub enum Job {
         stores: u64,
         /// How many entries each has room for, in `[1, 1024]`.
         capacity: u64,
+        /// Whether a store's history ends there.
+        fixed: bool,
     },
     /// Answers each line of the standard input before it reads more.
     Serve,
@@ -127,17 +129,30 @@ fn stores_in(found: &ArgMatches<'_>) -> Option<u64>
     }
 }
 
+/// Whether the stores' histories are to end.
+fn is_fixed(found: &ArgMatches<'_>) -> bool
+    ensures { IsFixedOf (one_text (found_of found.now) (codes "fixed")) result }
+{
+    found.get_one::<bool>("fixed").unwrap_or(false)
+}
+
 /// The calls over so many stores that were found.
 fn coordinate_in(found: &ArgMatches<'_>) -> Option<Job>
     ensures some { IfSome result
-        (λ job. IsCoordinateOf (one_text (found_of found.now) (codes "stores")) (one_text (found_of found.now) (codes "capacity")) job) }
+        (λ job. IsCoordinateOf (one_text (found_of found.now) (codes "stores")) (one_text (found_of found.now) (codes "capacity"))
+        (one_text (found_of found.now) (codes "fixed")) job) }
     ensures none { result ≡ None
         → (job : Job)
-        → IsCoordinateOf (one_text (found_of found.now) (codes "stores")) (one_text (found_of found.now) (codes "capacity")) job
+        → IsCoordinateOf (one_text (found_of found.now) (codes "stores")) (one_text (found_of found.now) (codes "capacity"))
+        (one_text (found_of found.now) (codes "fixed")) job
         → ⊥ }
 {
     match (stores_in(found), capacity_in(found)) {
-        (Some(stores), Some(capacity)) => Some(Job::Coordinate { stores, capacity }),
+        (Some(stores), Some(capacity)) => Some(Job::Coordinate {
+            stores,
+            capacity,
+            fixed: is_fixed(found),
+        }),
         _ => None,
     }
 }

@@ -17,7 +17,9 @@ use std::io::{BufWriter, Printer, Read, Write};
 use std::sync::Wait;
 use std::thread::Threads;
 use xa_lines::{ScriptFault, Transport, run_script, serve_statements, show_statements};
-use xa_manager::{CallServer, converse, manager_over, open_stores};
+use xa_manager::{
+    BesideServer, CallServer, converse, converse_lasting, lasting_manager, manager_over, open_stores,
+};
 
 /// The standard output, which gathers what is written.
 pub type Output<'r, R> = BufWriter<Spoken<'r, Printer<'r, R>, R>>;
@@ -113,8 +115,29 @@ pub fn explore<I: Read + Drop, W: Write + Drop, R: Alloc<A = Global>>(
     flushed(&mut output, done)
 }
 
-/// Carries the calls out; where it speaks, the standard error says what a call out of turn wants.
+/// Carries the calls out over stores that are never full; where it speaks, the standard error says what a call out of turn wants.
 pub fn coordinate<I: Read + Drop, W: Write + Drop, R: Eprint + Alloc<A = Global> + Wait>(
+    rt: &R,
+    input: &mut Watch<'_, I, R>,
+    output: BufWriter<W>,
+    speaks: bool,
+    stores: u64,
+) -> Result<u8, ScriptFault>
+    requires { IsStoreCount stores }
+{
+    let mut transport = Transport::new(input, output);
+    if !speaks {
+        return converse_lasting(rt, rt.alloc(), &mut transport, stores).and(Ok(DONE));
+    }
+    let manager = lasting_manager(rt.alloc(), stores)?;
+    let mut server = Advised::new(rt, BesideServer::new(rt, manager));
+    xa_lines::serve(rt.alloc(), &mut server, &mut transport)?;
+    server.looked()?;
+    Ok(DONE)
+}
+
+/// Does so over stores whose histories have room for so many entries, and no more.
+pub fn coordinate_fixed<I: Read + Drop, W: Write + Drop, R: Eprint + Alloc<A = Global> + Wait>(
     rt: &R,
     input: &mut Watch<'_, I, R>,
     output: BufWriter<W>,

@@ -217,8 +217,15 @@ fn carry_out_job<
             schedule,
             renews,
         } => jobs::race(rt, input, output, capacity, schedule, renews),
-        Job::Coordinate { stores, capacity } => {
-            jobs::coordinate(rt, input, output, speaks, stores, capacity)
+        Job::Coordinate {
+            stores,
+            capacity,
+            fixed,
+        } => {
+            if fixed {
+                return jobs::coordinate_fixed(rt, input, output, speaks, stores, capacity);
+            }
+            jobs::coordinate(rt, input, output, speaks, stores)
         }
         Job::Serve => jobs::serve(rt, input, output),
         Job::Show => jobs::show(rt, input, output),

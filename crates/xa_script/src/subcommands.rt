@@ -2,7 +2,7 @@
 ghost use Rattle.std.specs.Prelude.{◌≡◌, false, IfOk, codes};
 ghost use Rattle.clap.specs.Words.{app_of, new_app, rule_of, with_subcommand};
 ghost use Rattle.xa_script.specs.CommandLine.{bare_app, plain_app, race_app, coordinate_app, judge_app, explore_app, IsLocal, capacity_rule, together_rule, shuffle_rule};
-ghost use Rattle.xa_script.specs.CommandLine.{renew_rule, stores_rule, limit_rule, number_rule, flag_rule, file_rule, common_app, script_app};
+ghost use Rattle.xa_script.specs.CommandLine.{renew_rule, fixed_rule, stores_rule, limit_rule, number_rule, flag_rule, file_rule, common_app, script_app};
 
 use crate::help::{CALLS, EXPLORED, LINES, RACED, RECORDS, SHOWN, VERSION};
 use clap::builder::ValueParser;
@@ -93,6 +93,15 @@ fn stores_option<'a>(alloc: Global) -> Arg<'a>
     number_option(alloc, "stores", "How many stores there are", parser, "3")
 }
 
+/// The option by which the stores' histories end.
+fn fixed_option<'a>(alloc: Global) -> Arg<'a>
+    ensures rule { rule_of result ≡ fixed_rule }
+    ensures global { result.global ≡ false }
+{
+    let help = "Keeps each store's history, and answers log full where it has N entries";
+    flag_option(alloc, "fixed", help)
+}
+
 /// The option that says how many configurations, or ways, may be kept.
 fn limit_option<'a>(alloc: Global, help: &'a str) -> Arg<'a>
     ensures rule { rule_of result ≡ limit_rule }
@@ -158,7 +167,8 @@ fn coordinate_command<'a>(alloc: Global) -> Result<Command<'a>, AllocError>
     let about = "Carries the calls out, by a coordinator over stores of its own";
     plain_command(alloc, "coordinate", about, CALLS)
         .arg(stores_option(alloc))?
-        .arg(capacity_option(alloc))
+        .arg(capacity_option(alloc))?
+        .arg(fixed_option(alloc))
 }
 
 /// The subcommand that judges a record.
