@@ -12,8 +12,9 @@ pub mod records;
 pub mod script;
 
 pub use xa_coordinator::{
-    BeginFault, Beside, Cause, Closed, Closing, Coordinator, Decision, Decisions, Ending, FORMAT_ID, Fused,
-    Prepared, RecoverFault, Report, Speak, Transaction, Vote, VoteKind, WorkFault, xid_of_branch,
+    BeginFault, Beside, Cause, Closed, Closing, Coordinator, Decision, Decisions, Ending,
+    FORMAT_ID, Fused, Prepared, RecoverFault, Report, Speak, Transaction, Vote, VoteKind,
+    WorkFault, xid_of_branch,
 };
 pub use xa_lasting::LastingStore;
 pub use xa_server::{

@@ -123,22 +123,22 @@ module _ (session : ℕ) (statement : Statement) (answer : Answer) (base old new
   served stands =
       either (IsAnswered base statement answer before (known_by session watch' history'))
       (λ is e.
-        let last : Known = known_from session (history ++ entry ∷ []) (entries_of session history ++ entry ∷ []) (watch.looks + 1) in
-        let same : known_by session watch' history' ≡ last =
-        known_same session _ _ _ _ _ _ (whole_taken watch'.seen history' serves.whole ∙ e.0)
-        (ap (entries_of session) e.0 ∙ own_last session history entry refl) serves.looked in
-        let added : IsAdded entry mid last = record {
-          number = refl;
-          seen = refl;
-          mine = refl;
-          looks = omega arith;
-          tries = length-append (entries_of session history) (entry ∷ []);
-        } in
-        subst (IsAnswered base statement answer before) (sym same) (answered_entered base statement answer before mid last looked (is_reply true stands is) added))
+      let last : Known = known_from session (history ++ entry ∷ []) (entries_of session history ++ entry ∷ []) (watch.looks + 1) in
+      let same : known_by session watch' history' ≡ last =
+      known_same session _ _ _ _ _ _ (whole_taken watch'.seen history' serves.whole ∙ e.0)
+      (ap (entries_of session) e.0 ∙ own_last session history entry refl) serves.looked in
+      let added : IsAdded entry mid last = record {
+        number = refl;
+        seen = refl;
+        mine = refl;
+        looks = omega arith;
+        tries = length-append (entries_of session history) (entry ∷ []);
+      } in
+      subst (IsAnswered base statement answer before) (sym same) (answered_entered base statement answer before mid last looked (is_reply true stands is) added))
       (λ is e.
-        let same : known_by session watch' history' ≡ mid =
-        known_same session _ _ _ _ _ _ (whole_taken watch'.seen history' serves.whole ∙ e.0) (ap (entries_of session) e.0) serves.looked in
-        subst (IsAnswered base statement answer before) (sym same) (answered_outside base statement answer before mid looked (is_reply false stands is)))
+      let same : known_by session watch' history' ≡ mid =
+      known_same session _ _ _ _ _ _ (whole_taken watch'.seen history' serves.whole ∙ e.0) (ap (entries_of session) e.0) serves.looked in
+      subst (IsAnswered base statement answer before) (sym same) (answered_outside base statement answer before mid looked (is_reply false stands is)))
 
 -- however serving ends, the server is what the history leaves, and both sessions have seen their own entries
 pub after_serving : (session other : ℕ) (statement : Statement) (result : Result Answer Fault) (base old new : State) (history history' : List Entry)

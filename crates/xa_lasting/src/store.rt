@@ -17,7 +17,7 @@ use xa_xid::{SessionNo, Statement};
 /// A store for one thread, with two sessions that it holds itself: its own, of number 1, and another client's, of number 2.
 ///
 /// It is renewed with each entry: it keeps the state that its history leaves, and of the history itself only its length. So the
-/// history can have 2 ^ 64 - 1 entries, and the store takes memory for its branches and rows alone. A contract sees the whole history.
+/// history can have 2 ^ 63 - 1 entries, and the store takes memory for its branches and rows alone. A contract sees the whole history.
 #[derive(Drop)]
 pub struct LastingStore {
     pub(crate) first: Snapshot<Server>,

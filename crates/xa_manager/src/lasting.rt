@@ -61,12 +61,11 @@ pub fn lasting_manager(
 /// Errors: those of `converse`.
 /// May wait, for the client too.
 /// Own rule: docs/COORDINATOR.md, 'At the command line'.
-pub fn converse_lasting<'a, R: Wait, P: Client<BesideServer<'a, Fused<LastingStore>, LastingStore, R>>>(
-    rt: &'a R,
-    alloc: Global,
-    client: &mut P,
-    count: u64,
-) -> Result<(), ScriptFault>
+pub fn converse_lasting<
+    'a,
+    R: Wait,
+    P: Client<BesideServer<'a, Fused<LastingStore>, LastingStore, R>>,
+>(rt: &'a R, alloc: Global, client: &mut P, count: u64) -> Result<(), ScriptFault>
     requires some { 1 ≤ count }
     requires most { count ≤ 16 }
     requires fresh { IfSome (P.exchange client.old) IsFresh }

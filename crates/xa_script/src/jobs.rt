@@ -18,7 +18,8 @@ use std::sync::Wait;
 use std::thread::Threads;
 use xa_lines::{ScriptFault, Transport, run_script, serve_statements, show_statements};
 use xa_manager::{
-    BesideServer, CallServer, converse, converse_lasting, lasting_manager, manager_over, open_stores,
+    BesideServer, CallServer, converse, converse_lasting, lasting_manager, manager_over,
+    open_stores,
 };
 
 /// The standard output, which gathers what is written.
