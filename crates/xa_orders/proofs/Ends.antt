@@ -1,5 +1,5 @@
 -- Outcomes of ways, each once.
-use Rattle.std.proofs.Common.{◌≡◌, ◌≢◌, ◌⊎◌, ℕ, ◌+◌, ◌<◌, ◌≤◌, List, [], ◌∷◌, ◌++◌, length, take, drop, get_or, refl, sym, ap, ◌∙◌, subst, inl, inr, append_assoc, append-nil, arith}
+use Rattle.std.proofs.Common.{◌≡◌, ◌≢◌, ℕ, ◌+◌, ◌<◌, ◌≤◌, List, [], ◌∷◌, ◌++◌, length, take, drop, get_or, sym, ap, ◌∙◌, subst, inl, inr, append_assoc}
 use Rattle.std.specs.List.{All, concat}
 use Rattle.std.proofs.lemmas.List.{take_more, drop_more, drop_all}
 use Rattle.std.proofs.lemmas.List.Elements.{All-nil, All-push, All-weaker}
@@ -8,7 +8,7 @@ use Rattle.xa_lines.specs.Transcript.{answer_to, state_then}
 use Rattle.xa_statement.specs.Reading.{read_of}
 use Rattle.xa_orders.specs.declared.way.Way.{Way}
 use Rattle.xa_orders.specs.declared.outcome.Outcome.{Outcome}
-use Rattle.xa_orders.specs.Orders.{Told, Parts, Config, told_text, told_state, base_of, Gives, Precedes, AtMost, Pairwise, Any, IsAscending, IsExplored}
+use Rattle.xa_orders.specs.Orders.{Told, Parts, Config, told_text, told_state, base_of, Gives, Precedes, AtMost, Any, IsAscending, IsExplored}
 use Rattle.xa_orders.specs.Found.{config_of, order_of, IsReached, IsLevel, AllPrecede}
 use Rattle.xa_orders.specs.Ends.{text_from, IsOutcomeAdded, AreOutcomes}
 use Rattle.xa_orders.proofs.Lists.{any_left, any_push, any_weaker, any_with, any_both, pairwise_push, pairwise_front, at_most_trans}

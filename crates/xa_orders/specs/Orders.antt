@@ -8,7 +8,7 @@
 --     Pairwise, Any        so it is with each two of a list, the first before the second;  with one of a list
 --     IsAscending          orders ascend
 --     IsExplored           these are all outcomes, each once, with its least order, in the order of these
-use Rattle.std.specs.Prelude.{◌≡◌, ◌≢◌, ◌⊎◌, ℕ, ◌<◌, ◌≤◌, Bool, ◌==◌, ◌&&◌, Option, Some, None, List, [], ◌∷◌, ◌++◌, length, replicate, position, slice_get, slice_set}
+use Rattle.std.specs.Prelude.{◌≡◌, ◌≢◌, ◌⊎◌, ℕ, ◌<◌, ◌≤◌, Bool, ◌==◌, ◌&&◌, Option, Some, List, [], ◌∷◌, ◌++◌, length, replicate, position, slice_get, slice_set}
 use Rattle.std.specs.List.{All, zip, concat}
 use Rattle.std.specs.Option.{option_map, option_map_or}
 use Rattle.xa_server.specs.State.{State, no_state}

@@ -1,4 +1,4 @@
-use Rattle.std.proofs.Common.{◌++◌, ◌∙◌, [], sym, ap, append-nil}
+use Rattle.std.proofs.Common.{◌++◌, ◌∙◌, sym, ap, append-nil}
 use Rattle.xa_orders.specs.Orders.{told_text, told_state}
 use Rattle.xa_orders.proofs.Ends.{told_step, told_state_step, told_text-end, told_state-end}
 use Rattle.xa_orders.proofs.outcomes.push_told.Goals as goal

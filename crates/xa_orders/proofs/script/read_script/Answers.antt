@@ -1,4 +1,4 @@
-use Rattle.std.proofs.Common.{◌+◌, ap, sym, ◌∙◌, arith, refl}
+use Rattle.std.proofs.Common.{◌+◌, ap, sym, ◌∙◌, arith}
 use Rattle.xa_lines.specs.Script.{lines_of}
 use Rattle.xa_orders.specs.Scripts.{Reading, script_read, read_lines}
 use Rattle.xa_orders.specs.Kept.{read_kept}
