@@ -9,7 +9,8 @@
  *   2. `text` leads to `length` bytes, and `xids` to room for `room` identifiers;
  *   3. a handle begins as NIGBARU_EMPTY, and nothing but a call of this header changes it;
  *   4. a handle is never copied: it is passed by its address, and stays where it is or is moved while no call has it;
- *   5. what a call writes to, as an answer, isn't touched by another thread until the call has returned;
+ *   5. what a call writes to, as an answer, isn't touched by another thread until the call has returned, nor does it overlap
+ *      what else the call is given; store and session are two handles;
  *   6. no call comes from a signal handler, or from the child of a fork of a process with threads;
  *   7. malloc, realloc and free are one allocator's, and align a block to 16;
  *   8. a handle that isn't emptied by nigbaru_leave or nigbaru_close keeps its memory;
@@ -152,7 +153,8 @@ static inline uint32_t nigbaru_run(nigbaru_session *session, const char *text, s
     return status;
 }
 
-/* Lets a session go: what it added stays, and its open branch, with its locks. NO_POINTER, BUSY, NO_HANDLE. */
+/* Lets a session go: what it added stays, and its open branch, with its locks. Its number is had again from the next store
+ * alone. NO_POINTER, BUSY, NO_HANDLE. */
 static inline uint32_t nigbaru_leave(nigbaru_session *session) {
     uint32_t status;
     if (session == NULL) return NIGBARU_NO_POINTER;
@@ -163,7 +165,9 @@ static inline uint32_t nigbaru_leave(nigbaru_session *session) {
 }
 
 /* From a session that has seen a full history: a store that begins with what that history leaves, and an empty history of the
- * same capacity. Open branches go on in it, each with the session of its number. The old session stays as it is.
+ * same capacity. Open branches go on in it, each with the session of its number. Sessions of the old store stay, and answer
+ * from the old history: whoever renews makes the new store known to them before anything is added to it, and of several
+ * renewals of one history one is kept. drivers/c/nigbaru_shared.c does both.
  * NO_POINTER, BUSY, NO_HANDLE (nothing is held), HELD, NO_HANDLE (a store is), NOT_FULL, NO_MEMORY. */
 static inline uint32_t nigbaru_renew(nigbaru_session *session, nigbaru_store *store) {
     uint32_t status;

@@ -4,7 +4,8 @@
 --     Opened           the same, of what a handle holds
 --     IsTaken          a session, and the store that it was taken out of
 --     Takes            the same, of what handles hold
---     Keeps            the store stays, with its passes
+--     Keeps            the store stays
+--     KeepsAll         the store stays, and the passes that weren't taken
 --     Follows, Renews  the store that follows a full history
 --     Same, SameIn     the session knows what it knew
 --     Shows            an entry of what a session has seen
@@ -62,6 +63,12 @@ abbrev pub Keeps : Option Stand → Option Stand → Type 0
 Keeps None None = Unit {0}
 Keeps (Some old) (Some new) = new.store.value ≡ old.store.value
 Keeps old new = ⊥
+
+-- the store stays, and the passes that weren't taken
+abbrev pub KeepsAll : Option Stand → Option Stand → Type 0
+KeepsAll None None = Unit {0}
+KeepsAll (Some old) (Some new) = (new.store.value ≡ old.store.value) × (new.passes.items ≡ old.passes.items)
+KeepsAll old new = ⊥
 
 -- the history was full, and the store begins with what it leaves
 pub record Follows (old : Seat) (stand : Stand) : Type 0 where

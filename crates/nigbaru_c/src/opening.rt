@@ -1,8 +1,8 @@
 //! Stores and sessions that C opens and lets go.
-ghost use Rattle.std.specs.Prelude.{◌≡◌, ◌≢◌, ◌↔◌, ◌≤◌, Some, None, IsTrue, IfOk, IfErr};
+ghost use Rattle.std.specs.Prelude.{◌≡◌, ◌≢◌, ◌↔◌, ◌≤◌, Some, None, IsTrue, IfOk, IfErr, OnErr};
 ghost use Rattle.decision_log.specs.Opens.{IsCapacity, IsCount};
 ghost use Rattle.nigbaru_c.specs.Outcome.{seat_in, seat_of};
-ghost use Rattle.nigbaru_c.specs.Stands.{stand_in, stand_of, Opened, Takes, IsTaken, Keeps, Renews, SameIn, Follows};
+ghost use Rattle.nigbaru_c.specs.Stands.{stand_in, stand_of, Opened, Takes, IsTaken, Keeps, KeepsAll, Renews, SameIn, Follows};
 
 use crate::{Chair, Handle, Hold, Seat, Stand, status};
 use decision_log::OpenFault;
@@ -65,6 +65,7 @@ impl Chair {
         ensures ok { IfOk result (λ seat. Takes number (stand_in self.old.hold) (stand_in self.new.hold) (Some seat)) }
         ensures err { IfErr result (λ status. 5 ≤ status) }
         ensures stays { Keeps (stand_in self.old.hold) (stand_in self.new.hold) }
+        ensures back { OnErr result (KeepsAll (stand_in self.old.hold) (stand_in self.new.hold)) }
     {
         match self.hold.take() {
             Some(Hold::Store(stand)) => {
@@ -76,6 +77,27 @@ impl Chair {
                 self.hold = other;
                 Err(status::NO_HANDLE)
             }
+        }
+    }
+
+    /// Has an empty handle hold the session of a number. The room for it is had first, so that no pass is taken in vain.
+    fn seat(&mut self, alloc: Global, number: u64, session: &mut Handle) -> u32
+        requires { session.old.held ≡ None }
+        ensures ok { result ≡ 0 → Takes number (stand_in self.old.hold) (stand_in self.new.hold) (seat_of session.new.held) }
+        ensures err { result ≢ 0 → session.new.held ≡ None }
+        ensures stays { Keeps (stand_in self.old.hold) (stand_in self.new.hold) }
+        ensures back { result ≢ 0 → KeepsAll (stand_in self.old.hold) (stand_in self.new.hold) }
+    {
+        let Ok(mut chair) = Box::new(alloc, Chair { hold: None }) else {
+            return status::NO_MEMORY;
+        };
+        match self.take(number) {
+            Ok(seat) => {
+                chair.hold = Some(Hold::Session(seat));
+                session.fill(chair);
+                status::OK
+            }
+            Err(status) => status,
         }
     }
 
@@ -110,15 +132,13 @@ pub extern "C" fn nigbaru_raw_take(
     ensures ok { result ≡ 0 → (session.old.held ≡ None) × Takes number (stand_of store.old.held) (stand_of store.new.held) (seat_of session.new.held) }
     ensures err { result ≢ 0 → session.new.held ≡ session.old.held }
     ensures stays { Keeps (stand_of store.old.held) (stand_of store.new.held) }
+    ensures back { result ≢ 0 → KeepsAll (stand_of store.old.held) (stand_of store.new.held) }
 {
     let Some(mut chair) = store.empty(alloc) else {
         return status::NO_HANDLE;
     };
     let answer = if is_free(alloc, session) {
-        match chair.take(number) {
-            Ok(seat) => lodge(alloc, session, Hold::Session(seat)),
-            Err(status) => status,
-        }
+        chair.seat(alloc, number, session)
     } else {
         status::HELD
     };

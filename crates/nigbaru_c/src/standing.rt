@@ -1,5 +1,5 @@
 //! Stores, and the sessions that are taken out of them.
-ghost use Rattle.std.specs.Prelude.{◌≡◌, ◌≤◌, ◌+◌, ℕ, map, Option, Some, None, IfOk, IfErr, slice_get, slice_set};
+ghost use Rattle.std.specs.Prelude.{◌≡◌, ◌≤◌, ◌+◌, ℕ, map, Option, Some, None, IfOk, IfErr, OnErr, slice_get, slice_set};
 ghost use Rattle.std.specs.List.{All};
 ghost use Rattle.decision_log.specs.Opens.{Refuses};
 ghost use Rattle.xa_server.specs.State.{no_state};
@@ -76,6 +76,7 @@ impl Stand {
         ensures ok { IfOk result.1 (λ seat. IsTaken (place + 1) seat self result.0) }
         ensures err { IfErr result.1 (λ status. 5 ≤ status) }
         ensures store { result.0.store.value ≡ self.store.value }
+        ensures back { OnErr result.1 (result.0.passes.items ≡ self.passes.items) }
     {
         let Stand { store, mut passes } = self;
         if place >= passes.len() {
@@ -98,6 +99,7 @@ impl Stand {
         ensures ok { IfOk result.1 (λ seat. IsTaken number seat self result.0) }
         ensures err { IfErr result.1 (λ status. 5 ≤ status) }
         ensures store { result.0.store.value ≡ self.store.value }
+        ensures back { OnErr result.1 (result.0.passes.items ≡ self.passes.items) }
     {
         if number == 0 {
             return (self, Err(status::OUT_OF_RANGE));
