@@ -113,7 +113,13 @@ impl LineKind {
         match self {
             LineKind::Statement => script_fault(line),
             LineKind::Shown => { if silent { None } else { script_fault(line) } }
-            LineKind::Explored => { if silent || parts(line) { None } else { script_fault(line) } }
+            LineKind::Explored => {
+                if silent || parts(line) {
+                    None
+                } else {
+                    script_fault(line)
+                }
+            }
             LineKind::Call => match read_call(line) {
                 Call::Unread(_) => Some(call_fault(line)),
                 _ => None,

@@ -186,7 +186,8 @@ fn explore_command<'a>(alloc: Global) -> Result<Command<'a>, AllocError>
     ensures app { IfOk result (λ command. app_of command ≡ explore_app) }
     ensures local { IfOk result IsLocal }
 {
-    let about = "Carries the script out in every order of its sessions, and lists each outcome once";
+    let about =
+        "Carries the script out in every order of its sessions, and lists each outcome once";
     let help = "How many ways may be kept at once";
     plain_command(alloc, "explore", about, EXPLORED).arg(limit_option(alloc, help))
 }
