@@ -216,4 +216,5 @@ class Limits(Case):
             self.assertEqual(gateway.process.wait(20), 0)
             self.assertTrue(client.is_closed())
             self.assertEqual([pid for pid in stores if Path(f"/proc/{pid}").exists()], [])
-            self.assertEqual(gateway.verdicts(), ["LEGAL", "LEGAL"])
+            # nobody asked the second store anything
+            self.assertEqual(gateway.verdicts(), ["LEGAL", "EMPTY"])

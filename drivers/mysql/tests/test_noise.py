@@ -29,7 +29,8 @@ class Noise(Case):
                 client.socket.shutdown(1)
                 self.assertTrue(client.is_closed())
             self.alive()
-        self.assertEqual(self.gate.verdicts(), ["LEGAL"])
+        # nobody has logged in but the witness, which asks the store nothing
+        self.assertEqual(self.gate.verdicts(), ["EMPTY"])
 
     def test_one_long_noise(self):
         draw = random.Random(4)
