@@ -121,7 +121,7 @@ impl Seat {
             replica,
         } = self;
         let next = if store.has_seen_all(&pass) {
-            match store.following(alloc, &mut pass) {
+            match store.following_replica(alloc, &mut pass, &replica) {
                 Ok((next, passes)) => {
                     Stand::of(alloc, next, passes).map_err(|_| status::NO_MEMORY)
                 }

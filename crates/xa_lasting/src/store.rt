@@ -56,6 +56,16 @@ impl LastingStore {
         }
     }
 
+    /// The state that the history leaves.
+    ///
+    /// Takes no memory. Doesn't wait.
+    /// Own rule: docs/COORDINATOR.md, 'Stores that last'.
+    pub fn server(&self) -> &Server
+        ensures { result.now ≡ state_after self.now.first.value (history_of self.now) }
+    {
+        &self.server
+    }
+
     /// Answers a statement of the other client's session, number 2, as `execute` does one of the store's own.
     ///
     /// Error: `NoMemory`. Nothing has changed then.

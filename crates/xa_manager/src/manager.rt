@@ -72,3 +72,15 @@ impl<C: Speak, T: Speak> Manager<C, T> {
         &self.decisions
     }
 }
+
+impl<C: Speak, T: Speak + Drop> Manager<C, T> {
+    /// The coordinator's sessions back. Nothing is said to the stores.
+    ///
+    /// Takes no memory. Doesn't wait.
+    pub fn into_sessions(self) -> Vec<C>
+        ensures { result ≡ self.coordinator.stores }
+    {
+        let Manager { coordinator, .. } = self;
+        coordinator.stop()
+    }
+}

@@ -20,6 +20,26 @@ pub struct Replica {
 }
 
 impl Replica {
+    /// The server that the replayed entries leave.
+    ///
+    /// Takes no memory. Doesn't wait.
+    /// Own rule: docs/BEHAVIOR.md, 'Sessions'.
+    pub fn server(&self) -> &Server
+        ensures { result.now ≡ self.now.server }
+    {
+        &self.server
+    }
+
+    /// How many entries were replayed.
+    ///
+    /// Takes no memory. Doesn't wait.
+    /// Own rule: docs/BEHAVIOR.md, 'Sessions'.
+    pub fn replayed(&self) -> u64
+        ensures { result ≡ self.now.replayed }
+    {
+        self.replayed
+    }
+
     /// The replica that has replayed nothing.
     ///
     /// May answer `NoMemory`.

@@ -56,4 +56,34 @@ impl Store {
     {
         self.onward(alloc, full)
     }
+    /// The same store, of a pass and of a replica as `Session::pause` gives both: a replica that has replayed that history is copied, and
+    /// nothing is replayed again.
+    ///
+    /// Errors: `NoMemory`.
+    ///
+    /// May answer `NoMemory`. Doesn't wait. Takes time for the rows, and for the history where the replica lags behind it.
+    /// Own rule: docs/BEHAVIOR.md, 'Stores'.
+    pub fn following_replica(
+        &self,
+        alloc: Global,
+        full: &mut Pass,
+        replica: &Replica,
+    ) -> Result<(Store, Vec<Pass>), NoMemory>
+        requires belongs { log_of full.old ≡ identity_of self.now.log }
+        requires full { length (known_of full.old).seen ≡ (identity_of self.now.log).capacity }
+        requires stands { Stands self.now.base (known_of full.old).seen replica.now }
+        ensures belongs { log_of full.new ≡ log_of full.old }
+        ensures same { known_of full.new ≡ known_of full.old }
+        ensures base { IfOk result (λ opened. opened.0.base ≡ state_after self.now.base (known_of full.old).seen) }
+        ensures ok { IfOk result
+            (λ opened. Opens log_of known_of (identity_of self.now.log).capacity (identity_of self.now.log).sessions (identity_of opened.0.log)
+            opened.1.items) }
+    {
+        if replica.replayed() == self.log.length(full) {
+            let base = replica.server().copy()?;
+            self.reopened(alloc, base)
+        } else {
+            self.onward(alloc, full)
+        }
+    }
 }
