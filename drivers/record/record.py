@@ -1,7 +1,7 @@
 #!/usr/bin/python3
 """Runs the sessions of a script against a MySQL or MariaDB server at the same time, and writes what they saw as a record.
 
-    record.py --socket PATH [--user NAME] [--password WORD] [--database NAME] [--in-turn | --pauses SEED] [--first N] [--lose S:N ..] [--cut S:N ..] SCRIPT > RECORD
+    record.py --socket PATH [--user NAME] [--password WORD] [--database NAME] [--in-turn | --pauses SEED] [--first N] [--timeout SECONDS] [--lose S:N ..] [--cut S:N ..] SCRIPT > RECORD
 
 Each session of the script has a thread and a connection of its own. All begin together, and each gives its statements in order, as fast as they are
 answered. The lines of the record stand in the order in which they were seen (docs/JUDGE.md). README.md, beside this file, says how rows are kept, and what is
@@ -34,6 +34,8 @@ PAIR = re.compile(r"(\d+):(\d+)")
 BLANKS = b" \t\r\n"
 # a lock that wasn't there at once: ER_LOCK_WAIT_TIMEOUT, which MariaDB gives, and ER_LOCK_NOWAIT, which MySQL gives
 NO_LOCK = (1205, 3572)
+# the connection was closed by the server: CR_SERVER_GONE_ERROR, CR_SERVER_LOST, ER_CONNECTION_KILLED; 0 where it was closed before
+GONE = (2006, 2013, 1927, 0)
 # XA_RBROLLBACK: the branch was rolled back
 ROLLED_BACK = 1402
 # the longest a pause lasts, and the longest that the server's end of a connection is waited for, in seconds
@@ -129,6 +131,7 @@ class Session:
         self.given += 1
         self.cutting = self.given == self.options.cut.get(self.number)
         self.record.add(b"%d > %s" % (self.number, statement))
+        begun = time.monotonic()
         try:
             answer = self.answer(statement)
         except Cut:
@@ -136,17 +139,23 @@ class Session:
             return
         except pymysql.MySQLError as error:
             number = error.args[0] if error.args else 0
-            if not isinstance(number, int) or number in (0, 2006, 2013):
+            if number in GONE:
+                self.lose(b"GONE")
+                return
+            if not isinstance(number, int):
                 self.lose()
                 return
             answer = [b"ERROR %d %s" % (number, said(error).encode("latin1", "replace"))]
-        self.record.add(b"%d < %s" % (self.number, answer[0]), *answer[1:])
+        if self.options.timeout is not None and time.monotonic() - begun > self.options.timeout:
+            self.record.add(b"%d ? ERROR no answer within %g seconds" % (self.number, self.options.timeout))
+        else:
+            self.record.add(b"%d < %s" % (self.number, answer[0]), *answer[1:])
         if self.given == self.options.lose.get(self.number):
             self.lose()
 
-    def lose(self):
-        """Records that the client is gone, and only then breaks the connection, if it is open yet."""
-        self.record.add(b"%d ! LOST" % self.number)
+    def lose(self, how=b"LOST"):
+        """Records that the client is gone, or found its connection closed, and only then breaks the connection, if it is open yet."""
+        self.record.add(b"%d ! %s" % (self.number, how))
         self.lost = True
         if self.connection is not None:
             self.connection._force_close()
@@ -406,6 +415,13 @@ def count_of(word):
     return int(word)
 
 
+def seconds_of(word):
+    """A time on the command line."""
+    if not re.fullmatch(r"[0-9]{1,6}(\.[0-9]{1,6})?", word):
+        raise argparse.ArgumentTypeError(f"not seconds: {word!r}")
+    return float(word)
+
+
 def main():
     parser = argparse.ArgumentParser(prog="record.py", description=__doc__.split("\n")[0])
     parser.add_argument("--socket", required=True, metavar="PATH", help="the server's socket")
@@ -416,6 +432,7 @@ def main():
     manner.add_argument("--in-turn", action="store_true", help="give the statements in the script's order, each once the one before it has returned")
     parser.add_argument("--first", type=count_of, default=0, metavar="N", help="give the script's first N statements in turn, before the sessions begin together")
     manner.add_argument("--pauses", type=int, metavar="SEED", help="have each session pause before each statement, for 0 to 4 ms, by a generator of this seed")
+    parser.add_argument("--timeout", type=seconds_of, metavar="SECONDS", help="an answer that comes later isn't looked at; the session goes on")
     parser.add_argument("--lose", action="append", default=[], metavar="S:N", help="cut session S off once its Nth statement has returned")
     parser.add_argument("--cut", action="append", default=[], metavar="S:N", help="cut session S off once its Nth statement is sent, without its answer")
     parser.add_argument("script", metavar="SCRIPT", help="lines of a session, 1 to 16, and a statement; # begins a remark")

@@ -2,7 +2,8 @@
 use anyhow::{Context, Result};
 use std::alloc::Global;
 use std::time::{Clock, Instant};
-use xa_record::{Outcome, judge_text};
+use xa_judge::Silent;
+use xa_record::{Asked, Form, Outcome, judge_text};
 
 /// Eight sessions, two of which have open calls at a time.
 const PAIRS: &[u8] = b"1 > PUT 'k','v'\n2 > GET 'k'\n2 < VALUE 'v'\n1 < OK\n\
@@ -60,7 +61,12 @@ pub fn microseconds<R: Clock + Alloc<A = Global>>(
         text.extend_from_slice(piece.text())?;
     }
     let begun = Instant::now(rt)?;
-    let judged = judge_text(rt.alloc(), text.as_slice(), LIMIT)?;
+    let asked = Asked {
+        limit: LIMIT,
+        form: Form::Plain,
+        explains: false,
+    };
+    let judged = judge_text(rt.alloc(), text.as_slice(), &[], asked, &mut Silent)?;
     let taken = begun.elapsed(rt)?.as_micros();
     let is_legal = judged.outcome == Outcome::Legal;
     is_legal

@@ -3,5 +3,7 @@ pub mod Waits
 pub mod Growth
 pub mod Settling
 pub mod Loops
+pub mod Spreading
 pub mod Advances
 pub mod Verdicts
+pub mod Steps

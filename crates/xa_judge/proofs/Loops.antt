@@ -159,7 +159,7 @@ answers_more known place session one old new within at added before k other answ
     kept (Some Left) same has = subst (λ l. Contains l answer) (sym same) has
 
 -- a list stays closed as it grows, and is at one place more
-pub closed_more : (place returning : ℕ) (old new : List Configuration) → place < length old → IsClosedBelow place returning old → Grows old new
+pub closed_more : (place : ℕ) (returning : Option ℕ) (old new : List Configuration) → place < length old → IsClosedBelow place returning old → Grows old new
     → ((one : Configuration) → slice_get old place ≡ Some one → IsExpandedBelow 17 one returning new)
     → IsClosedBelow (place + 1) returning new
 closed_more place returning old new within before grows here k one below found =
@@ -202,9 +202,9 @@ effects_added old mid new place session first second has then one Statement conf
 effects_added old mid new place session first second has then one Disconnect config at leads = then one config (still_there old mid place one first at) leads
 
 -- what acts of the sessions up to this one lead to is there
-pub others_more : (old now new : List Configuration) (place number returning : ℕ) (one : Configuration) → Grows old now → Grows now new
+pub others_more : (old now new : List Configuration) (place number : ℕ) (returning : Option ℕ) (one : Configuration) → Grows old now → Grows now new
     → slice_get old place ≡ Some one → IsExpandedBelow number one returning now
-    → ((other : Configuration) (act : Act) (config : Config) → slice_get now place ≡ Some other → IsSession number → number ≢ returning
+    → ((other : Configuration) (act : Act) (config : Config) → slice_get now place ≡ Some other → IsSession number → returning ≢ Some number
     → effect_of (config_of other) number act ≡ Some config → Has new config)
     → IsExpandedBelow (number + 1) one returning new
 others_more old now new place number returning one first second at before here session act config below is apart unanswered leads =
@@ -212,6 +212,6 @@ others_more old now new place number returning one first second at before here s
       | inl less ↦ has_still now new config second (before session act config less is apart unanswered leads)
       | inr more ↦
           let same : session ≡ number = omega arith in
-          here one act config (still_there old now place one first at) (subst IsSession same is) (λ e. apart (same ∙ e))
+          here one act config (still_there old now place one first at) (subst IsSession same is) (λ e. apart (e ∙ ap Some (sym same)))
           (ap (λ n. effect_of (config_of one) n act) (sym same) ∙ leads)
     ]

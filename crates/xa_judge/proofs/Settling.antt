@@ -133,19 +133,23 @@ settles_own list session act seen more old mid new moves has at runs = elim (own
   | inr none ↦ absurd (dead mid new session seen more moves none runs)
 ]
 
+-- numbers that differ
+apart_some : (m n : ℕ) → m ≢ n → Some n ≢ Some m
+apart_some m n apart e = apart (sym (same_Some n m e))
+
 -- the act of another session leads to one of a closed list
-other_act : (list : List Configuration) (returning session : ℕ) (act : Act) (old mid : Config) → IsClosedBelow (length list) returning list → Has list old
+other_act : (list : List Configuration) (returning session : ℕ) (act : Act) (old mid : Config) → IsClosedBelow (length list) (Some returning) list → Has list old
     → IsSession session → session ≢ returning → call_is_answered old returning ≡ false
     → effect_of old session act ≡ Some mid → Has list mid
 other_act list returning session act old mid closed has is apart unanswered at =
     let place = mapped_place config_of list old has in
     let same : config_of place.1 ≡ old = place.4 in
-    closed place.0 place.1 place.2 place.3 session act mid (omega (arith, is.1)) is apart (ap (λ c. call_is_answered c returning) same ∙ unanswered)
+    closed place.0 place.1 place.2 place.3 session act mid (omega (arith, is.1)) is (apart_some session returning apart) (ap (λ c. call_is_answered c returning) same ∙ unanswered)
     (ap (λ c. effect_of c session act) same ∙ at)
 
 -- a run that begins with an act, where one that begins behind an act of another session settles
 settles_effect : (list : List Configuration) (session other : ℕ) (act : Act) (seen : Seen) (more : List Event) (old new : Config) (moves : List Move)
-    → IsClosedBelow (length list) session list → Has list old
+    → IsClosedBelow (length list) (Some session) list → Has list old
     → (runs : LeadsThrough old (Return session seen ∷ more) (Effect other act ∷ moves) new) → (Has list runs.0 → Settled list session seen more new)
     → Settled list session seen more new
 settles_effect list session other act seen more old new moves closed has runs go_on = by (call_is_answered old session) refl
@@ -158,7 +162,7 @@ settles_effect list session other act seen more old new moves closed has runs go
     ]
 
 pub settles : (list : List Configuration) (session : ℕ) (seen : Seen) (more : List Event) (old new : Config) (moves : List Move)
-    → IsClosedBelow (length list) session list → Has list old → LeadsThrough old (Return session seen ∷ more) moves new
+    → IsClosedBelow (length list) (Some session) list → Has list old → LeadsThrough old (Return session seen ∷ more) moves new
     → Settled list session seen more new
 settles list session seen more old new (Seeing ∷ moves) closed has runs =
     settles_answered list session seen more old new (Seeing ∷ moves) has (return_answered old runs.0 session seen runs.1) runs
@@ -217,7 +221,7 @@ answers_own list session answer act old mid new moves has at runs stands = elim 
 ]
 
 answers_effect : (list : List Configuration) (session other : ℕ) (answer : Answer) (act : Act) (old new : Config) (moves : List Move)
-    → IsClosedBelow (length list) session list → Has list old
+    → IsClosedBelow (length list) (Some session) list → Has list old
     → (runs : LeadsThrough old [] (Effect other act ∷ moves) new) → slice_get new.clients session ≡ Some (Answered answer)
     → (Has list runs.0 → AnsweredSo list session answer) → AnsweredSo list session answer
 answers_effect list session other answer act old new moves closed has runs stands go_on = by (call_is_answered old session) refl
@@ -231,7 +235,7 @@ answers_effect list session other answer act old new moves closed has runs stand
 
 -- where a list is closed, whatever a session is answered by acts alone it is in one of the list, once what it called for has taken effect
 pub answers_settle : (list : List Configuration) (session : ℕ) (answer : Answer) (old new : Config) (moves : List Move)
-    → IsClosedBelow (length list) session list → Has list old → LeadsThrough old [] moves new → slice_get new.clients session ≡ Some (Answered answer)
+    → IsClosedBelow (length list) (Some session) list → Has list old → LeadsThrough old [] moves new → slice_get new.clients session ≡ Some (Answered answer)
     → AnsweredSo list session answer
 answers_settle list session answer old new (Seeing ∷ moves) closed has runs stands = absurd runs
 answers_settle list session answer old new (Effect other act ∷ moves) closed has runs stands =

@@ -3,20 +3,21 @@ use Rattle.std.proofs.Common.{◌≡◌, ℕ, ◌+◌, ◌<◌, Some, List, slic
 use Rattle.std.specs.List.{All, Contains}
 use Rattle.std.proofs.lemmas.Option.{same_Some}
 use Rattle.std.proofs.lemmas.List.{take_more, take-append-drop, take_all}
-use Rattle.std.proofs.lemmas.List.Elements.{All-map, All-cons, All-nil, All-head}
+use Rattle.std.proofs.lemmas.List.Elements.{All-cons, All-nil, All-head}
 use Rattle.xa_server.specs.State.{State}
 use Rattle.xa_judge.specs.declared.answer.Answer.{Answer}
 use Rattle.xa_judge.specs.declared.client_state.ClientState.TheVariants.{Answered}
 use Rattle.xa_judge.specs.declared.event.Event.{Event}
-use Rattle.xa_judge.specs.declared.event.Event.TheVariants.{Call, Return, Lost}
+use Rattle.xa_judge.specs.declared.event.Event.TheVariants.{Call, Return, Lost, Unknown}
 use Rattle.xa_judge.specs.declared.moves.Move.{Move}
 use Rattle.xa_judge.specs.declared.configuration.Configuration.{Configuration}
 use Rattle.xa_judge.specs.Explained.{Config, opening_config, LeadsThrough, Explained}
-use Rattle.xa_judge.specs.Found.{config_of, configs, Has, Reaches, KeepsReach, ReachesPast, IsShortened, IsOpening, IsPathOf}
+use Rattle.xa_judge.specs.Found.{config_of, configs, Has, Reaches, IsSpread, KeepsReach, ReachesPast, IsShortened, IsOpening, IsPathOf}
 use Rattle.xa_judge.specs.Advances.{Continues, AreAnswers}
-use Rattle.xa_judge.specs.Verdicts.{IsRefuted, CouldBe, AreAllAnswers, IsWide, IsReachedByMoves}
+use Rattle.xa_judge.specs.Verdicts.{IsRefuted, CouldBe, AreAllAnswers, IsWide}
 use Rattle.xa_judge.proofs.Places.{get_within, length_map}
 use Rattle.xa_judge.proofs.Growth.{all_at}
+use Rattle.xa_judge.proofs.Advances.{reached_of}
 
 -- where moves lead through those that were seen and more, some lead through these from the list, to the same end
 abbrev pub IsComplete : State → List Event → List Configuration → Type 0
@@ -104,18 +105,21 @@ answers_given base events place (Lost session) trunk list answers at all complet
   each = subst (λ l. All (CouldBe base events place) l) (sym none) (All-nil (CouldBe base events place));
   all = λ answer could. absurd (let other : Some (Lost session) ≡ Some (Return could.session could.seen) = sym at ∙ could.returns in cc);
 }
+answers_given base events place (Unknown session) trunk list answers at all complete none = record {
+  each = subst (λ l. All (CouldBe base events place) l) (sym none) (All-nil (CouldBe base events place));
+  all = λ answer could. absurd (let other : Some (Unknown session) ≡ Some (Return could.session could.seen) = sym at ∙ could.returns in cc);
+}
 
 pub wide : (base : State) (events : List Event) (limit place : ℕ) (trunk : List Move) (list many : List Configuration) → place < length events
-    → All (Reaches base (take place events) trunk) list → limit < length many → KeepsReach list many
+    → All (Reaches base (take place events) trunk) list → IsSpread limit many → KeepsReach list many
     → IsWide base events limit place
-unfolding Reaches
-wide base events limit place trunk list many within all over keeps = record {
+wide base events limit place trunk list many within all spread keeps = record {
   within = within;
-  many = configs many;
-  over = subst (λ n. limit < n) (sym (length_map config_of many)) over;
-  reached =
-      All-map (IsReachedByMoves base (take place events)) config_of many
-      (λ k d below. record { moves = trunk ++ (get_or many k d).path.items; runs = keeps base (take place events) trunk all k d below });
+  many = spread.many;
+  over = spread.over;
+  differ = spread.differ;
+  reached = λ k d below.
+      reached_of base (take place events) trunk many (get_or spread.many k d) (keeps base (take place events) trunk all) (spread.has k d below);
 }
 
 pub opens_reached : (base : State) (list : List Configuration) → IsOpening base list → All (Reaches base [] []) list

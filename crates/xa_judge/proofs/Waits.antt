@@ -13,7 +13,7 @@ use Rattle.xa_server.specs.Step.{after}
 use Rattle.xa_judge.specs.declared.request.Request.{Request}
 use Rattle.xa_judge.specs.declared.event.Seen.{Seen}
 use Rattle.xa_judge.specs.declared.event.Event.{Event}
-use Rattle.xa_judge.specs.declared.event.Event.TheVariants.{Call, Return, Lost}
+use Rattle.xa_judge.specs.declared.event.Event.TheVariants.{Call, Return, Lost, Unknown}
 use Rattle.xa_judge.specs.declared.client_state.ClientState.{ClientState}
 use Rattle.xa_judge.specs.declared.client_state.ClientState.TheVariants.{Idle, Called, Answered, Gone, Left}
 use Rattle.xa_judge.specs.declared.moves.Act.{Act}
@@ -22,7 +22,7 @@ use Rattle.xa_judge.specs.declared.moves.Move.{Move}
 use Rattle.xa_judge.specs.declared.moves.Move.TheVariants.{Event as Seeing, Effect}
 use Rattle.xa_judge.specs.Explained.{Config, with_client, effect_of, carried_out, disconnected, observed, called, returned, lost, shows_answer, answer_to}
 use Rattle.xa_judge.specs.Explained.{next_state, LeadsThrough, IsSession}
-use Rattle.xa_judge.specs.Found.{call_is_answered, answered_so, called_for}
+use Rattle.xa_judge.specs.Found.{call_is_answered, answered_so, has_unheard, unheard_so, called_for}
 use Rattle.xa_judge.proofs.Places.{same_number, get_written, get_apart, set_apart}
 
 pub runs_effect : (old mid new : Config) (events : List Event) (moves : List Move) (session : ℕ) (act : Act) → LeadsThrough old events moves mid
@@ -67,7 +67,7 @@ pub record Acted (old : Config) (session : ℕ) (act : Act) (new : Config) : Typ
   pub is : new ≡ record { state = state; clients = set old.clients session next }
   pub again : (other : Config) → slice_get other.clients session ≡ Some before → other.state ≡ old.state
       → effect_of other session act ≡ Some (record { state = state; clients = set other.clients session next })
-  pub busy : next ≡ Idle → ⊥
+  pub heard : unheard_so (Some next) ≡ false
   pub unanswered : answered_so (Some before) ≡ false
   pub dead : may_answer (Some before) ≡ false → may_answer (Some next) ≡ false
 
@@ -85,7 +85,7 @@ acted_statement (Some (Called request)) old new session found is = record {
   again = λ other at same.
       ap (λ o. carried_out o other session) at
       ∙ ap (λ (s : State). some_config (next_state s session request) (set other.clients session (Answered (answer_to s session request)))) same;
-  busy = λ e. cc;
+  heard = refl;
   unanswered = refl;
   dead = λ e. absurd (false≢true (sym e));
 }
@@ -100,7 +100,7 @@ acted_statement (Some (Gone (Some request))) old new session found is = record {
   again = λ other at same.
       ap (λ o. carried_out o other session) at
       ∙ ap (λ (s : State). some_config (next_state s session request) (set other.clients session (Gone None))) same;
-  busy = λ e. cc;
+  heard = refl;
   unanswered = refl;
   dead = λ e. refl;
 }
@@ -122,7 +122,7 @@ acted_disconnect (Some (Gone request)) old new session found is = record {
   again = λ other at same.
       ap (λ o. disconnected o other session) at
       ∙ ap (λ (s : State). some_config (after s session DisconnectGiven) (set other.clients session Left)) same;
-  busy = λ e. cc;
+  heard = refl;
   unanswered = refl;
   dead = λ e. refl;
 }
@@ -157,6 +157,7 @@ abbrev pub session_in : Event → ℕ
 session_in (Call session request) = session
 session_in (Return session seen) = session
 session_in (Lost session) = session
+session_in (Unknown session) = session
 
 -- what an event did to what its session is about; it does the same wherever the session stands so
 pub record Saw (old : Config) (event : Event) (new : Config) : Type 0 where
@@ -168,23 +169,36 @@ pub record Saw (old : Config) (event : Event) (new : Config) : Type 0 where
       → observed other event ≡ Some (with_client other (session_in event) next)
 
 saw_call : (o : Option ClientState) (old new : Config) (session : ℕ) (request : Request) → slice_get old.clients session ≡ o
-    → called o old session request ≡ Some new → Saw old (Call session request) new × (o ≡ Some Idle)
+    → called o old session request ≡ Some new → Saw old (Call session request) new
 unfolding observed called
 saw_call None old new session request found is = absurd (none-some new is)
-saw_call (Some Idle) old new session request found is = (
-  record {
-    before = Idle;
-    next = Called request;
-    found = found;
-    is = sym (same_Some _ new is);
-    again = λ other at. ap (λ o. called o other session request) at;
-  },
-  refl,
-)
+saw_call (Some Idle) old new session request found is =
+    record {
+      before = Idle;
+      next = Called request;
+      found = found;
+      is = sym (same_Some _ new is);
+      again = λ other at. ap (λ o. called o other session request) at;
+    }
 saw_call (Some (Called other)) old new session request found is = absurd (none-some new is)
 saw_call (Some (Answered answer)) old new session request found is = absurd (none-some new is)
-saw_call (Some (Gone other)) old new session request found is = absurd (none-some new is)
-saw_call (Some Left) old new session request found is = absurd (none-some new is)
+saw_call (Some (Gone None)) old new session request found is =
+    record {
+      before = Gone None;
+      next = Gone (Some request);
+      found = found;
+      is = sym (same_Some _ new is);
+      again = λ other at. ap (λ o. called o other session request) at;
+    }
+saw_call (Some (Gone (Some other))) old new session request found is = absurd (none-some new is)
+saw_call (Some Left) old new session request found is =
+    record {
+      before = Left;
+      next = Left;
+      found = found;
+      is = sym (same_Some _ new is);
+      again = λ other at. ap (λ o. called o other session request) at;
+    }
 
 saw_return : (o : Option ClientState) (old new : Config) (session : ℕ) (seen : Seen) → slice_get old.clients session ≡ o → returned o old session seen ≡ Some new
     → Saw old (Return session seen) new × (answered_so o ≡ true)
@@ -287,11 +301,63 @@ left_alone (Some (Gone request)) old mid new session found is at =
     none-some new (sym (ap (λ o. lost o mid session) here) ∙ at)
 left_alone (Some Left) old mid new session found is at = none-some mid is
 
--- acts that come before the event can wait until it is seen: before a return, once its session was answered
+-- what a session called for takes effect before it calls again: none does, but with an open call that nobody hears
+called_alone : (o : Option ClientState) (old mid new : Config) (session : ℕ) (request : Request) → slice_get old.clients session ≡ o → unheard_so o ≡ false
+    → carried_out o old session ≡ Some mid → called (slice_get mid.clients session) mid session request ≡ Some new → ⊥
+unfolding carried_out called
+called_alone None old mid new session request found heard is at = none-some mid is
+called_alone (Some Idle) old mid new session request found heard is at = none-some mid is
+called_alone (Some (Called other)) old mid new session request found heard is at =
+    let answer = Answered (answer_to old.state session other) in
+    let here : slice_get mid.clients session ≡ Some answer =
+    ap (λ (c : Config). slice_get c.clients session) (sym (same_Some _ mid is)) ∙ get_written old.clients session (Called other) answer found in
+    none-some new (sym (ap (λ o. called o mid session request) here) ∙ at)
+called_alone (Some (Answered answer)) old mid new session request found heard is at = none-some mid is
+called_alone (Some (Gone None)) old mid new session request found heard is at = none-some mid is
+called_alone (Some (Gone (Some other))) old mid new session request found heard is at = false≢true (sym heard)
+called_alone (Some Left) old mid new session request found heard is at = none-some mid is
+
+-- the DISCONNECT of a session whose client is gone can wait until the session has called
+gone_alone : (o : Option ClientState) (old mid new : Config) (session : ℕ) (request : Request) → slice_get old.clients session ≡ o → unheard_so o ≡ false
+    → disconnected o old session ≡ Some mid → called (slice_get mid.clients session) mid session request ≡ Some new
+    → Swapped old (Call session request) session Disconnect new
+unfolding effect_of observed disconnected called
+gone_alone None old mid new session request found heard is at = absurd (none-some mid is)
+gone_alone (Some Idle) old mid new session request found heard is at = absurd (none-some mid is)
+gone_alone (Some (Called other)) old mid new session request found heard is at = absurd (none-some mid is)
+gone_alone (Some (Answered answer)) old mid new session request found heard is at = absurd (none-some mid is)
+gone_alone (Some (Gone None)) old mid new session request found heard is at =
+    let state = after old.state session DisconnectGiven in
+    let first : Config = with_client old session (Gone (Some request)) in
+    let mid_is : record { state = state; clients = set old.clients session Left } ≡ mid = same_Some _ mid is in
+    let here : slice_get mid.clients session ≡ Some Left =
+    ap (λ (c : Config). slice_get c.clients session) (sym mid_is) ∙ get_written old.clients session (Gone None) Left found in
+    let left : with_client mid session Left ≡ new = same_Some _ new (sym (ap (λ o. called o mid session request) here) ∙ at) in
+    let there : slice_get first.clients session ≡ Some (Gone (Some request)) =
+    get_written old.clients session (Gone None) (Gone (Some request)) found in
+    let end : record { state = state; clients = set (set old.clients session (Gone (Some request))) session Left } ≡ new =
+    ap (λ l. record { state = state; clients = l })
+    (set-set old.clients session (Gone (Some request)) Left ∙ sym (set-set old.clients session Left Left))
+    ∙ ap (λ (c : Config). with_client c session Left) mid_is ∙ left in
+    (first, ap (λ o. called o old session request) found, ap (λ o. disconnected o first session) there ∙ ap Some end)
+gone_alone (Some (Gone (Some other))) old mid new session request found heard is at = absurd (false≢true (sym heard))
+gone_alone (Some Left) old mid new session request found heard is at = absurd (none-some mid is)
+
+call_alone : (old mid new : Config) (session : ℕ) (act : Act) (request : Request) → has_unheard old session ≡ false → effect_of old session act ≡ Some mid
+    → called (slice_get mid.clients session) mid session request ≡ Some new → Swapped old (Call session request) session act new
+unfolding effect_of
+call_alone old mid new session Statement request heard is at =
+    absurd (called_alone (slice_get old.clients session) old mid new session request refl heard is at)
+call_alone old mid new session Disconnect request heard is at =
+    gone_alone (slice_get old.clients session) old mid new session request refl heard is at
+
+-- acts that come before the event can wait until it is seen: before a call, unless its session's client is gone with a call that may still take effect;
+-- before a return, once its session was answered; before an answer that isn't known, never
 abbrev pub CanWait : Config → Event → Type 0
-CanWait config (Call session request) = Unit {0}
+CanWait config (Call session request) = has_unheard config session ≡ false
 CanWait config (Return session seen) = call_is_answered config session ≡ true
 CanWait config (Lost session) = Unit {0}
+CanWait config (Unknown session) = ⊥
 
 -- a session that was answered acts no more
 pub answered_apart : (old mid : Config) (session other : ℕ) (act : Act) → Acted old session act mid → call_is_answered old other ≡ true → session ≢ other
@@ -301,14 +367,15 @@ answered_apart old mid session other act a answered = λ e.
 swap : (old mid new : Config) (session : ℕ) (act : Act) (event : Event) → effect_of old session act ≡ Some mid → observed mid event ≡ Some new
     → CanWait old event → Swapped old event session act new
 unfolding effect_of observed
-swap old mid new session act (Call other request) is at waits =
-    let a = acted old mid session act is in
-    let s = saw_call (slice_get mid.clients other) mid new other request refl at in
-    commute old mid new session act (Call other request) a s.0 (λ e.
-    let here : slice_get mid.clients other ≡ Some a.next =
-    ap (λ (c : Config). slice_get c.clients other) a.is ∙ ap (slice_get (set old.clients session a.next)) (sym e)
-    ∙ get_written old.clients session a.before a.next a.found in
-    a.busy (same_Some a.next Idle (sym here ∙ s.1)))
+swap old mid new session act (Call other request) is at waits = elim (same_number session other) [
+  | inl e ↦
+      let at' : called (slice_get mid.clients session) mid session request ≡ Some new = ap (λ n. called (slice_get mid.clients n) mid n request) e ∙ at in
+      let alone : Swapped old (Call session request) session act new =
+      call_alone old mid new session act request (ap (has_unheard old) e ∙ waits) is at' in
+      subst (λ n. Swapped old (Call n request) session act new) e alone
+  | inr apart ↦ commute old mid new session act (Call other request) (acted old mid session act is)
+      (saw_call (slice_get mid.clients other) mid new other request refl at) apart
+]
 swap old mid new session act (Return other seen) is at waits =
     let a = acted old mid session act is in
     commute old mid new session act (Return other seen) a (saw_return (slice_get mid.clients other) mid new other seen refl at).0
@@ -329,14 +396,24 @@ swap old mid new session Disconnect (Lost other) is at waits = elim (same_number
   | inr apart ↦ commute old mid new session Disconnect (Lost other) (acted old mid session Disconnect is)
       (saw_lost (slice_get mid.clients other) mid new other refl at) apart
 ]
+swap old mid new session act (Unknown other) is at waits = absurd waits
 
 still_waits : (old mid : Config) (session : ℕ) (act : Act) (event : Event) → effect_of old session act ≡ Some mid → CanWait old event → CanWait mid event
-still_waits old mid session act (Call other request) is waits = tt
+still_waits old mid session act (Call other request) is waits =
+    let a = acted old mid session act is in
+    elim (same_number session other) [
+      | inl e ↦
+          ap unheard_so (ap (λ (c : Config). slice_get c.clients other) a.is ∙ ap (slice_get (set old.clients session a.next)) (sym e)
+          ∙ get_written old.clients session a.before a.next a.found)
+          ∙ a.heard
+      | inr apart ↦ ap unheard_so (ap (λ (c : Config). slice_get c.clients other) a.is ∙ get_apart old.clients session other a.next apart) ∙ waits
+    ]
 still_waits old mid session act (Return other seen) is waits =
     let a = acted old mid session act is in
     ap answered_so (ap (λ (c : Config). slice_get c.clients other) a.is
     ∙ get_apart old.clients session other a.next (answered_apart old mid session other act a waits)) ∙ waits
 still_waits old mid session act (Lost other) is waits = tt
+still_waits old mid session act (Unknown other) is waits = absurd waits
 
 -- the event is seen first, and then come the other moves
 pub record First (old : Config) (event : Event) (more : List Event) (new : Config) : Type 0 where

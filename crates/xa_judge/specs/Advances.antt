@@ -3,19 +3,19 @@
 --     AreAnswers       what a return's session can be answered before it
 --     IsSeenFrom       what the event leaves of configurations in which it can be seen at once
 --     IsAdvance        what the event leaves of configurations
-use Rattle.std.specs.Prelude.{◌≡◌, ℕ, ◌<◌, List, [], ◌∷◌, Some, length, vec_len, slice_get}
+use Rattle.std.specs.Prelude.{◌≡◌, ℕ, ◌<◌, List, [], ◌∷◌, Some, vec_len, slice_get}
 use Rattle.std.specs.List.{All, Contains}
 use Rattle.xa_server.specs.State.{State}
 use Rattle.xa_judge.specs.declared.client_state.ClientState.TheVariants.{Answered}
 use Rattle.xa_judge.specs.declared.answer.Answer.{Answer}
 use Rattle.xa_judge.specs.declared.event.Event.{Event}
-use Rattle.xa_judge.specs.declared.event.Event.TheVariants.{Call, Return, Lost}
+use Rattle.xa_judge.specs.declared.event.Event.TheVariants.{Call, Return, Lost, Unknown}
 use Rattle.xa_judge.specs.declared.moves.Move.{Move}
 use Rattle.xa_judge.specs.declared.configuration.Configuration.{Configuration}
 use Rattle.xa_judge.specs.declared.advance.Advance.{Advance}
 use Rattle.xa_judge.specs.declared.advance.Advance.TheVariants.{Known, Impossible, TooMany}
 use Rattle.xa_judge.specs.Explained.{Config, observed, LeadsThrough}
-use Rattle.xa_judge.specs.Found.{Has, Reaches, KeepsReach, ReachesPast}
+use Rattle.xa_judge.specs.Found.{Has, Reaches, IsSpread, KeepsReach, ReachesPast}
 use Rattle.xa_judge.specs.Verdicts.{IsAnswerAfter}
 
 -- from one of these configurations, some moves lead through the events to this one
@@ -25,11 +25,26 @@ pub record Continues (list : List Configuration) (events : List Event) (new : Co
   pub moves : List Move
   pub runs : LeadsThrough one events moves new
 
+-- the event is a call of this session
+abbrev pub IsCallOf : ℕ → Event → Type 0
+IsCallOf session (Call other request) = other ≡ session
+IsCallOf session (Return other seen) = ⊥
+IsCallOf session (Lost other) = ⊥
+IsCallOf session (Unknown other) = ⊥
+
 -- the event is a return to this session
 abbrev pub IsReturnOf : ℕ → Event → Type 0
 IsReturnOf session (Call other request) = ⊥
 IsReturnOf session (Return other seen) = other ≡ session
 IsReturnOf session (Lost other) = ⊥
+IsReturnOf session (Unknown other) = ⊥
+
+-- the event is no return
+abbrev pub IsNoReturn : Event → Type 0
+IsNoReturn (Call session request) = Unit {0}
+IsNoReturn (Return session seen) = ⊥
+IsNoReturn (Lost session) = Unit {0}
+IsNoReturn (Unknown session) = Unit {0}
 
 -- each configuration that the event leads to at once is in the list, or there is none, and these are the answers
 abbrev pub IsSeenFrom : List Configuration → List Answer → Event → Advance → Type 0
@@ -49,10 +64,10 @@ abbrev pub AreAnswers : List Configuration → Event → List Answer → Type 0
 AreAnswers list (Return session seen) answers = AreAnswersTo list session answers
 AreAnswers list event answers = answers ≡ []
 
--- what the event leads to: where events go on from the old list, they do from the new one; or they never do; or too many are reached
+-- what the event leads to: where events go on from the old list, they do from the new one; or they never do; or too many different ones are reached
 abbrev pub IsAdvance : List Configuration → Event → ℕ → Advance → Type 0
 IsAdvance old event limit (Known list) =
     (0 < vec_len list) × ((more : List Event) (new : Config) → Continues old (event ∷ more) new → Continues list.items more new) × ReachesPast event old list.items
 IsAdvance old event limit (Impossible answers) =
     ((more : List Event) (new : Config) → Continues old (event ∷ more) new → ⊥) × AreAnswers old event answers.items
-IsAdvance old event limit TooMany = (many : List Configuration) × (limit < length many) × KeepsReach old many
+IsAdvance old event limit TooMany = (many : List Configuration) × IsSpread limit many × KeepsReach old many

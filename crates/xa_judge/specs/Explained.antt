@@ -2,12 +2,14 @@
 --     answer_to, next_state      what a request is answered, and the state after it
 --     Config, opening_config     a state of the server, and what each session is about;  before all events
 --     effect_of                  an act of a session takes effect
+--     stands_for                 a refusal that was seen stands for one of this number
 --     shows_answer               a return shows this answer
 --     observed                   an event is seen
 --     LeadsThrough               the moves lead through all of the events
 --     Explained                  some moves do, from the opening_config
-use Rattle.std.specs.Prelude.{◌≡◌, ℕ, ◌≤◌, Bool, true, false, cond, ◌&&◌, ◌==◌, Option, Some, None, List, [], ◌∷◌, slice_get, slice_set}
+use Rattle.std.specs.Prelude.{◌≡◌, ℕ, ◌≤◌, Bool, true, false, cond, ◌&&◌, ◌||◌, ◌==◌, Option, Some, None, List, [], ◌∷◌, slice_get, slice_set}
 use Rattle.std.specs.Prelude.{replicate}
+use Rattle.std.specs.List.{list_any}
 use Rattle.std.specs.Cmp.Lexicographic.{pointwise}
 use Rattle.std.specs.Prelude.{nat_eq}
 use Rattle.xa_xid.specs.declared.xid.Xid.{Xid}
@@ -22,10 +24,11 @@ use Rattle.xa_judge.specs.declared.request.Request.{Request}
 use Rattle.xa_judge.specs.declared.request.Request.TheVariants.{Statement as Given, Unread}
 use Rattle.xa_judge.specs.declared.answer.Answer.{Answer}
 use Rattle.xa_judge.specs.declared.answer.Answer.TheVariants.{Reply as Replied, Unread as NotRead}
+use Rattle.xa_judge.specs.declared.error_numbers.ErrorNumbers.{ErrorNumbers}
 use Rattle.xa_judge.specs.declared.event.Seen.{Seen}
 use Rattle.xa_judge.specs.declared.event.Seen.TheVariants.{Ok as SeenOk, Value as SeenValue, Rows as SeenRows, Error as SeenError}
 use Rattle.xa_judge.specs.declared.event.Event.{Event}
-use Rattle.xa_judge.specs.declared.event.Event.TheVariants.{Call, Return, Lost}
+use Rattle.xa_judge.specs.declared.event.Event.TheVariants.{Call, Return, Lost, Unknown}
 use Rattle.xa_judge.specs.declared.client_state.ClientState.{ClientState}
 use Rattle.xa_judge.specs.declared.client_state.ClientState.TheVariants.{Idle, Called, Answered, Gone, Left}
 use Rattle.xa_judge.specs.declared.moves.Act.{Act}
@@ -88,18 +91,24 @@ same_rows [] [] = true
 same_rows (row ∷ rows) (xid ∷ xids) = same_xid row xid && same_rows rows xids
 same_rows left right = false
 
+-- a refusal that was seen stands for one of this number: its own, or another for which it is allowed to stand
+abbrev pub stands_for : ErrorNumbers → ℕ → Bool
+stands_for numbers number = numbers.seen == number || list_any (λ other. other == number) numbers.others.items
+
 -- a return shows this answer; of a refusal the number alone counts
 abbrev pub shows_answer : Seen → Answer → Bool
 shows_answer SeenOk (Replied Accepted) = true
 shows_answer (SeenValue seen) (Replied (Value value)) = same_values seen value
 shows_answer (SeenRows rows) (Replied (Recovered xids)) = same_rows rows.items xids
-shows_answer (SeenError number) (Replied (Refused error)) = number == number_of error
-shows_answer (SeenError number) NotRead = number == 1064
+shows_answer (SeenError numbers) (Replied (Refused error)) = stands_for numbers (number_of error)
+shows_answer (SeenError numbers) NotRead = stands_for numbers 1064
 shows_answer seen answer = false
 
--- an idle session calls
+-- an idle session calls; or one whose client is gone does, and nobody hears the answer; once it has left, a call does nothing
 unfoldable pub called : Option ClientState → Config → ℕ → Request → Option Config
 called (Some Idle) config session request = Some (with_client config session (Called request))
+called (Some (Gone None)) config session request = Some (with_client config session (Gone (Some request)))
+called (Some Left) config session request = Some (with_client config session Left)
 called other config session request = None
 
 -- the call of an answered session returns so
@@ -114,11 +123,18 @@ lost (Some (Called request)) config session = Some (with_client config session (
 lost (Some (Answered answer)) config session = Some (with_client config session (Gone None))
 lost other config session = None
 
+-- a session's call has an answer, but it isn't known which; what has taken no effect by then never does
+unfoldable pub answered_unknown : Option ClientState → Config → ℕ → Option Config
+answered_unknown (Some (Called request)) config session = Some (with_client config session Idle)
+answered_unknown (Some (Answered answer)) config session = Some (with_client config session Idle)
+answered_unknown other config session = None
+
 -- an event is seen
 unfoldable pub observed : Config → Event → Option Config
 observed config (Call session request) = called (slice_get config.clients session) config session request
 observed config (Return session seen) = returned (slice_get config.clients session) config session seen
 observed config (Lost session) = lost (slice_get config.clients session) config session
+observed config (Unknown session) = answered_unknown (slice_get config.clients session) config session
 
 -- a session's number
 abbrev pub IsSession : ℕ → Type 0

@@ -4,18 +4,21 @@
 --     called_for       what a session has called for, where that has taken no effect yet
 --     after_settling   the configuration once that has taken effect
 --     call_is_answered  the session's call was answered
+--     has_unheard      the session's client is gone, and an open call of its may still take effect
+--     is_over          acts don't count any more: the session that is to return was answered
 --     Reaches          its path leads to it, behind the trunk
 --     AllReached       so it is with each of a list
 --     Has              a list has a configuration that stands so
+--     IsSpread         a list has more different configurations than a limit
 --     Grows            a list has more at its end, which is reached where the list is
---     IsExpandedBelow, IsClosedBelow      what acts of other sessions lead to is in the list
-use Rattle.std.specs.Prelude.{◌≡◌, ◌≢◌, ◌⊎◌, ℕ, ◌<◌, Bool, true, false, Option, Some, None, List, [], ◌∷◌, ◌++◌, map, slice_get, slice_set}
+--     IsExpandedBelow, IsClosedBelow      what acts that count lead to is in the list
+use Rattle.std.specs.Prelude.{◌≡◌, ◌≢◌, ◌⊎◌, ℕ, ◌<◌, Bool, true, false, Option, Some, None, List, [], ◌∷◌, ◌++◌, length, map, slice_get, slice_set}
 use Rattle.std.specs.List.{All, Contains}
 use Rattle.xa_server.specs.State.{State}
 use Rattle.xa_judge.specs.declared.request.Request.{Request}
 use Rattle.xa_judge.specs.declared.event.Event.{Event}
 use Rattle.xa_judge.specs.declared.client_state.ClientState.{ClientState}
-use Rattle.xa_judge.specs.declared.client_state.ClientState.TheVariants.{Called, Answered}
+use Rattle.xa_judge.specs.declared.client_state.ClientState.TheVariants.{Called, Answered, Gone}
 use Rattle.xa_judge.specs.declared.answer.Answer.{Answer}
 use Rattle.xa_judge.specs.declared.moves.Act.{Act}
 use Rattle.xa_judge.specs.declared.moves.Act.TheVariants.{Statement}
@@ -23,6 +26,7 @@ use Rattle.xa_judge.specs.declared.moves.Move.TheVariants.{Event as Seeing, Effe
 use Rattle.xa_judge.specs.declared.moves.Move.{Move}
 use Rattle.xa_judge.specs.declared.configuration.Configuration.{Configuration}
 use Rattle.xa_judge.specs.Explained.{Config, opening_config, effect_of, observed, LeadsThrough, IsSession, answer_to, next_state}
+use Rattle.xa_judge.specs.Verdicts.{AreDifferent}
 
 -- a configuration as the definitions see it
 abbrev pub config_of : Configuration → Config
@@ -60,6 +64,19 @@ answered_so other = false
 abbrev pub call_is_answered : Config → ℕ → Bool
 call_is_answered config session = answered_so (slice_get config.clients session)
 
+-- an open call of a session whose client is gone may still take effect
+abbrev pub unheard_so : Option ClientState → Bool
+unheard_so (Some (Gone (Some request))) = true
+unheard_so other = false
+
+abbrev pub has_unheard : Config → ℕ → Bool
+has_unheard config session = unheard_so (slice_get config.clients session)
+
+-- the session that is to return, if one is, was answered
+abbrev pub is_over : Option ℕ → Config → Bool
+is_over None config = false
+is_over (Some returning) config = call_is_answered config returning
+
 -- the trunk and its path lead to it
 unfoldable pub Reaches : State → List Event → List Move → Configuration → Type 0
 Reaches base events trunk one = LeadsThrough (opening_config base) events (trunk ++ one.path.items) (config_of one)
@@ -67,6 +84,13 @@ Reaches base events trunk one = LeadsThrough (opening_config base) events (trunk
 -- the list has a configuration that stands so
 abbrev pub Has : List Configuration → Config → Type 0
 Has list config = Contains (configs list) config
+
+-- the list has more configurations than the limit of which no two are the same
+pub record IsSpread (limit : ℕ) (list : List Configuration) : Type 0 where
+  pub many : List Config
+  pub over : limit < length many
+  pub differ : AreDifferent many
+  pub has : All (Has list) many
 
 -- what is reached where the old list is
 abbrev pub KeepsReach : List Configuration → List Configuration → Type 0
@@ -124,12 +148,13 @@ pub record Grows (old new : List Configuration) : Type 0 where
   pub parts : new ≡ old ++ more
   pub reach : KeepsReach old new
 
--- what acts of other sessions below a number lead to from this configuration is in the list, unless the session was answered
-abbrev pub IsExpandedBelow : ℕ → Configuration → ℕ → List Configuration → Type 0
+-- what acts of sessions below a number lead to from this configuration is in the list; those of the session that is to return don't count, nor
+-- any once it was answered
+abbrev pub IsExpandedBelow : ℕ → Configuration → Option ℕ → List Configuration → Type 0
 IsExpandedBelow count one returning list =
-    (session : ℕ) (act : Act) (new : Config) → session < count → IsSession session → session ≢ returning → call_is_answered (config_of one) returning ≡ false
+    (session : ℕ) (act : Act) (new : Config) → session < count → IsSession session → returning ≢ Some session → is_over returning (config_of one) ≡ false
     → effect_of (config_of one) session act ≡ Some new → Has list new
 
 -- so it is with each configuration before this place
-abbrev pub IsClosedBelow : ℕ → ℕ → List Configuration → Type 0
+abbrev pub IsClosedBelow : ℕ → Option ℕ → List Configuration → Type 0
 IsClosedBelow count returning list = (place : ℕ) (one : Configuration) → place < count → slice_get list place ≡ Some one → IsExpandedBelow 17 one returning list

@@ -2,3 +2,5 @@ pub mod Explained
 pub mod Verdicts
 pub mod Found
 pub mod Advances
+pub mod Marks
+pub mod Following

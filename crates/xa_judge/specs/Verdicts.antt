@@ -1,10 +1,11 @@
 -- When a verdict is right.
 --     IsRefuted        no order explains the events up to and with the one at a place
 --     AreAllAnswers    these are the answers that some order gives the call that returns there
---     IsWide           more configurations than allowed can stand before an event
+--     AreDifferent     no two configurations of a list are the same
+--     IsWide           more different configurations than allowed can stand before an event
 --     IsVerdict        the verdict is right
-use Rattle.std.specs.Prelude.{◌≡◌, ℕ, ◌+◌, ◌<◌, List, Some, length, take, slice_get}
-use Rattle.std.specs.List.{All, Contains}
+use Rattle.std.specs.Prelude.{◌≡◌, ◌≢◌, ℕ, ◌+◌, ◌<◌, List, Some, length, take, slice_get}
+use Rattle.std.specs.List.{All, AllPairs, Contains}
 use Rattle.xa_server.specs.State.{State}
 use Rattle.xa_judge.specs.declared.answer.Answer.{Answer}
 use Rattle.xa_judge.specs.declared.client_state.ClientState.TheVariants.{Answered}
@@ -46,11 +47,16 @@ pub record AreAllAnswers (base : State) (events : List Event) (place : ℕ) (ans
   pub each : All (CouldBe base events place) answers
   pub all : (answer : Answer) → CouldBe base events place answer → Contains answers answer
 
--- the events before this place lead to more configurations than are allowed
+-- no two of the list are the same
+abbrev pub AreDifferent : List Config → Type 0
+AreDifferent list = AllPairs (λ one other. one ≢ other) list
+
+-- the events before this place lead to more configurations than are allowed, no two of them the same
 pub record IsWide (base : State) (events : List Event) (limit place : ℕ) : Type 0 where
   pub within : place < length events
   pub many : List Config
   pub over : limit < length many
+  pub differ : AreDifferent many
   pub reached : All (IsReachedByMoves base (take place events)) many
 
 -- the verdict is right

@@ -1,6 +1,8 @@
 //! One event more.
-ghost use Rattle.std.specs.Prelude.{◌≡◌, ◌<◌, vec_len, IfOk};
-ghost use Rattle.xa_judge.specs.Advances.{IsAdvance, IsSeenFrom, IsReturnOf};
+ghost use Rattle.std.specs.Prelude.{◌≡◌, ◌<◌, true, false, vec_len, IfOk};
+ghost use Rattle.xa_judge.specs.Explained.{Config};
+ghost use Rattle.xa_judge.specs.Found.{Has, has_unheard};
+ghost use Rattle.xa_judge.specs.Advances.{IsAdvance, IsSeenFrom, IsCallOf, IsReturnOf, IsNoReturn};
 
 use crate::answer::Answer;
 use crate::closing::{answers_in, close, observe_all, settle_all};
@@ -51,7 +53,7 @@ fn return_seen(
     requires { IsReturnOf returning event.now }
     ensures { IfOk result (IsAdvance known.items event.now limit) }
 {
-    let is_closed = close(&mut known, index, returning, limit)?;
+    let is_closed = close(&mut known, index, &Some(returning), limit)?;
     if !is_closed {
         return Ok(Advance::TooMany);
     }
@@ -59,6 +61,57 @@ fn return_seen(
     let answers = answers_in(alloc, settled.as_slice(), returning)?;
     let next = seen(alloc, settled, index, answers, event)?;
     Ok(next)
+}
+
+/// What an event leads to, where acts of its session that come before it don't take effect behind it too: before it, all
+/// that acts lead to.
+fn closed_seen(
+    alloc: Global,
+    mut known: Vec<Configuration>,
+    index: &mut FingerprintIndex,
+    event: &Event,
+    limit: usize,
+) -> Result<Advance, NoMemory>
+    requires { IsNoReturn event.now }
+    ensures { IfOk result (IsAdvance known.items event.now limit) }
+{
+    let is_closed = close(&mut known, index, &None, limit)?;
+    if !is_closed {
+        return Ok(Advance::TooMany);
+    }
+    let next = seen(alloc, known, index, Vec::new(alloc), event)?;
+    Ok(next)
+}
+
+/// Whether no open call of the session, its client gone, may still take effect in any of these configurations.
+fn none_unheard(known: &[Configuration], session: SessionNo) -> bool
+    ensures { result ≡ true → (one : Config) → Has known.now one → has_unheard one session ≡ false }
+{
+    for one in known {
+        if one.has_unheard(session) {
+            return false;
+        }
+    }
+    true
+}
+
+/// What a call leads to. A session whose client is gone seldom has two.
+fn call_seen(
+    alloc: Global,
+    known: Vec<Configuration>,
+    index: &mut FingerprintIndex,
+    calling: SessionNo,
+    event: &Event,
+    limit: usize,
+) -> Result<Advance, NoMemory>
+    requires { IsCallOf calling event.now }
+    ensures { IfOk result (IsAdvance known.items event.now limit) }
+{
+    if none_unheard(known.as_slice(), calling) {
+        seen(alloc, known, index, Vec::new(alloc), event)
+    } else {
+        closed_seen(alloc, known, index, event, limit)
+    }
 }
 
 /// What one event more leads to.
@@ -72,8 +125,9 @@ pub fn see_event(
     ensures { IfOk result (IsAdvance known.items event.now limit) }
 {
     match event {
-        Event::Call(_, _) => seen(alloc, known, index, Vec::new(alloc), event),
+        Event::Call(session, _) => call_seen(alloc, known, index, *session, event, limit),
         Event::Return(session, _) => return_seen(alloc, known, index, *session, event, limit),
         Event::Lost(_) => seen(alloc, known, index, Vec::new(alloc), event),
+        Event::Unknown(_) => closed_seen(alloc, known, index, event, limit),
     }
 }

@@ -1,8 +1,8 @@
-//! What can have come before a return.
+//! What can have come before an event.
 ghost use Rattle.std.specs.Prelude.{◌≡◌, ◌<◌, ℕ, List, Some, true, false, slice_get, vec_len, length, IfOk, OnOk};
 ghost use Rattle.std.specs.List.{All, Contains};
 ghost use Rattle.xa_judge.specs.Explained.{Config, observed};
-ghost use Rattle.xa_judge.specs.Found.{Has, Grows, KeepsReach, ReachesPast, after_settling, IsClosedBelow, IsAnsweredIn, IsAnswerAdded, IsSeenAdded};
+ghost use Rattle.xa_judge.specs.Found.{Has, IsSpread, Grows, KeepsReach, ReachesPast, after_settling, IsClosedBelow, IsAnsweredIn, IsAnswerAdded, IsSeenAdded};
 
 use crate::answer::Answer;
 use crate::client_state::ClientState;
@@ -13,22 +13,40 @@ use crate::known::{add, expand};
 use std::alloc::Global;
 use xa_xid::{NoMemory, SessionNo};
 
-/// Adds all that acts of other sessions than `returning` lead to, as long as `returning` isn't answered, and answers true; or
-/// false, once there are more than `limit` configurations.
+/// Whether more than `limit` configurations are known of which no two are the same. They are counted once there are more than
+/// `uncounted`, which then is twice as many as there are.
+fn is_too_wide(
+    known: &[Configuration],
+    index: &FingerprintIndex,
+    limit: usize,
+    uncounted: &mut usize,
+) -> Result<bool, NoMemory>
+    ensures { IfOk result (λ wide. wide ≡ true → IsSpread limit known.now) }
+{
+    if known.len() <= *uncounted {
+        return Ok(false);
+    }
+    *uncounted = known.len().saturating_mul(2);
+    index.is_spread(known, limit)
+}
+
+/// Adds all that acts lead to, of other sessions than `returning`, as long as that one isn't answered, and answers true; or
+/// false, once there are more than `limit` configurations of which no two are the same.
 pub fn close(
     known: &mut Vec<Configuration>,
     index: &mut FingerprintIndex,
-    returning: SessionNo,
+    returning: &Option<SessionNo>,
     limit: usize,
 ) -> Result<bool, NoMemory>
     ensures grows { OnOk result (Grows known.old.items known.new.items) }
-    ensures closed { IfOk result (λ done. done ≡ true → IsClosedBelow (length known.new.items) returning known.new.items) }
-    ensures wide { IfOk result (λ done. done ≡ false → limit < vec_len known.new) }
+    ensures closed { IfOk result (λ done. done ≡ true → IsClosedBelow (length known.new.items) returning.now known.new.items) }
+    ensures wide { IfOk result (λ done. done ≡ false → IsSpread limit known.new.items) }
 {
     index.clear();
+    let mut uncounted = limit;
     let mut place = 0;
     while place < known.len() {
-        if limit < known.len() {
+        if is_too_wide(known.as_slice(), index, limit, &mut uncounted)? {
             return Ok(false);
         }
         expand(known, index, place, returning)?;

@@ -1,11 +1,11 @@
 //! How things can stand after some events.
-ghost use Rattle.std.specs.Prelude.{◌≡◌, ◌<◌, ◌∷◌, ◌++◌, [], true, cond, Some, None, slice_get, vec_len, length, IfOk, IfSome};
+ghost use Rattle.std.specs.Prelude.{◌≡◌, ◌<◌, ◌∷◌, ◌++◌, [], true, false, cond, Some, None, slice_get, vec_len, length, IfOk, IfSome};
 ghost use Rattle.std.specs.Option.{option_copied, option_map};
 ghost use Rattle.std.specs.Prelude.{replicate};
 ghost use Rattle.xa_xid.specs.declared.statement.Statement.TheVariants.{Disconnect};
 ghost use Rattle.xa_server.specs.Step.{after};
 ghost use Rattle.xa_judge.specs.Explained.{opening_config, answer_to, next_state, effect_of, IsSession};
-ghost use Rattle.xa_judge.specs.Found.{config_of, moved_to, called_for, call_is_answered, after_settling, IsSettledFrom};
+ghost use Rattle.xa_judge.specs.Found.{config_of, moved_to, called_for, call_is_answered, has_unheard, is_over, after_settling, IsSettledFrom};
 
 use crate::client_state::ClientState;
 use crate::moves::{Act, Move};
@@ -193,6 +193,31 @@ impl Configuration {
         }
     }
 
+    /// Whether there is a session that is to return, and its call was answered.
+    pub fn is_over(&self, returning: &Option<SessionNo>) -> bool
+        ensures { result ≡ is_over returning.now (config_of self.now) }
+    {
+        match returning {
+            None => false,
+            Some(session) => self.is_answered(*session),
+        }
+    }
+
+    /// Whether the session's client is gone, and an open call of its may still take effect.
+    pub fn has_unheard(&self, session: SessionNo) -> bool
+        ensures { result ≡ has_unheard (config_of self.now) session }
+    {
+        match self.client(session) {
+            None => false,
+            Some(ClientState::Idle) => false,
+            Some(ClientState::Called(_)) => false,
+            Some(ClientState::Answered(_)) => false,
+            Some(ClientState::Gone(None)) => false,
+            Some(ClientState::Gone(Some(_))) => true,
+            Some(ClientState::Left) => false,
+        }
+    }
+
     /// How things stand once what the session has called for has taken effect; as they do, where it has called for nothing.
     #[tactic(auto, unfolding(crate::specs::Found::after_settling))]
     pub fn settled(self, session: SessionNo) -> Result<Configuration, NoMemory>
@@ -210,21 +235,23 @@ impl Configuration {
 
     /// How things stand once what the session called for has taken effect, where that can be.
     #[tactic(auto, unfolding(crate::specs::Explained::effect_of, crate::specs::Explained::carried_out))]
-    fn carried_out(&self, session: SessionNo) -> Result<Option<Configuration>, NoMemory>
-        ensures config { IfOk result (λ found. option_map config_of found ≡ effect_of (config_of self.now) session Act.Statement) }
-        ensures path { IfOk result (λ found. IfSome found (λ new. new.path.items ≡ self.now.path.items ++ Move.Effect session Act.Statement ∷ [])) }
+    fn carried_out(self, session: SessionNo) -> Result<Option<Configuration>, NoMemory>
+        ensures config { IfOk result (λ found. option_map config_of found ≡ effect_of (config_of self) session Act.Statement) }
+        ensures path { IfOk result (λ found. IfSome found (λ new. new.path.items ≡ self.path.items ++ Move.Effect session Act.Statement ∷ [])) }
         ensures session { IsSession session }
     {
         match self.client(session) {
             None => Ok(None),
             Some(ClientState::Idle) => Ok(None),
-            Some(ClientState::Called(request)) => Ok(Some(
-                self.copy()?.answered(session, request)?,
-            )),
+            Some(ClientState::Called(request)) => {
+                let request = request.copy();
+                Ok(Some(self.answered(session, &request)?))
+            }
             Some(ClientState::Answered(_)) => Ok(None),
             Some(ClientState::Gone(None)) => Ok(None),
             Some(ClientState::Gone(Some(request))) => {
-                Ok(Some(self.copy()?.unheard(session, request)?))
+                let request = request.copy();
+                Ok(Some(self.unheard(session, &request)?))
             }
             Some(ClientState::Left) => Ok(None),
         }
@@ -232,9 +259,9 @@ impl Configuration {
 
     /// How things stand once the session's DISCONNECT has taken effect, where that can be.
     #[tactic(auto, unfolding(crate::specs::Explained::effect_of, crate::specs::Explained::disconnected))]
-    fn disconnected(&self, session: SessionNo) -> Result<Option<Configuration>, NoMemory>
-        ensures config { IfOk result (λ found. option_map config_of found ≡ effect_of (config_of self.now) session Act.Disconnect) }
-        ensures path { IfOk result (λ found. IfSome found (λ new. new.path.items ≡ self.now.path.items ++ Move.Effect session Act.Disconnect ∷ [])) }
+    fn disconnected(self, session: SessionNo) -> Result<Option<Configuration>, NoMemory>
+        ensures config { IfOk result (λ found. option_map config_of found ≡ effect_of (config_of self) session Act.Disconnect) }
+        ensures path { IfOk result (λ found. IfSome found (λ new. new.path.items ≡ self.path.items ++ Move.Effect session Act.Disconnect ∷ [])) }
         ensures session { IsSession session }
     {
         match self.client(session) {
@@ -242,20 +269,53 @@ impl Configuration {
             Some(ClientState::Idle) => Ok(None),
             Some(ClientState::Called(_)) => Ok(None),
             Some(ClientState::Answered(_)) => Ok(None),
-            Some(ClientState::Gone(_)) => Ok(Some(self.copy()?.left(session)?)),
+            Some(ClientState::Gone(_)) => Ok(Some(self.left(session)?)),
             Some(ClientState::Left) => Ok(None),
         }
     }
 
     /// How things stand once the session's act has taken effect, where that can be.
-    pub fn effected(&self, session: SessionNo, act: Act) -> Result<Option<Configuration>, NoMemory>
-        ensures config { IfOk result (λ found. option_map config_of found ≡ effect_of (config_of self.now) session act) }
-        ensures path { IfOk result (λ found. IfSome found (λ new. new.path.items ≡ self.now.path.items ++ Move.Effect session act ∷ [])) }
+    pub fn once_effected(
+        self,
+        session: SessionNo,
+        act: Act,
+    ) -> Result<Option<Configuration>, NoMemory>
+        ensures config { IfOk result (λ found. option_map config_of found ≡ effect_of (config_of self) session act) }
+        ensures path { IfOk result (λ found. IfSome found (λ new. new.path.items ≡ self.path.items ++ Move.Effect session act ∷ [])) }
         ensures session { IsSession session }
     {
         match act {
             Act::Statement => self.carried_out(session),
             Act::Disconnect => self.disconnected(session),
         }
+    }
+
+    /// Whether the session's act can take effect.
+    #[tactic(auto, unfolding(crate::specs::Explained::effect_of, crate::specs::Explained::carried_out, crate::specs::Explained::disconnected))]
+    pub fn can_take_effect(&self, session: SessionNo, act: Act) -> bool
+        ensures no { result ≡ false → effect_of (config_of self.now) session act ≡ None }
+        ensures session { IsSession session }
+    {
+        match self.client(session) {
+            None => false,
+            Some(ClientState::Idle) => false,
+            Some(ClientState::Called(_)) => matches!(act, Act::Statement),
+            Some(ClientState::Answered(_)) => false,
+            Some(ClientState::Gone(None)) => matches!(act, Act::Disconnect),
+            Some(ClientState::Gone(Some(_))) => true,
+            Some(ClientState::Left) => false,
+        }
+    }
+
+    /// How things stand once the session's act has taken effect in a copy, where that can be.
+    pub fn effected(&self, session: SessionNo, act: Act) -> Result<Option<Configuration>, NoMemory>
+        ensures config { IfOk result (λ found. option_map config_of found ≡ effect_of (config_of self.now) session act) }
+        ensures path { IfOk result (λ found. IfSome found (λ new. new.path.items ≡ self.now.path.items ++ Move.Effect session act ∷ [])) }
+        ensures session { IsSession session }
+    {
+        if !self.can_take_effect(session, act) {
+            return Ok(None);
+        }
+        self.copy()?.once_effected(session, act)
     }
 }

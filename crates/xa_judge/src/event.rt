@@ -3,6 +3,7 @@ ghost use Rattle.std.specs.Prelude.{◌≡◌};
 ghost use Rattle.xa_judge.specs.Explained.{shows_answer};
 
 use crate::answer::Answer;
+use crate::error_numbers::ErrorNumbers;
 use crate::request::Request;
 use crate::same::{is_same_rows, is_same_value};
 use xa_server::Reply;
@@ -17,8 +18,8 @@ pub enum Seen {
     Value(Option<Bytes>),
     /// Identifiers of prepared branches. They are to be in ascending order.
     Rows(Vec<Xid>),
-    /// A refusal of this number.
-    Error(u16),
+    /// A refusal. It stands for those of these numbers.
+    Error(ErrorNumbers),
 }
 
 /// Something that was seen.
@@ -28,8 +29,10 @@ pub enum Event {
     Call(SessionNo, Request),
     /// The session's call returns so.
     Return(SessionNo, Seen),
-    /// The session's client is gone.
+    /// The session's client is gone, from here on at the earliest.
     Lost(SessionNo),
+    /// The session's call has an answer, but it isn't known which.
+    Unknown(SessionNo),
 }
 
 impl Seen {
@@ -56,11 +59,11 @@ impl Seen {
                 Reply::Recovered(xids) => is_same_rows(rows.as_slice(), xids.as_slice()),
                 Reply::Refused(_) => false,
             },
-            Seen::Error(number) => match reply {
+            Seen::Error(numbers) => match reply {
                 Reply::Ok => false,
                 Reply::Value(_) => false,
                 Reply::Recovered(_) => false,
-                Reply::Refused(error) => *number == error.number(),
+                Reply::Refused(error) => numbers.stand_for(error.number()),
             },
         }
     }
@@ -75,7 +78,7 @@ impl Seen {
                 Seen::Ok => false,
                 Seen::Value(_) => false,
                 Seen::Rows(_) => false,
-                Seen::Error(number) => *number == 1064,
+                Seen::Error(numbers) => numbers.stand_for(1064),
             },
         }
     }

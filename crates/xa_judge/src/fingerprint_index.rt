@@ -1,16 +1,19 @@
 //! Where in a list the configurations of each fingerprint stand.
+ghost use Rattle.std.specs.Prelude.{◌≡◌, true, IfOk};
+ghost use Rattle.xa_judge.specs.Marks.{mark};
+ghost use Rattle.xa_judge.specs.Found.{config_of, IsSpread};
 
 use crate::configuration::Configuration;
 use crate::event::Event;
 use crate::fingerprints::mark_of;
 use crate::request::Request;
 use std::alloc::Global;
-use std::collections::BTreeMap;
+use std::collections::{BTreeMap, BTreeSet};
 use xa_xid::{Key, NoMemory, Statement};
 
 /// Where in a list the configurations of each fingerprint stand, as a chain of places for each fingerprint.
 ///
-/// Whoever looks at a place compares what stands there. So nothing rests on what this says but how soon a configuration is found.
+/// Whoever looks at a place compares what stands there. So nothing rests on the places but how soon a configuration is found.
 #[derive(Drop)]
 pub struct FingerprintIndex {
     /// The last place of each fingerprint.
@@ -60,8 +63,25 @@ impl FingerprintIndex {
     }
 
     /// The fingerprint of a configuration.
-    fn mark_of(&self, one: &Configuration) -> Result<u64, NoMemory> {
+    fn mark_of(&self, one: &Configuration) -> Result<u64, NoMemory>
+        ensures { IfOk result (λ number. number ≡ mark self.now.written.items (config_of one.now)) }
+    {
         mark_of(self.alloc, one, self.written.as_slice())
+    }
+
+    /// Whether the list has more than `limit` different fingerprints: then it has as many configurations of which no two are the same.
+    pub fn is_spread(&self, known: &[Configuration], limit: usize) -> Result<bool, NoMemory>
+        ensures { IfOk result (λ spread. spread ≡ true → IsSpread limit known.now) }
+    {
+        let mut marks = BTreeSet::new(self.alloc);
+        let mut count = 0;
+        for one in known {
+            let fingerprint = self.mark_of(one)?;
+            if marks.insert(fingerprint)? {
+                count += 1;
+            }
+        }
+        Ok(limit < count)
     }
 
     /// Takes up the places of the list that it doesn't have yet.

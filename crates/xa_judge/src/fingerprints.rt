@@ -1,11 +1,16 @@
 //! Fingerprints: numbers that tell configurations apart.
+ghost use Rattle.std.specs.Prelude.{◌≡◌, fold, map, IfOk};
+ghost use Rattle.xa_judge.specs.Marks.{with_word, with_text, with_xid, with_value, with_xids, with_state, with_error, with_answer, with_client};
+ghost use Rattle.xa_judge.specs.Marks.{with_phase, with_owner, with_hold, with_row, with_rows, with_branch, with_key, mark};
+ghost use Rattle.xa_server.specs.Overview.{branches_of};
+ghost use Rattle.xa_judge.specs.Found.{config_of};
 
 use crate::answer::Answer;
 use crate::client_state::ClientState;
 use crate::configuration::Configuration;
 use std::alloc::Global;
-use xa_server::{BranchEntry, BranchState, Phase, Reply, XaError};
-use xa_xid::{Bytes, Key, NoMemory, Xid};
+use xa_server::{BranchEntry, BranchState, HeldRow, Hold, Phase, Reply, Server, XaError};
+use xa_xid::{Bytes, Key, NoMemory, SessionNo, Xid};
 
 /// What each word is multiplied by: an odd number whose bits look like chance, 2^64 over the golden ratio.
 const MULTIPLIER: u64 = 0x9e37_79b9_7f4a_7c15;
@@ -18,12 +23,17 @@ struct Fingerprint {
 
 impl Fingerprint {
     /// The fingerprint of no words.
-    fn new() -> Fingerprint {
+    fn new() -> Fingerprint
+        ensures { result.number ≡ 0 }
+    {
         Fingerprint { number: 0 }
     }
 
     /// With one word more.
-    fn with(self, word: u64) -> Fingerprint {
+    #[tactic(auto, unfolding(crate::specs::Marks::with_word))]
+    fn with(self, word: u64) -> Fingerprint
+        ensures { result.number ≡ with_word self.number word }
+    {
         let product = (self.number ^ word)
             .wrapping_add(1)
             .wrapping_mul(MULTIPLIER);
@@ -33,7 +43,9 @@ impl Fingerprint {
     }
 
     /// With the bytes of a text more.
-    fn with_text(self, text: &[u8]) -> Fingerprint {
+    fn with_text(self, text: &[u8]) -> Fingerprint
+        ensures { result.number ≡ with_text self.number text.now }
+    {
         let mut fingerprint = self.with(text.len() as u64);
         for byte in text {
             fingerprint = fingerprint.with(*byte as u64);
@@ -42,14 +54,18 @@ impl Fingerprint {
     }
 
     /// With an identifier more.
-    fn with_xid(self, xid: &Xid) -> Fingerprint {
+    fn with_xid(self, xid: &Xid) -> Fingerprint
+        ensures { result.number ≡ with_xid self.number xid.now }
+    {
         self.with(xid.format_id)
             .with_text(xid.gtrid.as_slice())
             .with_text(xid.bqual.as_slice())
     }
 
     /// With a value more, or with none.
-    fn with_value(self, value: &Option<Bytes>) -> Fingerprint {
+    fn with_value(self, value: &Option<Bytes>) -> Fingerprint
+        ensures { result.number ≡ with_value self.number value.now }
+    {
         match value {
             None => self.with(0),
             Some(text) => self.with(1).with_text(text.as_slice()),
@@ -57,7 +73,9 @@ impl Fingerprint {
     }
 
     /// With identifiers more.
-    fn with_xids(self, xids: &[Xid]) -> Fingerprint {
+    fn with_xids(self, xids: &[Xid]) -> Fingerprint
+        ensures { result.number ≡ with_xids self.number xids.now }
+    {
         let mut fingerprint = self.with(xids.len() as u64);
         for xid in xids {
             fingerprint = fingerprint.with_xid(xid);
@@ -65,20 +83,36 @@ impl Fingerprint {
         fingerprint
     }
 
+    /// With a branch's state more.
+    fn with_state(self, state: &BranchState) -> Fingerprint
+        ensures { result.number ≡ with_state self.number state.now }
+    {
+        match state {
+            BranchState::NonExisting => self.with(0),
+            BranchState::Active => self.with(1),
+            BranchState::Idle => self.with(2),
+            BranchState::Prepared => self.with(3),
+        }
+    }
+
     /// With a refusal more.
-    fn with_error(self, error: &XaError) -> Fingerprint {
+    fn with_error(self, error: &XaError) -> Fingerprint
+        ensures { result.number ≡ with_error self.number error.now }
+    {
         let fingerprint = self.with(error.number() as u64);
         match error {
-            XaError::Rmfail(BranchState::NonExisting) => fingerprint.with(0),
-            XaError::Rmfail(BranchState::Active) => fingerprint.with(1),
-            XaError::Rmfail(BranchState::Idle) => fingerprint.with(2),
-            XaError::Rmfail(BranchState::Prepared) => fingerprint.with(3),
-            _ => fingerprint,
+            XaError::Nota => fingerprint,
+            XaError::Inval => fingerprint,
+            XaError::Rmfail(state) => fingerprint.with_state(state),
+            XaError::Dupid => fingerprint,
+            XaError::RowLocked => fingerprint,
         }
     }
 
     /// With an answer more.
-    fn with_answer(self, answer: &Answer) -> Fingerprint {
+    fn with_answer(self, answer: &Answer) -> Fingerprint
+        ensures { result.number ≡ with_answer self.number answer.now }
+    {
         match answer {
             Answer::Unread => self.with(0),
             Answer::Reply(Reply::Ok) => self.with(1),
@@ -89,7 +123,9 @@ impl Fingerprint {
     }
 
     /// With what a session is about more. What it has called for is left out: in all configurations of a list it is the same.
-    fn with_client(self, client: &ClientState) -> Fingerprint {
+    fn with_client(self, client: &ClientState) -> Fingerprint
+        ensures { result.number ≡ with_client self.number client.now }
+    {
         match client {
             ClientState::Idle => self.with(0),
             ClientState::Called(_) => self.with(1),
@@ -100,32 +136,111 @@ impl Fingerprint {
         }
     }
 
-    /// With a branch more.
-    fn with_branch(self, branch: &BranchEntry) -> Fingerprint {
-        let phase = match branch.phase {
-            Phase::Active => 0,
-            Phase::Idle => 1,
-            Phase::Prepared => 2,
-        };
-        let owner = match branch.owner {
-            None => 0,
-            Some(session) => session.get(),
-        };
-        self.with_xid(&branch.xid).with(phase).with(owner)
+    /// With what each session is about more.
+    fn with_clients(self, clients: &[ClientState]) -> Fingerprint
+        ensures { result.number ≡ fold with_client self.number clients.now }
+    {
+        let mut fingerprint = self;
+        for client in clients {
+            fingerprint = fingerprint.with_client(client);
+        }
+        fingerprint
+    }
+
+    /// With a phase more.
+    fn with_phase(self, phase: Phase) -> Fingerprint
+        ensures { result.number ≡ with_phase self.number phase }
+    {
+        match phase {
+            Phase::Active => self.with(0),
+            Phase::Idle => self.with(1),
+            Phase::Prepared => self.with(2),
+        }
+    }
+
+    /// With an owner more, or with none.
+    fn with_owner(self, owner: &Option<SessionNo>) -> Fingerprint
+        ensures { result.number ≡ with_owner self.number owner.now }
+    {
+        match owner {
+            None => self.with(0),
+            Some(session) => self.with(session.get()),
+        }
+    }
+
+    /// With how a row is held more.
+    fn with_hold(self, hold: &Hold) -> Fingerprint
+        ensures { result.number ≡ with_hold self.number hold.now }
+    {
+        match hold {
+            Hold::Shared => self.with(0),
+            Hold::Put(value) => self.with(1).with_text(value.as_slice()),
+            Hold::Delete => self.with(2),
+        }
+    }
+
+    /// With rows that a branch holds more.
+    fn with_rows(self, rows: &[HeldRow]) -> Fingerprint
+        ensures { result.number ≡ with_rows self.number rows.now }
+    {
+        let mut fingerprint = self.with(rows.len() as u64);
+        for row in rows {
+            fingerprint = fingerprint
+                .with_text(row.key.as_slice())
+                .with_hold(&row.hold);
+        }
+        fingerprint
+    }
+
+    /// With a branch of the server more.
+    fn with_branch(
+        self,
+        alloc: Global,
+        server: &Server,
+        branch: &BranchEntry,
+    ) -> Result<Fingerprint, NoMemory>
+        ensures { IfOk result (λ new. new.number ≡ with_branch server.now self.number branch.now) }
+    {
+        let rows = server.rows_of(alloc, &branch.xid)?;
+        Ok(
+            self.with_xid(&branch.xid)
+                .with_phase(branch.phase)
+                .with_owner(&branch.owner)
+                .with_rows(rows.as_slice()),
+        )
+    }
+
+    /// With the branches of the server more.
+    fn with_branches(self, alloc: Global, server: &Server) -> Result<Fingerprint, NoMemory>
+        ensures { IfOk result (λ new. new.number ≡ fold (with_branch server.now) self.number (branches_of server.now)) }
+    {
+        let branches = server.branches(alloc)?;
+        let mut fingerprint = self;
+        for branch in branches.as_slice() {
+            fingerprint = fingerprint.with_branch(alloc, server, branch)?;
+        }
+        Ok(fingerprint)
+    }
+
+    /// With the committed values of these rows more.
+    fn with_values(self, server: &Server, keys: &[Key]) -> Fingerprint
+        ensures { result.number ≡ fold (with_key server.now) self.number keys.now }
+    {
+        let mut fingerprint = self;
+        for key in keys {
+            fingerprint = fingerprint.with_value(&server.value_of(key));
+        }
+        fingerprint
     }
 }
 
-/// The fingerprint of a configuration: of what its sessions are about, of its server's branches, and of the committed values of these rows.
-pub fn mark_of(alloc: Global, one: &Configuration, keys: &[Key]) -> Result<u64, NoMemory> {
-    let mut fingerprint = Fingerprint::new();
-    for client in one.clients.as_slice() {
-        fingerprint = fingerprint.with_client(client);
-    }
-    for branch in one.server.branches(alloc)?.as_slice() {
-        fingerprint = fingerprint.with_branch(branch);
-    }
-    for key in keys {
-        fingerprint = fingerprint.with_value(&one.server.value_of(key));
-    }
-    Ok(fingerprint.number)
+/// The fingerprint of a configuration: of what its sessions are about, of its server's branches and the rows that they hold, and of
+/// the committed values of these rows.
+#[tactic(auto, unfolding(crate::specs::Marks::mark))]
+pub fn mark_of(alloc: Global, one: &Configuration, keys: &[Key]) -> Result<u64, NoMemory>
+    ensures { IfOk result (λ number. number ≡ mark keys.now (config_of one.now)) }
+{
+    let clients = Fingerprint::new().with_clients(one.clients.as_slice());
+    let branches = clients.with_branches(alloc, &one.server)?;
+    Ok(branches.with_values(&one.server, keys).number)
 }

@@ -1,17 +1,23 @@
 //! Judges a record.
-ghost use Rattle.std.specs.Prelude.{◌≡◌, ◌<◌, ◌++◌, length, vec_len, IfOk, OnOk};
+ghost use Rattle.std.specs.Prelude.{◌≡◌, ◌<◌, ◌++◌, length, vec_len, IfOk, IfSome, OnOk};
 ghost use Rattle.xa_judge.specs.Found.{IsOpening, IsShortened, IsPathOf};
 ghost use Rattle.xa_judge.specs.Verdicts.{IsVerdict};
 
 use crate::advance::{Advance, see_event};
 use crate::configuration::Configuration;
+use crate::depth::moves_through;
 use crate::event::Event;
 use crate::fingerprint_index::FingerprintIndex;
+use crate::following::follows;
 use crate::moves::Move;
+use crate::progress::{Progress, Silent};
 use crate::verdict::Verdict;
 use std::alloc::Global;
 use xa_server::Server;
 use xa_xid::NoMemory;
+
+/// So many configurations are kept of each record at first. Most need no more, and one that does is known soon.
+const NARROW: usize = 8;
 
 /// Where only one configuration is left, moves its path to the trunk's end.
 fn shorten(trunk: &mut Vec<Move>, known: &mut Vec<Configuration>) -> Result<(), NoMemory>
@@ -48,9 +54,94 @@ fn opening(alloc: Global, base: &Server) -> Result<Vec<Configuration>, NoMemory>
     Ok(known)
 }
 
+/// Whether any order explains the events, by all configurations in which they can end.
+fn judge_in_breadth<P: Progress>(
+    alloc: Global,
+    base: &Server,
+    events: &[Event],
+    limit: usize,
+    progress: &mut P,
+) -> Result<Verdict, NoMemory>
+    ensures { IfOk result (IsVerdict base.now events.now limit) }
+{
+    let mut trunk = Vec::new(alloc);
+    let mut known = opening(alloc, base)?;
+    let mut index = FingerprintIndex::new(alloc);
+    for place in 0..events.len() {
+        progress.judged(place as u64, events.len() as u64, known.len() as u64);
+        known = match see_event(alloc, known, &mut index, &events[place], limit)? {
+            Advance::Known(next) => next,
+            Advance::Impossible(answers) => return Ok(Verdict::Illegal(place, answers)),
+            Advance::TooMany => return Ok(Verdict::Undecided(place)),
+        };
+        shorten(&mut trunk, &mut known)?;
+    }
+    Ok(Verdict::Legal(path_of(trunk, known.as_slice())?))
+}
+
+/// The verdict by so few configurations that most records need no more, where they are enough.
+fn judge_narrow<P: Progress>(
+    alloc: Global,
+    base: &Server,
+    events: &[Event],
+    limit: usize,
+    progress: &mut P,
+) -> Result<Option<Verdict>, NoMemory>
+    ensures { IfOk result (λ found. IfSome found (IsVerdict base.now events.now limit)) }
+{
+    match judge_in_breadth(alloc, base, events, NARROW.min(limit), progress)? {
+        Verdict::Legal(moves) => Ok(Some(Verdict::Legal(moves))),
+        Verdict::Illegal(place, answers) => Ok(Some(Verdict::Illegal(place, answers))),
+        Verdict::Undecided(_) => Ok(None),
+    }
+}
+
+/// The verdict where a search for one order finds moves that lead through all of the events.
+fn judge_in_depth<P: Progress>(
+    alloc: Global,
+    base: &Server,
+    events: &[Event],
+    limit: usize,
+    progress: &mut P,
+) -> Result<Option<Verdict>, NoMemory>
+    ensures { IfOk result (λ found. IfSome found (IsVerdict base.now events.now limit)) }
+{
+    match moves_through(alloc, base, events, progress)? {
+        None => Ok(None),
+        Some(moves) => {
+            if follows(alloc, base, events, moves.as_slice())? {
+                Ok(Some(Verdict::Legal(moves)))
+            } else {
+                Ok(None)
+            }
+        }
+    }
+}
+
+/// Whether any order explains the events, as `judge` says; `progress` is told how far it is.
+///
+/// Errors: `NoMemory`. Takes memory as `judge` does. Doesn't wait. Own rule: docs/JUDGE.md.
+pub fn judge_telling<P: Progress>(
+    alloc: Global,
+    base: &Server,
+    events: &[Event],
+    limit: usize,
+    progress: &mut P,
+) -> Result<Verdict, NoMemory>
+    ensures { IfOk result (IsVerdict base.now events.now limit) }
+{
+    if let Some(verdict) = judge_narrow(alloc, base, events, limit, progress)? {
+        return Ok(verdict);
+    }
+    if let Some(verdict) = judge_in_depth(alloc, base, events, limit, progress)? {
+        return Ok(verdict);
+    }
+    judge_in_breadth(alloc, base, events, limit, progress)
+}
+
 /// Whether any order explains the events, from this state of the server on.
 ///
-/// At most `limit` configurations are kept before a return.
+/// At most `limit` configurations are kept before a return. Where more than a few would be, one order is looked for first.
 /// Errors: `NoMemory`. Takes memory for the configurations, each with a copy of the server's records. Doesn't wait.
 /// Own rule: docs/JUDGE.md.
 pub fn judge(
@@ -61,16 +152,5 @@ pub fn judge(
 ) -> Result<Verdict, NoMemory>
     ensures { IfOk result (IsVerdict base.now events.now limit) }
 {
-    let mut trunk = Vec::new(alloc);
-    let mut known = opening(alloc, base)?;
-    let mut index = FingerprintIndex::new(alloc);
-    for place in 0..events.len() {
-        known = match see_event(alloc, known, &mut index, &events[place], limit)? {
-            Advance::Known(next) => next,
-            Advance::Impossible(answers) => return Ok(Verdict::Illegal(place, answers)),
-            Advance::TooMany => return Ok(Verdict::Undecided(place)),
-        };
-        shorten(&mut trunk, &mut known)?;
-    }
-    Ok(Verdict::Legal(path_of(trunk, known.as_slice())?))
+    judge_telling(alloc, base, events, limit, &mut Silent)
 }

@@ -132,13 +132,23 @@ fn add_effects(
     Ok(())
 }
 
+/// Whether the session of this number is `returning`.
+fn is_returning(returning: &Option<SessionNo>, number: u64) -> bool
+    ensures { result ≡ true → returning.now ≡ Some number }
+{
+    match returning {
+        None => false,
+        Some(session) => number == session.get(),
+    }
+}
+
 /// Adds what the acts of the session of this number lead to from the configuration at this place, unless it is `returning`.
 fn add_others(
     known: &mut Vec<Configuration>,
     index: &mut FingerprintIndex,
     place: usize,
     number: u64,
-    returning: SessionNo,
+    returning: &Option<SessionNo>,
 ) -> Result<(), NoMemory>
     requires { place < vec_len known.old }
     ensures grows { OnOk result (Grows known.old.items known.new.items) }
@@ -146,11 +156,11 @@ fn add_others(
         ((one : Found) (act : _) (new : Config)
         → slice_get known.old.items place ≡ Some one
         → IsSession number
-        → number ≢ returning
+        → returning.now ≢ Some number
         → effect_of (config_of one) number act ≡ Some new
         → Has known.new.items new) }
 {
-    if number == returning.get() {
+    if is_returning(returning, number) {
         return Ok(());
     }
     match SessionNo::of(number) {
@@ -167,11 +177,11 @@ fn add_all(
     known: &mut Vec<Configuration>,
     index: &mut FingerprintIndex,
     place: usize,
-    returning: SessionNo,
+    returning: &Option<SessionNo>,
 ) -> Result<(), NoMemory>
     requires { place < vec_len known.old }
     ensures grows { OnOk result (Grows known.old.items known.new.items) }
-    ensures all { OnOk result ((one : Found) → slice_get known.old.items place ≡ Some one → IsExpandedBelow 17 one returning known.new.items) }
+    ensures all { OnOk result ((one : Found) → slice_get known.old.items place ≡ Some one → IsExpandedBelow 17 one returning.now known.new.items) }
 {
     for number in 1..17 {
         add_others(known, index, place, number, returning)?;
@@ -179,19 +189,19 @@ fn add_all(
     Ok(())
 }
 
-/// Adds what acts of other sessions than `returning` lead to from the configuration at this place, unless `returning` was
-/// answered there.
+/// Adds what acts of other sessions than `returning` lead to from the configuration at this place, unless `returning` is one
+/// that was answered there.
 pub fn expand(
     known: &mut Vec<Configuration>,
     index: &mut FingerprintIndex,
     place: usize,
-    returning: SessionNo,
+    returning: &Option<SessionNo>,
 ) -> Result<(), NoMemory>
     requires { place < vec_len known.old }
     ensures grows { OnOk result (Grows known.old.items known.new.items) }
-    ensures all { OnOk result ((one : Found) → slice_get known.old.items place ≡ Some one → IsExpandedBelow 17 one returning known.new.items) }
+    ensures all { OnOk result ((one : Found) → slice_get known.old.items place ≡ Some one → IsExpandedBelow 17 one returning.now known.new.items) }
 {
-    if known[place].is_answered(returning) {
+    if known[place].is_over(returning) {
         return Ok(());
     }
     add_all(known, index, place, returning)

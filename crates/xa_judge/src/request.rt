@@ -48,6 +48,18 @@ impl Request {
         }
     }
 
+    /// What it would be answered.
+    pub(crate) fn answer(&self, server: &Server, session: SessionNo) -> Result<Answer, NoMemory>
+        ensures { IfOk result (λ answer. answer ≡ answer_to server.now session self.now) }
+    {
+        match self {
+            Request::Statement(statement) => {
+                Ok(Answer::Reply(server.reply(session, statement)?.0))
+            }
+            Request::Unread => Ok(Answer::Unread),
+        }
+    }
+
     /// Has it take effect, and gives its answer.
     pub(crate) fn carry_out(
         &self,

@@ -30,8 +30,14 @@ impl Configuration {
             }
             Some(ClientState::Called(_)) => Ok(None),
             Some(ClientState::Answered(_)) => Ok(None),
-            Some(ClientState::Gone(_)) => Ok(None),
-            Some(ClientState::Left) => Ok(None),
+            Some(ClientState::Gone(None)) => {
+                let client = ClientState::Gone(Some(request.copy()));
+                Ok(Some(self.moved(session, client, Move::Event)?))
+            }
+            Some(ClientState::Gone(Some(_))) => Ok(None),
+            Some(ClientState::Left) => {
+                Ok(Some(self.moved(session, ClientState::Left, Move::Event)?))
+            }
         }
     }
 
@@ -74,6 +80,23 @@ impl Configuration {
         Ok(Some(self.moved(session, client, Move::Event)?))
     }
 
+    /// How things stand once the session's call has an answer that isn't known, where it can have one.
+    #[tactic(auto, unfolding(crate::specs::Explained::observed, crate::specs::Explained::answered_unknown))]
+    fn answered_unknown(self, session: SessionNo) -> Result<Option<Configuration>, NoMemory>
+        ensures config { IfOk result (λ found. option_map config_of found ≡ observed (config_of self) (Event.Unknown session)) }
+        ensures path { IfOk result (λ found. IfSome found (λ new. new.path.items ≡ self.path.items ++ Move.Event ∷ [])) }
+    {
+        match self.client(session) {
+            None => return Ok(None),
+            Some(ClientState::Idle) => return Ok(None),
+            Some(ClientState::Called(_)) => {}
+            Some(ClientState::Answered(_)) => {}
+            Some(ClientState::Gone(_)) => return Ok(None),
+            Some(ClientState::Left) => return Ok(None),
+        }
+        Ok(Some(self.moved(session, ClientState::Idle, Move::Event)?))
+    }
+
     /// How things stand once the event is seen, where it can be.
     pub fn observed(self, event: &Event) -> Result<Option<Configuration>, NoMemory>
         ensures config { IfOk result (λ found. option_map config_of found ≡ observed (config_of self) event.now) }
@@ -83,6 +106,7 @@ impl Configuration {
             Event::Call(session, request) => self.called(*session, request),
             Event::Return(session, seen) => self.returned(*session, seen),
             Event::Lost(session) => self.lost(*session),
+            Event::Unknown(session) => self.answered_unknown(*session),
         }
     }
 }

@@ -14,7 +14,7 @@ use Rattle.xa_judge.specs.declared.request.Request.{Request}
 use Rattle.xa_judge.specs.declared.request.Request.TheVariants.{Statement as Asked}
 use Rattle.xa_judge.specs.declared.event.Seen.{Seen}
 use Rattle.xa_judge.specs.declared.event.Event.{Event}
-use Rattle.xa_judge.specs.declared.event.Event.TheVariants.{Call, Return, Lost}
+use Rattle.xa_judge.specs.declared.event.Event.TheVariants.{Call, Return, Lost, Unknown}
 use Rattle.xa_judge.specs.declared.client_state.ClientState.{ClientState}
 use Rattle.xa_judge.specs.declared.client_state.ClientState.TheVariants.{Idle, Called, Answered, Gone, Left}
 use Rattle.xa_judge.specs.declared.moves.Act.{Act}
@@ -22,12 +22,15 @@ use Rattle.xa_judge.specs.declared.moves.Act.TheVariants.{Statement as ItsStatem
 use Rattle.xa_judge.specs.declared.moves.Move.{Move}
 use Rattle.xa_judge.specs.declared.moves.Move.TheVariants.{Event as Seeing, Effect}
 use Rattle.xa_judge.specs.Explained.{Config, opening_config, with_client, effect_of, carried_out, disconnected, observed, called, returned, lost}
-use Rattle.xa_judge.specs.Explained.{shows_answer, IsSession}
+use Rattle.xa_judge.specs.Explained.{answered_unknown, shows_answer, IsSession}
 use Rattle.xa_judge.specs.Explained.{LeadsThrough}
 use Rattle.xa_judge.proofs.Places.{same_number, get_written, get_apart, get_within}
-use Rattle.xa_record.specs.Lines.{Told, Calls, Returns, Leaves}
+use Rattle.xa_record.specs.declared.allowance.Allowance.{Allowance}
+use Rattle.xa_record.specs.declared.statement_kind.StatementKind.{StatementKind}
+use Rattle.xa_record.specs.Lines.{Told, Calls, Returns, ReturnsUnknown, Leaves}
 use Rattle.xa_record.specs.Reading.{NumberedEvent}
-use Rattle.xa_record.specs.Events.{request_read, request_called, IsEvent, AreEvents}
+use Rattle.xa_record.specs.Allowances.{no_kinds, kinds_after}
+use Rattle.xa_record.specs.Events.{request_read, request_called, IsEvent, AreEventsAfter, AreEvents}
 use Rattle.xa_record.specs.VerdictText.{call_text, text_of_call, with_call, no_calls}
 use Rattle.xa_laws.specs.Replaying.{effect_line, order_lines, open_request, IsEffectLine, AreEffects, IsWellCalled, IsWellTold, AreWellCalled}
 use Rattle.xa_laws.proofs.Lines.{line_back, call_bare, call_back}
@@ -76,12 +79,12 @@ kept_same calls clients session before next found same_open kept = record {
   ];
 }
 
--- an idle session called for a text
-kept_call : (calls : List (List ℕ)) (clients : List ClientState) (session : ℕ) (text : List ℕ) → slice_get clients session ≡ Some Idle → IsWellCalled text
-    → Kept calls clients
-    → Kept (set calls session text) (set clients session (Called (request_called text)))
-kept_call calls clients session text found well kept = record {
-  long = length-kept calls session text ∙ kept.long ∙ sym (length-kept clients session (Called (request_called text)));
+-- a session called for a text, which is its open request now
+kept_call : (calls : List (List ℕ)) (clients : List ClientState) (session : ℕ) (text : List ℕ) (before next : ClientState)
+    → slice_get clients session ≡ Some before → open_request (Some next) ≡ Some (request_called text) → IsWellCalled text → Kept calls clients
+    → Kept (set calls session text) (set clients session next)
+kept_call calls clients session text before next found opens well kept = record {
+  long = length-kept calls session text ∙ kept.long ∙ sym (length-kept clients session next);
   each = λ other request opened. elim (same_number session other) [
     | inl same ↦ subst (λ (n : ℕ). KeepsText (set calls session text) n request) same (record {
       text = text;
@@ -89,21 +92,37 @@ kept_call calls clients session text found well kept = record {
       well = well;
       is =
           sym (same_Some _ request
-          (ap open_request (sym (get_written clients session Idle (Called (request_called text)) found))
-          ∙ ap (λ (n : ℕ). open_request (slice_get (set clients session (Called (request_called text))) n)) same ∙ opened));
+          (sym opens ∙ ap open_request (sym (get_written clients session before next found))
+          ∙ ap (λ (n : ℕ). open_request (slice_get (set clients session next) n)) same ∙ opened));
     })
     | inr apart ↦
         let old : KeepsText calls other request =
-        kept.each other request (sym (ap open_request (get_apart clients session other (Called (request_called text)) apart)) ∙ opened) in
+        kept.each other request (sym (ap open_request (get_apart clients session other next apart)) ∙ opened) in
         record { text = old.text; found = get_apart calls session other text apart ∙ old.found; well = old.well; is = old.is }
   ];
 }
   where
     within : session < length calls
-    within = let far = slice_get_within clients session Idle found in omega (arith, far, kept.long)
+    within = let far = slice_get_within clients session before found in omega (arith, far, kept.long)
 
     first : (x : List ℕ) × (slice_get calls session ≡ Some x)
     first = get_within calls session within
+
+-- a session called for a text that it never asks for
+kept_unasked : (calls : List (List ℕ)) (clients : List ClientState) (session : ℕ) (text : List ℕ) (before next : ClientState)
+    → slice_get clients session ≡ Some before → open_request (Some next) ≡ None → Kept calls clients → Kept (set calls session text) (set clients session next)
+kept_unasked calls clients session text before next found none kept = record {
+  long = length-kept calls session text ∙ kept.long ∙ sym (length-kept clients session next);
+  each = λ other request opened. elim (same_number session other) [
+    | inl same ↦ absurd (none-some request
+        (sym none ∙ ap open_request (sym (get_written clients session before next found))
+        ∙ ap (λ (n : ℕ). open_request (slice_get (set clients session next) n)) same ∙ opened))
+    | inr apart ↦
+        let old : KeepsText calls other request =
+        kept.each other request (sym (ap open_request (get_apart clients session other next apart)) ∙ opened) in
+        record { text = old.text; found = get_apart calls session other text apart ∙ old.found; well = old.well; is = old.is }
+  ];
+}
 
 -- the line of a statement that takes effect
 statement_line : (calls : List (List ℕ)) (config : Config) (session : ℕ) (request : Request) → IsSession session → Kept calls config.clients
@@ -189,11 +208,16 @@ call_by : (o : Option ClientState) (calls : List (List ℕ)) (config : Config) (
 unfolding called
 call_by None calls config session text mid found well kept at = absurd (none-some mid at)
 call_by (Some Idle) calls config session text mid found well kept at =
-    subst (Kept (set calls session text)) (standings_of _ mid at) (kept_call calls config.clients session text found well kept)
+    subst (Kept (set calls session text)) (standings_of _ mid at)
+    (kept_call calls config.clients session text Idle (Called (request_called text)) found refl well kept)
 call_by (Some (Called other)) calls config session text mid found well kept at = absurd (none-some mid at)
 call_by (Some (Answered answer)) calls config session text mid found well kept at = absurd (none-some mid at)
-call_by (Some (Gone other)) calls config session text mid found well kept at = absurd (none-some mid at)
-call_by (Some Left) calls config session text mid found well kept at = absurd (none-some mid at)
+call_by (Some (Gone None)) calls config session text mid found well kept at =
+    subst (Kept (set calls session text)) (standings_of _ mid at)
+    (kept_call calls config.clients session text (Gone None) (Gone (Some (request_called text))) found refl well kept)
+call_by (Some (Gone (Some other))) calls config session text mid found well kept at = absurd (none-some mid at)
+call_by (Some Left) calls config session text mid found well kept at =
+    subst (Kept (set calls session text)) (standings_of _ mid at) (kept_unasked calls config.clients session text Left Left found refl kept)
 
 return_by : (o : Option ClientState) (calls : List (List ℕ)) (config : Config) (session : ℕ) (seen : Seen) (mid : Config) → slice_get config.clients session ≡ o
     → Kept calls config.clients → returned o config session seen ≡ Some mid → Kept calls mid.clients
@@ -220,35 +244,52 @@ lost_by (Some (Answered answer)) calls config session mid found kept at =
 lost_by (Some (Gone request)) calls config session mid found kept at = absurd (none-some mid at)
 lost_by (Some Left) calls config session mid found kept at = absurd (none-some mid at)
 
-seen_kept : (calls : List (List ℕ)) (config : Config) (told : Told) (event : Event) (mid : Config) → IsWellTold told → IsEvent told event
+unknown_by : (o : Option ClientState) (calls : List (List ℕ)) (config : Config) (session : ℕ) (mid : Config) → slice_get config.clients session ≡ o
+    → Kept calls config.clients → answered_unknown o config session ≡ Some mid → Kept calls mid.clients
+unfolding answered_unknown
+unknown_by None calls config session mid found kept at = absurd (none-some mid at)
+unknown_by (Some Idle) calls config session mid found kept at = absurd (none-some mid at)
+unknown_by (Some (Called request)) calls config session mid found kept at =
+    subst (Kept calls) (standings_of _ mid at) (kept_without calls config.clients session (Called request) Idle found refl kept)
+unknown_by (Some (Answered answer)) calls config session mid found kept at =
+    subst (Kept calls) (standings_of _ mid at) (kept_without calls config.clients session (Answered answer) Idle found refl kept)
+unknown_by (Some (Gone request)) calls config session mid found kept at = absurd (none-some mid at)
+unknown_by (Some Left) calls config session mid found kept at = absurd (none-some mid at)
+
+seen_kept : (allowances : List Allowance) (kinds : List (Option StatementKind)) (calls : List (List ℕ)) (config : Config) (told : Told) (event : Event)
+    (mid : Config) → IsWellTold told → IsEvent allowances kinds told event
     → Kept calls config.clients → observed config event ≡ Some mid → Kept (with_call told calls) mid.clients
 unfolding observed
-seen_kept calls config (Calls session text) event mid well is kept at =
+seen_kept allowances kinds calls config (Calls session text) event mid well is kept at =
     call_by (slice_get config.clients session) calls config session text mid refl well kept (sym (ap (observed config) is) ∙ at)
-seen_kept calls config (Returns session shown) (Call other request) mid well is kept at = absurd is
-seen_kept calls config (Returns session shown) (Return other seen) mid well is kept at =
+seen_kept allowances kinds calls config (Returns session shown) (Call other request) mid well is kept at = absurd is
+seen_kept allowances kinds calls config (Returns session shown) (Return other seen) mid well is kept at =
     return_by (slice_get config.clients other) calls config other seen mid refl kept at
-seen_kept calls config (Returns session shown) (Lost other) mid well is kept at = absurd is
-seen_kept calls config (Leaves session) event mid well is kept at =
+seen_kept allowances kinds calls config (Returns session shown) (Lost other) mid well is kept at = absurd is
+seen_kept allowances kinds calls config (Returns session shown) (Unknown other) mid well is kept at = absurd is
+seen_kept allowances kinds calls config (ReturnsUnknown session) event mid well is kept at =
+    unknown_by (slice_get config.clients session) calls config session mid refl kept (sym (ap (observed config) is) ∙ at)
+seen_kept allowances kinds calls config (Leaves session) event mid well is kept at =
     lost_by (slice_get config.clients session) calls config session mid refl kept (sym (ap (observed config) is) ∙ at)
 
-pub are_effects : (calls : List (List ℕ)) (numbered : List NumberedEvent) (events : List Event) (moves : List Move) (old new : Config) → AreWellCalled numbered
-    → AreEvents numbered events → Kept calls old.clients → LeadsThrough old events moves new
+pub are_effects : (allowances : List Allowance) (kinds : List (Option StatementKind)) (calls : List (List ℕ)) (numbered : List NumberedEvent)
+    (events : List Event) (moves : List Move) (old new : Config) → AreWellCalled numbered
+    → AreEventsAfter allowances kinds numbered events → Kept calls old.clients → LeadsThrough old events moves new
     → AreEffects old events moves (order_lines calls numbered moves)
-unfolding order_lines
-are_effects calls numbered events (Effect session act ∷ moves) old new well are kept runs =
+unfolding order_lines AreEventsAfter
+are_effects allowances kinds calls numbered events (Effect session act ∷ moves) old new well are kept runs =
     let has : HasLine calls old session act runs.0 = has_line calls old session act runs.0 runs.1 kept runs.2 in
-    (runs.0, runs.2, has.line, are_effects calls numbered events moves runs.0 new well are has.kept runs.3)
-are_effects calls numbered [] (Seeing ∷ moves) old new well are kept runs = absurd runs
-are_effects calls [] (event ∷ events) (Seeing ∷ moves) old new well are kept runs = absurd are
-are_effects calls (one ∷ numbered) (event ∷ events) (Seeing ∷ moves) old new well are kept runs = (
+    (runs.0, runs.2, has.line, are_effects allowances kinds calls numbered events moves runs.0 new well are has.kept runs.3)
+are_effects allowances kinds calls numbered [] (Seeing ∷ moves) old new well are kept runs = absurd runs
+are_effects allowances kinds calls [] (event ∷ events) (Seeing ∷ moves) old new well are kept runs = absurd are
+are_effects allowances kinds calls (one ∷ numbered) (event ∷ events) (Seeing ∷ moves) old new well are kept runs = (
   runs.0,
   runs.1,
-  are_effects (with_call one.told calls) numbered events moves runs.0 new well.1 are.1
-      (seen_kept calls old one.told event runs.0 well.0 are.0 kept runs.1) runs.2,
+  are_effects allowances (kinds_after event kinds) (with_call one.told calls) numbered events moves runs.0 new well.1 are.1
+      (seen_kept allowances kinds calls old one.told event runs.0 well.0 are.0 kept runs.1) runs.2,
 )
-are_effects calls numbered [] [] old new well are kept runs = tt
-are_effects calls numbered (event ∷ events) [] old new well are kept runs = absurd runs
+are_effects allowances kinds calls numbered [] [] old new well are kept runs = tt
+are_effects allowances kinds calls numbered (event ∷ events) [] old new well are kept runs = absurd runs
 
 -- before all calls nothing is open
 idle_open : (count place : ℕ) (request : Request) → open_request (slice_get (replicate count Idle) place) ≡ Some request → ⊥
@@ -260,7 +301,8 @@ none_kept : (base : State) → Kept no_calls (opening_config base).clients
 unfolding opening_config
 none_kept base = record { long = refl; each = λ session request opened. absurd (idle_open 17 session request opened) }
 
-pub order_replayed : (base : State) (numbered : List NumberedEvent) (events : List Event) (moves : List Move) (new : Config) → AreWellCalled numbered → AreEvents numbered events
-    → LeadsThrough (opening_config base) events moves new
+pub order_replayed : (base : State) (allowances : List Allowance) (numbered : List NumberedEvent) (events : List Event) (moves : List Move) (new : Config)
+    → AreWellCalled numbered → AreEvents allowances numbered events → LeadsThrough (opening_config base) events moves new
     → AreEffects (opening_config base) events moves (order_lines no_calls numbered moves)
-order_replayed base numbered events moves new well are runs = are_effects no_calls numbered events moves (opening_config base) new well are (none_kept base) runs
+order_replayed base allowances numbered events moves new well are runs =
+    are_effects allowances no_kinds no_calls numbered events moves (opening_config base) new well are (none_kept base) runs

@@ -27,7 +27,7 @@ use Rattle.xa_judge.specs.declared.moves.Act.TheVariants.{Statement as ItsStatem
 use Rattle.xa_judge.specs.declared.moves.Move.{Move}
 use Rattle.xa_judge.specs.declared.moves.Move.TheVariants.{Event as Seeing, Effect}
 use Rattle.xa_judge.specs.Explained.{Config, effect_of, observed}
-use Rattle.xa_record.specs.Lines.{Told, Calls, Returns, Leaves}
+use Rattle.xa_record.specs.Lines.{Told, Calls, Returns, ReturnsUnknown, Leaves}
 use Rattle.xa_record.specs.Reading.{NumberedEvent}
 use Rattle.xa_record.specs.Events.{request_read}
 use Rattle.xa_record.specs.VerdictText.{with_call, act_text}
@@ -99,6 +99,7 @@ pub record IsWellCalled (text : List ℕ) : Type 0 where
 abbrev pub IsWellTold : Told → Type 0
 IsWellTold (Calls session text) = IsWellCalled text
 IsWellTold (Returns session shown) = Unit {0}
+IsWellTold (ReturnsUnknown session) = Unit {0}
 IsWellTold (Leaves session) = Unit {0}
 
 -- so it is with each call

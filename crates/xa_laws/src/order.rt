@@ -7,6 +7,7 @@ ghost use Rattle.xa_judge.specs.declared.request.Request.{Request};
 ghost use Rattle.xa_judge.specs.Explained.{Config, opening_config, LeadsThrough, next_state};
 ghost use Rattle.xa_lines.specs.Script.{line_of};
 ghost use Rattle.xa_lines.specs.Transcript.{answer_of, state_after_line};
+ghost use Rattle.xa_record.specs.declared.allowance.Allowance.{Allowance};
 ghost use Rattle.xa_record.specs.Reading.{NumberedEvent};
 ghost use Rattle.xa_record.specs.Events.{AreEvents};
 ghost use Rattle.xa_record.specs.VerdictText.{order_text, no_calls};
@@ -18,9 +19,9 @@ ghost use Rattle.xa_laws.specs.Replaying.{order_lines, joined, GivesRequest, Ans
 /// Takes no memory. Doesn't wait. Own rule: docs/JUDGE.md, 'The verdict'.
 pub fn order_is_replayed()
     ensures written { (calls : List (List ℕ)) (numbered : List NumberedEvent) (moves : List Move) → order_text calls numbered moves ≡ joined (order_lines calls numbered moves) }
-    ensures effects { (base : State) (numbered : List NumberedEvent) (events : List Event) (moves : List Move) (new : Config)
+    ensures effects { (base : State) (allowances : List Allowance) (numbered : List NumberedEvent) (events : List Event) (moves : List Move) (new : Config)
         → AreWellCalled numbered
-        → AreEvents numbered events
+        → AreEvents allowances numbered events
         → LeadsThrough (opening_config base) events moves new
         → AreEffects (opening_config base) events moves (order_lines no_calls numbered moves) }
     ensures answers { (state : State) (line : List ℕ) (session : ℕ) (request : Request)

@@ -12,7 +12,7 @@ use Rattle.xa_judge.specs.declared.moves.Move.TheVariants.{Event as Seeing, Effe
 use Rattle.xa_record.specs.declared.line_event.NumberedEvent.{NumberedEvent as NumberedRead}
 use Rattle.xa_record.specs.declared.last_calls.LastCalls.{LastCalls}
 use Rattle.xa_record.specs.Kept.{told_kept, text_told, text_at, numbered_kept, calls_kept, with_place}
-use Rattle.xa_record.specs.Lines.{Told, Calls, Returns, Leaves}
+use Rattle.xa_record.specs.Lines.{Told, Calls, Returns, ReturnsUnknown, Leaves}
 use Rattle.xa_record.specs.Reading.{NumberedEvent}
 use Rattle.xa_record.specs.VerdictText.{with_call, effect_text, order_text}
 use Rattle.xa_record.proofs.Places.{text_at-kept}
@@ -63,6 +63,7 @@ calls-followed : (all : List NumberedEvent) (places : List (Option ℕ)) (place 
 calls-followed all places place (Calls session text) at =
     map-set (text_at all) places session (Some place) ∙ ap (set (map (text_at all) places) session) at
 calls-followed all places place (Returns session shown) at = refl
+calls-followed all places place (ReturnsUnknown session) at = refl
 calls-followed all places place (Leaves session) at = refl
 
 -- one thing more of the list as the program keeps it has happened

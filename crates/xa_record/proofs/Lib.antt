@@ -4,5 +4,16 @@ pub mod Places
 pub mod CallTexts
 pub mod Effects
 pub mod Texts
+pub mod JsonTexts
+pub mod NamedRows
 pub mod Pairs
+pub mod EventLists
+pub mod AllowanceLists
+pub mod Returns
+pub mod NoFaults
+pub mod LastReturns
+pub mod RecordLines
+pub mod RecordReads
+pub mod Reasons
+pub mod Reported
 pub mod JudgedTexts

@@ -1,11 +1,16 @@
 -- Reading a record line by line.
-use Rattle.std.proofs.Common.{◌≡◌, ℕ, ◌+◌, ◌==◌, true, Option, None, List, [], ◌∷◌, ◌++◌, length, slice_get, slice_set, refl, ap, sym, ◌∙◌, arith}
+use Rattle.std.proofs.Common.{◌≡◌, ℕ, ◌+◌, ◌==◌, true, Option, None, List, [], ◌∷◌, ◌++◌, map, take, drop, length, slice_get, slice_set, refl, ap, sym, ◌∙◌, arith}
 use Rattle.std.proofs.lemmas.Grind.{common_steps}
+use Rattle.std.proofs.lemmas.List.{map-append}
+use Rattle.std.specs.List.{insert, take-map, drop-map}
 use Rattle.xa_lines.specs.Script.{lines_of}
 use Rattle.xa_record.specs.declared.line_fault.LineFault.{LineFault}
 use Rattle.xa_record.specs.declared.presence.Presence.{Presence}
-use Rattle.xa_record.specs.Lines.{Told}
-use Rattle.xa_record.specs.Reading.{NumberedEvent, Notes, session_of, presence_after, cause_of, note_of, noted_if, noted_line, noted_lines}
+use Rattle.xa_record.specs.declared.presence.Presence.TheVariants.{Lost}
+use Rattle.xa_record.specs.declared.line_event.NumberedEvent.{NumberedEvent as NumberedRead}
+use Rattle.xa_record.specs.Kept.{numbered_kept}
+use Rattle.xa_record.specs.Lines.{Told, Leaves}
+use Rattle.xa_record.specs.Reading.{NumberedEvent, Notes, session_of, presence_after, cause_of, note_of, noted_if, up_to_return, closed_if, note_closed, noted_line, noted_lines}
 
 -- one line was cut off
 pub noted_lines-line : (notes : Notes) (number : ℕ) (text line rest : List ℕ) → lines_of text ≡ line ∷ lines_of rest
@@ -32,3 +37,22 @@ unfolding noted_if
 numbered-so notes number told list presence no_fault one two =
     ap (λ (l : List NumberedEvent). made notes l presence) one ∙ ap (made notes (notes.told ++ record { number = number; told = told } ∷ [])) two
     ∙ sym (ap (λ (c : Option LineFault). noted_if c notes number told) no_fault)
+
+-- a connection was found closed, and its client is gone from its last return on
+pub closed-so : (notes : Notes) (number session : ℕ) (list : List NumberedEvent) (presence : List Presence)
+    → cause_of (slice_get notes.presence session) (Leaves session) ≡ None
+    → list ≡ insert notes.told (up_to_return session notes.told) (record { number = number; told = Leaves session }) → presence ≡ slice_set notes.presence session Lost
+    → made notes list presence ≡ note_closed notes number session
+unfolding closed_if
+closed-so notes number session list presence no_fault one two =
+    ap (λ (l : List NumberedEvent). made notes l presence) one
+    ∙ ap (made notes (insert notes.told (up_to_return session notes.told) (record { number = number; told = Leaves session }))) two
+    ∙ sym (ap (λ (c : Option LineFault). closed_if c notes number session) no_fault)
+
+-- one thing more, at its place
+pub map-insert : (list : List NumberedRead) (place : ℕ) (one : NumberedRead)
+    → map numbered_kept (insert list place one) ≡ insert (map numbered_kept list) place (numbered_kept one)
+map-insert list place one =
+    map-append numbered_kept (take place list) (one ∷ drop place list)
+    ∙ ap (λ (l : List NumberedEvent). l ++ numbered_kept one ∷ map numbered_kept (drop place list)) (sym (take-map numbered_kept place list))
+    ∙ ap (λ (l : List NumberedEvent). take place (map numbered_kept list) ++ numbered_kept one ∷ l) (sym (drop-map numbered_kept place list))

@@ -3,7 +3,8 @@
 --     IsSeen             what is seen is what a return shows, rows in ascending order
 --     IsEvent            an event is what happens
 --     AreEvents          so it is with each
-use Rattle.std.specs.Prelude.{◌≡◌, ℕ, Result, Ok, Err, List}
+--     AreCalls           the events of calls are those calls
+use Rattle.std.specs.Prelude.{◌≡◌, ℕ, Option, Result, Ok, Err, List, [], ◌∷◌}
 use Rattle.std.specs.List.{AllZip}
 use Rattle.std.specs.List.Sorted.{IsPermutation, IsSorted}
 use Rattle.xa_xid.specs.Xid.{xid_cmp}
@@ -14,9 +15,12 @@ use Rattle.xa_judge.specs.declared.request.Request.TheVariants.{Statement as Giv
 use Rattle.xa_judge.specs.declared.event.Seen.{Seen}
 use Rattle.xa_judge.specs.declared.event.Seen.TheVariants.{Ok as SeenOk, Value as SeenValue, Rows as SeenRows, Error as SeenError}
 use Rattle.xa_judge.specs.declared.event.Event.{Event}
-use Rattle.xa_judge.specs.declared.event.Event.TheVariants.{Call, Return, Lost}
-use Rattle.xa_record.specs.Lines.{Shown, ShowsOk, ShowsValue, ShowsRows, ShowsError, Told, Calls, Returns, Leaves}
+use Rattle.xa_judge.specs.declared.event.Event.TheVariants.{Call, Return, Lost, Unknown}
+use Rattle.xa_record.specs.declared.allowance.Allowance.{Allowance}
+use Rattle.xa_record.specs.declared.statement_kind.StatementKind.{StatementKind}
+use Rattle.xa_record.specs.Lines.{Shown, ShowsOk, ShowsValue, ShowsRows, ShowsError, Told, Calls, Returns, ReturnsUnknown, Leaves}
 use Rattle.xa_record.specs.Reading.{NumberedEvent}
+use Rattle.xa_record.specs.Allowances.{others_for, no_kinds, kinds_after, kind_asked}
 
 abbrev pub request_read : Result Statement ℕ → Request
 request_read (Ok statement) = Given statement
@@ -26,21 +30,45 @@ request_read (Err place) = Unread
 abbrev pub request_called : List ℕ → Request
 request_called text = request_read (read_of text)
 
--- what is seen is what a return shows, rows in ascending order
-abbrev pub IsSeen : Shown → Seen → Type 0
-IsSeen ShowsOk seen = seen ≡ SeenOk
-IsSeen (ShowsValue value) seen = seen ≡ SeenValue value
-IsSeen (ShowsRows rows) (SeenRows sorted) = IsPermutation rows sorted.items × IsSorted xid_cmp sorted.items
-IsSeen (ShowsRows rows) seen = ⊥
-IsSeen (ShowsError number) seen = seen ≡ SeenError number
+-- what is seen is what a return shows, rows in ascending order; a refusal stands for its number, and for those that the list has
+abbrev pub IsSeen : List ℕ → Shown → Seen → Type 0
+IsSeen others ShowsOk seen = seen ≡ SeenOk
+IsSeen others (ShowsValue value) seen = seen ≡ SeenValue value
+IsSeen others (ShowsRows rows) (SeenRows sorted) = IsPermutation rows sorted.items × IsSorted xid_cmp sorted.items
+IsSeen others (ShowsRows rows) seen = ⊥
+IsSeen others (ShowsError number) (SeenError numbers) = (numbers.seen ≡ number) × (numbers.others.items ≡ others)
+IsSeen others (ShowsError number) seen = ⊥
 
--- an event is what happens
-abbrev pub IsEvent : Told → Event → Type 0
-IsEvent (Calls session text) event = event ≡ Call session (request_called text)
-IsEvent (Returns session shown) (Return other seen) = (other ≡ session) × IsSeen shown seen
-IsEvent (Returns session shown) event = ⊥
-IsEvent (Leaves session) event = event ≡ Lost session
+-- the rules' numbers for which what is shown may stand beside its own, as the answer to what has this kind
+abbrev pub others_shown : List Allowance → Option StatementKind → Shown → List ℕ
+others_shown allowances kind (ShowsError number) = others_for allowances kind number
+others_shown allowances kind shown = []
 
--- so it is with each, one event for each line
-abbrev pub AreEvents : List NumberedEvent → List Event → Type 0
-AreEvents numbered events = AllZip (λ one event. IsEvent one.told event) numbered events
+-- an event is what happens, where the sessions called for these kinds last
+abbrev pub IsEvent : List Allowance → List (Option StatementKind) → Told → Event → Type 0
+IsEvent allowances kinds (Calls session text) event = event ≡ Call session (request_called text)
+IsEvent allowances kinds (Returns session shown) (Return other seen) =
+    (other ≡ session) × IsSeen (others_shown allowances (kind_asked kinds session) shown) shown seen
+IsEvent allowances kinds (Returns session shown) event = ⊥
+IsEvent allowances kinds (ReturnsUnknown session) event = event ≡ Unknown session
+IsEvent allowances kinds (Leaves session) event = event ≡ Lost session
+
+-- so it is with each, one event for each line, where the sessions called for these kinds before
+unfoldable pub AreEventsAfter : List Allowance → List (Option StatementKind) → List NumberedEvent → List Event → Type 0
+AreEventsAfter allowances kinds [] [] = Unit {0}
+AreEventsAfter allowances kinds (one ∷ numbered) (event ∷ events) =
+    IsEvent allowances kinds one.told event × AreEventsAfter allowances (kinds_after event kinds) numbered events
+AreEventsAfter allowances kinds numbered events = ⊥
+
+-- so it is with each, where no session called before
+abbrev pub AreEvents : List Allowance → List NumberedEvent → List Event → Type 0
+AreEvents allowances numbered events = AreEventsAfter allowances no_kinds numbered events
+
+-- the event of a call is that call
+abbrev pub IsCallOf : Told → Event → Type 0
+IsCallOf (Calls session text) event = event ≡ Call session (request_called text)
+IsCallOf told event = Unit {0}
+
+-- so it is with each
+abbrev pub AreCalls : List NumberedEvent → List Event → Type 0
+AreCalls numbered events = AllZip (λ one event. IsCallOf one.told event) numbered events

@@ -3,35 +3,42 @@
 --     numbered_kept                what happens, with its line's number
 --     awaited_kept              rows that are still to come
 --     notes_kept                what was read so far
+--     reason_kept, report_kept     why no order explains a line;  what is told of a record
 --     text_told, text_at        what is called for where this happens;  at this place of what happens
 --     calls_kept                at each session's number, the text that it called for last
 --     with_place                at each session's number, the place of its last call, once this happens there
 use Rattle.std.specs.Prelude.{ℕ, Option, Some, None, List, [], map, slice_get, slice_set}
 use Rattle.std.specs.Option.{option_map}
 use Rattle.xa_record.specs.declared.line_event.LineEvent.{LineEvent}
-use Rattle.xa_record.specs.declared.line_event.LineEvent.TheVariants.{Call, Return, Lost}
-use Rattle.xa_judge.specs.declared.event.Seen.{Seen}
-use Rattle.xa_judge.specs.declared.event.Seen.TheVariants.{Ok as SeenOk, Value as SeenValue, Rows as SeenRows, Error as SeenError}
+use Rattle.xa_record.specs.declared.line_event.LineEvent.TheVariants.{Call, Return, Unknown, Lost}
+use Rattle.xa_record.specs.declared.shown.Shown.{Shown as ShownRead}
+use Rattle.xa_record.specs.declared.shown.Shown.TheVariants.{Ok as OkRead, Value as ValueRead, Rows as ManyRead, Error as ErrorRead}
 use Rattle.xa_record.specs.declared.line.RecordLine.{RecordLine}
-use Rattle.xa_record.specs.declared.line.RecordLine.TheVariants.{Nothing as NothingRead, Bad as BadRead, Happens, Rows as RowsRead}
+use Rattle.xa_record.specs.declared.line.RecordLine.TheVariants.{Nothing as NothingRead, Bad as BadRead, Happens, Rows as RowsRead, Closed as ClosedRead}
 use Rattle.xa_record.specs.declared.line_event.NumberedEvent.{NumberedEvent as NumberedRead}
 use Rattle.xa_record.specs.declared.pending.Pending.{Pending}
 use Rattle.xa_record.specs.declared.notes.Notes.{Notes as NotesRead}
 use Rattle.xa_record.specs.declared.last_calls.LastCalls.{LastCalls}
-use Rattle.xa_record.specs.Lines.{Shown, ShowsOk, ShowsValue, ShowsRows, ShowsError, Told, Calls, Returns, Leaves, LineSaid, Nothing, Bad, Says, Awaits}
+use Rattle.xa_record.specs.Lines.{Shown, ShowsOk, ShowsValue, ShowsRows, ShowsError, Told, Calls, Returns, ReturnsUnknown, Leaves, LineSaid, Nothing, Bad, Says, Awaits, Closed}
 use Rattle.xa_record.specs.Reading.{Awaited, NumberedEvent, Notes}
+use Rattle.xa_record.specs.declared.reason.Reason.{Reason as ReasonFound}
+use Rattle.xa_record.specs.declared.report.Report.{Report as ReportMade}
+use Rattle.xa_record.specs.declared.report.Report.TheVariants.{Faulty as FaultyMade, Empty as EmptyMade, Legal as LegalMade, Illegal as IllegalMade}
+use Rattle.xa_record.specs.declared.report.Report.TheVariants.{Undecided as UndecidedMade}
+use Rattle.xa_record.specs.Reports.{Reason, Report, Faulty, Empty, Legal, Illegal, Undecided}
 
 -- what a return shows
-abbrev pub shown_kept : Seen → Shown
-shown_kept SeenOk = ShowsOk
-shown_kept (SeenValue value) = ShowsValue value
-shown_kept (SeenRows rows) = ShowsRows rows.items
-shown_kept (SeenError number) = ShowsError number
+abbrev pub shown_kept : ShownRead → Shown
+shown_kept OkRead = ShowsOk
+shown_kept (ValueRead value) = ShowsValue value
+shown_kept (ManyRead rows) = ShowsRows rows.items
+shown_kept (ErrorRead number) = ShowsError number
 
 -- what happens to a session
 abbrev pub told_kept : LineEvent → Told
 told_kept (Call session text) = Calls session text.now
-told_kept (Return session seen) = Returns session (shown_kept seen)
+told_kept (Return session shown) = Returns session (shown_kept shown)
+told_kept (Unknown session) = ReturnsUnknown session
 told_kept (Lost session) = Leaves session
 
 -- what a line says
@@ -40,6 +47,7 @@ line_kept NothingRead = Nothing
 line_kept BadRead = Bad
 line_kept (Happens line_event) = Says (told_kept line_event)
 line_kept (RowsRead session count) = Awaits session count
+line_kept (ClosedRead session) = Closed session
 
 -- what happens, with its line's number
 abbrev pub numbered_kept : NumberedRead → NumberedEvent
@@ -54,6 +62,18 @@ awaited_kept pending =
 abbrev pub notes_kept : NotesRead → Notes
 notes_kept notes =
     record { told = map numbered_kept notes.numbered.items; faults = notes.faults.items; presence = notes.presence; awaited = option_map awaited_kept notes.pending }
+
+-- why no order explains a line
+abbrev pub reason_kept : ReasonFound → Reason
+reason_kept reason = record { order = reason.order.items; state = reason.state.items }
+
+-- what is told of a record
+abbrev pub report_kept : ReportMade → Report
+report_kept (FaultyMade faults) = Faulty faults.items
+report_kept EmptyMade = Empty
+report_kept (LegalMade order) = Legal order.items
+report_kept (IllegalMade number texts reason) = Illegal number (map (λ text. text.items) texts.keys) (option_map reason_kept reason)
+report_kept (UndecidedMade number) = Undecided number
 
 -- what is called for where this happens, nothing if it is no call
 abbrev pub text_told : Told → List ℕ

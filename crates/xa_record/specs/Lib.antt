@@ -1,7 +1,11 @@
 pub mod Rows
 pub mod Lines
 pub mod Reading
-pub mod Kept
+pub mod Allowances
+pub mod Records
 pub mod Events
 pub mod VerdictText
+pub mod Reports
+pub mod Forms
+pub mod Kept
 pub mod Judged

@@ -30,6 +30,8 @@ pub data Told : Type 0 where
   Calls : ℕ → List ℕ → Told
   -- its call returns so
   Returns : ℕ → Shown → Told
+  -- its call returns, and what it returned isn't known
+  ReturnsUnknown : ℕ → Told
   -- its client is gone
   Leaves : ℕ → Told
 
@@ -43,6 +45,8 @@ pub data LineSaid : Type 0 where
   Says : Told → LineSaid
   -- a session's call returns so many rows, which stand on the next lines
   Awaits : ℕ → ℕ → LineSaid
+  -- the client of a session found that the server had closed its connection
+  Closed : ℕ → LineSaid
 
 -- it is blank, or a comment
 abbrev pub is_silent : List ℕ → Bool
@@ -81,15 +85,22 @@ return_said session word text =
     if bytes_eq word (codes "ROWS") then rows_said session (number_of_word (first_word text)) (behind_word text) else
     if bytes_eq word (codes "ERROR") then error_said session (leading_number text) else Bad
 
+-- what stands behind `?`: what stands behind its word says nothing
+abbrev pub unknown_said : ℕ → List ℕ → LineSaid
+unknown_said session word = if bytes_eq word (codes "ERROR") then Says (ReturnsUnknown session) else Bad
+
 -- what stands behind `!`
-abbrev pub loss_said : ℕ → List ℕ → List ℕ → LineSaid
-loss_said session word text = if bytes_eq word (codes "LOST") then alone (Says (Leaves session)) text else Bad
+unfoldable pub loss_said : ℕ → List ℕ → List ℕ → LineSaid
+loss_said session word text =
+    if bytes_eq word (codes "LOST") then alone (Says (Leaves session)) text else
+    if bytes_eq word (codes "GONE") then alone (Closed session) text else Bad
 
 -- what a session's line says: a sign, and the text behind it
 unfoldable pub session_said : ℕ → List ℕ → List ℕ → LineSaid
 session_said session sign text =
     if bytes_eq sign (codes ">") then Says (Calls session (trimmed text)) else
     if bytes_eq sign (codes "<") then return_said session (first_word text) (behind_word text) else
+    if bytes_eq sign (codes "?") then unknown_said session (first_word text) else
     if bytes_eq sign (codes "!") then loss_said session (first_word text) (behind_word text) else Bad
 
 -- what a line says that is not silent, by its session and the text behind that

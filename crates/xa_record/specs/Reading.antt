@@ -6,10 +6,12 @@
 --     Awaited             rows that are still to come, and the faulty lines among those that came
 --     Notes               what was read so far
 --     note_of             the notes once this has happened
+--     note_closed         the notes once a connection was found closed
 --     noted_line          the notes after a line
 --     notes_of            the notes after these lines
 --     faults_in, told_in  what is written for the faulty lines of a record;  what happens in it, each with its line's number
-use Rattle.std.specs.Prelude.{ℕ, ◌+◌, ◌-◌, ◌==◌, if◌then◌else◌, Option, Some, None, List, [], ◌∷◌, ◌++◌, codes, decimal, slice_get, slice_set, replicate}
+use Rattle.std.specs.Prelude.{ℕ, zero, suc, ◌+◌, ◌-◌, ◌==◌, Bool, true, false, if◌then◌else◌, Option, Some, None, List, [], ◌∷◌, ◌++◌, codes, decimal, slice_get, slice_set, replicate}
+use Rattle.std.specs.List.{insert}
 use Rattle.xa_xid.specs.Bytes.{unblank}
 use Rattle.xa_xid.specs.declared.xid.Xid.{Xid}
 use Rattle.xa_lines.specs.Script.{lines_of}
@@ -17,25 +19,28 @@ use Rattle.xa_record.specs.declared.line_fault.LineFault.{LineFault}
 use Rattle.xa_record.specs.declared.line_fault.LineFault.TheVariants.{NotALine, NotARow, RowsMissing, OpenCall, NoOpenCall, Lost as WasLost}
 use Rattle.xa_record.specs.declared.presence.Presence.{Presence}
 use Rattle.xa_record.specs.declared.presence.Presence.TheVariants.{Idle, Open, Lost}
-use Rattle.xa_record.specs.Lines.{ShowsRows, Told, Calls, Returns, Leaves, LineSaid, Nothing, Bad, Says, Awaits, reading_of_line, is_silent}
+use Rattle.xa_record.specs.Lines.{ShowsRows, Told, Calls, Returns, ReturnsUnknown, Leaves, LineSaid, Nothing, Bad, Says, Awaits, Closed, reading_of_line, is_silent}
 use Rattle.xa_record.specs.Rows.{row_said}
 
 -- the session to which this happens
 abbrev pub session_of : Told → ℕ
 session_of (Calls session text) = session
 session_of (Returns session shown) = session
+session_of (ReturnsUnknown session) = session
 session_of (Leaves session) = session
 
 -- what is then said of the session
 abbrev pub presence_after : Told → Presence
 presence_after (Calls session text) = Open
 presence_after (Returns session shown) = Idle
+presence_after (ReturnsUnknown session) = Idle
 presence_after (Leaves session) = Lost
 
 -- a call of a session with an open call is faulty, a return to one without, and anything of one that is lost
 abbrev pub cause_of : Option Presence → Told → Option LineFault
 cause_of (Some Open) (Calls session text) = Some (OpenCall session)
 cause_of (Some Idle) (Returns session shown) = Some (NoOpenCall session)
+cause_of (Some Idle) (ReturnsUnknown session) = Some (NoOpenCall session)
 cause_of (Some Lost) told = Some (WasLost (session_of told))
 cause_of presence told = None
 
@@ -95,6 +100,35 @@ noted_if (Some fault) notes number told = blamed notes number fault
 abbrev pub note_of : Notes → ℕ → Told → Notes
 note_of notes number told = noted_if (cause_of (slice_get notes.presence (session_of told)) told) notes number told
 
+-- a call of the session returns
+abbrev pub is_return_of : ℕ → Told → Bool
+is_return_of session (Returns other shown) = other == session
+is_return_of session (ReturnsUnknown other) = other == session
+is_return_of session told = false
+
+-- one more than so many that end with a return, or 1 where this is a return
+abbrev pub one_more : ℕ → Bool → ℕ
+one_more zero true = 1
+one_more zero false = 0
+one_more (suc count) returns = suc (suc count)
+
+-- how much happens up to the session's last return and with it; nothing where it has none
+unfoldable pub up_to_return : ℕ → List NumberedEvent → ℕ
+up_to_return session [] = 0
+up_to_return session (one ∷ more) = one_more (up_to_return session more) (is_return_of session one.told)
+
+unfoldable pub closed_if : Option LineFault → Notes → ℕ → ℕ → Notes
+closed_if None notes number session =
+    record notes {
+      told = insert notes.told (up_to_return session notes.told) (record { number = number; told = Leaves session });
+      presence = slice_set notes.presence session Lost;
+    }
+closed_if (Some fault) notes number session = blamed notes number fault
+
+-- the connection was closed at any time since the session's last return: its client is gone from there on, or the line is faulty
+abbrev pub note_closed : Notes → ℕ → ℕ → Notes
+note_closed notes number session = closed_if (cause_of (slice_get notes.presence session) (Leaves session)) notes number session
+
 -- all rows have come: the call returns them, and behind its line come the faulty lines among its rows
 abbrev pub returned : Notes → Awaited → Notes
 returned notes awaited = blamed_too (note_of notes awaited.number (Returns awaited.session (ShowsRows awaited.rows))) awaited.faults
@@ -118,6 +152,7 @@ unfoldable pub noted_said : Notes → ℕ → LineSaid → Notes
 noted_said notes number Nothing = notes
 noted_said notes number Bad = blamed notes number NotALine
 noted_said notes number (Says told) = note_of notes number told
+noted_said notes number (Closed session) = note_closed notes number session
 noted_said notes number (Awaits session count) = awaiting notes (record { session = session; number = number; missing = count; rows = []; faults = [] })
 
 abbrev pub noted_by : Option Awaited → Notes → ℕ → List ℕ → Notes

@@ -1,11 +1,9 @@
--- How a verdict is written. All of it is our own: docs/JUDGE.md, 'The verdict'.
+-- How the parts of a verdict are written. All of it is our own: docs/JUDGE.md, 'The verdict'.
 --     call_text          a statement in its canonical form, or what a session called for as it was written
 --     order_text         the effects of an order as a script
 --     answer_text        what could have been answered
 --     texts_of           the texts of answers, each once, ascending by their bytes
 --     line_number_at     the number of the line on which something happens
---     verdict_text       what is written for a verdict
---     outcome_of         which of the four ends it is
 use Rattle.std.specs.Prelude.{ℕ, true, Option, Some, None, Result, Ok, Err, List, [], ◌∷◌, ◌++◌, codes, decimal, slice_get, slice_set, replicate}
 use Rattle.std.specs.BTreeSet.{insert_key}
 use Rattle.xa_xid.specs.Xid.{bytes_cmp}
@@ -20,10 +18,6 @@ use Rattle.xa_judge.specs.declared.moves.Act.{Act}
 use Rattle.xa_judge.specs.declared.moves.Act.TheVariants.{Statement as ItsStatement, Disconnect as ItsDisconnect}
 use Rattle.xa_judge.specs.declared.moves.Move.{Move}
 use Rattle.xa_judge.specs.declared.moves.Move.TheVariants.{Event as Seeing, Effect}
-use Rattle.xa_judge.specs.declared.verdict.Verdict.{Verdict}
-use Rattle.xa_judge.specs.declared.verdict.Verdict.TheVariants.{Legal, Illegal, Undecided}
-use Rattle.xa_record.specs.declared.outcome.Outcome.{Outcome}
-use Rattle.xa_record.specs.declared.outcome.Outcome.TheVariants.{Legal as IsLegal, Illegal as IsIllegal, Undecided as IsUndecided}
 use Rattle.xa_record.specs.Lines.{Told, Calls}
 use Rattle.xa_record.specs.Reading.{NumberedEvent}
 
@@ -99,15 +93,3 @@ line_number_at numbered place = number_of_line (slice_get numbered place)
 -- the first line of a verdict that names a line
 abbrev pub line_text : List ℕ → ℕ → List ℕ
 line_text word number = word ++ codes " line " ++ decimal number ++ codes "\n"
-
--- what is written for a verdict
-abbrev pub verdict_text : List NumberedEvent → Verdict → List ℕ
-verdict_text numbered (Legal moves) = codes "LEGAL\n" ++ order_text no_calls numbered moves.items
-verdict_text numbered (Illegal place answers) = line_text (codes "ILLEGAL") (line_number_at numbered place) ++ answers_text (texts_of answers.items)
-verdict_text numbered (Undecided place) = line_text (codes "UNDECIDED") (line_number_at numbered place)
-
--- which of the four ends it is
-abbrev pub outcome_of : Verdict → Outcome
-outcome_of (Legal moves) = IsLegal
-outcome_of (Illegal place answers) = IsIllegal
-outcome_of (Undecided place) = IsUndecided

@@ -2,12 +2,16 @@
 ghost use Rattle.std.specs.Prelude.{◌≡◌, map, IfOk};
 ghost use Rattle.std.specs.List.Sorted.{IsPermutation, IsSorted};
 ghost use Rattle.xa_xid.specs.Xid.{xid_cmp};
-ghost use Rattle.xa_record.specs.Events.{request_called, IsSeen, IsEvent, AreEvents};
+ghost use Rattle.xa_record.specs.Events.{request_called, others_shown, IsSeen, IsEvent, AreEvents, AreCalls};
 ghost use Rattle.xa_record.specs.Kept.{shown_kept, told_kept, numbered_kept};
 
+use crate::allowance::{Allowance, others_for};
+use crate::asked_kinds::AskedKinds;
 use crate::line_event::{LineEvent, NumberedEvent};
+use crate::shown::Shown;
+use crate::statement_kind::StatementKind;
 use std::alloc::Global;
-use xa_judge::{Event, Request, Seen};
+use xa_judge::{ErrorNumbers, Event, Request, Seen};
 use xa_statement::read_statement;
 use xa_xid::{NoMemory, Xid, copy_of};
 
@@ -31,37 +35,64 @@ fn ascending(rows: &Vec<Xid>) -> Result<Vec<Xid>, NoMemory>
     Ok(sorted)
 }
 
-/// What is seen where a return shows this, rows in ascending order.
-fn seen_of(shown: &Seen) -> Result<Seen, NoMemory>
-    ensures { IfOk result (IsSeen (shown_kept shown.now)) }
+/// What is seen where a return shows this as the answer to what has this kind, rows in ascending order.
+fn seen_of(
+    alloc: Global,
+    allowances: &[Allowance],
+    kind: Option<StatementKind>,
+    shown: &Shown,
+) -> Result<Seen, NoMemory>
+    ensures { let said = shown_kept shown.now in IfOk result (IsSeen (others_shown allowances.now kind said) said) }
 {
     match shown {
-        Seen::Ok => Ok(Seen::Ok),
-        Seen::Value(None) => Ok(Seen::Value(None)),
-        Seen::Value(Some(value)) => Ok(Seen::Value(Some(copy_of(value)))),
-        Seen::Rows(rows) => Ok(Seen::Rows(ascending(rows)?)),
-        Seen::Error(number) => Ok(Seen::Error(*number)),
+        Shown::Ok => Ok(Seen::Ok),
+        Shown::Value(None) => Ok(Seen::Value(None)),
+        Shown::Value(Some(value)) => Ok(Seen::Value(Some(copy_of(value)))),
+        Shown::Rows(rows) => Ok(Seen::Rows(ascending(rows)?)),
+        Shown::Error(number) => {
+            let others = others_for(alloc, allowances, kind, *number)?;
+            Ok(Seen::Error(ErrorNumbers {
+                seen: *number,
+                others,
+            }))
+        }
     }
 }
 
 /// The event that is what happens.
-fn event_of(line_event: &LineEvent) -> Result<Event, NoMemory>
-    ensures { IfOk result (IsEvent (told_kept line_event.now)) }
+fn event_of(
+    alloc: Global,
+    allowances: &[Allowance],
+    asked: &AskedKinds,
+    line_event: &LineEvent,
+) -> Result<Event, NoMemory>
+    ensures { IfOk result (IsEvent allowances.now asked.now.kinds (told_kept line_event.now)) }
 {
     match line_event {
         LineEvent::Call(session, text) => Ok(Event::Call(*session, request_of(text))),
-        LineEvent::Return(session, seen) => Ok(Event::Return(*session, seen_of(seen)?)),
+        LineEvent::Return(session, shown) => {
+            let seen = seen_of(alloc, allowances, asked.of(*session), shown)?;
+            Ok(Event::Return(*session, seen))
+        }
+        LineEvent::Unknown(session) => Ok(Event::Unknown(*session)),
         LineEvent::Lost(session) => Ok(Event::Lost(*session)),
     }
 }
 
 /// The events that are what happens, in order.
-pub fn events_of(alloc: Global, numbered: &[NumberedEvent]) -> Result<Vec<Event>, NoMemory>
-    ensures { IfOk result (λ events. AreEvents (map numbered_kept numbered.now) events.items) }
+pub fn events_of(
+    alloc: Global,
+    allowances: &[Allowance],
+    numbered: &[NumberedEvent],
+) -> Result<Vec<Event>, NoMemory>
+    ensures are { IfOk result (λ events. AreEvents allowances.now (map numbered_kept numbered.now) events.items) }
+    ensures calls { IfOk result (λ events. AreCalls (map numbered_kept numbered.now) events.items) }
 {
     let mut events = Vec::new(alloc);
+    let mut asked = AskedKinds::none();
     for one in numbered {
-        let event = event_of(&one.line_event)?;
+        let event = event_of(alloc, allowances, &asked, &one.line_event)?;
+        asked.follow(&event);
         events.push(event)?;
     }
     Ok(events)

@@ -1,14 +1,23 @@
 //! Judges the text of a record.
-ghost use Rattle.std.specs.Prelude.{◌≡◌, IfOk};
-ghost use Rattle.xa_record.specs.VerdictText.{outcome_of as outcome_of_verdict};
-ghost use Rattle.xa_record.specs.Judged.{IsJudged};
+ghost use Rattle.std.specs.Prelude.{◌≡◌, IfOk, map};
+ghost use Rattle.xa_record.specs.Forms.{text_in as text_of_report};
+ghost use Rattle.xa_record.specs.Judged.{IsJudgement, IsReported, IsJudged};
+ghost use Rattle.xa_record.specs.Kept.{numbered_kept, report_kept};
+ghost use Rattle.xa_record.specs.Reading.{notes_of};
 
+use crate::allowance::Allowance;
+use crate::asked::Asked;
 use crate::events::events_of;
+use crate::form::Form;
+use crate::json_text::json_text;
+use crate::line_event::NumberedEvent;
 use crate::outcome::Outcome;
+use crate::plain_text::plain_text;
 use crate::reading::read_notes;
-use crate::verdict_text::verdict_text;
+use crate::report::Report;
+use crate::report_of::report_of;
 use std::alloc::Global;
-use xa_judge::{Verdict, judge};
+use xa_judge::{Progress, judge_telling};
 use xa_server::Server;
 use xa_xid::NoMemory;
 
@@ -19,48 +28,84 @@ pub struct Judged {
     pub text: Vec<u8>,
 }
 
-/// Which end a verdict is.
-fn outcome_of(verdict: &Verdict) -> Outcome
-    ensures { result ≡ outcome_of_verdict verdict.now }
+/// What is told of what happens in a record.
+fn verdict_on<P: Progress>(
+    alloc: Global,
+    numbered: &[NumberedEvent],
+    allowances: &[Allowance],
+    asked: Asked,
+    progress: &mut P,
+) -> Result<Report, NoMemory>
+    ensures { IfOk result (λ report. IsJudgement allowances.now (map numbered_kept numbered.now) asked (report_kept report)) }
 {
-    match verdict {
-        Verdict::Legal(_) => Outcome::Legal,
-        Verdict::Illegal(_, _) => Outcome::Illegal,
-        Verdict::Undecided(_) => Outcome::Undecided,
+    let events = events_of(alloc, allowances, numbered)?;
+    let base = Server::new(alloc);
+    let verdict = judge_telling(alloc, &base, events.as_slice(), asked.limit, progress)?;
+    report_of(
+        alloc,
+        asked,
+        numbered,
+        events.as_slice(),
+        &verdict,
+        progress,
+    )
+}
+
+/// What is told of the record of this text.
+fn report_on<P: Progress>(
+    alloc: Global,
+    text: &[u8],
+    allowances: &[Allowance],
+    asked: Asked,
+    progress: &mut P,
+) -> Result<Report, NoMemory>
+    ensures { IfOk result (λ report. IsReported allowances.now (notes_of text.now) asked (report_kept report)) }
+{
+    let notes = read_notes(alloc, text)?;
+    if !notes.faults.is_empty() {
+        return Ok(Report::Faulty(notes.faults));
+    }
+    if notes.numbered.is_empty() {
+        return Ok(Report::Empty);
+    }
+    verdict_on(
+        alloc,
+        notes.numbered.as_slice(),
+        allowances,
+        asked,
+        progress,
+    )
+}
+
+/// The text of a report in a form.
+fn text_in(alloc: Global, form: Form, report: &Report) -> Result<Vec<u8>, NoMemory>
+    ensures { IfOk result (λ text. text.items ≡ text_of_report form (report_kept report.now)) }
+{
+    match form {
+        Form::Plain => plain_text(alloc, report),
+        Form::Json => json_text(alloc, report),
     }
 }
 
 /// Judges the record of this text. Where nothing happens in it there is no verdict.
 ///
-/// The server holds nothing at first. At most `limit` configurations are kept before a return.
+/// The server holds nothing at first. Its answers may differ from the rules' as the allowances say. At most `asked.limit`
+/// configurations are kept before a return; where an illegal line is explained, what is before it is judged once more, and nothing
+/// is explained where that passes the limit. `progress` is told how far judging is, each time from the first event on.
 /// May answer `NoMemory`. Doesn't wait.
 /// Own rule: docs/JUDGE.md.
-pub fn judge_text(alloc: Global, text: &[u8], limit: usize) -> Result<Judged, NoMemory>
-    ensures { IfOk result (λ judged. IsJudged text.now limit judged.outcome judged.text.items) }
+pub fn judge_text<P: Progress>(
+    alloc: Global,
+    text: &[u8],
+    allowances: &[Allowance],
+    asked: Asked,
+    progress: &mut P,
+) -> Result<Judged, NoMemory>
+    ensures { IfOk result (λ judged. IsJudged text.now allowances.now asked judged.outcome judged.text.items) }
 {
-    let notes = read_notes(alloc, text)?;
-    if !notes.faults.is_empty() {
-        return Ok(Judged {
-            outcome: Outcome::Faulty,
-            text: notes.faults,
-        });
-    }
-    if notes.numbered.is_empty() {
-        return Ok(Judged {
-            outcome: Outcome::Empty,
-            text: Vec::from_slice(alloc, b"EMPTY\n")?,
-        });
-    }
-    let events = events_of(alloc, notes.numbered.as_slice())?;
-    let base = Server::new(alloc);
-    let verdict = judge(alloc, &base, events.as_slice(), limit)?;
+    let report = report_on(alloc, text, allowances, asked, progress)?;
     Ok(Judged {
-        outcome: outcome_of(&verdict),
-        text: verdict_text(
-            alloc,
-            notes.numbered.as_slice(),
-            events.as_slice(),
-            &verdict,
-        )?,
+        outcome: report.outcome(),
+        text: text_in(alloc, asked.form, &report)?,
     })
 }

@@ -26,6 +26,7 @@ impl LastCalls {
         match line_event {
             LineEvent::Call(session, _) => self.places[session.get() as usize] = Some(place),
             LineEvent::Return(_, _) => {}
+            LineEvent::Unknown(_) => {}
             LineEvent::Lost(_) => {}
         }
     }

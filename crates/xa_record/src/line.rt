@@ -3,13 +3,13 @@ ghost use Rattle.std.specs.Prelude.{◌≡◌};
 ghost use Rattle.xa_lines.specs.Script.{first_word, behind_word as behind_word_of, number_of_word};
 ghost use Rattle.xa_record.specs.Rows.{leading_number as leading_number_of};
 ghost use Rattle.xa_record.specs.Lines.{alone, is_silent as is_silent_line, trimmed as trimmed_text, value_said, rows_said, error_said};
-ghost use Rattle.xa_record.specs.Lines.{return_said, loss_said, session_said, reading_of_line, Says, Awaits, Calls, Returns, Leaves};
+ghost use Rattle.xa_record.specs.Lines.{return_said, unknown_said, loss_said, session_said, reading_of_line, Says, Awaits, Calls, Returns, ReturnsUnknown, Leaves, Closed};
 ghost use Rattle.xa_record.specs.Kept.{shown_kept, line_kept};
 ghost use Rattle.xa_xid.specs.Literal.{literal_ahead};
 
 use crate::line_event::LineEvent;
 use crate::rows::{behind_word, leading_number};
-use xa_judge::Seen;
+use crate::shown::Shown;
 use xa_lines::{ScriptLine, is_comment, number_in, read_line, split_word};
 use xa_xid::{ByteClass, SessionNo, literal_of, skip_blanks};
 
@@ -24,6 +24,8 @@ pub enum RecordLine<'a> {
     Happens(LineEvent<'a>),
     /// A call of the session returns so many rows, which stand on the next lines.
     Rows(SessionNo, u64),
+    /// The client of the session found that the server had closed its connection.
+    Closed(SessionNo),
 }
 
 /// Whether the line is blank or a comment.
@@ -49,11 +51,11 @@ fn trimmed(text: &[u8]) -> &[u8]
 }
 
 /// The return, where nothing stands behind it.
-fn alone(session: SessionNo, seen: Seen, rest: &[u8]) -> RecordLine<'static>
-    ensures { line_kept result ≡ alone (Says (Returns session (shown_kept seen))) rest.now }
+fn alone(session: SessionNo, shown: Shown, rest: &[u8]) -> RecordLine<'static>
+    ensures { line_kept result ≡ alone (Says (Returns session (shown_kept shown))) rest.now }
 {
     if rest.is_empty() {
-        RecordLine::Happens(LineEvent::Return(session, seen))
+        RecordLine::Happens(LineEvent::Return(session, shown))
     } else {
         RecordLine::Bad
     }
@@ -64,7 +66,7 @@ fn value(session: SessionNo, text: &[u8]) -> RecordLine<'static>
     ensures { line_kept result ≡ value_said session (literal_ahead text.now) }
 {
     match literal_of(text) {
-        Ok((value, rest)) => alone(session, Seen::Value(Some(value)), skip_blanks(rest)),
+        Ok((value, rest)) => alone(session, Shown::Value(Some(value)), skip_blanks(rest)),
         Err(_) => RecordLine::Bad,
     }
 }
@@ -94,7 +96,7 @@ fn error(session: SessionNo, text: &[u8]) -> RecordLine<'static>
         None => RecordLine::Bad,
         Some(number) => {
             if number < 65_536 {
-                RecordLine::Happens(LineEvent::Return(session, Seen::Error(number as u16)))
+                RecordLine::Happens(LineEvent::Return(session, Shown::Error(number as u16)))
             } else {
                 RecordLine::Bad
             }
@@ -108,9 +110,9 @@ fn returned(session: SessionNo, word: &[u8], text: &[u8]) -> RecordLine<'static>
     ensures { line_kept result ≡ return_said session word.now text.now }
 {
     if word == b"OK".as_slice() {
-        alone(session, Seen::Ok, text)
+        alone(session, Shown::Ok, text)
     } else if word == b"NONE".as_slice() {
-        alone(session, Seen::Value(None), text)
+        alone(session, Shown::Value(None), text)
     } else if word == b"VALUE".as_slice() {
         value(session, text)
     } else if word == b"ROWS".as_slice() {
@@ -122,12 +124,28 @@ fn returned(session: SessionNo, word: &[u8], text: &[u8]) -> RecordLine<'static>
     }
 }
 
+/// What stands behind `?`.
+fn unknown(session: SessionNo, word: &[u8]) -> RecordLine<'static>
+    ensures { line_kept result ≡ unknown_said session word.now }
+{
+    if word == b"ERROR".as_slice() {
+        RecordLine::Happens(LineEvent::Unknown(session))
+    } else {
+        RecordLine::Bad
+    }
+}
+
 /// What stands behind `!`.
+#[tactic(auto, unfolding(crate::specs::Lines::loss_said))]
 fn loss(session: SessionNo, word: &[u8], text: &[u8]) -> RecordLine<'static>
     ensures { line_kept result ≡ loss_said session word.now text.now }
 {
-    if word == b"LOST".as_slice() && text.is_empty() {
+    if !text.is_empty() {
+        RecordLine::Bad
+    } else if word == b"LOST".as_slice() {
         RecordLine::Happens(LineEvent::Lost(session))
+    } else if word == b"GONE".as_slice() {
+        RecordLine::Closed(session)
     } else {
         RecordLine::Bad
     }
@@ -143,6 +161,8 @@ fn session_line<'a>(session: SessionNo, sign: &[u8], text: &'a [u8]) -> RecordLi
     } else if sign == b"<".as_slice() {
         let (word, rest) = split_word(text);
         returned(session, word, skip_blanks(rest))
+    } else if sign == b"?".as_slice() {
+        unknown(session, split_word(text).0)
     } else if sign == b"!".as_slice() {
         let (word, rest) = split_word(text);
         loss(session, word, skip_blanks(rest))

@@ -1,11 +1,11 @@
 //! What happens to the sessions of a record.
 ghost use Rattle.std.specs.Prelude.{◌≡◌, Some, option_copied};
-ghost use Rattle.xa_record.specs.Reading.{session_of, presence_after, cause_of};
+ghost use Rattle.xa_record.specs.Reading.{session_of, presence_after, cause_of, is_return_of};
 ghost use Rattle.xa_record.specs.Kept.{told_kept};
 
 use crate::line_fault::LineFault;
 use crate::presence::Presence;
-use xa_judge::Seen;
+use crate::shown::Shown;
 use xa_xid::SessionNo;
 
 /// What happens to a session.
@@ -13,9 +13,11 @@ use xa_xid::SessionNo;
 pub enum LineEvent<'a> {
     /// It calls for what this text asks for.
     Call(SessionNo, &'a [u8]),
-    /// Its call returns so, rows in the order of their lines.
-    Return(SessionNo, Seen),
-    /// Its client is gone.
+    /// Its call returns so.
+    Return(SessionNo, Shown),
+    /// Its call returns, and what it returned isn't known.
+    Unknown(SessionNo),
+    /// Its client is gone, at this line or at any time since its last return.
     Lost(SessionNo),
 }
 
@@ -34,7 +36,20 @@ impl LineEvent<'_> {
         match self {
             LineEvent::Call(session, _) => *session,
             LineEvent::Return(session, _) => *session,
+            LineEvent::Unknown(session) => *session,
             LineEvent::Lost(session) => *session,
+        }
+    }
+
+    /// Whether a call of the session returns.
+    pub fn returns_to(&self, session: SessionNo) -> bool
+        ensures { result ≡ is_return_of session (told_kept self.now) }
+    {
+        match self {
+            LineEvent::Call(_, _) => false,
+            LineEvent::Return(other, _) => other.get() == session.get(),
+            LineEvent::Unknown(other) => other.get() == session.get(),
+            LineEvent::Lost(_) => false,
         }
     }
 
@@ -45,6 +60,7 @@ impl LineEvent<'_> {
         match self {
             LineEvent::Call(_, _) => Presence::Open,
             LineEvent::Return(_, _) => Presence::Idle,
+            LineEvent::Unknown(_) => Presence::Idle,
             LineEvent::Lost(_) => Presence::Lost,
         }
     }
@@ -56,6 +72,7 @@ impl LineEvent<'_> {
         match self {
             LineEvent::Call(_, _) => None,
             LineEvent::Return(session, _) => Some(LineFault::NoOpenCall(*session)),
+            LineEvent::Unknown(session) => Some(LineFault::NoOpenCall(*session)),
             LineEvent::Lost(_) => None,
         }
     }
@@ -67,6 +84,7 @@ impl LineEvent<'_> {
         match self {
             LineEvent::Call(session, _) => Some(LineFault::OpenCall(*session)),
             LineEvent::Return(_, _) => None,
+            LineEvent::Unknown(_) => None,
             LineEvent::Lost(_) => None,
         }
     }
@@ -78,6 +96,7 @@ impl LineEvent<'_> {
         match self {
             LineEvent::Call(session, _) => Some(LineFault::Lost(*session)),
             LineEvent::Return(session, _) => Some(LineFault::Lost(*session)),
+            LineEvent::Unknown(session) => Some(LineFault::Lost(*session)),
             LineEvent::Lost(session) => Some(LineFault::Lost(*session)),
         }
     }

@@ -1,8 +1,8 @@
 //! What was read of a record.
-ghost use Rattle.std.specs.Prelude.{◌≡◌, OnOk, slice_get, option_copied};
+ghost use Rattle.std.specs.Prelude.{◌≡◌, ◌≤◌, OnOk, length, map, slice_get, option_copied};
 ghost use Rattle.std.specs.Option.{option_map};
-ghost use Rattle.xa_record.specs.Reading.{no_notes, blamed, blamed_too, note_of, returned, awaiting, with_row, noted_row, noted_said, noted_line, ended_by};
-ghost use Rattle.xa_record.specs.Kept.{told_kept, awaited_kept, line_kept, notes_kept};
+ghost use Rattle.xa_record.specs.Reading.{no_notes, blamed, blamed_too, note_of, up_to_return as up_to_return_of, note_closed, returned, awaiting, with_row, noted_row, noted_said, noted_line, ended_by};
+ghost use Rattle.xa_record.specs.Kept.{told_kept, numbered_kept, awaited_kept, line_kept, notes_kept};
 
 use crate::line::{RecordLine, is_silent, read_record_line};
 use crate::line_event::{LineEvent, NumberedEvent};
@@ -10,8 +10,8 @@ use crate::line_fault::LineFault;
 use crate::pending::Pending;
 use crate::presence::Presence;
 use crate::rows::read_row;
+use crate::shown::Shown;
 use std::alloc::Global;
-use xa_judge::Seen;
 use xa_xid::{NoMemory, SessionNo, Xid, skip_blanks};
 
 /// What was read of a record so far.
@@ -25,6 +25,22 @@ pub struct Notes<'a> {
     pub presence: [Presence; 17],
     /// Rows that are still to come.
     pub pending: Option<Pending>,
+}
+
+/// How much happens up to the session's last return and with it, nothing where it has none.
+fn up_to_return(numbered: &[NumberedEvent], session: SessionNo) -> usize
+    ensures place { result ≡ up_to_return_of session (map numbered_kept numbered.now) }
+    ensures within { result ≤ length numbered.now }
+{
+    let mut place = numbered.len();
+    while place > 0 {
+        let last = place - 1;
+        if numbered[last].line_event.returns_to(session) {
+            return place;
+        }
+        place = last;
+    }
+    0
 }
 
 impl<'a> Notes<'a> {
@@ -78,6 +94,24 @@ impl<'a> Notes<'a> {
         }
     }
 
+    /// The session's connection was closed at some time since its last return, or the line of this number is faulty.
+    #[tactic(auto, unfolding(crate::specs::Reading::closed_if))]
+    fn note_closed(&mut self, number: u64, session: SessionNo) -> Result<(), NoMemory>
+        ensures { OnOk result (notes_kept self.new ≡ note_closed (notes_kept self.old) number session) }
+    {
+        let line_event = LineEvent::Lost(session);
+        match line_event.fault(self.presence_of(session)) {
+            Some(fault) => self.blame(number, fault),
+            None => {
+                self.presence[session.get() as usize] = Presence::Lost;
+                let place = up_to_return(self.numbered.as_slice(), session);
+                self.numbered
+                    .insert(place, NumberedEvent { number, line_event })?;
+                Ok(())
+            }
+        }
+    }
+
     /// All rows have come: the call returns them. Its own line comes before the faulty ones among them.
     fn finish(&mut self, pending: Pending) -> Result<(), NoMemory>
         ensures { OnOk result (notes_kept self.new ≡ returned (notes_kept self.old) (awaited_kept pending)) }
@@ -89,7 +123,7 @@ impl<'a> Notes<'a> {
             rows,
             faults,
         } = pending;
-        self.note(number, LineEvent::Return(session, Seen::Rows(rows)))?;
+        self.note(number, LineEvent::Return(session, Shown::Rows(rows)))?;
         self.blame_too(faults.as_slice())
     }
 
@@ -137,6 +171,7 @@ impl<'a> Notes<'a> {
             RecordLine::Nothing => Ok(()),
             RecordLine::Bad => self.blame(number, LineFault::NotALine),
             RecordLine::Happens(line_event) => self.note(number, line_event),
+            RecordLine::Closed(session) => self.note_closed(number, session),
             RecordLine::Rows(session, missing) => self.wait_for(Pending {
                 session,
                 number,

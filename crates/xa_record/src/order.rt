@@ -1,7 +1,7 @@
 //! Writes an order that explains a record, as a script.
 ghost use Rattle.std.specs.Prelude.{◌≡◌, ◌++◌, ◌∷◌, List, OnOk, IfOk, map, drop, slice_get};
 ghost use Rattle.xa_judge.specs.declared.moves.Move.{Move as MoveSeen};
-ghost use Rattle.xa_record.specs.Events.{request_called, IsEvent, AreEvents};
+ghost use Rattle.xa_record.specs.Events.{request_called, IsCallOf, AreCalls};
 ghost use Rattle.xa_record.specs.Kept.{told_kept, text_told, text_at, numbered_kept, calls_kept};
 ghost use Rattle.xa_record.specs.VerdictText.{canonical_text, call_text, act_text, effect_text, order_text, no_calls};
 
@@ -63,7 +63,7 @@ fn push_called(
     line_event: &LineEvent,
     event: &Event,
 ) -> Result<(), NoMemory>
-    requires { IsEvent (told_kept line_event.now) event.now }
+    requires { IsCallOf (told_kept line_event.now) event.now }
     ensures { OnOk result (out.new.items ≡ out.old.items ++ call_text (text_told (told_kept line_event.now))) }
 {
     match line_event {
@@ -71,8 +71,10 @@ fn push_called(
             Event::Call(_, request) => push_call(alloc, out, text, request),
             Event::Return(_, _) => unreachable!(),
             Event::Lost(_) => unreachable!(),
+            Event::Unknown(_) => unreachable!(),
         },
         LineEvent::Return(_, _) => Ok(()),
+        LineEvent::Unknown(_) => Ok(()),
         LineEvent::Lost(_) => Ok(()),
     }
 }
@@ -85,7 +87,7 @@ fn push_called_at(
     events: &[Event],
     place: Option<usize>,
 ) -> Result<(), NoMemory>
-    requires { AreEvents (map numbered_kept numbered.now) events.now }
+    requires { AreCalls (map numbered_kept numbered.now) events.now }
     ensures { OnOk result (out.new.items ≡ out.old.items ++ call_text (text_at (map numbered_kept numbered.now) place)) }
 {
     match place {
@@ -111,7 +113,7 @@ fn push_act(
     session: SessionNo,
     act: Act,
 ) -> Result<(), NoMemory>
-    requires { AreEvents (map numbered_kept numbered.now) events.now }
+    requires { AreCalls (map numbered_kept numbered.now) events.now }
     ensures { OnOk result (out.new.items ≡ out.old.items ++ act_text act (slice_get (calls_kept (map numbered_kept numbered.now) calls.now) session)) }
 {
     match act {
@@ -130,7 +132,7 @@ fn push_effect(
     session: SessionNo,
     act: Act,
 ) -> Result<(), NoMemory>
-    requires { AreEvents (map numbered_kept numbered.now) events.now }
+    requires { AreCalls (map numbered_kept numbered.now) events.now }
     ensures { OnOk result (out.new.items ≡ out.old.items ++ effect_text (calls_kept (map numbered_kept numbered.now) calls.now) session act) }
 {
     push_number(out, session.get())?;
@@ -149,7 +151,7 @@ fn push_move(
     place: usize,
     step: &Move,
 ) -> Result<usize, NoMemory>
-    requires { AreEvents (map numbered_kept numbered.now) events.now }
+    requires { AreCalls (map numbered_kept numbered.now) events.now }
     ensures { let all = map numbered_kept numbered.now in IfOk result (λ next. (moves : List MoveSeen) →
         out.old.items ++ order_text (calls_kept all calls.old) (drop place all) (step.now ∷ moves)
         ≡ out.new.items ++ order_text (calls_kept all calls.new) (drop next all) moves) }
@@ -171,14 +173,14 @@ fn push_move(
 }
 
 /// Appends the effects of an order, each on a line as in a script: its statement as it was read for the event of the call.
-pub fn push_order(
+fn push_order(
     alloc: Global,
     out: &mut Vec<u8>,
     numbered: &[NumberedEvent],
     events: &[Event],
     moves: &[Move],
 ) -> Result<(), NoMemory>
-    requires { AreEvents (map numbered_kept numbered.now) events.now }
+    requires { AreCalls (map numbered_kept numbered.now) events.now }
     ensures { OnOk result (out.new.items ≡ out.old.items ++ order_text no_calls (map numbered_kept numbered.now) moves.now) }
 {
     let mut calls = LastCalls::none();
@@ -187,4 +189,19 @@ pub fn push_order(
         place = push_move(alloc, out, numbered, events, &mut calls, place, step)?;
     }
     Ok(())
+}
+
+/// The lines of an order.
+pub fn order_lines(
+    alloc: Global,
+    numbered: &[NumberedEvent],
+    events: &[Event],
+    moves: &[Move],
+) -> Result<Vec<u8>, NoMemory>
+    requires { AreCalls (map numbered_kept numbered.now) events.now }
+    ensures { IfOk result (λ text. text.items ≡ order_text no_calls (map numbered_kept numbered.now) moves.now) }
+{
+    let mut text = Vec::new(alloc);
+    push_order(alloc, &mut text, numbered, events, moves)?;
+    Ok(text)
 }

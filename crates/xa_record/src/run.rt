@@ -5,9 +5,12 @@ ghost use Rattle.xa_lines.specs.Calls.{HasWritten, StopsWriting, Completes, Stop
 ghost use Rattle.xa_lines.specs.Transcript.{AppendsPrefix, ConsumesMoreThan};
 ghost use Rattle.xa_record.specs.Judged.{record_bytes, record_reads, AppendsJudged, AfterJudgeFault, IsJudgedText, IsFaultOfJudging};
 
+use crate::allowance::Allowance;
+use crate::asked::Asked;
 use crate::judging::{Judged, judge_text};
 use crate::outcome::Outcome;
 use std::alloc::Global;
+use xa_judge::Progress;
 use xa_lines::{PieceReader, PieceWriter, ScriptFault, read_within, write_whole};
 
 /// The greatest length of a record, in bytes.
@@ -32,35 +35,37 @@ fn write_judged<W: PieceWriter>(writer: &mut W, judged: &Judged) -> Result<Outco
 
 /// Judges a record: reads all of it, and writes the verdict, or its faulty lines, or that nothing happens in it.
 ///
-/// A record is at most 16,777,216 bytes, and takes at most 33,554,432 reads. The server holds nothing at first. At most `limit`
-/// configurations are kept before a return. What is written isn't flushed.
+/// A record is at most 16,777,216 bytes, and takes at most 33,554,432 reads. The server holds nothing at first. `allowances`,
+/// `asked` and `progress` are as `judge_text` takes them. What is written isn't flushed.
 /// Errors: `Read` where a read failed, or too many reads were needed; `TooLong` where the record is longer; `NoMemory`; `Write`
 /// where a write failed or took nothing. After `Write` a prefix of the text was written, after any other nothing. A reader or a
 /// writer that failed isn't called again.
 /// May answer `NoMemory`. Doesn't wait, unless the reader or the writer does.
 /// Own rule: docs/JUDGE.md.
-pub fn judge_record<R: PieceReader, W: PieceWriter>(
+pub fn judge_record<R: PieceReader, W: PieceWriter, P: Progress>(
     alloc: Global,
     reader: &mut R,
     writer: &mut W,
-    limit: usize,
+    allowances: &[Allowance],
+    asked: Asked,
+    progress: &mut P,
 ) -> Result<Outcome, ScriptFault>
     // All was read, and what was written is a right verdict on it, or its faulty lines, or that nothing happens in it.
     ensures read { OnOk result (IsAtEnd (R.remaining reader.new)) }
     ensures written { IfOk result
-        (λ outcome. IfSome (R.remaining reader.old) (λ text. AppendsJudged limit outcome text (W.contents writer.old) (W.contents writer.new))) }
+        (λ outcome. IfSome (R.remaining reader.old) (λ text. AppendsJudged allowances.now asked outcome text (W.contents writer.old) (W.contents writer.new))) }
     ensures short { OnOk result (IfSome (R.remaining reader.old) (λ text. length text ≤ record_bytes)) }
 
-    ensures fault { IfErr result (λ fault. AfterJudgeFault limit fault (R.remaining reader.old) (W.contents writer.old) (W.contents writer.new)) }
+    ensures fault { IfErr result (λ fault. AfterJudgeFault allowances.now asked fault (R.remaining reader.old) (W.contents writer.old) (W.contents writer.new)) }
     ensures too_long { result ≡ Err ScriptFault.TooLong → ConsumesMoreThan record_bytes (R.remaining reader.old) (R.remaining reader.new) }
 
     // Of any reader and writer: all calls on them succeeded; or the last call on one of them failed, and that is the fault.
-    ensures calls { OnOk result (Completes R.gives W.takes record_reads (IsJudgedText limit) reader.old reader.new writer.old writer.new) }
+    ensures calls { OnOk result (Completes R.gives W.takes record_reads (IsJudgedText allowances.now asked) reader.old reader.new writer.old writer.new) }
     ensures cause { IfErr result
-        (λ fault. Stops R.gives R.fails W.takes W.refuses record_reads record_bytes (IsJudgedText limit) IsFaultOfJudging fault reader.old reader.new writer.old
+        (λ fault. Stops R.gives R.fails W.takes W.refuses record_reads record_bytes (IsJudgedText allowances.now asked) IsFaultOfJudging fault reader.old reader.new writer.old
         writer.new) }
 {
     let text = read_within(alloc, reader, RECORD_BYTES, RECORD_READS)?;
-    let judged = judge_text(alloc, text.as_slice(), limit)?;
+    let judged = judge_text(alloc, text.as_slice(), allowances, asked, progress)?;
     write_judged(writer, &judged)
 }

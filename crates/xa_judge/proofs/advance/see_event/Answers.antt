@@ -5,17 +5,9 @@ use Rattle.xa_judge.proofs.Waits.{CanWait}
 use Rattle.xa_judge.proofs.Advances.{advance_now}
 use Rattle.xa_judge.proofs.advance.see_event.Goals as goal
 
-pub returns-in-Call : goal.returns-in-Call
-returns-in-Call c =
-    IfOk-weaker c.seen.result (IsSeenFrom c.args.known.items c.new.result.items c.args.event.now) (IsAdvance c.args.known.items c.args.event.now c.args.limit)
-    (λ next seen. advance_now c.args.known.items c.new.result.items c.args.event.now c.args.limit next
-    (λ config. subst (CanWait config) (sym c.in-Call.is) tt) (subst (λ e. AreAnswers c.args.known.items e c.new.result.items) (sym c.in-Call.is) c.new.ensures.items) seen)
-    c.seen.ensures
-
 pub returns-in-Lost : goal.returns-in-Lost
 returns-in-Lost c =
-    IfOk-weaker c.seen-in-Lost.result (IsSeenFrom c.args.known.items c.new-in-Lost.result.items c.args.event.now)
-    (IsAdvance c.args.known.items c.args.event.now c.args.limit)
-    (λ next seen. advance_now c.args.known.items c.new-in-Lost.result.items c.args.event.now c.args.limit next
-    (λ config. subst (CanWait config) (sym c.in-Lost.is) tt)
-    (subst (λ e. AreAnswers c.args.known.items e c.new-in-Lost.result.items) (sym c.in-Lost.is) c.new-in-Lost.ensures.items) seen) c.seen-in-Lost.ensures
+    IfOk-weaker c.seen.result (IsSeenFrom c.args.known.items c.new.result.items c.args.event.now) (IsAdvance c.args.known.items c.args.event.now c.args.limit)
+    (λ next seen. advance_now c.args.known.items c.new.result.items c.args.event.now c.args.limit next
+    (λ config has. subst (CanWait config) (sym c.in-Lost.is) tt) (subst (λ e. AreAnswers c.args.known.items e c.new.result.items) (sym c.in-Lost.is) c.new.ensures.items) seen)
+    c.seen.ensures

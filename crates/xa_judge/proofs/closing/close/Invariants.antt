@@ -11,4 +11,4 @@ invariant-loop-place l = record {
 }
 
 abbrev pub decreases-loop-place : goal.decreases-loop-place
-decreases-loop-place l = l.limit - l.place
+decreases-loop-place l = 18446744073709551615 - l.place

@@ -14,3 +14,8 @@ pub returns-in-Lost : goal.returns-in-Lost
 returns-in-Lost c =
     let out = c.args.out.now.items in
     append-call_text-none out ∙ ap (λ (e : LineEvent). out ++ call_text (text_told (told_kept e))) (sym c.in-Lost.is)
+
+pub returns-in-Unknown : goal.returns-in-Unknown
+returns-in-Unknown c =
+    let out = c.args.out.now.items in
+    append-call_text-none out ∙ ap (λ (e : LineEvent). out ++ call_text (text_told (told_kept e))) (sym c.in-Unknown.is)

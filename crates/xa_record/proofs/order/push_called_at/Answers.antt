@@ -1,24 +1,24 @@
 use Rattle.std.proofs.Common.{◌≡◌, ℕ, ◌<◌, Option, List, ◌++◌, length, map, OnOk, ap, sym, ◌∙◌, subst, arith}
 use Rattle.xa_record.specs.declared.line_event.NumberedEvent.{NumberedEvent}
-use Rattle.xa_record.specs.Events.{IsEvent}
+use Rattle.xa_record.specs.Events.{IsCallOf}
 use Rattle.xa_record.specs.Kept.{told_kept, text_told, text_at, numbered_kept}
 use Rattle.xa_record.specs.VerdictText.{call_text}
 use Rattle.xa_record.proofs.CallTexts.{append-call_text-none}
-use Rattle.xa_record.proofs.Pairs.{events-length, IsEvent-at}
+use Rattle.xa_record.proofs.Pairs.{calls-length, IsCallOf-at}
 use Rattle.xa_record.proofs.Places.{text_at-kept, text_at-kept_past}
 use Rattle.xa_record.proofs.order.push_called_at.Goals as goal
 
 pub bounds-numbered-place : goal.bounds-numbered-place
-bounds-numbered-place c = omega (arith, events-length c.args.numbered.now c.args.events.now c.requires)
+bounds-numbered-place c = omega (arith, calls-length c.args.numbered.now c.args.events.now c.requires)
 
 pub push_called-requires : goal.push_called-requires
 push_called-requires c =
     let numbered = c.args.numbered.now in
     let events = c.args.events.now in
-    let within : c.in-Some.place < length numbered = omega (arith, events-length numbered events c.requires) in
-    let P : NumberedEvent → Type 0 = λ n. IsEvent (told_kept n.line_event) c.index-events-place.result in
+    let within : c.in-Some.place < length numbered = omega (arith, calls-length numbered events c.requires) in
+    let P : NumberedEvent → Type 0 = λ n. IsCallOf (told_kept n.line_event) c.index-events-place.result in
     subst P c.index-numbered-place.is
-    (IsEvent-at numbered events c.in-Some.place c.index-numbered-place.result c.index-events-place.result c.requires
+    (IsCallOf-at numbered events c.in-Some.place c.index-numbered-place.result c.index-events-place.result c.requires
     within c.index-numbered-place.is c.if-place-events.true c.index-events-place.is)
 
 pub returns-in-None : goal.returns-in-None
@@ -30,7 +30,7 @@ returns-in-None c =
 pub returns-then-place-events : goal.returns-then-place-events
 returns-then-place-events c =
     let numbered = c.args.numbered.now in
-    let within : c.in-Some.place < length numbered = omega (arith, events-length numbered c.args.events.now c.requires) in
+    let within : c.in-Some.place < length numbered = omega (arith, calls-length numbered c.args.events.now c.requires) in
     let P : List ℕ → Type 0 = λ t. OnOk c.push_called.result (c.push_called.new.out.items ≡ c.args.out.now.items ++ call_text t) in
     subst P
     (ap (λ (n : NumberedEvent). text_told (told_kept n.line_event)) (sym c.index-numbered-place.is)
@@ -44,5 +44,5 @@ returns-else-place-events c =
     let numbered = c.args.numbered.now in
     append-call_text-none out
     ∙ ap (λ (t : List ℕ). out ++ call_text t)
-    (text_at-kept_past numbered c.in-Some.place (omega (arith, events-length numbered c.args.events.now c.requires))
+    (text_at-kept_past numbered c.in-Some.place (omega (arith, calls-length numbered c.args.events.now c.requires))
     ∙ ap (text_at (map numbered_kept numbered)) (sym c.in-Some.is))

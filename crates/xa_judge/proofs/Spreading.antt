@@ -1,0 +1,86 @@
+-- Configurations that are counted by their numbers.
+--     Chosen           as many of a list as were counted, no two of them the same
+--     chosen_none      of none
+--     chosen_same, chosen_new      one more was looked at, whose number was there;  or wasn't
+use Rattle.std.proofs.Common.{◌≡◌, ◌≢◌, ℕ, ◌+◌, ◌<◌, Bool, true, false, not, cond, List, [], ◌∷◌, length, get_or, refl, ap, sym, ◌∙◌, subst, arith}
+use Rattle.std.specs.List.{All}
+use Rattle.std.specs.Ordering.{nat_cmp}
+use Rattle.std.specs.BTreeMap.{is_at}
+use Rattle.std.specs.BTreeSet.{BTreeSet, contains, Updates}
+use Rattle.std.proofs.lemmas.Bool.{false≢true}
+use Rattle.std.proofs.lemmas.Option.{slice_get_read}
+use Rattle.std.proofs.lemmas.List.Elements.{All-cons, All-nil}
+use Rattle.std.proofs.lemmas.List.Kept.{AllPairs-cons}
+use Rattle.xa_judge.specs.declared.configuration.Configuration.{Configuration}
+use Rattle.xa_judge.specs.Explained.{Config}
+use Rattle.xa_judge.specs.Found.{config_of, Has}
+use Rattle.xa_judge.specs.Verdicts.{AreDifferent}
+use Rattle.xa_judge.specs.Marks.{mark}
+use Rattle.xa_judge.proofs.Places.{place_mapped}
+
+-- configurations of the list, as many as were counted, no two of them the same; the set has their numbers
+pub record Chosen (known : List Configuration) (keys : List (List ℕ)) (marks : BTreeSet ℕ) (count : ℕ) : Type 0 where
+  pub chosen : List Config
+  pub counted : length chosen ≡ count
+  pub has : All (Has known) chosen
+  pub marked : All (λ one. contains nat_cmp marks (mark keys one) ≡ true) chosen
+  pub differ : AreDifferent chosen
+
+pub chosen_none : (known : List Configuration) (keys : List (List ℕ)) (marks : BTreeSet ℕ) → Chosen known keys marks 0
+chosen_none known keys marks = record {
+  chosen = [];
+  counted = refl;
+  has = All-nil (Has known);
+  marked = All-nil (λ one. contains nat_cmp marks (mark keys one) ≡ true);
+  differ = λ i j d less below. absurd (omega (arith, below));
+}
+
+-- a number that the set had is still there
+still_marked : (old new : BTreeSet ℕ) (added number : ℕ) → Updates nat_cmp old new added true → contains nat_cmp old number ≡ true
+    → contains nat_cmp new number ≡ true
+still_marked old new added number updates had = updates.0 number ∙ by (is_at (nat_cmp added) number)
+  where
+    by : (b : Bool) → cond b true (contains nat_cmp old number) ≡ true
+    by true = refl
+    by false = had
+
+-- a configuration's number was there
+pub chosen_same : (known : List Configuration) (keys : List (List ℕ)) (old new : BTreeSet ℕ) (count added : ℕ) → Updates nat_cmp old new added true
+    → Chosen known keys old count → Chosen known keys new count
+chosen_same known keys old new count added updates c = record {
+  chosen = c.chosen;
+  counted = c.counted;
+  has = c.has;
+  marked = λ k d below. still_marked old new added (mark keys (get_or c.chosen k d)) updates (c.marked k d below);
+  differ = c.differ;
+}
+
+-- and here it wasn't
+chosen_more : (known : List Configuration) (keys : List (List ℕ)) (old new : BTreeSet ℕ) (count : ℕ) (one : Config) → Has known one
+    → Updates nat_cmp old new (mark keys one) true → contains nat_cmp old (mark keys one) ≡ false
+    → Chosen known keys old count → Chosen known keys new (count + 1)
+chosen_more known keys old new count one has updates none c = record {
+  chosen = one ∷ c.chosen;
+  counted = omega (arith, c.counted);
+  has = All-cons (Has known) one c.chosen has c.has;
+  marked =
+      All-cons (λ o. contains nat_cmp new (mark keys o) ≡ true) one c.chosen updates.1
+      (λ k d below. still_marked old new (mark keys one) (mark keys (get_or c.chosen k d)) updates (c.marked k d below));
+  differ =
+      AllPairs-cons (λ o other. o ≢ other) one c.chosen
+      (λ k d below same. false≢true (sym none ∙ ap (λ o. contains nat_cmp old (mark keys o)) same ∙ c.marked k d below)) c.differ;
+}
+
+not_there : (b : Bool) → not b ≡ true → b ≡ false
+not_there true e = absurd (false≢true e)
+not_there false e = refl
+
+-- the number of the configuration at a place was new
+pub chosen_new : (known : List Configuration) (keys : List (List ℕ)) (old new : BTreeSet ℕ) (count place number : ℕ) (one : Configuration) (added : Bool)
+    → place < length known → one ≡ get_or known place one → number ≡ mark keys (config_of one) → added ≡ not (contains nat_cmp old number)
+    → added ≡ true → Updates nat_cmp old new number true → Chosen known keys old count → Chosen known keys new (count + 1)
+chosen_new known keys old new count place number one added within at is was new_one updates c =
+    chosen_more known keys old new count (config_of one)
+    (place_mapped config_of known place one (slice_get_read known (length known) place one refl within at))
+    (subst (λ n. Updates nat_cmp old new n true) is updates)
+    (subst (λ n. contains nat_cmp old n ≡ false) is (not_there (contains nat_cmp old number) (sym was ∙ new_one))) c

@@ -1,0 +1,71 @@
+use Rattle.std.proofs.Common.{◌≡◌, ◌<◌, ◌+◌, [], take, length, refl, ap, sym, subst, arith}
+use Rattle.std.proofs.lemmas.Option.{slice_get_read}
+use Rattle.std.specs.List.{All}
+use Rattle.xa_judge.specs.Found.{Reaches, IsPathOf}
+use Rattle.xa_judge.specs.Advances.{IsAdvance}
+use Rattle.xa_judge.proofs.Verdicts.{complete_more, reach_more, legal, refuted, answers_given, wide, opens_reached, opens_complete, continues_shortened, some_shortened}
+use Rattle.xa_judge.proofs.judging.judge_in_breadth.Goals as goal
+
+pub loop-place-init : goal.loop-place-init
+loop-place-init g c =
+    let is = c.in_ok-known.ensures in
+    let known = c.in_ok-known.known.items in
+    record {
+      some = omega (arith, ap length is.1);
+      reach = subst (λ trunk. All (Reaches c.args.base.now [] trunk) known) (sym c.new-trunk.ensures.items) (opens_reached c.args.base.now known is);
+      complete = opens_complete c.args.base.now known is;
+    }
+
+pub returns-in-Impossible : goal.returns-in-Impossible
+returns-in-Impossible g c =
+    let event = c.index-events-place.result in
+    let known = c.loop-place.known.items in
+    let none = subst (λ a. IsAdvance known event c.args.limit a) c.in-Impossible.is c.in_ok-next.ensures in
+    let within : c.loop-place.place < length c.args.events.now = omega (arith, c.loop-place-test.true) in (
+      refuted c.args.base.now c.args.events.now c.loop-place.place event c.loop-place.trunk.items known within c.index-events-place.is
+          c.loop-place.invariant.some c.loop-place.invariant.reach c.loop-place.invariant.complete none.0,
+      answers_given c.args.base.now c.args.events.now c.loop-place.place event c.loop-place.trunk.items known c.in-Impossible.answers.items
+          (slice_get_read c.args.events.now (length c.args.events.now) c.loop-place.place event refl within c.index-events-place.is)
+          c.loop-place.invariant.reach c.loop-place.invariant.complete none.1,
+    )
+
+pub returns-in-TooMany : goal.returns-in-TooMany
+returns-in-TooMany g c =
+    let event = c.index-events-place.result in
+    let known = c.loop-place.known.items in
+    let many = subst (λ a. IsAdvance known event c.args.limit a) c.in-TooMany.is c.in_ok-next.ensures in
+    wide c.args.base.now c.args.events.now c.args.limit c.loop-place.place c.loop-place.trunk.items known many.0
+    (omega (arith, c.loop-place-test.true)) c.loop-place.invariant.reach many.1 many.2
+
+pub loop-place-preserved : goal.loop-place-preserved
+loop-place-preserved g c =
+    let base = c.args.base.now in
+    let events = c.args.events.now in
+    let place = c.loop-place.place in
+    let event = c.index-events-place.result in
+    let known = c.loop-place.known.items in
+    let next = c.in-Known.next.items in
+    let trunk = c.loop-place.trunk.items in
+    let longer = c.shorten.new.trunk.items in
+    let new = c.shorten.new.known.items in
+    let within : place < length events = omega (arith, c.loop-place-test.true) in
+    let leads = subst (λ a. IsAdvance known event c.args.limit a) c.in-Known.is c.in_ok-next.ensures in
+    record {
+      some = some_shortened trunk longer next new c.in_ok-shorten.ensures (omega (arith, leads.0, c.in-Known.next.ok.0));
+      reach =
+          c.in_ok-shorten.ensures.reach base (take (place + 1) events)
+          (reach_more base events place event trunk known next within c.index-events-place.is c.loop-place.invariant.reach leads.2);
+      complete = λ more moves end runs.
+          continues_shortened trunk longer next new more end c.in_ok-shorten.ensures
+          (complete_more base events place event known next within c.index-events-place.is c.loop-place.invariant.complete leads.1 more moves end runs);
+    }
+
+pub returns : goal.returns
+returns g c =
+    let base = c.args.base.now in
+    let events = c.args.events.now in
+    let trunk = c.loop-place.trunk.items in
+    let known = c.loop-place.known.items in
+    let end : c.loop-place.place ≡ length events = omega (arith, c.loop-place-test.false, c.loop-place.auto.place-end) in
+    legal base events trunk c.in_ok-path_of.field-0.items known (subst (λ n. All (Reaches base (take n events) trunk) known) end c.loop-place.invariant.reach)
+    (subst (λ l. IsPathOf trunk l c.in_ok-path_of.field-0.items) c.as_slice.ensures.value c.in_ok-path_of.ensures)

@@ -1,0 +1,110 @@
+-- The number by which configurations are told apart: where two configurations' numbers differ, so do they. All of it is our own.
+--     with_word              a number, and a word more
+--     with_text .. with_row  a number, and what such a thing is more
+--     mark                   a configuration's number, where these are the keys of the rows that were written
+use Rattle.std.specs.Prelude.{ℕ, ◌+◌, ◌*◌, ◌/◌, ◌%◌, ◌^◌, Option, Some, None, List, length, fold, bit_xor}
+use Rattle.xa_xid.specs.declared.xid.Xid.{Xid}
+use Rattle.xa_xid.specs.Xid.{Text}
+use Rattle.xa_server.specs.declared.reply.Reply.TheVariants.{Ok as Accepted, Value, Recovered, Refused}
+use Rattle.xa_server.specs.declared.xa_error.XaError.{XaError}
+use Rattle.xa_server.specs.declared.xa_error.XaError.TheVariants.{Rmfail}
+use Rattle.xa_server.specs.declared.xa_error.BranchState.{BranchState}
+use Rattle.xa_server.specs.declared.xa_error.BranchState.TheVariants.{NonExisting, Active as StateActive, Idle as StateIdle, Prepared as StatePrepared}
+use Rattle.xa_server.specs.declared.branch.Phase.{Phase}
+use Rattle.xa_server.specs.declared.branch.Phase.TheVariants.{Active, Idle as PhaseIdle, Prepared}
+use Rattle.xa_server.specs.declared.hold.Hold.{Hold}
+use Rattle.xa_server.specs.declared.hold.Hold.TheVariants.{Shared, Put, Delete}
+use Rattle.xa_server.specs.declared.hold.HeldRow.{HeldRow}
+use Rattle.xa_server.specs.declared.overview.BranchEntry.{BranchEntry}
+use Rattle.xa_server.specs.State.{State, committed_value}
+use Rattle.xa_server.specs.Errors.{number_of}
+use Rattle.xa_server.specs.Overview.{branches_of, rows_of}
+use Rattle.xa_judge.specs.declared.answer.Answer.{Answer}
+use Rattle.xa_judge.specs.declared.answer.Answer.TheVariants.{Reply as Replied, Unread as NotRead}
+use Rattle.xa_judge.specs.declared.client_state.ClientState.{ClientState}
+use Rattle.xa_judge.specs.declared.client_state.ClientState.TheVariants.{Idle, Called, Answered, Gone, Left}
+use Rattle.xa_judge.specs.Explained.{Config}
+
+-- a number, and a word more; 11400714819323198485 is odd, and 2^64 over the golden ratio
+unfoldable pub with_word : ℕ → ℕ → ℕ
+with_word number word =
+    let product = ((bit_xor number word + 1) % 2 ^ 64 * 11400714819323198485) % 2 ^ 64 in bit_xor product (product / 2 ^ 29)
+
+-- the bytes of a text more
+abbrev pub with_text : ℕ → List ℕ → ℕ
+with_text number bytes = fold with_word (with_word number (length bytes)) bytes
+
+-- an identifier more
+abbrev pub with_xid : ℕ → Xid → ℕ
+with_xid number xid = with_text (with_text (with_word number xid.format_id) xid.gtrid.items) xid.bqual.items
+
+-- a value more, or none
+abbrev pub with_value : ℕ → Option Text → ℕ
+with_value number None = with_word number 0
+with_value number (Some text) = with_text (with_word number 1) text.items
+
+-- identifiers more
+abbrev pub with_xids : ℕ → List Xid → ℕ
+with_xids number xids = fold with_xid (with_word number (length xids)) xids
+
+abbrev pub with_state : ℕ → BranchState → ℕ
+with_state number NonExisting = with_word number 0
+with_state number StateActive = with_word number 1
+with_state number StateIdle = with_word number 2
+with_state number StatePrepared = with_word number 3
+
+-- a refusal more
+abbrev pub with_error : ℕ → XaError → ℕ
+with_error number (Rmfail state) = with_state (with_word number (number_of (Rmfail state))) state
+with_error number error = with_word number (number_of error)
+
+-- an answer more
+abbrev pub with_answer : ℕ → Answer → ℕ
+with_answer number NotRead = with_word number 0
+with_answer number (Replied Accepted) = with_word number 1
+with_answer number (Replied (Value value)) = with_value (with_word number 2) value
+with_answer number (Replied (Recovered xids)) = with_xids (with_word number 3) xids
+with_answer number (Replied (Refused error)) = with_error (with_word number 4) error
+
+-- what a session is about more, but for what it has called for
+abbrev pub with_client : ℕ → ClientState → ℕ
+with_client number Idle = with_word number 0
+with_client number (Called request) = with_word number 1
+with_client number (Answered answer) = with_answer (with_word number 2) answer
+with_client number (Gone None) = with_word number 3
+with_client number (Gone (Some request)) = with_word number 4
+with_client number Left = with_word number 5
+
+abbrev pub with_phase : ℕ → Phase → ℕ
+with_phase number Active = with_word number 0
+with_phase number PhaseIdle = with_word number 1
+with_phase number Prepared = with_word number 2
+
+abbrev pub with_owner : ℕ → Option ℕ → ℕ
+with_owner number None = with_word number 0
+with_owner number (Some session) = with_word number session
+
+abbrev pub with_hold : ℕ → Hold → ℕ
+with_hold number Shared = with_word number 0
+with_hold number (Put value) = with_text (with_word number 1) value.items
+with_hold number Delete = with_word number 2
+
+-- a row that a branch holds more
+abbrev pub with_row : ℕ → HeldRow → ℕ
+with_row number row = with_hold (with_text number row.key) row.hold
+
+abbrev pub with_rows : ℕ → List HeldRow → ℕ
+with_rows number rows = fold with_row (with_word number (length rows)) rows
+
+-- a branch of the server more
+abbrev pub with_branch : State → ℕ → BranchEntry → ℕ
+with_branch state number branch = with_rows (with_owner (with_phase (with_xid number branch.xid) branch.phase) branch.owner) (rows_of state branch.xid)
+
+-- the committed value of a row more
+abbrev pub with_key : State → ℕ → List ℕ → ℕ
+with_key state number key = with_value number (committed_value state key)
+
+-- a configuration's number: of what its sessions are about, of its server's branches and their rows, and of the committed values of these rows
+unfoldable pub mark : List (List ℕ) → Config → ℕ
+mark keys config =
+    fold (with_key config.state) (fold (with_branch config.state) (fold with_client 0 config.clients) (branches_of config.state)) keys

@@ -1,0 +1,85 @@
+-- Allowances, one by one.
+use Rattle.std.proofs.Common.{◌≡◌, ℕ, zero, suc, ◌+◌, ◌<◌, ◌≤◌, ◌==◌, Bool, true, false, if◌then◌else◌, Option, Some, None, Result, Ok, Err, List, [], ◌∷◌, ◌++◌, length, drop, get_or}
+use Rattle.std.proofs.Common.{option_to_list, refl, ap, sym, ◌∙◌, arith, append_assoc, append-nil}
+use Rattle.std.proofs.lemmas.List.{drop_all}
+use Rattle.std.proofs.lemmas.Grind.{common_steps}
+use Rattle.xa_lines.specs.Script.{lines_of}
+use Rattle.xa_record.specs.declared.allowance.Allowance.{Allowance}
+use Rattle.xa_record.specs.declared.statement_kind.StatementKind.{StatementKind}
+use Rattle.xa_record.specs.Allowances.{lets_stand, allowed_for, first_allows, line_allows, allowances_in}
+use Rattle.xa_record.proofs.Effects.{dropped}
+
+if-front : (b : Bool) (x : ℕ) (xs : List ℕ) → (if b then x ∷ xs else xs) ≡ (if b then x ∷ [] else []) ++ xs
+if-front true x xs = refl
+if-front false x xs = refl
+
+allowed_for-front : (one : Allowance) (more : List Allowance) (kind : StatementKind) (number : ℕ)
+    → allowed_for (one ∷ more) kind number ≡ allowed_for (one ∷ []) kind number ++ allowed_for more kind number
+allowed_for-front one more kind number = if-front (lets_stand one kind number) one.rules (allowed_for more kind number)
+
+get_or-within : (list : List Allowance) (index : ℕ) (any other : Allowance) → index < length list → get_or list index any ≡ get_or list index other
+get_or-within [] index any other within = absurd (omega (arith, within))
+get_or-within (first ∷ more) zero any other within = refl
+get_or-within (first ∷ more) (suc index) any other within = get_or-within more index any other (omega (arith, within))
+
+-- one allowance more was gone through
+pub allowed_for-next : (allowances : List Allowance) (kind : StatementKind) (number : ℕ) (whole others longer : List ℕ) (index : ℕ) (any : Allowance)
+    → index < length allowances → whole ≡ others ++ allowed_for (drop index allowances) kind number
+    → longer ≡ others ++ allowed_for (get_or allowances index any ∷ []) kind number → whole ≡ longer ++ allowed_for (drop (index + 1) allowances) kind number
+allowed_for-next allowances kind number whole others longer index any within is parts =
+    let one = get_or allowances index any in
+    let at : one ≡ get_or allowances index one = get_or-within allowances index any one within in
+    is ∙ ap (λ (l : List Allowance). others ++ allowed_for l kind number) (dropped allowances index one within at)
+    ∙ ap (λ (l : List ℕ). others ++ l) (allowed_for-front one (drop (index + 1) allowances) kind number)
+    ∙ sym (append_assoc others (allowed_for (one ∷ []) kind number) (allowed_for (drop (index + 1) allowances) kind number))
+    ∙ ap (λ (l : List ℕ). l ++ allowed_for (drop (index + 1) allowances) kind number) (sym parts)
+
+-- all were
+pub allowed_for-whole : (allowances : List Allowance) (kind : StatementKind) (number : ℕ) (whole others : List ℕ) (index : ℕ) → length allowances ≤ index
+    → whole ≡ others ++ allowed_for (drop index allowances) kind number → others ≡ whole
+allowed_for-whole allowances kind number whole others index past is =
+    sym (is ∙ ap (λ (l : List Allowance). others ++ allowed_for l kind number) (drop_all index allowances past) ∙ append-nil others)
+
+-- these allowances stand before what is read
+abbrev pub prepended : List Allowance → Result (List Allowance) ℕ → Result (List Allowance) ℕ
+prepended list (Ok more) = Ok (list ++ more)
+prepended list (Err number) = Err number
+
+prepended-first : (list : List Allowance) (found : Option Allowance) (rest : Result (List Allowance) ℕ)
+    → prepended list (first_allows (Ok found) rest) ≡ prepended (list ++ option_to_list found) rest
+prepended-first list None (Ok more) = ap (λ (l : List Allowance). Ok (l ++ more)) (sym (append-nil list))
+prepended-first list None (Err number) = refl
+prepended-first list (Some one) (Ok more) = ap (λ (l : List Allowance). Ok l) (sym (append_assoc list (one ∷ []) more))
+prepended-first list (Some one) (Err number) = refl
+
+pub prepended-none : (rest : Result (List Allowance) ℕ) → rest ≡ prepended [] rest
+prepended-none (Ok more) = refl
+prepended-none (Err number) = refl
+
+-- one line was cut off, and it isn't faulty
+pub allowances_in-line : (whole : Result (List Allowance) ℕ) (list longer : List Allowance) (number : ℕ) (text line rest : List ℕ) (found : Option Allowance)
+    → whole ≡ prepended list (allowances_in number (lines_of text)) → lines_of text ≡ line ∷ lines_of rest → Ok found ≡ line_allows number line
+    → longer ≡ list ++ option_to_list found → whole ≡ prepended longer (allowances_in (number + 1) (lines_of rest))
+unfolding allowances_in
+allowances_in-line whole list longer number text line rest found is cut said parts =
+    let below = allowances_in (number + 1) (lines_of rest) in
+    is ∙ ap (λ (l : List (List ℕ)). prepended list (allowances_in number l)) cut
+    ∙ ap (λ (r : Result (Option Allowance) ℕ). prepended list (first_allows r below)) (sym said)
+    ∙ prepended-first list found below ∙ ap (λ (l : List Allowance). prepended l below) (sym parts)
+
+-- one line was cut off, and it is faulty
+pub allowances_in-faulty : (whole : Result (List Allowance) ℕ) (list : List Allowance) (number : ℕ) (text line rest : List ℕ) (faulty : ℕ)
+    → whole ≡ prepended list (allowances_in number (lines_of text)) → lines_of text ≡ line ∷ lines_of rest → Err faulty ≡ line_allows number line
+    → whole ≡ Err faulty
+unfolding allowances_in
+allowances_in-faulty whole list number text line rest faulty is cut said =
+    let below = allowances_in (number + 1) (lines_of rest) in
+    is ∙ ap (λ (l : List (List ℕ)). prepended list (allowances_in number l)) cut
+    ∙ ap (λ (r : Result (Option Allowance) ℕ). prepended list (first_allows r below)) (sym said)
+
+-- no line is left
+pub allowances_in-end : (whole : Result (List Allowance) ℕ) (list : List Allowance) (number : ℕ) (text : List ℕ) → (length text == 0) ≡ true
+    → whole ≡ prepended list (allowances_in number (lines_of text)) → whole ≡ Ok list
+unfolding allowances_in lines_of
+allowances_in-end whole list number [] empty is = is ∙ ap (λ (l : List Allowance). Ok l) (append-nil list)
+allowances_in-end whole list number (x ∷ xs) empty is = absurd (let none : length (x ∷ xs) ≡ 0 = grind (arith, common_steps) in omega arith)

@@ -1,0 +1,91 @@
+-- An order that explains what is before a line, and the store after it.
+use Rattle.std.proofs.Common.{◌≡◌, ℕ, zero, suc, ◌<◌, true, Bool, Option, Result, Ok, Err, IfOk, List, [], ◌∷◌, ◌++◌, Vec, Global, length, map, take, ap, sym, ◌∙◌, subst}
+use Rattle.std.proofs.Common.{arith}
+use Rattle.std.specs.List.{AllZip}
+use Rattle.std.specs.Option.{option_map}
+use Rattle.std.proofs.lemmas.List.{take-map, length-take-le}
+use Rattle.xa_server.specs.State.{State, no_state}
+use Rattle.xa_lines.specs.Listing.{listing}
+use Rattle.xa_judge.specs.declared.answer.Answer.{Answer}
+use Rattle.xa_judge.specs.declared.event.Event.{Event}
+use Rattle.xa_judge.specs.declared.moves.Move.{Move}
+use Rattle.xa_judge.specs.declared.verdict.Verdict.{Verdict}
+use Rattle.xa_judge.specs.declared.verdict.Verdict.TheVariants.{Legal as LegalBy, Illegal as IllegalAt}
+use Rattle.xa_judge.specs.Explained.{Config, opening_config, LeadsThrough, Explained}
+use Rattle.xa_judge.specs.Verdicts.{IsVerdict}
+use Rattle.xa_record.specs.declared.line_event.NumberedEvent.{NumberedEvent as NumberedRead}
+use Rattle.xa_record.specs.declared.reason.Reason.{Reason as ReasonFound}
+use Rattle.xa_record.specs.Events.{IsCallOf, AreCalls}
+use Rattle.xa_record.specs.Kept.{numbered_kept, reason_kept}
+use Rattle.xa_record.specs.Reading.{NumberedEvent}
+use Rattle.xa_record.specs.Reports.{keys_named, IsReasonFound, IsReasonSought}
+use Rattle.xa_record.proofs.Pairs.{calls-length}
+
+-- some configuration is that to which the moves lead
+abbrev pub Lead : List Event → List Move → Type 0
+Lead events moves = (config : Config) × LeadsThrough (opening_config no_state) events moves config
+
+-- moves lead from a server that holds nothing on where they do from this one, which holds nothing
+pub lead_from : (base : State) (events : List Event) (moves : List Move) → base ≡ no_state → Lead events moves
+    → (config : Config) × LeadsThrough (opening_config base) events moves config
+lead_from base events moves none lead = subst (λ (b : State). (config : Config) × LeadsThrough (opening_config b) events moves config) (sym none) lead
+
+-- and to the same store
+pub lead_to : (base : State) (events : List Event) (moves : List Move) (store : State) → base ≡ no_state
+    → (config : Config) × LeadsThrough (opening_config base) events moves config × (config.state ≡ store)
+    → (config : Config) × LeadsThrough (opening_config no_state) events moves config × (config.state ≡ store)
+lead_to base events moves store none lead =
+    subst (λ (b : State). (config : Config) × LeadsThrough (opening_config b) events moves config × (config.state ≡ store)) none lead
+
+-- the store was listed
+pub listed : {E : Type 0} (result : Result (Vec ℕ Global) E) (events : List Event) (moves : List Move) (store : State) (keys : List (List ℕ)) (front : List ℕ)
+    → front ≡ [] → (config : Config) × LeadsThrough (opening_config no_state) events moves config × (config.state ≡ store) → keys ≡ keys_named events
+    → IfOk result (λ text. text.items ≡ front ++ listing store keys)
+    → IfOk result (λ text. (config : Config) × LeadsThrough (opening_config no_state) events moves config × (text.items ≡ listing config.state (keys_named events)))
+listed (Ok text) events moves store keys front none lead named is =
+    (lead.0, lead.1, is ∙ ap (λ l. l ++ listing store keys) none ∙ ap (λ s. listing s keys) (sym lead.2) ∙ ap (listing lead.0.state) named)
+listed (Err fault) events moves store keys front none lead named is = tt
+
+-- the moves of a right verdict lead through what is seen
+pub legal_leads : (base : State) (events : List Event) (limit : ℕ) (verdict : Verdict) (moves : Vec Move Global) (slice : List Move) → base ≡ no_state
+    → IsVerdict base events limit verdict → verdict ≡ LegalBy moves → slice ≡ moves.items → Lead events slice
+legal_leads base events limit verdict moves slice none right is same =
+    subst (Lead events) (sym same)
+    (subst (λ (b : State). (config : Config) × LeadsThrough (opening_config b) events moves.items config) none (subst (IsVerdict base events limit) is right))
+
+-- what an order explains is not illegal
+pub illegal_not : (base : State) (events : List Event) (limit : ℕ) (verdict : Verdict) (place : ℕ) (answers : Vec Answer Global) → base ≡ no_state
+    → IsVerdict base events limit verdict → verdict ≡ IllegalAt place answers → Explained no_state events → ⊥
+illegal_not base events limit verdict place answers none right is explained =
+    (subst (IsVerdict base events limit) is right).0.whole (subst (λ (b : State). Explained b events) (sym none) explained)
+
+AllZip-take : {A B : Type 0} (R : A → B → Type 0) (count : ℕ) (xs : List A) (ys : List B) → AllZip R xs ys → AllZip R (take count xs) (take count ys)
+AllZip-take R zero xs ys all = tt
+AllZip-take R (suc count) [] [] all = tt
+AllZip-take R (suc count) [] (y ∷ ys) all = absurd all
+AllZip-take R (suc count) (x ∷ xs) [] all = absurd all
+AllZip-take R (suc count) (x ∷ xs) (y ∷ ys) all = (all.0, AllZip-take R count xs ys all.1)
+
+-- there is a place in the list as the program keeps it
+pub place_within : (numbered : List NumberedRead) (events : List Event) (place : ℕ) → AreCalls (map numbered_kept numbered) events → place < length events
+    → place ≡ length (take place numbered)
+place_within numbered events place are within =
+    let long : length numbered ≡ length events = calls-length numbered events are in
+    sym (length-take-le place numbered (omega (arith, long, within)))
+
+-- what happens up to a place
+pub events_before : (numbered : List NumberedRead) (events : List Event) (place : ℕ) → AreCalls (map numbered_kept numbered) events
+    → AreCalls (map numbered_kept (take place numbered)) (take place events)
+events_before numbered events place are =
+    subst (λ (l : List NumberedEvent). AreCalls l (take place events)) (take-map numbered_kept place numbered)
+    (AllZip-take (λ one event. IsCallOf one.told event) place (map numbered_kept numbered) events are)
+
+-- the reason was sought
+pub sought : {E : Type 0} (result : Result (Option ReasonFound) E) (explains : Bool) (numbered : List NumberedRead) (events : List Event) (limit place : ℕ)
+    → explains ≡ true
+    → IfOk result (λ reason. IsReasonFound (map numbered_kept (take place numbered)) events limit (option_map reason_kept reason))
+    → IfOk result (λ reason. IsReasonSought explains (take place (map numbered_kept numbered)) events limit (option_map reason_kept reason))
+sought (Ok reason) explains numbered events limit place asked found =
+    subst (λ (b : Bool). IsReasonSought b (take place (map numbered_kept numbered)) events limit (option_map reason_kept reason)) (sym asked)
+    (subst (λ (l : List NumberedEvent). IsReasonFound l events limit (option_map reason_kept reason)) (sym (take-map numbered_kept place numbered)) found)
+sought (Err fault) explains numbered events limit place asked found = tt

@@ -1,6 +1,0 @@
-use Rattle.std.proofs.Common.{◌≡◌, map, take}
-use Rattle.xa_record.specs.VerdictText.{texts_of}
-use Rattle.xa_record.proofs.verdict_text.answer_texts.Given as goal
-
-abbrev pub invariant-loop-answer : goal.invariant-loop-answer
-invariant-loop-answer l = map (λ text. text.items) l.texts.keys ≡ texts_of (take l.answer-index l.answers)

@@ -1,0 +1,168 @@
+-- Known differences between a server and the rules, and how they are read. All of it is our own: docs/JUDGE.md, 'Known differences'.
+--     words_of          the words of a kind of statement
+--     kind_of           the kind of what a session asks for
+--     others_for        the rules' numbers for which a number that was seen may stand, beside itself
+--     allowance_of      what a line allows
+--     allowances_of     what the lines of a text allow, or the number of the first that isn't so
+--     IsAllowFaultOf    why a text couldn't be read
+use Rattle.std.specs.Prelude.{◌≡◌, ℕ, ◌+◌, ◌==◌, nat_lt, Bool, ◌&&◌, bytes_eq, if◌then◌else◌, Option, Some, None, Result, Ok, Err, List, [], ◌∷◌, codes, replicate, slice_get, slice_set}
+use Rattle.xa_xid.specs.Bytes.{unblank}
+use Rattle.xa_xid.specs.declared.statement.Statement.{Statement}
+use Rattle.xa_xid.specs.declared.statement.Statement.TheVariants.{Start as ItsStart, End as ItsEnd, Prepare as ItsPrepare, Commit as ItsCommit, Rollback as ItsRollback, Recover as ItsRecover, Unsupported, Get as ItsGet, Put as ItsPut, Del as ItsDel, Disconnect as ItsDisconnect}
+use Rattle.xa_lines.specs.Script.{lines_of, first_word, behind_word, number_of_word}
+use Rattle.xa_judge.specs.declared.request.Request.{Request}
+use Rattle.xa_judge.specs.declared.request.Request.TheVariants.{Statement as Given, Unread}
+use Rattle.xa_judge.specs.declared.event.Event.{Event}
+use Rattle.xa_judge.specs.declared.event.Event.TheVariants.{Call}
+use Rattle.xa_record.specs.declared.statement_kind.StatementKind.{StatementKind}
+use Rattle.xa_record.specs.declared.statement_kind.StatementKind.TheVariants.{Start, End, Prepare, Commit, CommitOnePhase, Rollback, Recover, Get, Put, Del, Disconnect}
+use Rattle.xa_record.specs.declared.allowance.Allowance.{Allowance}
+use Rattle.xa_record.specs.declared.allow_fault.AllowFault.{AllowFault}
+use Rattle.xa_record.specs.declared.allow_fault.AllowFault.TheVariants.{Line as LineFault, NoMemory}
+use Rattle.xa_record.specs.Lines.{is_silent}
+
+-- the words of a statement's canonical form beside identifiers, keys and values
+abbrev pub words_of : StatementKind → List ℕ
+words_of Start = codes "XA START"
+words_of End = codes "XA END"
+words_of Prepare = codes "XA PREPARE"
+words_of Commit = codes "XA COMMIT"
+words_of CommitOnePhase = codes "XA COMMIT ONE PHASE"
+words_of Rollback = codes "XA ROLLBACK"
+words_of Recover = codes "XA RECOVER"
+words_of Get = codes "GET"
+words_of Put = codes "PUT"
+words_of Del = codes "DEL"
+words_of Disconnect = codes "DISCONNECT"
+
+abbrev pub kind_of_commit : Bool → StatementKind
+kind_of_commit one_phase = if one_phase then CommitOnePhase else Commit
+
+-- the kind of a statement; one that isn't supported has none
+abbrev pub kind_of_statement : Statement → Option StatementKind
+kind_of_statement (ItsStart xid) = Some Start
+kind_of_statement (ItsEnd xid) = Some End
+kind_of_statement (ItsPrepare xid) = Some Prepare
+kind_of_statement (ItsCommit xid one_phase) = Some (kind_of_commit one_phase)
+kind_of_statement (ItsRollback xid) = Some Rollback
+kind_of_statement (ItsRecover convert) = Some Recover
+kind_of_statement Unsupported = None
+kind_of_statement (ItsGet key) = Some Get
+kind_of_statement (ItsPut key value) = Some Put
+kind_of_statement (ItsDel key) = Some Del
+kind_of_statement ItsDisconnect = Some Disconnect
+
+-- the kind of what a session asks for; a text that isn't a statement has none
+abbrev pub kind_of : Request → Option StatementKind
+kind_of (Given statement) = kind_of_statement statement
+kind_of Unread = None
+
+-- the allowance lets the server's number stand for the rules' one, as the answer to a statement of this kind
+abbrev pub lets_stand : Allowance → StatementKind → ℕ → Bool
+lets_stand one kind number = one.server == number && bytes_eq (words_of one.kind) (words_of kind)
+
+-- the rules' numbers for which the allowances let a number stand
+abbrev pub allowed_for : List Allowance → StatementKind → ℕ → List ℕ
+allowed_for [] kind number = []
+allowed_for (one ∷ more) kind number = if lets_stand one kind number then one.rules ∷ allowed_for more kind number else allowed_for more kind number
+
+-- so it is as the answer to what has such a kind, or none
+abbrev pub others_for : List Allowance → Option StatementKind → ℕ → List ℕ
+others_for allowances None number = []
+others_for allowances (Some kind) number = allowed_for allowances kind number
+
+-- at each session's number, the kind of what it called for last
+abbrev pub no_kinds : List (Option StatementKind)
+no_kinds = replicate 17 None
+
+-- once this event is seen
+abbrev pub kinds_after : Event → List (Option StatementKind) → List (Option StatementKind)
+kinds_after (Call session request) kinds = slice_set kinds session (kind_of request)
+kinds_after event kinds = kinds
+
+abbrev pub kind_at : Option (Option StatementKind) → Option StatementKind
+kind_at None = None
+kind_at (Some kind) = kind
+
+-- the kind of what the session called for last
+abbrev pub kind_asked : List (Option StatementKind) → ℕ → Option StatementKind
+kind_asked kinds session = kind_at (slice_get kinds session)
+
+-- both numbers are those of refusals, 0 to 65,535
+abbrev pub allowance_within : ℕ → StatementKind → ℕ → Option Allowance
+allowance_within rules kind server =
+    if nat_lt rules 65536 && nat_lt server 65536 then Some (record { rules = rules; kind = kind; server = server }) else None
+
+abbrev pub allowance_by : ℕ → StatementKind → Option ℕ → List ℕ → Option Allowance
+allowance_by rules kind None rest = None
+allowance_by rules kind (Some server) [] = allowance_within rules kind server
+allowance_by rules kind (Some server) (byte ∷ rest) = None
+
+-- behind the words of the kind stands the server's number, and nothing behind that
+abbrev pub allowance_with : ℕ → StatementKind → List ℕ → Option Allowance
+allowance_with rules kind text = allowance_by rules kind (number_of_word (first_word text)) (behind_word text)
+
+-- behind XA COMMIT stands ONE PHASE
+unfoldable pub one_phase_allowed : ℕ → List ℕ → List ℕ → Option Allowance
+one_phase_allowed rules word text =
+    if bytes_eq word (codes "ONE") && bytes_eq (first_word text) (codes "PHASE:") then allowance_with rules CommitOnePhase (behind_word text) else None
+
+-- behind XA stands a word, and the text behind it
+unfoldable pub xa_allowed : ℕ → List ℕ → List ℕ → Option Allowance
+xa_allowed rules word text =
+    if bytes_eq word (codes "START:") then allowance_with rules Start text else
+    if bytes_eq word (codes "END:") then allowance_with rules End text else
+    if bytes_eq word (codes "PREPARE:") then allowance_with rules Prepare text else
+    if bytes_eq word (codes "COMMIT:") then allowance_with rules Commit text else
+    if bytes_eq word (codes "COMMIT") then one_phase_allowed rules (first_word text) (behind_word text) else
+    if bytes_eq word (codes "ROLLBACK:") then allowance_with rules Rollback text else
+    if bytes_eq word (codes "RECOVER:") then allowance_with rules Recover text else None
+
+-- behind the rules' number stands a word, and the text behind it
+unfoldable pub allowed : ℕ → List ℕ → List ℕ → Option Allowance
+allowed rules word text =
+    if bytes_eq word (codes "XA") then xa_allowed rules (first_word text) (behind_word text) else
+    if bytes_eq word (codes "GET:") then allowance_with rules Get text else
+    if bytes_eq word (codes "PUT:") then allowance_with rules Put text else
+    if bytes_eq word (codes "DEL:") then allowance_with rules Del text else
+    if bytes_eq word (codes "DISCONNECT:") then allowance_with rules Disconnect text else None
+
+abbrev pub allowance_from : Option ℕ → List ℕ → Option Allowance
+allowance_from None text = None
+allowance_from (Some rules) text = allowed rules (first_word text) (behind_word text)
+
+-- what a text allows, from its first byte on that isn't a blank: the rules' number, the words of a kind of statement with a colon, the server's number
+unfoldable pub allowance_of : List ℕ → Option Allowance
+allowance_of text = allowance_from (number_of_word (first_word text)) (behind_word text)
+
+abbrev pub and_more : Allowance → Result (List Allowance) ℕ → Result (List Allowance) ℕ
+and_more one (Ok more) = Ok (one ∷ more)
+and_more one (Err number) = Err number
+
+-- what the first line allows, if it isn't faulty, before what the others do
+abbrev pub first_allows : Result (Option Allowance) ℕ → Result (List Allowance) ℕ → Result (List Allowance) ℕ
+first_allows (Err number) rest = Err number
+first_allows (Ok None) rest = rest
+first_allows (Ok (Some one)) rest = and_more one rest
+
+abbrev pub or_faulty : ℕ → Option Allowance → Result (Option Allowance) ℕ
+or_faulty number None = Err number
+or_faulty number (Some one) = Ok (Some one)
+
+-- what the line of this number allows: nothing where it is blank or a comment
+abbrev pub line_allows : ℕ → List ℕ → Result (Option Allowance) ℕ
+line_allows number line = if is_silent line then Ok None else or_faulty number (allowance_of (unblank line))
+
+-- what lines allow, the first of which has this number, or the number of the first that isn't so
+unfoldable pub allowances_in : ℕ → List (List ℕ) → Result (List Allowance) ℕ
+allowances_in number [] = Ok []
+allowances_in number (line ∷ lines) = first_allows (line_allows number line) (allowances_in (number + 1) lines)
+
+-- what the lines of a text allow, or the number of the first that isn't so
+unfoldable pub allowances_of : List ℕ → Result (List Allowance) ℕ
+allowances_of text = allowances_in 1 (lines_of text)
+
+-- the number of that line, unless there was no memory
+abbrev pub IsAllowFaultOf : Result (List Allowance) ℕ → AllowFault → Type 0
+IsAllowFaultOf said (LineFault number) = said ≡ Err number
+IsAllowFaultOf said NoMemory = Unit {0}

@@ -1,0 +1,90 @@
+-- In which forms a report is written. All of it is our own: docs/JUDGE.md, 'The verdict'.
+--     plain_text       as lines
+--     text_value       lines as strings of JSON
+--     report_value     as a JSON object, a definition for each of its keys
+--     json_text        the text of that object, on one line
+--     text_in          in the form that is asked
+use Rattle.std.specs.Prelude.{ℕ, Option, Some, None, List, [], ◌∷◌, ◌++◌, codes, decimal, encode_utf8_all}
+use Rattle.json.specs.Json.{Json, string, number, array, object, Items, no_items, item, Members, no_members, member}
+use Rattle.json.specs.Print.{print}
+use Rattle.json.specs.Tree.{json_tokens}
+use Rattle.xa_lines.specs.Script.{lines_of}
+use Rattle.xa_record.specs.declared.form.Form.{Form}
+use Rattle.xa_record.specs.declared.form.Form.TheVariants.{Plain, Json as AsJson}
+use Rattle.xa_record.specs.VerdictText.{line_text, answers_text}
+use Rattle.xa_record.specs.Reports.{Reason, Report, Faulty, Empty, Legal, Illegal, Undecided}
+
+-- the lines of an order below its head, and those of a store
+abbrev pub reason_text : Option Reason → List ℕ
+reason_text None = []
+reason_text (Some reason) = codes "ORDER BEFORE\n" ++ reason.order ++ codes "STATE\n" ++ reason.state
+
+-- a report as lines
+abbrev pub plain_text : Report → List ℕ
+plain_text (Faulty faults) = faults
+plain_text Empty = codes "EMPTY\n"
+plain_text (Legal order) = codes "LEGAL\n" ++ order
+plain_text (Illegal line texts reason) = line_text (codes "ILLEGAL") line ++ answers_text texts ++ reason_text reason
+plain_text (Undecided line) = line_text (codes "UNDECIDED") line
+
+-- a text as a string of JSON: each byte is the character of its number, so that one that isn't ASCII is of two bytes there
+abbrev pub text_value : List ℕ → Json
+text_value text = string (encode_utf8_all text)
+
+abbrev pub values_of : List (List ℕ) → Items
+values_of [] = no_items
+values_of (text ∷ texts) = item (text_value text) (values_of texts)
+
+-- texts as an array of strings
+abbrev pub texts_value : List (List ℕ) → Json
+texts_value texts = array (values_of texts)
+
+-- the key of the verdict
+abbrev pub with_verdict : List ℕ → Members → Members
+with_verdict word members = member (codes "verdict") (string word) members
+
+-- the key of the line's number
+abbrev pub with_line : ℕ → Members → Members
+with_line line members = member (codes "line") (number (decimal line)) members
+
+-- the key of what could have been answered
+abbrev pub with_could_be : List (List ℕ) → Members → Members
+with_could_be texts members = member (codes "could_be") (texts_value texts) members
+
+-- the key of an order, a string for each line
+abbrev pub with_order : List ℕ → Members → Members
+with_order order members = member (codes "order") (texts_value (lines_of order)) members
+
+-- the key of a store, a string for each line of its listing
+abbrev pub with_state : List ℕ → Members → Members
+with_state state members = member (codes "state") (texts_value (lines_of state)) members
+
+-- the key of faulty lines, a string for each
+abbrev pub with_faulty : List ℕ → Members → Members
+with_faulty faults members = member (codes "faulty") (texts_value (lines_of faults)) members
+
+abbrev pub with_reason : Option Reason → Members → Members
+with_reason None members = members
+with_reason (Some reason) members = with_order reason.order (with_state reason.state members)
+
+-- the keys of a report, in this order; those that don't apply are left out
+abbrev pub report_members : Report → Members
+report_members (Faulty faults) = with_verdict (codes "FAULTY") (with_faulty faults no_members)
+report_members Empty = with_verdict (codes "EMPTY") no_members
+report_members (Legal order) = with_verdict (codes "LEGAL") (with_order order no_members)
+report_members (Illegal line texts reason) =
+    with_verdict (codes "ILLEGAL") (with_line line (with_could_be texts (with_reason reason no_members)))
+report_members (Undecided line) = with_verdict (codes "UNDECIDED") (with_line line no_members)
+
+-- a report as an object
+abbrev pub report_value : Report → Json
+report_value report = object (report_members report)
+
+-- the text of that object, with no blank between its parts, and a line feed
+abbrev pub json_text : Report → List ℕ
+json_text report = print (json_tokens (report_value report)) ++ codes "\n"
+
+-- a report in a form
+abbrev pub text_in : Form → Report → List ℕ
+text_in Plain report = plain_text report
+text_in AsJson report = json_text report

@@ -1,0 +1,100 @@
+-- What is told of a record, in whichever form it is written. All of it is our own: docs/JUDGE.md, 'The verdict'.
+--     Reason              an order that explains what is before a line, and the store after it
+--     Report              what is told
+--     outcome_of          which of the five ends it is
+--     keys_named          the rows that calls name, each once, ascending
+--     IsReason            the order explains what is before a place, and the store is the one after it
+--     IsReasonSought      so it is where that is asked, unless too many configurations are before the place
+--     IsReportOf          what is told of a verdict
+use Rattle.std.specs.Prelude.{◌≡◌, ℕ, Bool, true, false, Option, Some, None, List, [], ◌∷◌, take}
+use Rattle.std.specs.BTreeSet.{insert_key}
+use Rattle.xa_xid.specs.Xid.{bytes_cmp}
+use Rattle.xa_xid.specs.declared.statement.Statement.{Statement}
+use Rattle.xa_xid.specs.declared.statement.Statement.TheVariants.{Get, Put, Del}
+use Rattle.xa_server.specs.State.{no_state}
+use Rattle.xa_lines.specs.Listing.{listing}
+use Rattle.xa_judge.specs.declared.request.Request.TheVariants.{Statement as Given}
+use Rattle.xa_judge.specs.declared.event.Event.{Event}
+use Rattle.xa_judge.specs.declared.event.Event.TheVariants.{Call}
+use Rattle.xa_judge.specs.declared.moves.Move.{Move}
+use Rattle.xa_judge.specs.declared.verdict.Verdict.{Verdict}
+use Rattle.xa_judge.specs.declared.verdict.Verdict.TheVariants.{Legal as LegalBy, Illegal as IllegalAt, Undecided as UndecidedAt}
+use Rattle.xa_judge.specs.Explained.{Config, opening_config, LeadsThrough}
+use Rattle.xa_judge.specs.Verdicts.{IsWide}
+use Rattle.xa_record.specs.declared.asked.Asked.{Asked}
+use Rattle.xa_record.specs.declared.outcome.Outcome.{Outcome}
+use Rattle.xa_record.specs.declared.outcome.Outcome.TheVariants.{Legal as IsLegal, Illegal as IsIllegal, Undecided as IsUndecided, Faulty as IsFaulty, Empty as IsEmpty}
+use Rattle.xa_record.specs.Reading.{NumberedEvent}
+use Rattle.xa_record.specs.VerdictText.{order_text, no_calls, texts_of, line_number_at}
+
+-- an order that explains what is before a line, and the store after it, each as its lines
+pub record Reason : Type 0 where
+  pub order : List ℕ
+  pub state : List ℕ
+
+-- what is told of a record
+pub data Report : Type 0 where
+  -- what is written for its faulty lines
+  Faulty : List ℕ → Report
+  -- nothing happens in it
+  Empty : Report
+  -- the lines of an order that explains it
+  Legal : List ℕ → Report
+  -- the number of the line that no order explains, the texts of what could have been answered there, and why
+  Illegal : ℕ → List (List ℕ) → Option Reason → Report
+  -- the number of the line before which too many configurations are
+  Undecided : ℕ → Report
+
+-- which of the five ends it is
+abbrev pub outcome_of : Report → Outcome
+outcome_of (Faulty faults) = IsFaulty
+outcome_of Empty = IsEmpty
+outcome_of (Legal order) = IsLegal
+outcome_of (Illegal number texts reason) = IsIllegal
+outcome_of (Undecided number) = IsUndecided
+
+-- the row that a statement names, put among these; XA COMMIT, XA ROLLBACK and DISCONNECT name none
+abbrev pub with_row_of : Statement → List (List ℕ) → List (List ℕ)
+with_row_of (Get key) keys = insert_key bytes_cmp keys key
+with_row_of (Put key value) keys = insert_key bytes_cmp keys key
+with_row_of (Del key) keys = insert_key bytes_cmp keys key
+with_row_of statement keys = keys
+
+abbrev pub with_row_called : Event → List (List ℕ) → List (List ℕ)
+with_row_called (Call session (Given statement)) keys = with_row_of statement keys
+with_row_called event keys = keys
+
+-- these rows, and those that calls name, each once, ascending by their bytes
+unfoldable pub with_rows_called : List (List ℕ) → List Event → List (List ℕ)
+with_rows_called keys [] = keys
+with_rows_called keys (event ∷ events) = with_rows_called (with_row_called event keys) events
+
+-- the rows that calls name, each once, ascending by their bytes
+abbrev pub keys_named : List Event → List (List ℕ)
+keys_named events = with_rows_called [] events
+
+-- moves lead through what is seen; the order is theirs, and the store is the one to which they lead: every branch, and the rows that calls name
+pub record IsReason (numbered : List NumberedEvent) (events : List Event) (reason : Reason) : Type 0 where
+  pub moves : List Move
+  pub config : Config
+  pub runs : LeadsThrough (opening_config no_state) events moves config
+  pub order_is : reason.order ≡ order_text no_calls numbered moves
+  pub state_is : reason.state ≡ listing config.state (keys_named events)
+
+-- the reason is one of what is seen; there is none only where too many configurations are before a place of that
+abbrev pub IsReasonFound : List NumberedEvent → List Event → ℕ → Option Reason → Type 0
+IsReasonFound numbered events limit (Some reason) = IsReason numbered events reason
+IsReasonFound numbered events limit None = (place : ℕ) × IsWide no_state events limit place
+
+-- the reason is found where it is asked
+abbrev pub IsReasonSought : Bool → List NumberedEvent → List Event → ℕ → Option Reason → Type 0
+IsReasonSought true numbered events limit reason = IsReasonFound numbered events limit reason
+IsReasonSought false numbered events limit reason = reason ≡ None
+
+-- what is told of a verdict on what happens, which are these events
+abbrev pub IsReportOf : Asked → List NumberedEvent → List Event → Verdict → Report → Type 0
+IsReportOf asked numbered events (LegalBy moves) report = report ≡ Legal (order_text no_calls numbered moves.items)
+IsReportOf asked numbered events (IllegalAt place answers) report =
+    (reason : Option Reason) × IsReasonSought asked.explains (take place numbered) (take place events) asked.limit reason
+    × (report ≡ Illegal (line_number_at numbered place) (texts_of answers.items) reason)
+IsReportOf asked numbered events (UndecidedAt place) report = report ≡ Undecided (line_number_at numbered place)

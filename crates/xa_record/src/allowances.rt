@@ -1,0 +1,157 @@
+//! Reads allowances.
+ghost use Rattle.std.specs.Prelude.{◌≡◌, ◌++◌, IfOk, OnOk, IfErr, Ok, option_to_list};
+ghost use Rattle.xa_lines.specs.Script.{first_word, behind_word as behind_word_of, number_of_word};
+ghost use Rattle.xa_record.specs.Allowances.{allowance_with, one_phase_allowed, xa_allowed, allowed as allowed_by, allowance_of, line_allows, allowances_of, IsAllowFaultOf};
+
+use crate::allow_fault::AllowFault;
+use crate::allowance::Allowance;
+use crate::line::is_silent;
+use crate::rows::behind_word;
+use crate::statement_kind::StatementKind;
+use std::alloc::Global;
+use xa_lines::{number_in, split_line, split_word};
+use xa_xid::{NoMemory, skip_blanks};
+
+/// The allowance, where the text behind the words of the kind is the server's number.
+fn with_number(rules: u64, kind: StatementKind, text: &[u8]) -> Option<Allowance>
+    ensures { result ≡ allowance_with rules kind text.now }
+{
+    let (word, rest) = split_word(text);
+    match number_in(word) {
+        None => None,
+        Some(server) => {
+            if skip_blanks(rest).is_empty() && rules < 65_536 && server < 65_536 {
+                Some(Allowance {
+                    rules: rules as u16,
+                    kind,
+                    server: server as u16,
+                })
+            } else {
+                None
+            }
+        }
+    }
+}
+
+/// What is allowed behind `XA COMMIT`.
+#[tactic(auto, unfolding(crate::specs::Allowances::one_phase_allowed))]
+fn one_phase(rules: u64, word: &[u8], text: &[u8]) -> Option<Allowance>
+    ensures { result ≡ one_phase_allowed rules word.now text.now }
+{
+    let (next, rest) = split_word(text);
+    if word == b"ONE".as_slice() && next == b"PHASE:".as_slice() {
+        with_number(rules, StatementKind::CommitOnePhase, skip_blanks(rest))
+    } else {
+        None
+    }
+}
+
+/// What is allowed behind `XA`.
+#[tactic(auto, unfolding(crate::specs::Allowances::xa_allowed))]
+fn xa(rules: u64, word: &[u8], text: &[u8]) -> Option<Allowance>
+    ensures { result ≡ xa_allowed rules word.now text.now }
+{
+    if word == b"START:".as_slice() {
+        with_number(rules, StatementKind::Start, text)
+    } else if word == b"END:".as_slice() {
+        with_number(rules, StatementKind::End, text)
+    } else if word == b"PREPARE:".as_slice() {
+        with_number(rules, StatementKind::Prepare, text)
+    } else if word == b"COMMIT:".as_slice() {
+        with_number(rules, StatementKind::Commit, text)
+    } else if word == b"COMMIT".as_slice() {
+        one_phase(rules, split_word(text).0, behind_word(text))
+    } else if word == b"ROLLBACK:".as_slice() {
+        with_number(rules, StatementKind::Rollback, text)
+    } else if word == b"RECOVER:".as_slice() {
+        with_number(rules, StatementKind::Recover, text)
+    } else {
+        None
+    }
+}
+
+/// What is allowed behind the rules' number.
+#[tactic(auto, unfolding(crate::specs::Allowances::allowed))]
+fn allowed(rules: u64, word: &[u8], text: &[u8]) -> Option<Allowance>
+    ensures { result ≡ allowed_by rules word.now text.now }
+{
+    if word == b"XA".as_slice() {
+        xa(rules, split_word(text).0, behind_word(text))
+    } else if word == b"GET:".as_slice() {
+        with_number(rules, StatementKind::Get, text)
+    } else if word == b"PUT:".as_slice() {
+        with_number(rules, StatementKind::Put, text)
+    } else if word == b"DEL:".as_slice() {
+        with_number(rules, StatementKind::Del, text)
+    } else if word == b"DISCONNECT:".as_slice() {
+        with_number(rules, StatementKind::Disconnect, text)
+    } else {
+        None
+    }
+}
+
+/// What the text allows. It begins with no blank.
+#[tactic(auto, unfolding(crate::specs::Allowances::allowance_of))]
+fn read_allowance(text: &[u8]) -> Option<Allowance>
+    ensures { result ≡ allowance_of text.now }
+{
+    match number_in(split_word(text).0) {
+        None => None,
+        Some(rules) => {
+            let rest = behind_word(text);
+            allowed(rules, split_word(rest).0, behind_word(rest))
+        }
+    }
+}
+
+/// What the line of this number allows, or its number where it isn't an allowance.
+fn read_allow_line(number: u64, line: &[u8]) -> Result<Option<Allowance>, u64>
+    ensures { result ≡ line_allows number line.now }
+{
+    if is_silent(line) {
+        return Ok(None);
+    }
+    match read_allowance(skip_blanks(line)) {
+        None => Err(number),
+        Some(one) => Ok(Some(one)),
+    }
+}
+
+/// Appends the allowance, if there is one.
+fn push_found(list: &mut Vec<Allowance>, found: Option<Allowance>) -> Result<(), NoMemory>
+    ensures { OnOk result (list.new.items ≡ list.old.items ++ option_to_list found) }
+{
+    match found {
+        None => Ok(()),
+        Some(one) => {
+            list.push(one)?;
+            Ok(())
+        }
+    }
+}
+
+/// Reads allowances, one on a line: `NUMBER WORDS: NUMBER`, the rules' number, the words of a kind of statement, the server's.
+///
+/// It is cut into lines as a script is; blank lines and comments say nothing. Numbers are 0 to 65,535.
+/// Errors: `Line` with the number of the first line that isn't so, counted from 1; `NoMemory`.
+/// May answer `NoMemory`. Doesn't wait.
+/// Own rule: docs/JUDGE.md, 'Known differences'.
+#[tactic(auto, unfolding(crate::specs::Allowances::allowances_of))]
+pub fn read_allowances(alloc: Global, text: &[u8]) -> Result<Vec<Allowance>, AllowFault>
+    ensures read { IfOk result (λ list. allowances_of text.now ≡ Ok list.items) }
+    ensures fault { IfErr result (IsAllowFaultOf (allowances_of text.now)) }
+{
+    let mut list = Vec::new(alloc);
+    let mut number: u64 = 0;
+    let mut rest = text;
+    while !rest.is_empty() {
+        let (line, lines) = split_line(rest);
+        number += 1;
+        match read_allow_line(number, line) {
+            Err(faulty) => return Err(AllowFault::Line(faulty)),
+            Ok(found) => push_found(&mut list, found)?,
+        }
+        rest = lines;
+    }
+    Ok(list)
+}

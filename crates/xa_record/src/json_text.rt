@@ -1,0 +1,180 @@
+//! Writes reports as JSON.
+ghost use Rattle.std.specs.Prelude.{◌≡◌, ◌++◌, ◌∷◌, [], codes, decimal, OnOk, IfOk, map, string_bytes, encode_utf8_all};
+ghost use Rattle.std.specs.Option.{option_map};
+ghost use Rattle.json.specs.Json.{no_members};
+ghost use Rattle.json.specs.Token.{key, string, number};
+ghost use Rattle.json.specs.Tree.{json_tokens, members_tokens};
+ghost use Rattle.xa_lines.specs.Script.{lines_of};
+ghost use Rattle.xa_record.specs.Forms.{text_value, texts_value, with_reason};
+ghost use Rattle.xa_record.specs.Forms.{report_members, json_text as text_of_report};
+ghost use Rattle.xa_record.specs.Kept.{reason_kept, report_kept};
+
+use crate::reason::Reason;
+use crate::report::Report;
+use json::Writer;
+use std::alloc::Global;
+use std::collections::BTreeSet;
+use xa_lines::split_line;
+use xa_xid::NoMemory;
+
+/// The text as characters: each byte is the character of its number.
+fn characters(alloc: Global, text: &[u8]) -> Result<String, NoMemory>
+    ensures { IfOk result (λ string. string_bytes string ≡ encode_utf8_all text.now) }
+{
+    let mut string = String::new(alloc);
+    for &byte in text {
+        string.push(byte as char)?;
+    }
+    Ok(string)
+}
+
+/// Writes a text as a string.
+fn write_text(alloc: Global, writer: &mut Writer, text: &[u8]) -> Result<(), NoMemory>
+    ensures tokens { OnOk result (writer.new.tokens ≡ writer.old.tokens ++ json_tokens (text_value text.now)) }
+    ensures before { writer.new.before ≡ writer.old.before }
+{
+    let string = characters(alloc, text)?;
+    writer.string(string.as_str())
+}
+
+/// Writes texts as an array of strings.
+fn write_texts(
+    alloc: Global,
+    writer: &mut Writer,
+    texts: &BTreeSet<Vec<u8>>,
+) -> Result<(), NoMemory>
+    ensures tokens { OnOk result (writer.new.tokens ≡ writer.old.tokens ++ json_tokens (texts_value (map (λ text. text.items) texts.now.keys))) }
+    ensures before { writer.new.before ≡ writer.old.before }
+{
+    writer.begin_array()?;
+    for text in texts.iter() {
+        write_text(alloc, writer, text.as_slice())?;
+    }
+    writer.end_array()
+}
+
+/// Writes lines as an array of strings.
+fn write_lines(alloc: Global, writer: &mut Writer, text: &[u8]) -> Result<(), NoMemory>
+    ensures tokens { OnOk result (writer.new.tokens ≡ writer.old.tokens ++ json_tokens (texts_value (lines_of text.now))) }
+    ensures before { writer.new.before ≡ writer.old.before }
+{
+    writer.begin_array()?;
+    let mut rest = text;
+    while !rest.is_empty() {
+        let (line, lines) = split_line(rest);
+        write_text(alloc, writer, line)?;
+        rest = lines;
+    }
+    writer.end_array()
+}
+
+/// Writes the key of the verdict.
+fn write_verdict(writer: &mut Writer, word: &str) -> Result<(), NoMemory>
+    ensures tokens { OnOk result (writer.new.tokens ≡ writer.old.tokens ++ key (codes "verdict") ∷ string word.now ∷ []) }
+    ensures before { writer.new.before ≡ writer.old.before }
+{
+    writer.key("verdict")?;
+    writer.string(word)
+}
+
+/// Writes the key of a line's number.
+fn write_line(writer: &mut Writer, line: u64) -> Result<(), NoMemory>
+    ensures tokens { OnOk result (writer.new.tokens ≡ writer.old.tokens ++ key (codes "line") ∷ number (decimal line) ∷ []) }
+    ensures before { writer.new.before ≡ writer.old.before }
+{
+    writer.key("line")?;
+    writer.u64(line)
+}
+
+/// Writes the key of what could have been answered.
+fn write_could_be(
+    alloc: Global,
+    writer: &mut Writer,
+    texts: &BTreeSet<Vec<u8>>,
+) -> Result<(), NoMemory>
+    ensures tokens { OnOk result
+        (writer.new.tokens ≡ writer.old.tokens ++ key (codes "could_be") ∷ json_tokens (texts_value (map (λ text. text.items) texts.now.keys))) }
+    ensures before { writer.new.before ≡ writer.old.before }
+{
+    writer.key("could_be")?;
+    write_texts(alloc, writer, texts)
+}
+
+/// Writes a key, and lines as its value.
+fn write_lines_of(
+    alloc: Global,
+    writer: &mut Writer,
+    name: &str,
+    lines: &[u8],
+) -> Result<(), NoMemory>
+    ensures tokens { OnOk result (writer.new.tokens ≡ writer.old.tokens ++ key name.now ∷ json_tokens (texts_value (lines_of lines.now))) }
+    ensures before { writer.new.before ≡ writer.old.before }
+{
+    writer.key(name)?;
+    write_lines(alloc, writer, lines)
+}
+
+/// Writes the keys of the order before a line and of the store after it, where they are told, and the object's end.
+fn end_with_reason(
+    alloc: Global,
+    writer: &mut Writer,
+    reason: &Option<Reason>,
+) -> Result<(), NoMemory>
+    ensures tokens { OnOk result (writer.new.tokens ≡ writer.old.tokens ++ members_tokens (with_reason (option_map reason_kept reason.now) no_members)) }
+    ensures before { writer.new.before ≡ writer.old.before }
+{
+    match reason {
+        None => writer.end_object(),
+        Some(reason) => {
+            write_lines_of(alloc, writer, "order", reason.order.as_slice())?;
+            write_lines_of(alloc, writer, "state", reason.state.as_slice())?;
+            writer.end_object()
+        }
+    }
+}
+
+/// Writes the keys of a report, and the object's end.
+fn write_members(alloc: Global, writer: &mut Writer, report: &Report) -> Result<(), NoMemory>
+    ensures tokens { OnOk result (writer.new.tokens ≡ writer.old.tokens ++ members_tokens (report_members (report_kept report.now))) }
+    ensures before { writer.new.before ≡ writer.old.before }
+{
+    match report {
+        Report::Faulty(faults) => {
+            write_verdict(writer, "FAULTY")?;
+            write_lines_of(alloc, writer, "faulty", faults.as_slice())?;
+            writer.end_object()
+        }
+        Report::Empty => {
+            write_verdict(writer, "EMPTY")?;
+            writer.end_object()
+        }
+        Report::Legal(order) => {
+            write_verdict(writer, "LEGAL")?;
+            write_lines_of(alloc, writer, "order", order.as_slice())?;
+            writer.end_object()
+        }
+        Report::Illegal(line, texts, reason) => {
+            write_verdict(writer, "ILLEGAL")?;
+            write_line(writer, *line)?;
+            write_could_be(alloc, writer, texts)?;
+            end_with_reason(alloc, writer, reason)
+        }
+        Report::Undecided(line) => {
+            write_verdict(writer, "UNDECIDED")?;
+            write_line(writer, *line)?;
+            writer.end_object()
+        }
+    }
+}
+
+/// The text of a report as a JSON object on a line.
+pub fn json_text(alloc: Global, report: &Report) -> Result<Vec<u8>, NoMemory>
+    ensures { IfOk result (λ text. text.items ≡ text_of_report (report_kept report.now)) }
+{
+    let mut writer = Writer::new(Vec::new(alloc));
+    writer.begin_object()?;
+    write_members(alloc, &mut writer, report)?;
+    let mut out = writer.into_inner();
+    out.extend_from_slice(b"\n")?;
+    Ok(out)
+}

@@ -1,0 +1,99 @@
+"""What the recorder writes for answers, refusals, closed connections and late answers, by a driver that stands in for PyMySQL. It needs no server."""
+import sys
+import time
+import types
+import unittest
+from pathlib import Path
+
+sys.dont_write_bytecode = True
+sys.path.insert(0, str(Path(__file__).resolve().parent.parent))
+
+import record as recorder  # noqa: E402
+
+
+class MySQLError(Exception):
+    pass
+
+
+class Cursor:
+    def __init__(self, connection):
+        self.connection = connection
+
+    def __enter__(self):
+        return self
+
+    def __exit__(self, *_):
+        pass
+
+    def execute(self, text):
+        told = self.connection.tells(text)
+        if isinstance(told, float):
+            time.sleep(told)
+        if isinstance(told, tuple):
+            raise MySQLError(*told)
+
+    def fetchall(self):
+        return ()
+
+
+class Connection:
+    def __init__(self, told):
+        self.told, self.is_broken = told, False
+
+    def tells(self, text):
+        return self.told.get(text)
+
+    def cursor(self):
+        return Cursor(self)
+
+    def _force_close(self):
+        self.is_broken = True
+
+
+class Recorded(unittest.TestCase):
+    """A session whose driver tells for each statement an error, or for how long its answer is waited for."""
+
+    def session(self, told, timeout=None):
+        recorder.pymysql = types.SimpleNamespace(MySQLError=MySQLError)
+        options = types.SimpleNamespace(cut={}, lose={}, timeout=timeout, is_mariadb=True)
+        found = recorder.Session(3, options, recorder.Record(), None, {})
+        found.connection = Connection(told)
+        return found
+
+    def lines(self, told, *statements, timeout=None):
+        session = self.session(told, timeout)
+        for statement in statements:
+            session.give(statement)
+        return session, session.record.lines
+
+    def test_an_answer_and_a_refusal_are_returns(self):
+        session, lines = self.lines({b"XA END 'a'": (1399, "wrong state")}, b"XA START 'a'", b"XA END 'a'")
+        self.assertEqual(lines, [b"3 > XA START 'a'", b"3 < OK", b"3 > XA END 'a'", b"3 < ERROR 1399 wrong state"])
+        self.assertFalse(session.lost)
+
+    def test_a_connection_that_the_server_closed_is_gone(self):
+        for number in (2006, 2013, 1927, 0):
+            with self.subTest(number=number):
+                session, lines = self.lines({b"XA END 'a'": (number, "closed")}, b"XA END 'a'")
+                self.assertEqual(lines, [b"3 > XA END 'a'", b"3 ! GONE"])
+                self.assertTrue(session.lost and session.connection.is_broken)
+
+    def test_an_answer_that_the_driver_cannot_read_is_a_loss(self):
+        session, lines = self.lines({b"XA END 'a'": ("bad packet",)}, b"XA END 'a'")
+        self.assertEqual(lines, [b"3 > XA END 'a'", b"3 ! LOST"])
+        self.assertTrue(session.lost)
+
+    def test_a_late_answer_is_not_looked_at_and_the_session_goes_on(self):
+        for told in (0.05, None):
+            with self.subTest(told=told):
+                session, lines = self.lines({b"XA END 'a'": told}, b"XA END 'a'", b"XA PREPARE 'a'", timeout=0.02)
+                answer = b"3 < OK" if told is None else b"3 ? ERROR no answer within 0.02 seconds"
+                self.assertEqual(lines, [b"3 > XA END 'a'", answer, b"3 > XA PREPARE 'a'", b"3 < OK"])
+                self.assertFalse(session.lost)
+
+    def test_a_late_answer_is_looked_at_without_a_time_out(self):
+        self.assertEqual(self.lines({b"XA END 'a'": 0.03}, b"XA END 'a'")[1], [b"3 > XA END 'a'", b"3 < OK"])
+
+
+if __name__ == "__main__":
+    unittest.main()
