@@ -7,6 +7,7 @@ pub use Rattle.xa_session.specs as session
 pub use Rattle.xa_store.specs as store
 pub use Rattle.xa_coordinator.specs as coordinator
 pub use Rattle.xa_lasting.specs as lasting
+pub use Rattle.xa_renewal.specs as renewal
 pub use Rattle.xa_lines.specs as lines
 pub use Rattle.xa_races.specs as races
 pub use Rattle.xa_judge.specs as judge

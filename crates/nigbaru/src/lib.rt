@@ -17,6 +17,7 @@ pub use xa_coordinator::{
     WorkFault, xid_of_branch,
 };
 pub use xa_lasting::LastingStore;
+pub use xa_renewal::{Kept, renew, renew_store};
 pub use xa_server::{
     BranchEntry, BranchState, HeldRow, Hold, Phase, Reply, Server, XaError, XidList,
 };

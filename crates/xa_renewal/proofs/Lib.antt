@@ -1,0 +1,5 @@
+pub mod OverSegments
+pub mod Meetings
+pub mod GoingOn
+pub mod RenewedLists
+pub mod Coursing
