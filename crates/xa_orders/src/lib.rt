@@ -21,3 +21,5 @@ pub use exploring::explore;
 pub use line::Line;
 pub use outcome::Outcome;
 pub use run::{Explored, explore_script, explore_text};
+pub use script::{Script, read_script};
+pub use stage::Stage;

@@ -1,0 +1,13 @@
+pub mod Tests
+pub mod Histories
+pub mod Turns
+pub mod Schedules
+pub mod Law
+pub mod Raced
+pub mod Reading
+pub mod Counting
+pub mod Counted
+pub mod Stores
+pub mod Given
+pub mod Whole
+pub mod Written

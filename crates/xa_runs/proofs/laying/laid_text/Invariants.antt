@@ -1,0 +1,10 @@
+use Rattle.std.proofs.Common.{◌≡◌, ◌++◌, [], map, take, drop}
+use Rattle.std.specs.List.{concat}
+use Rattle.xa_runs.specs.Raced.{laid_texts}
+use Rattle.xa_runs.specs.Held.{answers_of}
+use Rattle.xa_runs.proofs.laying.laid_text.Given as goal
+
+abbrev pub invariant-loop-place : goal.invariant-loop-place
+invariant-loop-place l =
+    concat (laid_texts [] (answers_of (map (λ list. list.items) l.answers)) l.lines)
+    ≡ l.text.items ++ concat (laid_texts (take l.place l.lines) (answers_of (map (λ list. list.items) l.answers)) (drop l.place l.lines))

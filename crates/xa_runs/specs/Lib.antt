@@ -1,0 +1,4 @@
+pub mod Raced
+pub mod Came
+pub mod Held
+pub mod Tallied

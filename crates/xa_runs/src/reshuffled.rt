@@ -1,0 +1,60 @@
+//! A gate for races one after another, which shuffles each of them anew.
+ghost use Rattle.std.specs.Prelude.{◌<◌, IsTrue};
+
+use rand_core::utils::NextWord;
+use rand_pcg::Pcg32;
+use std::sync::atomic::{AtomicU64, Ordering};
+use std::thread::yield_now;
+use xa_store::{Gate, TogetherGate};
+use xa_xid::SessionNo;
+
+/// The gate at which the sessions of a race meet before their first lines, and each steps aside before each of its lines, as at
+/// `ShuffledGate`. The first race has the turns of the seed, and each next one those of the next seed; behind 2^64 - 1 comes 0.
+///
+/// It is always open, so a race with it is what a race with `OpenGate` is.
+#[derive(Drop)]
+pub struct ReshuffledGate {
+    together: TogetherGate,
+    /// The seed of the next race.
+    seed: AtomicU64,
+}
+
+impl ReshuffledGate {
+    /// A gate whose first race has this seed, in `[0, 2^64)`.
+    ///
+    /// Takes no memory. Doesn't wait.
+    /// Own rule: docs/ORDERS.md, 'Races of a script'.
+    pub fn new(seed: u64) -> ReshuffledGate {
+        ReshuffledGate {
+            together: TogetherGate::new(),
+            seed: AtomicU64::new(seed),
+        }
+    }
+
+    /// For how many turns a session steps aside before this line, in `[0, 64)`.
+    fn turns(&self, session: SessionNo, line: u64) -> u32
+        ensures { result < 64 }
+    {
+        let seed = self.seed.load(Ordering::SeqCst).wrapping_sub(1);
+        let mut stream = Pcg32::new(seed, session.get());
+        stream.advance(line);
+        stream.next_word() % 64
+    }
+}
+
+impl Gate for ReshuffledGate {
+    ghost may_answer = { λ _ _ _ opened. IsTrue opened };
+
+    fn announce(&self, runs: u64) {
+        let _before = self.seed.fetch_add(1, Ordering::SeqCst);
+        self.together.announce(runs);
+    }
+
+    fn enter(&self, session: SessionNo, line: u64) -> bool {
+        let opened = self.together.enter(session, line);
+        for _ in 0..self.turns(session, line) {
+            yield_now();
+        }
+        opened
+    }
+}

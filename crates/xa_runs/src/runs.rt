@@ -1,0 +1,210 @@
+//! Races a script time after time, and counts its outcomes.
+ghost use Rattle.std.specs.Prelude.{◌≡◌, ◌++◌, [], None, map, codes, IfOk, IfErr, OnOk, IfSome};
+ghost use Rattle.std.specs.List.{All};
+ghost use Rattle.decision_log.specs.Opens.{IsCapacity};
+ghost use Rattle.xa_orders.specs.Orders.{base_of, IsExplored};
+ghost use Rattle.xa_orders.specs.Found.{IsWide};
+ghost use Rattle.xa_orders.specs.Scripts.{script_read, parts_of};
+ghost use Rattle.xa_orders.specs.Kept.{read_kept};
+ghost use Rattle.xa_runs.specs.Raced.{AreRead};
+ghost use Rattle.xa_runs.specs.Tallied.{texts_of, IsCounted};
+ghost use Rattle.xa_runs.specs.Came.{IsRunCount, ways_limit, IsSeenOfAll, IsSeenOfSome, IsRunsText, IsOfRace, IsOfRuns, IsPartsCome};
+
+use crate::came_tally::CameTally;
+use crate::came_text::{seen_of_all, seen_of_some};
+use crate::parts::race_parts;
+use crate::tallies::{note, tallies_of};
+use std::alloc::Global;
+use std::sync::Wait;
+use std::thread::Threads;
+use xa_lines::ScriptFault;
+use xa_orders::{Ended, Outcome, Script, explore, read_script};
+use xa_store::Gate;
+use xa_xid::{Key, NoMemory};
+
+/// How many ways are searched at once for the list of all outcomes.
+const WAYS: usize = 100_000;
+
+/// How races of a script ended, and what is written for them.
+#[derive(Drop)]
+pub struct Came {
+    pub ended: Ended,
+    pub text: Vec<u8>,
+}
+
+/// Races the script so many times, and counts each outcome as it comes.
+fn count_runs<G: Gate + Sync, R: Threads + Wait + Sync>(
+    rt: &R,
+    alloc: Global,
+    tallies: &mut Vec<CameTally>,
+    script: &Script<'_>,
+    capacity: u64,
+    renews: bool,
+    runs: u64,
+    gate: &G,
+) -> Result<(), ScriptFault>
+    requires none { All (λ one. one.came ≡ 0) tallies.old.items }
+    requires capacity { IsCapacity capacity }
+    requires read { AreRead (parts_of (read_kept script.now)) }
+    requires runs { IsRunCount runs }
+    ensures counted { OnOk result (IsCounted (parts_of (read_kept script.now)) runs tallies.old.items tallies.new.items) }
+    ensures fault { IfErr result (IsOfRace renews) }
+{
+    for _ in 0..runs {
+        let text = race_parts(rt, alloc, script, capacity, renews, gate)?;
+        note(alloc, tallies, text.as_slice())?;
+    }
+    Ok(())
+}
+
+/// The keys once more.
+fn copy_keys(alloc: Global, keys: &[Key]) -> Result<Vec<Key>, NoMemory> {
+    let mut copy = Vec::new(alloc);
+    for key in keys {
+        copy.push(key.copy())?;
+    }
+    Ok(copy)
+}
+
+/// All outcomes of the script; none, where there are too many ways to know.
+fn outcomes_of(alloc: Global, script: &Script<'_>) -> Result<Option<Vec<Outcome>>, NoMemory>
+    ensures explored { IfOk result (λ found. IfSome found (λ outcomes. IsExplored (parts_of (read_kept script.now)) outcomes.items)) }
+    ensures wide { IfOk result
+        (λ found. found ≡ None
+        → IsWide script.now.beside.items (base_of (parts_of (read_kept script.now))) ways_limit) }
+{
+    let written = copy_keys(alloc, script.written.as_slice())?;
+    explore(
+        alloc,
+        script.before.as_slice(),
+        script.beside.as_slice(),
+        script.later.as_slice(),
+        written,
+        WAYS,
+    )
+}
+
+/// What is written for so many races of the script, all outcomes of which are known.
+fn came_of_all<G: Gate + Sync, R: Threads + Wait + Sync>(
+    rt: &R,
+    alloc: Global,
+    outcomes: Vec<Outcome>,
+    script: &Script<'_>,
+    capacity: u64,
+    renews: bool,
+    runs: u64,
+    gate: &G,
+) -> Result<Vec<u8>, ScriptFault>
+    requires explored { IsExplored (parts_of (read_kept script.now)) outcomes.items }
+    requires capacity { IsCapacity capacity }
+    requires read { AreRead (parts_of (read_kept script.now)) }
+    requires runs { IsRunCount runs }
+    ensures come { IfOk result (λ text. IsSeenOfAll (parts_of (read_kept script.now)) runs text.items) }
+    ensures fault { IfErr result (IsOfRace renews) }
+{
+    let mut tallies = tallies_of(alloc, outcomes)?;
+    count_runs(
+        rt,
+        alloc,
+        &mut tallies,
+        script,
+        capacity,
+        renews,
+        runs,
+        gate,
+    )?;
+    let text = seen_of_all(alloc, tallies.as_slice())?;
+    Ok(text)
+}
+
+/// What is written for so many races of the script, which has too many ways to know all outcomes.
+fn came_of_some<G: Gate + Sync, R: Threads + Wait + Sync>(
+    rt: &R,
+    alloc: Global,
+    script: &Script<'_>,
+    capacity: u64,
+    renews: bool,
+    runs: u64,
+    gate: &G,
+) -> Result<Vec<u8>, ScriptFault>
+    requires wide { IsWide script.now.beside.items (base_of (parts_of (read_kept script.now))) ways_limit }
+    requires capacity { IsCapacity capacity }
+    requires read { AreRead (parts_of (read_kept script.now)) }
+    requires runs { IsRunCount runs }
+    ensures come { IfOk result (λ text. IsSeenOfSome (parts_of (read_kept script.now)) runs text.items) }
+    ensures fault { IfErr result (IsOfRace renews) }
+{
+    let mut tallies = Vec::new(alloc);
+    count_runs(
+        rt,
+        alloc,
+        &mut tallies,
+        script,
+        capacity,
+        renews,
+        runs,
+        gate,
+    )?;
+    let text = seen_of_some(alloc, tallies.as_slice())?;
+    Ok(text)
+}
+
+/// What is written for so many races of the script.
+fn came_of<G: Gate + Sync, R: Threads + Wait + Sync>(
+    rt: &R,
+    alloc: Global,
+    script: &Script<'_>,
+    capacity: u64,
+    renews: bool,
+    runs: u64,
+    gate: &G,
+) -> Result<Vec<u8>, ScriptFault>
+    requires capacity { IsCapacity capacity }
+    requires read { AreRead (parts_of (read_kept script.now)) }
+    requires runs { IsRunCount runs }
+    ensures come { IfOk result (λ text. IsPartsCome (parts_of (read_kept script.now)) runs text.items) }
+    ensures fault { IfErr result (IsOfRace renews) }
+{
+    match outcomes_of(alloc, script)? {
+        None => came_of_some(rt, alloc, script, capacity, renews, runs, gate),
+        Some(outcomes) => came_of_all(rt, alloc, outcomes, script, capacity, renews, runs, gate),
+    }
+}
+
+/// What is read of a script: each line of its parts has a statement.
+fn read_well(alloc: Global, text: &[u8]) -> Result<Script<'_>, NoMemory>
+    ensures read { IfOk result (λ script. read_kept script ≡ script_read text.now) }
+    ensures well { IfOk result (λ script. AreRead (parts_of (read_kept script))) }
+{
+    let script = read_script(alloc, text)?;
+    Ok(script)
+}
+
+/// Races the script of this text so many times: how that ended, and what is written.
+pub fn runs_text<G: Gate + Sync, R: Threads + Wait + Sync>(
+    rt: &R,
+    alloc: Global,
+    text: &[u8],
+    capacity: u64,
+    renews: bool,
+    runs: u64,
+    gate: &G,
+) -> Result<Came, ScriptFault>
+    requires capacity { IsCapacity capacity }
+    requires runs { IsRunCount runs }
+    ensures come { IfOk result (λ came. IsRunsText runs text.now came.ended came.text.items) }
+    ensures fault { IfErr result (IsOfRuns renews text.now) }
+{
+    let script = read_well(alloc, text)?;
+    if !script.faults.is_empty() {
+        return Ok(Came {
+            ended: Ended::Faulty,
+            text: script.faults,
+        });
+    }
+    let text = came_of(rt, alloc, &script, capacity, renews, runs, gate)?;
+    Ok(Came {
+        ended: Ended::Done,
+        text,
+    })
+}
