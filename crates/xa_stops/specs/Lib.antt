@@ -1,0 +1,5 @@
+pub mod Counted
+pub mod Runs
+pub mod Stops
+pub mod Rows
+pub mod Scripts

@@ -1,0 +1,194 @@
+//! Shows every stop of a script of calls.
+ghost use Rattle.std.specs.Prelude.{◌≡◌, ◌≤◌, ◌<◌, ◌-◌, ◌^◌, ◌++◌, List, ℕ, All, length, get_or, map, IfOk, IfErr, OnOk, OnErr, MatchResult, IfSome, Err};
+ghost use Rattle.std.specs.List.{AllZip, concat};
+ghost use Rattle.std.specs.Io.KnownBytes.{Appends, IsAtEnd};
+ghost use Rattle.xa_lines.specs.Calls.{HasWritten, StopsWriting, Completes, Stops};
+ghost use Rattle.xa_lines.specs.Limits.{script_bytes, script_reads};
+ghost use Rattle.xa_lines.specs.Transcript.{AppendsPrefix, ConsumesMoreThan};
+ghost use Rattle.xa_manager.specs.Calls.{IsWritten};
+ghost use Rattle.xa_stops.specs.declared.stop.Stop.{Stop as StopOf};
+ghost use Rattle.xa_stops.specs.Rows.{AreNamed};
+ghost use Rattle.xa_stops.specs.Stops.{stop_line, IsStopText, IsShown};
+ghost use Rattle.xa_stops.specs.Scripts.{IsStopsText, IsSomeText, AppendsStops, AfterStopsFault, IsFaultOfStops};
+
+use crate::counting::calls_made;
+use crate::faulty::faulty_lines;
+use crate::named::keys_of_each;
+use crate::places::stops_in;
+use crate::reading::read_calls;
+use crate::stopping::{with_lines, with_stop};
+use crate::{Ended, Stop};
+use std::alloc::Global;
+use std::sync::Wait;
+use xa_lines::{PieceReader, PieceWriter, ScriptFault, push_number, read_all, write_whole};
+use xa_manager::Call;
+use xa_xid::{Key, NoMemory};
+
+/// How a script of calls ended, and what is written for it.
+#[derive(Drop)]
+pub struct Told {
+    /// How it ended.
+    pub ended: Ended,
+    /// What is written.
+    pub text: Vec<u8>,
+}
+
+/// A text with the head of a stop at its end.
+fn with_head(mut text: Vec<u8>, stop: Stop) -> Result<Vec<u8>, NoMemory>
+    requires { stop.place < 2 ^ 64 - 1 }
+    ensures { IfOk result (λ longer. longer.items ≡ text.items ++ stop_line stop) }
+{
+    text.extend_from_slice(b"STOP ")?;
+    push_number(&mut text, stop.place as u64 + 1)?;
+    text.extend_from_slice(b" ")?;
+    push_number(&mut text, stop.calls)?;
+    text.extend_from_slice(b"\n")?;
+    Ok(text)
+}
+
+/// The stop at a place.
+#[tactic(auto, using(crate::proofs::Counts::same_read))]
+fn stop_at(stops: &[Stop], place: usize) -> Stop
+    requires { place < length stops.now }
+    ensures { (other : StopOf) → result ≡ get_or stops.now place other }
+{
+    stops[place]
+}
+
+/// A text with each stop at its end.
+fn with_stops<R: Wait>(
+    rt: &R,
+    alloc: Global,
+    text: Vec<u8>,
+    calls: &[Call],
+    stops: &[Stop],
+    made: &[Vec<u64>],
+    keys: &[Vec<Key>],
+) -> Result<Vec<u8>, NoMemory>
+    requires some { 1 ≤ length keys.now }
+    requires most { length keys.now ≤ 16 }
+    requires written { All IsWritten calls.now }
+    requires count { length made.now ≡ length calls.now }
+    requires within { All (λ stop. stop.place < length calls.now) stops.now }
+    requires named { AreNamed calls.now (map (λ one. one.items) keys.now) }
+    ensures { IfOk result (λ longer. (blocks : List (List ℕ))
+        × AllZip (IsStopText (length keys.now) calls.now (map (λ one. one.items) made.now)) stops.now blocks × (longer.items ≡ text.items ++ concat blocks)) }
+{
+    let mut longer = text;
+    for place in 0..stops.len() {
+        let stop = stop_at(stops, place);
+        let headed = with_head(longer, stop)?;
+        let there = &made[stop.place];
+        longer = with_stop(rt, alloc, headed, calls, stop, there.as_slice(), keys)?;
+    }
+    Ok(longer)
+}
+
+/// What is written for calls of which none is faulty.
+fn shown_stops<R: Wait>(
+    rt: &R,
+    alloc: Global,
+    calls: &[Call],
+    stores: u64,
+) -> Result<Vec<u8>, NoMemory>
+    requires some { 1 ≤ stores }
+    requires most { stores ≤ 16 }
+    requires written { All IsWritten calls.now }
+    ensures { IfOk result (λ text. IsShown stores calls.now text.items) }
+{
+    let made = calls_made(rt, alloc, calls, stores)?;
+    let stops = stops_in(alloc, calls, made.as_slice())?;
+    let keys = keys_of_each(alloc, calls, stores)?;
+    let mut text = Vec::from_slice(alloc, b"STOPS ")?;
+    push_number(&mut text, stops.len() as u64)?;
+    text.extend_from_slice(b"\n")?;
+    let mut text = with_stops(
+        rt,
+        alloc,
+        text,
+        calls,
+        stops.as_slice(),
+        made.as_slice(),
+        keys.as_slice(),
+    )?;
+    text.extend_from_slice(b"STOP END\n")?;
+    let text = with_lines(rt, alloc, text, calls, keys.as_slice())?;
+    Ok(text)
+}
+
+/// Shows every stop of the script of calls that this text is.
+pub fn stops_text<R: Wait>(
+    rt: &R,
+    alloc: Global,
+    text: &[u8],
+    stores: u64,
+) -> Result<Told, NoMemory>
+    requires some { 1 ≤ stores }
+    requires most { stores ≤ 16 }
+    ensures { IfOk result (λ told. IsStopsText stores text.now told.ended told.text.items) }
+{
+    let calls = read_calls(alloc, text)?;
+    let faults = faulty_lines(rt, alloc, calls.as_slice(), stores)?;
+    if !faults.is_empty() {
+        return Ok(Told {
+            ended: Ended::Faulty,
+            text: faults,
+        });
+    }
+    Ok(Told {
+        ended: Ended::Done,
+        text: shown_stops(rt, alloc, calls.as_slice(), stores)?,
+    })
+}
+
+/// Writes what is written for a script, and gives how it ended.
+fn write_told<W: PieceWriter>(writer: &mut W, told: &Told) -> Result<Ended, ScriptFault>
+    ensures ended { IfOk result (λ ended. ended ≡ told.now.ended) }
+    ensures all { OnOk result (Appends (W.contents writer.old) (W.contents writer.new) told.now.text.items) }
+    ensures fault { IfErr result (λ fault. fault ≡ ScriptFault.Write) }
+    ensures prefix { OnErr result (AppendsPrefix (W.contents writer.old) (W.contents writer.new) told.now.text.items) }
+    ensures calls { MatchResult result
+        (λ _. HasWritten W.takes writer.old told.now.text.items writer.new)
+        (λ _. StopsWriting W.takes W.refuses writer.old told.now.text.items writer.new) }
+{
+    write_whole(writer, told.text.as_slice())?;
+    Ok(told.ended)
+}
+
+/// Shows every stop of a script of calls: reads all of it, and writes what a recovery leaves behind each stop and behind all lines, or its faulty lines.
+///
+/// A script is at most 1,048,576 bytes, and takes at most 2,097,152 reads. There are `stores` stores, in `[1, 16]`, which hold nothing at
+/// first and are never full. Nothing is written before all stops were tried. What is written isn't flushed.
+/// Errors: `Read` where a read failed, or too many reads were needed; `TooLong` where the script is longer; `NoMemory`; `Write`
+/// where a write failed or took nothing. After `Write` a prefix of the text was written, after any other nothing. A reader or a
+/// writer that failed isn't called again.
+/// May answer `NoMemory`. Doesn't wait, unless the reader or the writer does.
+/// Own rule: docs/COORDINATOR.md, 'Every stop'.
+pub fn stops_script<H: Wait, R: PieceReader, W: PieceWriter>(
+    rt: &H,
+    alloc: Global,
+    reader: &mut R,
+    writer: &mut W,
+    stores: u64,
+) -> Result<Ended, ScriptFault>
+    requires some { 1 ≤ stores }
+    requires most { stores ≤ 16 }
+    // All was read, and what was written is the text of its stops, or its faulty lines.
+    ensures read { OnOk result (IsAtEnd (R.remaining reader.new)) }
+    ensures written { IfOk result
+        (λ ended. IfSome (R.remaining reader.old) (λ script. AppendsStops stores ended script (W.contents writer.old) (W.contents writer.new))) }
+    ensures short { OnOk result (IfSome (R.remaining reader.old) (λ script. length script ≤ script_bytes)) }
+
+    ensures fault { IfErr result (λ fault. AfterStopsFault stores fault (R.remaining reader.old) (W.contents writer.old) (W.contents writer.new)) }
+    ensures too_long { result ≡ Err ScriptFault.TooLong → ConsumesMoreThan script_bytes (R.remaining reader.old) (R.remaining reader.new) }
+
+    // Of any reader and writer: all calls on them succeeded; or the last call on one of them failed, and that is the fault.
+    ensures calls { OnOk result (Completes R.gives W.takes script_reads (IsSomeText stores) reader.old reader.new writer.old writer.new) }
+    ensures cause { IfErr result
+        (λ fault. Stops R.gives R.fails W.takes W.refuses script_reads script_bytes (IsSomeText stores) IsFaultOfStops fault reader.old reader.new
+        writer.old writer.new) }
+{
+    let script = read_all(alloc, reader)?;
+    let told = stops_text(rt, alloc, script.as_slice(), stores)?;
+    write_told(writer, &told)
+}

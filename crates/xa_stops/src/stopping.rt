@@ -1,0 +1,128 @@
+//! A coordinator that is stopped, and what its recovery leaves.
+ghost use Rattle.std.specs.Prelude.{◌≡◌, ◌≤◌, ◌<◌, ◌++◌, List, ℕ, All, length, map, vec_len, take, drop, false, Err, IfOk};
+ghost use Rattle.xa_manager.specs.Calls.{IsWritten};
+ghost use Rattle.xa_manager.specs.Managed.{whole_of};
+ghost use Rattle.xa_manager.specs.declared.call.Call.{Call as CallOf};
+ghost use Rattle.xa_coordinator.specs.declared.fault.RecoverFault.TheVariants.{NoMemory as WantsMemory};
+ghost use Rattle.xa_manager.specs.declared.response.Response.TheVariants.{Recovered as RecoveredAs};
+ghost use Rattle.xa_stops.specs.Rows.{AreNamed};
+ghost use Rattle.xa_stops.specs.Runs.{HasCarried};
+ghost use Rattle.xa_stops.specs.Stops.{IsLeft, limits_for as limits_of, fails_from, stopped_calls, ended_calls};
+
+use crate::carrying::{carry_out, limit_each};
+use crate::fresh::{fed_stores, fresh_manager};
+use crate::limits::limits_for;
+use crate::rows::with_rows_of_each;
+use crate::{CountedStore, Stop};
+use std::alloc::{AllocError, Global};
+use std::sync::Wait;
+use xa_coordinator::{Fused, RecoverFault};
+use xa_lasting::LastingStore;
+use xa_manager::{Call, Manager, Response, write_response};
+use xa_xid::{Key, NoMemory};
+
+/// Whether a recovery had no memory for its report.
+fn ran_out(response: &Response) -> bool
+    ensures { result ≡ false → response.now ≡ RecoveredAs (Err WantsMemory) → ⊥ }
+{
+    matches!(response, Response::Recovered(Err(RecoverFault::NoMemory)))
+}
+
+/// Stops the coordinator, has a new one recover, and appends what that is answered and the rows.
+fn with_recovery<R: Wait>(
+    rt: &R,
+    alloc: Global,
+    mut manager: Manager<Fused<CountedStore>, LastingStore>,
+    mut text: Vec<u8>,
+    keys: &[Vec<Key>],
+) -> Result<Vec<u8>, NoMemory>
+    requires { vec_len manager.coordinator.stores ≡ length keys.now }
+    ensures { IfOk result (λ longer. (script told : List CallOf) → AreNamed script (map (λ one. one.items) keys.now)
+        → HasCarried (length keys.now) told (whole_of manager)
+        → (rest : List ℕ) × IsLeft (length keys.now) script (ended_calls told) rest × (longer.items ≡ text.items ++ rest)) }
+{
+    let _stopped = manager.answer_beside(rt, alloc, &Call::Stop)?;
+    let response = manager.answer_beside(rt, alloc, &Call::Recover)?;
+    if ran_out(&response) {
+        return Err(AllocError);
+    }
+    let answer = write_response(alloc, Vec::new(alloc), manager.decisions(), &response)?;
+    text.extend_from_slice(answer.as_slice())?;
+    let stores = fed_stores(alloc, manager)?;
+    let longer = with_rows_of_each(text, stores.as_slice(), keys)?;
+    Ok(longer)
+}
+
+/// A text at whose end stands what a recovery leaves behind these lines.
+pub fn with_lines<R: Wait>(
+    rt: &R,
+    alloc: Global,
+    text: Vec<u8>,
+    calls: &[Call],
+    keys: &[Vec<Key>],
+) -> Result<Vec<u8>, NoMemory>
+    requires some { 1 ≤ length keys.now }
+    requires most { length keys.now ≤ 16 }
+    requires written { All IsWritten calls.now }
+    ensures { IfOk result (λ longer. (script : List CallOf) → AreNamed script (map (λ one. one.items) keys.now)
+        → (rest : List ℕ) × IsLeft (length keys.now) script (ended_calls calls.now) rest × (longer.items ≡ text.items ++ rest)) }
+{
+    let mut manager = fresh_manager(alloc, keys.len() as u64)?;
+    carry_out(rt, alloc, &mut manager, calls)?;
+    let longer = with_recovery(rt, alloc, manager, text, keys)?;
+    Ok(longer)
+}
+
+/// A text at whose end stands what a recovery leaves where a coordinator was stopped in a line, behind its first call.
+fn with_cut_line<R: Wait>(
+    rt: &R,
+    alloc: Global,
+    text: Vec<u8>,
+    calls: &[Call],
+    place: usize,
+    limits: &[u64],
+    keys: &[Vec<Key>],
+) -> Result<Vec<u8>, NoMemory>
+    requires some { 1 ≤ length keys.now }
+    requires most { length keys.now ≤ 16 }
+    requires written { All IsWritten calls.now }
+    requires within { place < length calls.now }
+    ensures { IfOk result (λ longer. (script : List CallOf) → AreNamed script (map (λ one. one.items) keys.now)
+        → (rest : List ℕ)
+        × IsLeft (length keys.now) script (ended_calls (take place calls.now ++ fails_from 0 limits.now ++ take 1 (drop place calls.now))) rest
+        × (longer.items ≡ text.items ++ rest)) }
+{
+    let mut manager = fresh_manager(alloc, keys.len() as u64)?;
+    carry_out(rt, alloc, &mut manager, &calls[..place])?;
+    limit_each(rt, alloc, &mut manager, limits)?;
+    let _response = manager.answer_beside(rt, alloc, &calls[place])?;
+    let longer = with_recovery(rt, alloc, manager, text, keys)?;
+    Ok(longer)
+}
+
+/// A text at whose end stands what a recovery leaves behind a stop, in a line that makes so many calls in each store.
+pub fn with_stop<R: Wait>(
+    rt: &R,
+    alloc: Global,
+    text: Vec<u8>,
+    calls: &[Call],
+    stop: Stop,
+    made: &[u64],
+    keys: &[Vec<Key>],
+) -> Result<Vec<u8>, NoMemory>
+    requires some { 1 ≤ length keys.now }
+    requires most { length keys.now ≤ 16 }
+    requires written { All IsWritten calls.now }
+    requires within { stop.place < length calls.now }
+    ensures { IfOk result (λ longer. (script : List CallOf) → AreNamed script (map (λ one. one.items) keys.now)
+        → (rest : List ℕ)
+        × IsLeft (length keys.now) script (stopped_calls calls.now stop (limits_of made.now stop.calls)) rest × (longer.items ≡ text.items ++ rest)) }
+{
+    if stop.calls == 0 {
+        let longer = with_lines(rt, alloc, text, &calls[..stop.place], keys)?;
+        return Ok(longer);
+    }
+    let limits = limits_for(alloc, made, stop.calls)?;
+    let longer = with_cut_line(rt, alloc, text, calls, stop.place, limits.as_slice(), keys)?;
+    Ok(longer)
+}
