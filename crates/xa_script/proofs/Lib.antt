@@ -1,6 +1,10 @@
+pub mod Allowed
 pub mod CommandFaults
 pub mod MannerFound
+pub mod NamedCalls
 pub mod NamedJobs
-pub mod Options
+pub mod NamedLimits
+pub mod NamedRaces
 pub mod Owed
 pub mod TextsRead
+pub mod Values

@@ -4,7 +4,7 @@
 --     IsJob           the job of a subcommand
 --     Names           the job that the words of a command line name
 --     ReadsCommand    when a command line is read, and why not
-use Rattle.std.specs.Prelude.{◌≡◌, ◌≢◌, ◌<◌, ◌≤◌, ◌^◌, ◌⊎◌, ℕ, Bool, true, false, Option, Some, Result, MatchResult, List, [], ◌∷◌, codes}
+use Rattle.std.specs.Prelude.{◌≡◌, ◌≢◌, ◌<◌, ◌≤◌, ◌^◌, ◌⊎◌, ℕ, Bool, true, false, Option, Some, None, Result, MatchResult, IfSome, List, [], ◌∷◌, codes}
 use Rattle.std.specs.Option.{IsSomeAnd}
 use Rattle.std.specs.Str.Parse.{IsNumeral, digits_value, without_leading_plus}
 use Rattle.clap.specs.Words.{App, Text, Row, Rule, new_app, new_rule, one_of, subcommand_of, with_rule, with_subcommand, fault_of, HasKind}
@@ -19,7 +19,7 @@ use Rattle.decision_log.specs.Opens.{IsCapacity}
 use Rattle.xa_script.specs.declared.schedule.Schedule.{Schedule}
 use Rattle.xa_script.specs.declared.schedule.Schedule.TheVariants.{Freely, Together, Shuffled}
 use Rattle.xa_script.specs.declared.command.Job.{Job}
-use Rattle.xa_script.specs.declared.command.Job.TheVariants.{Run, Race, Coordinate, Serve, Show, Judge, Explore}
+use Rattle.xa_script.specs.declared.command.Job.TheVariants.{Run, Race, Coordinate, Serve, Show, Judge, Explore, Stops}
 
 -- `--NAME N`, which this parser reads, with a default
 abbrev pub number_rule : Text → ValueParser → Text → Rule
@@ -29,9 +29,13 @@ number_rule name reads default = record (new_rule name) { long = Some name; valu
 abbrev pub flag_rule : Text → Rule
 flag_rule name = record (new_rule name) { long = Some name; action = Some SetTrue }
 
--- `--file FILE`, any text
+-- `--NAME FILE`, any text
+abbrev pub named_file_rule : Text → Rule
+named_file_rule name = record (new_rule name) { long = Some name; value_names = 1 }
+
+-- `--file FILE`
 abbrev pub file_rule : Rule
-file_rule = record (new_rule (codes "file")) { long = Some (codes "file"); value_names = 1 }
+file_rule = named_file_rule (codes "file")
 
 -- `[--file FILE] [--verbose] [--strict] [--text]`, behind a subcommand's own options
 abbrev pub common_app : App → App
@@ -58,9 +62,13 @@ shuffle_rule = record (new_rule (codes "shuffle")) { long = Some (codes "shuffle
 abbrev pub renew_rule : Rule
 renew_rule = flag_rule (codes "renew")
 
--- `race [--capacity N] [--together] [--shuffle SEED] [--renew]`
+-- `--runs N`, a number from 1 to 1,000,000
+abbrev pub runs_rule : Rule
+runs_rule = record (new_rule (codes "runs")) { long = Some (codes "runs"); value_names = 1; parser = Some (parser.Unsigned 1 1000000) }
+
+-- `race [--capacity N] [--together] [--shuffle SEED] [--renew] [--runs N]`
 abbrev pub race_app : App
-race_app = with_rule (with_rule (with_rule (with_rule (new_app (codes "race")) capacity_rule) together_rule) shuffle_rule) renew_rule
+race_app = with_rule (with_rule (with_rule (with_rule (with_rule (new_app (codes "race")) capacity_rule) together_rule) shuffle_rule) renew_rule) runs_rule
 
 -- `--stores N`, a number from 1 to 16, and 3 where it isn't given
 abbrev pub stores_rule : Rule
@@ -74,13 +82,19 @@ fixed_rule = flag_rule (codes "fixed")
 abbrev pub coordinate_app : App
 coordinate_app = with_rule (with_rule (with_rule (new_app (codes "coordinate")) stores_rule) capacity_rule) fixed_rule
 
+-- `stops [--stores N] [--capacity C]`
+abbrev pub stops_app : App
+stops_app = with_rule (with_rule (new_app (codes "stops")) stores_rule) capacity_rule
+
 -- `--limit N`, a number from 1 to 1,000,000, and 100,000 where it isn't given
 abbrev pub limit_rule : Rule
 limit_rule = number_rule (codes "limit") (parser.Unsigned 1 1000000) (codes "100000")
 
--- `judge [--limit N]`
+-- `judge [--limit N] [--explain] [--json] [--quiet] [--allow FILE]`
 abbrev pub judge_app : App
-judge_app = with_rule (new_app (codes "judge")) limit_rule
+judge_app =
+    with_rule (with_rule (with_rule (with_rule (with_rule (new_app (codes "judge")) limit_rule) (flag_rule (codes "explain"))) (flag_rule (codes "json")))
+    (flag_rule (codes "quiet"))) (named_file_rule (codes "allow"))
 
 -- `explore [--limit N]`
 abbrev pub explore_app : App
@@ -94,13 +108,13 @@ IsLocal command = (out-Command command).has_globals ≡ false
 abbrev pub bare_app : App
 bare_app = on_top (λ shape. record shape { subcommand_required = true; has_version = true }) (new_app (codes "xa_script"))
 
--- `xa_script run`, `race`, `coordinate`, `serve`, `show`, `judge` and `explore`
+-- `xa_script run`, `race`, `coordinate`, `stops`, `serve`, `show`, `judge` and `explore`
 abbrev pub script_app : App
 script_app =
     with_subcommand (with_subcommand (with_subcommand
-    (with_subcommand (with_subcommand
+    (with_subcommand (with_subcommand (with_subcommand
     (with_subcommand (with_subcommand bare_app (plain_app (codes "run")).top) (common_app race_app).top) (common_app coordinate_app).top)
-    (plain_app (codes "serve")).top) (plain_app (codes "show")).top) (common_app judge_app).top) (common_app explore_app).top
+    (common_app stops_app).top) (plain_app (codes "serve")).top) (plain_app (codes "show")).top) (common_app judge_app).top) (common_app explore_app).top
 
 -- the text of a value is this number, which a log can have as its capacity
 abbrev pub IsCapacityText : ℕ → Text → Type 0
@@ -114,7 +128,7 @@ IsStoreCount stores = (1 ≤ stores) × (stores ≤ 16)
 abbrev pub IsStoresText : ℕ → Text → Type 0
 IsStoresText stores text = IsNumeral 10 (without_leading_plus text) × (stores ≡ digits_value 10 (without_leading_plus text)) × IsStoreCount stores
 
--- from 1 to 1,000,000 configurations or ways (own rule)
+-- from 1 to 1,000,000 configurations, ways or runs (own rule)
 abbrev pub IsLimit : ℕ → Type 0
 IsLimit limit = (1 ≤ limit) × (limit ≤ 1000000)
 
@@ -136,72 +150,91 @@ IsScheduleOf together shuffle Freely = HasNoSeed shuffle × (together ≢ Some (
 IsScheduleOf together shuffle Together = HasNoSeed shuffle × (together ≡ Some (codes "true"))
 IsScheduleOf together shuffle (Shuffled seed) = IsSomeAnd shuffle (IsSeedText seed)
 
--- whether a race goes on in rounds, by the value of `--renew`
-abbrev pub IsRenewalOf : (renew : Option Text) → Bool → Type 0
-IsRenewalOf renew true = renew ≡ Some (codes "true")
-IsRenewalOf renew false = renew ≢ Some (codes "true")
+-- whether an option without a value is given, by its value
+abbrev pub IsFlagOf : (flag : Option Text) → Bool → Type 0
+IsFlagOf flag true = flag ≡ Some (codes "true")
+IsFlagOf flag false = flag ≢ Some (codes "true")
 
--- the job is a race of the capacity that a value's text is, in the schedule that two others give, and in rounds where a fourth says so
-abbrev pub IsRaceOf : (capacity together shuffle renew : Option Text) → Job → Type 0
-IsRaceOf capacity together shuffle renew Run = ⊥
-IsRaceOf capacity together shuffle renew (Race room schedule renews) =
-    IsSomeAnd capacity (IsCapacityText room) × IsScheduleOf together shuffle schedule × IsRenewalOf renew renews
-IsRaceOf capacity together shuffle renew (Coordinate stores room fixed) = ⊥
-IsRaceOf capacity together shuffle renew Serve = ⊥
-IsRaceOf capacity together shuffle renew Show = ⊥
-IsRaceOf capacity together shuffle renew (Judge limit) = ⊥
-IsRaceOf capacity together shuffle renew (Explore limit) = ⊥
+-- how many runs are wanted, by the value of `--runs`; without a number from 1 to 1,000,000 no runs are
+abbrev pub IsRunsOf : (runs : Option Text) → Option ℕ → Type 0
+IsRunsOf runs None = (count : ℕ) → IsSomeAnd runs (IsLimitText count) → ⊥
+IsRunsOf runs (Some count) = IsSomeAnd runs (IsLimitText count)
 
--- whether a store keeps its history until it is full, by the value of `--fixed`
-abbrev pub IsFixedOf : (fixed : Option Text) → Bool → Type 0
-IsFixedOf fixed true = fixed ≡ Some (codes "true")
-IsFixedOf fixed false = fixed ≢ Some (codes "true")
+-- the job is a race of the capacity that a value's text is, in the schedule that two others give, in rounds where a fourth says so, and as often as a fifth says
+abbrev pub IsRaceOf : (capacity together shuffle renew runs : Option Text) → Job → Type 0
+IsRaceOf capacity together shuffle renew runs Run = ⊥
+IsRaceOf capacity together shuffle renew runs (Race room schedule renews count) =
+    IsSomeAnd capacity (IsCapacityText room) × IsScheduleOf together shuffle schedule × IsFlagOf renew renews × IsRunsOf runs count
+IsRaceOf capacity together shuffle renew runs (Coordinate stores room fixed) = ⊥
+IsRaceOf capacity together shuffle renew runs Serve = ⊥
+IsRaceOf capacity together shuffle renew runs Show = ⊥
+IsRaceOf capacity together shuffle renew runs (Judge limit explain json) = ⊥
+IsRaceOf capacity together shuffle renew runs (Explore limit) = ⊥
+IsRaceOf capacity together shuffle renew runs (Stops stores room) = ⊥
 
 -- the job is of calls over as many stores, with as much room in each, as two values' texts are, and with histories that end there where a third says so
 abbrev pub IsCoordinateOf : (stores capacity fixed : Option Text) → Job → Type 0
 IsCoordinateOf stores capacity fixed Run = ⊥
 IsCoordinateOf stores capacity fixed Serve = ⊥
 IsCoordinateOf stores capacity fixed Show = ⊥
-IsCoordinateOf stores capacity fixed (Race room schedule renews) = ⊥
-IsCoordinateOf stores capacity fixed (Judge limit) = ⊥
+IsCoordinateOf stores capacity fixed (Race room schedule renews count) = ⊥
+IsCoordinateOf stores capacity fixed (Judge limit explain json) = ⊥
 IsCoordinateOf stores capacity fixed (Explore limit) = ⊥
+IsCoordinateOf stores capacity fixed (Stops count room) = ⊥
 IsCoordinateOf stores capacity fixed (Coordinate count room ends) =
-    IsSomeAnd stores (IsStoresText count) × IsSomeAnd capacity (IsCapacityText room) × IsFixedOf fixed ends
+    IsSomeAnd stores (IsStoresText count) × IsSomeAnd capacity (IsCapacityText room) × IsFlagOf fixed ends
 
--- the job is to judge, with the limit that a value's text is
-abbrev pub IsJudgeOf : (limit : Option Text) → Job → Type 0
-IsJudgeOf limit Run = ⊥
-IsJudgeOf limit Serve = ⊥
-IsJudgeOf limit Show = ⊥
-IsJudgeOf limit (Race room schedule renews) = ⊥
-IsJudgeOf limit (Coordinate count room fixed) = ⊥
-IsJudgeOf limit (Judge kept) = IsSomeAnd limit (IsLimitText kept)
-IsJudgeOf limit (Explore kept) = ⊥
+-- the job is to stop a coordinator of as many stores, with as much room in each, as two values' texts are
+abbrev pub IsStopsOf : (stores capacity : Option Text) → Job → Type 0
+IsStopsOf stores capacity Run = ⊥
+IsStopsOf stores capacity Serve = ⊥
+IsStopsOf stores capacity Show = ⊥
+IsStopsOf stores capacity (Race room schedule renews count) = ⊥
+IsStopsOf stores capacity (Judge limit explain json) = ⊥
+IsStopsOf stores capacity (Explore limit) = ⊥
+IsStopsOf stores capacity (Coordinate count room ends) = ⊥
+IsStopsOf stores capacity (Stops count room) = IsSomeAnd stores (IsStoresText count) × IsSomeAnd capacity (IsCapacityText room)
+
+-- the job is to judge, with the limit that a value's text is, with reasons where a second says so, and as an object of JSON where a third does
+abbrev pub IsJudgeOf : (limit explain json : Option Text) → Job → Type 0
+IsJudgeOf limit explain json Run = ⊥
+IsJudgeOf limit explain json Serve = ⊥
+IsJudgeOf limit explain json Show = ⊥
+IsJudgeOf limit explain json (Race room schedule renews count) = ⊥
+IsJudgeOf limit explain json (Coordinate count room fixed) = ⊥
+IsJudgeOf limit explain json (Judge kept explains writes) = IsSomeAnd limit (IsLimitText kept) × IsFlagOf explain explains × IsFlagOf json writes
+IsJudgeOf limit explain json (Explore kept) = ⊥
+IsJudgeOf limit explain json (Stops count room) = ⊥
 
 -- the job is to explore, with the limit that a value's text is
 abbrev pub IsExploreOf : (limit : Option Text) → Job → Type 0
 IsExploreOf limit Run = ⊥
 IsExploreOf limit Serve = ⊥
 IsExploreOf limit Show = ⊥
-IsExploreOf limit (Race room schedule renews) = ⊥
+IsExploreOf limit (Race room schedule renews count) = ⊥
 IsExploreOf limit (Coordinate count room fixed) = ⊥
-IsExploreOf limit (Judge kept) = ⊥
+IsExploreOf limit (Judge kept explain json) = ⊥
 IsExploreOf limit (Explore kept) = IsSomeAnd limit (IsLimitText kept)
+IsExploreOf limit (Stops count room) = ⊥
 
 -- the job of a subcommand, with what `clap` found for its arguments
 abbrev pub IsJob : Job → Text × List Row → Type 0
 IsJob Run found = found.0 ≡ codes "run"
 IsJob Serve found = found.0 ≡ codes "serve"
 IsJob Show found = found.0 ≡ codes "show"
-IsJob (Race capacity schedule renews) found =
+IsJob (Race capacity schedule renews runs) found =
     (found.0 ≡ codes "race")
     × IsRaceOf (one_of (codes "capacity") found.1) (one_of (codes "together") found.1) (one_of (codes "shuffle") found.1) (one_of (codes "renew") found.1)
-    (Race capacity schedule renews)
+    (one_of (codes "runs") found.1) (Race capacity schedule renews runs)
 IsJob (Coordinate stores capacity fixed) found =
     (found.0 ≡ codes "coordinate")
     × IsCoordinateOf (one_of (codes "stores") found.1) (one_of (codes "capacity") found.1) (one_of (codes "fixed") found.1) (Coordinate stores capacity fixed)
-IsJob (Judge limit) found = (found.0 ≡ codes "judge") × IsJudgeOf (one_of (codes "limit") found.1) (Judge limit)
+IsJob (Judge limit explain json) found =
+    (found.0 ≡ codes "judge")
+    × IsJudgeOf (one_of (codes "limit") found.1) (one_of (codes "explain") found.1) (one_of (codes "json") found.1) (Judge limit explain json)
 IsJob (Explore limit) found = (found.0 ≡ codes "explore") × IsExploreOf (one_of (codes "limit") found.1) (Explore limit)
+IsJob (Stops stores capacity) found =
+    (found.0 ≡ codes "stops") × IsStopsOf (one_of (codes "stores") found.1) (one_of (codes "capacity") found.1) (Stops stores capacity)
 
 -- the words name this job, as `clap` matches them
 abbrev pub Names : List Text → Job → Type 0
@@ -213,12 +246,13 @@ abbrev pub ReadsCommand : List Text → Result Job Error → Type 0
 ReadsCommand words answer =
     MatchResult answer (λ job. fault_of script_app words ≡ []) (λ error. HasKind (fault_of script_app words) error ⊎ ((job : Job) → Names words job → ⊥))
 
--- a log can have the capacity, there are 1 to 16 stores, and a limit is at most 1,000,000
+-- a log can have the capacity, there are 1 to 16 stores, and a limit and a number of runs are at most 1,000,000
 abbrev pub CanBeDone : Job → Type 0
 CanBeDone Run = Unit {0}
-CanBeDone (Race capacity schedule renews) = IsCapacity capacity
+CanBeDone (Race capacity schedule renews runs) = IsCapacity capacity × IfSome runs IsLimit
 CanBeDone (Coordinate stores capacity fixed) = IsStoreCount stores × IsCapacity capacity
 CanBeDone Serve = Unit {0}
 CanBeDone Show = Unit {0}
-CanBeDone (Judge limit) = IsLimit limit
+CanBeDone (Judge limit explain json) = IsLimit limit
 CanBeDone (Explore limit) = IsLimit limit
+CanBeDone (Stops stores capacity) = IsStoreCount stores × IsCapacity capacity

@@ -1,20 +1,21 @@
 -- How a job is to be done.
---     IsManner     the manner that the values of the common options give
+--     IsManner     the manner that the values of the options give
 --     HasManner    the manner that the words name
 use Rattle.std.specs.Prelude.{◌≡◌, Option, List, codes}
 use Rattle.std.specs.Option.{IsSomeAnd, option_map}
 use Rattle.clap.specs.Words.{Text, first_of, one_of, subcommand_of}
-use Rattle.xa_script.specs.CommandLine.{IsRenewalOf, script_app}
+use Rattle.xa_script.specs.CommandLine.{IsFlagOf, script_app}
 use Rattle.xa_script.specs.declared.manner.Manner.{Manner}
 
--- the file is the value of `--file`, and each flag is as its option says
-abbrev pub IsManner : (file verbose strict text : Option Text) → Manner → Type 0
-IsManner file verbose strict text manner =
-    (option_map (λ name. name.now) manner.file ≡ file) × IsRenewalOf verbose manner.verbose × IsRenewalOf strict manner.strict
-    × IsRenewalOf text manner.text
+-- each file is the value of its option, and each flag is as its option says
+abbrev pub IsManner : (file allow verbose strict text quiet : Option Text) → Manner → Type 0
+IsManner file allow verbose strict text quiet manner =
+    (option_map (λ name. name.now) manner.file ≡ file) × (option_map (λ name. name.now) manner.allow ≡ allow) × IsFlagOf verbose manner.verbose
+    × IsFlagOf strict manner.strict × IsFlagOf text manner.text × IsFlagOf quiet manner.quiet
 
 -- the words give this manner, as `clap` matches them
 abbrev pub HasManner : List Text → Manner → Type 0
 HasManner words manner =
     IsSomeAnd (subcommand_of script_app words)
-    (λ found. IsManner (first_of (codes "file") found.1) (one_of (codes "verbose") found.1) (one_of (codes "strict") found.1) (one_of (codes "text") found.1) manner)
+    (λ found. IsManner (first_of (codes "file") found.1) (first_of (codes "allow") found.1) (one_of (codes "verbose") found.1) (one_of (codes "strict") found.1)
+    (one_of (codes "text") found.1) (one_of (codes "quiet") found.1) manner)

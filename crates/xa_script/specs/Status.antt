@@ -5,16 +5,30 @@
 --     status_of_end    the exit status for how exploring a script ended
 --     AppendsOutcomes  the writer got what is written for a script that is explored, and the status is for how that ended
 --     AppendsRaceBy    the writer got what is written for a race
-use Rattle.std.specs.Prelude.{◌≡◌, ℕ, Bool, true, false, Option, Some, None, List, IfSome}
+--     AppendsCame      the writer got which outcomes of a script came, and the status is for how its races ended
+--     status_of_stops  the exit status for how stopping a coordinator ended
+--     AppendsStopped   the writer got what is written for each stop, and the status is for how that ended
+--     form_of          the form of a verdict
+--     IsAllowedBy      what a text allows
+use Rattle.std.specs.Prelude.{◌≡◌, ℕ, Bool, true, false, Option, Some, None, Ok, Err, List, IfSome}
 use Rattle.xa_races.specs.Outcome.{AppendsRace}
 use Rattle.xa_lines.specs.declared.script_fault.ScriptFault.{ScriptFault}
 use Rattle.xa_lines.specs.declared.script_fault.ScriptFault.TheVariants.{Read, TooLong, Write, NoMemory, Full, GateShut, ThreadRefused}
 use Rattle.xa_orders.specs.Scripts.{AppendsExplored}
 use Rattle.xa_orders.specs.declared.ended.Ended.{Ended}
 use Rattle.xa_orders.specs.declared.ended.Ended.TheVariants.{Done, Undecided as TooMany, Faulty as FaultyLines}
+use Rattle.xa_record.specs.Allowances.{allowances_of}
 use Rattle.xa_record.specs.Judged.{AppendsJudged}
+use Rattle.xa_record.specs.declared.allowance.Allowance.{Allowance}
+use Rattle.xa_record.specs.declared.asked.Asked.{Asked}
+use Rattle.xa_record.specs.declared.form.Form.{Form}
+use Rattle.xa_record.specs.declared.form.Form.TheVariants.{Plain, Json}
 use Rattle.xa_record.specs.declared.outcome.Outcome.{Outcome}
 use Rattle.xa_record.specs.declared.outcome.Outcome.TheVariants.{Legal, Illegal, Undecided, Faulty, Empty}
+use Rattle.xa_runs.specs.Came.{AppendsRuns}
+use Rattle.xa_stops.specs.Scripts.{AppendsStops}
+use Rattle.xa_stops.specs.declared.ended.Ended.{Ended as StopsEnded}
+use Rattle.xa_stops.specs.declared.ended.Ended.TheVariants.{Done as AllStops, Faulty as FaultyCalls}
 
 -- 1 where the script can't be read or its answers can't be written, 3 where memory, the log, the gate or a thread gave out (own rule)
 abbrev pub status_after : ScriptFault → ℕ
@@ -35,9 +49,19 @@ status_for Faulty = 6
 status_for Empty = 7
 
 -- the writer got what is written for a record that ends so, and the status is for that end
-abbrev pub AppendsVerdict : (limit status : ℕ) → Option (List ℕ) → Option (List ℕ) → Option (List ℕ) → Type 0
-AppendsVerdict limit status input old new =
-    (outcome : Outcome) × (status ≡ status_for outcome) × IfSome input (λ text. AppendsJudged limit outcome text old new)
+abbrev pub AppendsVerdict : List Allowance → Asked → (status : ℕ) → Option (List ℕ) → Option (List ℕ) → Option (List ℕ) → Type 0
+AppendsVerdict allowances asked status input old new =
+    (outcome : Outcome) × (status ≡ status_for outcome) × IfSome input (λ text. AppendsJudged allowances asked outcome text old new)
+
+-- a verdict is an object of JSON where that is asked
+abbrev pub form_of : (json : Bool) → Form
+form_of true = Json
+form_of false = Plain
+
+-- the text allows these, or a line of it is no allowance
+abbrev pub IsAllowedBy : Option (List Allowance) → List ℕ → Type 0
+IsAllowedBy (Some list) text = allowances_of text ≡ Ok list
+IsAllowedBy None text = (number : ℕ) × (allowances_of text ≡ Err number)
 
 -- 0 where all outcomes or faulty lines were listed, 5 where the limit was passed (own rule)
 abbrev pub status_of_end : Ended → ℕ
@@ -54,3 +78,17 @@ AppendsOutcomes limit status input old new =
 abbrev pub AppendsRaceBy : Bool → (capacity : ℕ) → List ℕ → Option (List ℕ) → Option (List ℕ) → Type 0
 AppendsRaceBy true capacity script old new = AppendsRace None script old new
 AppendsRaceBy false capacity script old new = AppendsRace (Some capacity) script old new
+
+-- the writer got which outcomes of the script came in so many races, and the status is for how that ended
+abbrev pub AppendsCame : (runs status : ℕ) → Option (List ℕ) → Option (List ℕ) → Option (List ℕ) → Type 0
+AppendsCame runs status input old new = (ended : Ended) × (status ≡ status_of_end ended) × IfSome input (λ script. AppendsRuns runs ended script old new)
+
+-- 0 where all stops were listed, 6 where faulty lines were (own rule)
+abbrev pub status_of_stops : StopsEnded → ℕ
+status_of_stops AllStops = 0
+status_of_stops FaultyCalls = 6
+
+-- the writer got what is written for each stop of the script's coordinator, and the status is for how that ended
+abbrev pub AppendsStopped : (stores status : ℕ) → Option (List ℕ) → Option (List ℕ) → Option (List ℕ) → Type 0
+AppendsStopped stores status input old new =
+    (ended : StopsEnded) × (status ≡ status_of_stops ended) × IfSome input (λ script. AppendsStops stores ended script old new)

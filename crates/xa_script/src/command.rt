@@ -2,10 +2,11 @@
 ghost use Rattle.std.specs.Prelude.{◌≡◌, ◌≢◌, ℕ, Some, None, IfOk, IfSome, true, false, map, codes};
 ghost use Rattle.std.specs.Option.{IsSomeAnd};
 ghost use Rattle.clap.specs.Words.{app_of, found_of, one_text, subcommand_rows_of};
-ghost use Rattle.xa_script.specs.CommandLine.{IsCapacityText, IsSeedText, IsStoresText, IsLimitText, HasNoSeed, IsScheduleOf, IsRenewalOf, IsRaceOf};
-ghost use Rattle.xa_script.specs.CommandLine.{IsCoordinateOf, IsFixedOf, IsJudgeOf, IsExploreOf, IsJob, Names, CanBeDone, ReadsCommand, script_app};
+ghost use Rattle.xa_script.specs.CommandLine.{IsCapacityText, IsSeedText, IsStoresText, IsLimitText, HasNoSeed, IsScheduleOf, IsRunsOf, IsRaceOf};
+ghost use Rattle.xa_script.specs.CommandLine.{IsCoordinateOf, IsStopsOf, IsJudgeOf, IsExploreOf, IsJob, Names, CanBeDone, ReadsCommand, script_app};
 
 use crate::Schedule;
+use crate::manner::flag_in;
 use crate::subcommands::script_command;
 use clap::error::ErrorKind;
 use clap::{ArgMatches, Command, Error};
@@ -25,6 +26,8 @@ pub enum Job {
         schedule: Schedule,
         /// Whether the race goes on in rounds of that capacity.
         renews: bool,
+        /// How often it is run to see which outcomes come, in `[1, 1_000_000]`.
+        runs: Option<u64>,
     },
     /// Carries the calls of the standard input out over stores of its own.
     Coordinate {
@@ -43,11 +46,22 @@ pub enum Job {
     Judge {
         /// How many configurations may be kept before a return, in `[1, 1_000_000]`.
         limit: u64,
+        /// Whether an order and a state explain the verdict.
+        explain: bool,
+        /// Whether the verdict is an object of JSON.
+        json: bool,
     },
     /// Explores the orders of the script of the standard input.
     Explore {
         /// How many ways may be kept at once, in `[1, 1_000_000]`.
         limit: u64,
+    },
+    /// Stops the coordinator of the calls of the standard input at each place.
+    Stops {
+        /// How many stores, in `[1, 16]`.
+        stores: u64,
+        /// How many entries each has room for, in `[1, 1024]`.
+        capacity: u64,
     },
 }
 
@@ -94,25 +108,37 @@ fn schedule_in(found: &ArgMatches<'_>) -> Schedule
     }
 }
 
-/// Whether the race is to go on in rounds.
-fn renews_in(found: &ArgMatches<'_>) -> bool
-    ensures { IsRenewalOf (one_text (found_of found.now) (codes "renew")) result }
+/// The number of an option that has one from 1 to 1,000,000, where it was found.
+fn limit_in(found: &ArgMatches<'_>, name: &str) -> Option<u64>
+    ensures some { IfSome result (λ limit. IsSomeAnd (one_text (found_of found.now) name.now) (IsLimitText limit)) }
+    ensures none { result ≡ None → (limit : ℕ) → IsSomeAnd (one_text (found_of found.now) name.now) (IsLimitText limit) → ⊥ }
 {
-    found.get_one::<bool>("renew").unwrap_or(false)
+    match found.get_one::<u64>(name) {
+        Some(limit) if 1 <= limit && limit <= 1_000_000 => Some(limit),
+        _ => None,
+    }
+}
+
+/// The number of runs that was found.
+fn runs_in(found: &ArgMatches<'_>) -> Option<u64>
+    ensures { IsRunsOf (one_text (found_of found.now) (codes "runs")) result }
+{
+    limit_in(found, "runs")
 }
 
 /// The race that was found.
 fn race_in(found: &ArgMatches<'_>) -> Option<Job>
     ensures some { IfSome result
         (IsRaceOf (one_text (found_of found.now) (codes "capacity")) (one_text (found_of found.now) (codes "together"))
-        (one_text (found_of found.now) (codes "shuffle")) (one_text (found_of found.now) (codes "renew"))) }
+        (one_text (found_of found.now) (codes "shuffle")) (one_text (found_of found.now) (codes "renew")) (one_text (found_of found.now) (codes "runs"))) }
     ensures none { result ≡ None → (capacity : ℕ) → IsSomeAnd (one_text (found_of found.now) (codes "capacity")) (IsCapacityText capacity) → ⊥ }
 {
     match capacity_in(found) {
         Some(capacity) => Some(Job::Race {
             capacity,
             schedule: schedule_in(found),
-            renews: renews_in(found),
+            renews: flag_in(found, "renew"),
+            runs: runs_in(found),
         }),
         None => None,
     }
@@ -127,13 +153,6 @@ fn stores_in(found: &ArgMatches<'_>) -> Option<u64>
         Some(stores) if 1 <= stores && stores <= 16 => Some(stores),
         _ => None,
     }
-}
-
-/// Whether the stores' histories are to end.
-fn is_fixed(found: &ArgMatches<'_>) -> bool
-    ensures { IsFixedOf (one_text (found_of found.now) (codes "fixed")) result }
-{
-    found.get_one::<bool>("fixed").unwrap_or(false)
 }
 
 /// The calls over so many stores that were found.
@@ -151,30 +170,40 @@ fn coordinate_in(found: &ArgMatches<'_>) -> Option<Job>
         (Some(stores), Some(capacity)) => Some(Job::Coordinate {
             stores,
             capacity,
-            fixed: is_fixed(found),
+            fixed: flag_in(found, "fixed"),
         }),
         _ => None,
     }
 }
 
-/// The limit that was found.
-fn limit_in(found: &ArgMatches<'_>) -> Option<u64>
-    ensures some { IfSome result (λ limit. IsSomeAnd (one_text (found_of found.now) (codes "limit")) (IsLimitText limit)) }
-    ensures none { result ≡ None → (limit : ℕ) → IsSomeAnd (one_text (found_of found.now) (codes "limit")) (IsLimitText limit) → ⊥ }
+/// The stops over so many stores that were found.
+fn stops_in(found: &ArgMatches<'_>) -> Option<Job>
+    ensures some { IfSome result
+        (IsStopsOf (one_text (found_of found.now) (codes "stores")) (one_text (found_of found.now) (codes "capacity"))) }
+    ensures none { result ≡ None
+        → (job : Job)
+        → IsStopsOf (one_text (found_of found.now) (codes "stores")) (one_text (found_of found.now) (codes "capacity")) job
+        → ⊥ }
 {
-    match found.get_one::<u64>("limit") {
-        Some(limit) if 1 <= limit && limit <= 1_000_000 => Some(limit),
+    match (stores_in(found), capacity_in(found)) {
+        (Some(stores), Some(capacity)) => Some(Job::Stops { stores, capacity }),
         _ => None,
     }
 }
 
-/// The judging with the limit that was found.
+/// The judging that was found.
 fn judge_in(found: &ArgMatches<'_>) -> Option<Job>
-    ensures some { IfSome result (λ job. IsJudgeOf (one_text (found_of found.now) (codes "limit")) job) }
-    ensures none { result ≡ None → (job : Job) → IsJudgeOf (one_text (found_of found.now) (codes "limit")) job → ⊥ }
+    ensures some { IfSome result
+        (IsJudgeOf (one_text (found_of found.now) (codes "limit")) (one_text (found_of found.now) (codes "explain"))
+        (one_text (found_of found.now) (codes "json"))) }
+    ensures none { result ≡ None → (limit : ℕ) → IsSomeAnd (one_text (found_of found.now) (codes "limit")) (IsLimitText limit) → ⊥ }
 {
-    match limit_in(found) {
-        Some(limit) => Some(Job::Judge { limit }),
+    match limit_in(found, "limit") {
+        Some(limit) => Some(Job::Judge {
+            limit,
+            explain: flag_in(found, "explain"),
+            json: flag_in(found, "json"),
+        }),
         None => None,
     }
 }
@@ -184,7 +213,7 @@ fn explore_in(found: &ArgMatches<'_>) -> Option<Job>
     ensures some { IfSome result (λ job. IsExploreOf (one_text (found_of found.now) (codes "limit")) job) }
     ensures none { result ≡ None → (job : Job) → IsExploreOf (one_text (found_of found.now) (codes "limit")) job → ⊥ }
 {
-    match limit_in(found) {
+    match limit_in(found, "limit") {
         Some(limit) => Some(Job::Explore { limit }),
         None => None,
     }
@@ -212,6 +241,8 @@ fn job_in(matches: &ArgMatches<'_>) -> Option<Job>
         judge_in(found)
     } else if name == "explore" {
         explore_in(found)
+    } else if name == "stops" {
+        stops_in(found)
     } else {
         None
     }
@@ -234,7 +265,7 @@ fn job_by<'a, S: AsStr>(command: &mut Command<'a>, words: &'a [S]) -> Result<Job
 /// The job that the words of a command line name. The first word is the program's own name.
 ///
 /// A capacity is in `[1, 1024]`, and 1024 where the words don't give it; a number of stores in `[1, 16]`, and 3; a limit in
-/// `[1, 1_000_000]`, and 100,000. Where a race has a seed, its schedule is `Shuffled`.
+/// `[1, 1_000_000]`, and 100,000; a number of runs in `[1, 1_000_000]`. Where a race has a seed, its schedule is `Shuffled`.
 /// Errors: what `clap` says of words that name no job, or that ask for help or the version; out of memory is one of its kinds.
 /// Takes memory. Doesn't wait.
 /// Own rule: docs/BEHAVIOR.md, 'The program'.

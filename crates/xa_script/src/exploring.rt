@@ -16,7 +16,7 @@ const LISTED: u8 = 0;
 const UNDECIDED: u8 = 5;
 
 /// The status for how exploring a script ended.
-fn status_of_end(ended: Ended) -> u8
+pub fn status_of_end(ended: Ended) -> u8
     ensures { result ≡ status_of ended }
 {
     match ended {

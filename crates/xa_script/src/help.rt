@@ -32,7 +32,14 @@ reply:
   2 1 ERROR 1440 (XAE08): XAER_DUPID xid already exists
 Replaying the history gives each answer. Another race of the same lines may print another one. Where lines aren't read,
 none is raced, and each of them is named:
-  LINE 2 ERROR 1064 (42000): syntax fault at byte 9";
+  LINE 2 ERROR 1064 (42000): syntax fault at byte 9
+With --runs lines BESIDE and AFTER part the script as for explore, and each outcome that came is printed with its number
+among those of explore, and how often it came:
+  OUTCOME 2 CAME 14
+  1 ERROR 1440 (XAE08): XAER_DUPID xid already exists
+  2 OK
+  SEEN 1 OF 2 OUTCOMES
+Where explore would be UNDECIDED, outcomes are numbered in the order of their texts, and it says SEEN 1.";
 
 /// What is shown behind an answer, as the help shows it.
 pub const SHOWN: &str =
@@ -63,6 +70,25 @@ Blank lines, and lines that begin with #, have no answer. A call and its answer:
   WORK 1 0 PUT 'k','v'
   OK";
 
+/// What `stops` reads and prints, as its help shows it.
+pub const STOPPED: &str =
+    "Calls, one a line, as for coordinate, but without FAIL, STOP, RECOVER and SHOW:
+  BEGIN
+  WORK 1 0 PUT 'k','v'
+  PREPARE 1
+  FINISH 1
+Lines BEGIN, WORK, PREPARE, DECIDE, FINISH and ABANDON are the coordinator's. It is stopped in each of them before each
+call that it makes on its sessions there, and at the end. Each time fresh stores begin with the first line, and a new
+coordinator recovers; below that stands each row that some line names:
+  STOPS 5
+  STOP 1 0
+  RECOVERED committed 0 rolled back 0 missing 0
+  ROW 0 0x6b NONE
+STOP l j is in line l behind j calls; a row has its store, its key and its value. A line that coordinate would refuse is
+faulty. Then each faulty line is named, and nothing else is printed:
+  LINE 2: UNKNOWN STORE 7
+The status is then 6. Stores are never full here, whatever C says.";
+
 /// What `explore` reads and prints, as its help shows it.
 pub const EXPLORED: &str =
     "A line is the number of a session, from 1 to 16, and a statement of that session, as for run. Lines before a line
@@ -92,7 +118,9 @@ pub const RECORDS: &str =
   n < OK                   its call returns so; also n < NONE, n < VALUE literal, n < ERROR number
   n < ROWS k               it returns k identifiers, which stand on the next k lines:
                            formatID gtrid_length bqual_length 0xDATA
+  n ? ERROR ..             it returns with something unknown; the call took effect or not
   n ! LOST                 its client is gone
+  n ! GONE                 its client found it closed: it ended at any moment since its last return
 Blank lines, and lines that begin with #, say nothing. A record, and the verdict on it:
   1 > PUT 'k','v'
   2 > GET 'k'
@@ -107,4 +135,12 @@ Verdicts:
   ILLEGAL line l           no order explains the record up to this line, where it could be what the lines
                            below it say; the status is 4
   UNDECIDED line l         more than N configurations would have to be kept there; the status is 5
-Without a verdict each faulty line is named, LINE l: CAUSE; the status is 6. A record in which nothing happens is EMPTY; the status is 7.";
+Without a verdict each faulty line is named, LINE l: CAUSE; the status is 6. A record in which nothing happens is EMPTY; the status is 7.
+Lines of the file of --allow; blank lines, and lines that begin with #, say nothing there:
+  1399 XA COMMIT: 1400     where 1399 is the answer to such a statement, 1400 is taken for it too
+With --explain an order that explains the lines before stands below ILLEGAL and its lines, and then the store behind it:
+  ORDER BEFORE
+  1 PUT 0x6b,0x76
+  STATE
+    ROW 0x6b VALUE 0x76
+The object of --json has the keys verdict, line, could_be, order, state and faulty.";

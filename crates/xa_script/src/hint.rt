@@ -7,11 +7,14 @@ use xa_lines::LINE_BYTES;
 use xa_xid::NoMemory;
 
 /// What a line of a record may be.
-const RECORD_LINES: &str = "S > STATEMENT, S < REPLY or S ! LOST";
+const RECORD_LINES: &str = "S > STATEMENT, S < REPLY, S ? ERROR, S ! LOST or S ! GONE";
 
 /// What a call begins with.
 const CALLS: &str =
     "BEGIN, WORK, PREPARE, DECIDE, FINISH, ABANDON, FAIL, STOP, RECOVER, AT or SHOW with its numbers";
+
+/// What a call of a coordinator that is to be stopped begins with.
+const STOPPED_CALLS: &str = "BEGIN, WORK, PREPARE, DECIDE, FINISH, ABANDON or AT with its numbers";
 
 /// Writes what is wanted at a byte of a line.
 fn tell_wanted<R: Eprint>(rt: &R, number: u64, at: u64, wanted: &str) {
@@ -35,6 +38,7 @@ pub fn tell_line<R: Eprint + Alloc<A = Global>>(
             tell_wanted(rt, number, at, wanted.as_str());
         }
         LineFault::NoCall => tell_wanted(rt, number, 0, CALLS),
+        LineFault::NoStopped => tell_wanted(rt, number, 0, STOPPED_CALLS),
         LineFault::NoWork => tell_wanted(rt, number, 0, "GET, PUT or DEL"),
         LineFault::NoRecord => tell_wanted(rt, number, 0, RECORD_LINES),
         LineFault::TooLong => {

@@ -7,13 +7,17 @@ use crate::exploring::explore_within;
 use crate::judging::judge_within;
 use crate::line_form::LineForm;
 use crate::racing::race_by;
+use crate::running::run_by;
 use crate::spoken::Spoken;
+use crate::stopping::stop_each;
+use crate::telling::Telling;
 use crate::texts::Texts;
 use crate::watch::Watch;
 use crate::{DONE, Schedule};
 use std::alloc::Global;
 use std::io;
 use std::io::{BufWriter, Printer, Read, Write};
+use std::rt::Clock;
 use std::sync::Wait;
 use std::thread::Threads;
 use xa_lines::{ScriptFault, Transport, run_script, serve_statements, show_statements};
@@ -21,6 +25,7 @@ use xa_manager::{
     BesideServer, CallServer, converse, converse_lasting, lasting_manager, manager_over,
     open_stores,
 };
+use xa_record::{Allowance, Asked};
 
 /// The standard output, which gathers what is written.
 pub type Output<'r, R> = BufWriter<Spoken<'r, Printer<'r, R>, R>>;
@@ -90,16 +95,64 @@ pub fn race<I: Read + Drop, W: Write + Drop, R: Alloc<A = Global> + Threads + Wa
     flushed(&mut output, done.and(Ok(DONE)))
 }
 
-/// Judges the record.
-pub fn judge<I: Read + Drop, W: Write + Drop, R: Alloc<A = Global>>(
+/// Races the script so often.
+pub fn races<I: Read + Drop, W: Write + Drop, R: Alloc<A = Global> + Threads + Wait + Sync>(
     rt: &R,
     mut input: I,
     mut output: BufWriter<W>,
-    limit: u64,
+    capacity: u64,
+    schedule: Schedule,
+    renews: bool,
+    runs: u64,
 ) -> Result<u8, ScriptFault>
-    requires { IsLimit limit }
+    requires capacity { IsCapacity capacity }
+    requires runs { IsLimit runs }
 {
-    let done = judge_within(rt.alloc(), &mut input, &mut output, limit);
+    let done = run_by(
+        rt,
+        &mut input,
+        &mut output,
+        capacity,
+        schedule,
+        renews,
+        runs,
+    );
+    flushed(&mut output, done)
+}
+
+/// Judges the record.
+pub fn judge<I: Read + Drop, W: Write + Drop, R: Clock + Eprint + Alloc<A = Global>>(
+    rt: &R,
+    mut input: I,
+    mut output: BufWriter<W>,
+    allowances: &[Allowance],
+    asked: Asked,
+    quiet: bool,
+) -> Result<u8, ScriptFault>
+    requires { IsLimit asked.limit }
+{
+    let mut telling = Telling::new(rt, quiet);
+    let done = judge_within(
+        rt.alloc(),
+        &mut input,
+        &mut output,
+        allowances,
+        asked,
+        &mut telling,
+    );
+    flushed(&mut output, done)
+}
+
+/// Stops the coordinator of the calls at each place.
+pub fn stops<I: Read + Drop, W: Write + Drop, R: Alloc<A = Global> + Wait>(
+    rt: &R,
+    mut input: I,
+    mut output: BufWriter<W>,
+    stores: u64,
+) -> Result<u8, ScriptFault>
+    requires { IsStoreCount stores }
+{
+    let done = stop_each(rt, rt.alloc(), &mut input, &mut output, stores);
     flushed(&mut output, done)
 }
 

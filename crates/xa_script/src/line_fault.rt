@@ -9,6 +9,8 @@ pub enum LineFault<'a> {
     NoStatement(&'a [u8], u64),
     /// It isn't a call.
     NoCall,
+    /// It is no call of a coordinator that is to be stopped.
+    NoStopped,
     /// It gives a statement that `WORK` doesn't give.
     NoWork,
     /// It isn't a line of a record.

@@ -10,8 +10,10 @@ pub enum LineForm {
     Answers,
     /// Answers, and the store behind each.
     Shown,
-    /// A verdict.
+    /// A verdict, and the store that explains it.
     Verdict,
+    /// A verdict as an object of JSON.
+    Object,
 }
 
 /// What stands behind the first word, and the byte after it.
@@ -49,6 +51,11 @@ fn has_statement(line: &[u8]) -> bool {
     }
 }
 
+/// Whether a line of a verdict shows a branch or a row of the store.
+fn is_of_store(line: &[u8]) -> bool {
+    line.starts_with(b"  ")
+}
+
 /// How many rows a reply says are to come on the next lines.
 fn rows_of(reply: &[u8]) -> u64 {
     match reply.strip_prefix(b"ROWS ") {
@@ -76,7 +83,10 @@ impl LineForm {
         match self {
             LineForm::Answers => false,
             LineForm::Shown => is_comment(line),
-            LineForm::Verdict => could_be(line).is_none() && !has_statement(line),
+            LineForm::Verdict => {
+                could_be(line).is_none() && !is_of_store(line) && !has_statement(line)
+            }
+            LineForm::Object => true,
         }
     }
 
@@ -90,6 +100,7 @@ impl LineForm {
                 Some(reply) => rows_of(reply),
                 None => 0,
             },
+            LineForm::Object => 0,
         }
     }
 }

@@ -16,6 +16,8 @@ pub enum LineKind {
     Explored,
     /// Calls of a transaction manager.
     Call,
+    /// Calls of a coordinator that is to be stopped, and of other clients.
+    Stopped,
     /// What clients saw.
     Record,
 }
@@ -72,6 +74,18 @@ fn call_fault(line: &[u8]) -> LineFault<'_> {
     }
 }
 
+/// Why a line isn't one of a coordinator that is to be stopped.
+fn stopped_fault(line: &[u8]) -> Option<LineFault<'_>> {
+    match read_call(line) {
+        Call::Unread(_) => match call_fault(line) {
+            LineFault::NoCall => Some(LineFault::NoStopped),
+            fault => Some(fault),
+        },
+        Call::Fail { .. } | Call::Stop | Call::Recover | Call::Show => Some(LineFault::NoStopped),
+        _ => None,
+    }
+}
+
 /// What stands behind the session of a line; nothing where it names none.
 fn given_in(line: &[u8]) -> &[u8] {
     match read_line(line) {
@@ -97,7 +111,7 @@ fn record_fault(line: &[u8]) -> Option<LineFault<'_>> {
     let (sign, rest) = split_word(given_in(line));
     if sign == b">".as_slice() {
         statement_fault(skip_blanks(rest))
-    } else if sign == b"<".as_slice() || sign == b"!".as_slice() {
+    } else if sign == b"<".as_slice() || sign == b"!".as_slice() || sign == b"?".as_slice() {
         None
     } else {
         Some(LineFault::NoRecord)
@@ -124,6 +138,7 @@ impl LineKind {
                 Call::Unread(_) => Some(call_fault(line)),
                 _ => None,
             },
+            LineKind::Stopped => stopped_fault(line),
             LineKind::Record => { if silent { None } else { record_fault(line) } }
         }
     }

@@ -1,6 +1,7 @@
 //! Runs scripts of XA statements: `xa_script run` reads a script from the standard input, and writes what answers it;
 //! `xa_script race` gives each session's statements to a thread of its own, and writes the history that explains the answers;
-//! `xa_script coordinate` carries the calls of a transaction manager out, over stores of its own.
+//! `xa_script coordinate` carries the calls of a transaction manager out, over stores of its own; `xa_script stops` stops their
+//! coordinator at each place, and shows what recovery makes of it.
 //! `xa_script serve` answers each line of the standard input before it reads more; `xa_script show` does so too, and shows the store
 //! behind each answer. `xa_script judge` says whether some order explains what clients of a server saw.
 //! `xa_script explore` carries a script out in every order of its sessions, and lists each outcome once.
@@ -11,8 +12,10 @@ ghost use Rattle.xa_script.specs.CommandLine.{CanBeDone};
 ghost use Rattle.xa_script.specs.Status.{status_after};
 
 mod advised;
+mod allowing;
 mod command;
 mod exploring;
+mod files;
 mod help;
 mod hint;
 mod jobs;
@@ -22,20 +25,27 @@ mod line_fault;
 mod line_form;
 mod line_kind;
 mod manner;
+mod options;
 mod racing;
+mod running;
 mod schedule;
 mod spoken;
 mod standing;
 mod standings;
+mod stopping;
 mod subcommands;
+mod telling;
 mod text_line;
 mod texts;
 mod wanted;
 mod watch;
 
+use allowing::allowed;
 use clap::Error;
 use clap::error::ErrorKind;
 pub use command::{Job, read_command};
+use files::opened;
+use judging::asked;
 pub use laws::texts_are_read_back;
 use line_form::LineForm;
 use line_kind::LineKind;
@@ -43,10 +53,9 @@ pub use manner::{Manner, read_manner};
 pub use schedule::Schedule;
 use std::alloc::Global;
 use std::env::Env;
-use std::fs::File;
 use std::io::{BufWriter, Read, Write};
 use std::process::ExitCode;
-use std::rt::Files;
+use std::rt::{Clock, Files};
 use std::sync::Wait;
 use std::thread::Threads;
 use std::{env, io};
@@ -54,6 +63,7 @@ use watch::Watch;
 use xa_lines::LINE_BYTES;
 pub use xa_lines::{CutReader, CutWriter, ScriptFault, run_script};
 pub use xa_races::{race_script, race_script_in_rounds};
+use xa_record::Allowance;
 
 /// The status of a run that was done, and of help.
 const DONE: u8 = 0;
@@ -75,9 +85,9 @@ fn main(rt: HostRuntime) -> ExitCode {
 }
 
 /// Does what the command line asks for, and says how it went.
-fn status<R: Env + Files + Input + Print + Eprint + Alloc<A = Global> + Threads + Wait + Sync>(
-    rt: &R,
-) -> u8 {
+fn status<
+    R: Env + Files + Clock + Input + Print + Eprint + Alloc<A = Global> + Threads + Wait + Sync,
+>(rt: &R) -> u8 {
     let words = match words(rt) {
         Ok(words) => words,
         Err(error) => return refuse_words(rt, &error),
@@ -123,61 +133,60 @@ fn refuse_words<R: Eprint>(rt: &R, error: &io::Error) -> u8 {
 }
 
 /// Does a job, and gives the status.
-fn carry_out<R: Files + Input + Print + Eprint + Alloc<A = Global> + Threads + Wait + Sync>(
+fn carry_out<R: Files + Clock + Input + Print + Eprint + Alloc<A = Global> + Threads + Wait + Sync>(
     rt: &R,
     job: Job,
     manner: &Manner<'_>,
 ) -> Result<u8, ScriptFault>
     requires { CanBeDone job }
 {
+    let Some(allowances) = allowed(rt, manner)? else {
+        return Ok(COMMAND_FAULT);
+    };
+    let allowances = allowances.as_slice();
     match manner.file {
-        None => carry_out_on(rt, rt.reader(), job, manner),
-        Some(name) => match File::open(rt, name) {
-            Ok(file) => carry_out_on(rt, file, job, manner),
-            Err(error) => Err(unopened(rt, name, &error, manner)),
-        },
+        None => carry_out_on(rt, rt.reader(), job, manner, allowances),
+        Some(name) => {
+            let file = opened(rt, name, manner.verbose)?;
+            carry_out_on(rt, file, job, manner, allowances)
+        }
     }
-}
-
-/// Says that a file can't be opened.
-fn unopened<R: Eprint>(rt: &R, name: &str, error: &io::Error, manner: &Manner<'_>) -> ScriptFault {
-    if manner.verbose {
-        let _ = eprintln!(rt; "xa_script: can't open {name}: {error}");
-    } else {
-        let _ = eprintln!(rt; "xa_script: can't open {name}");
-    }
-    ScriptFault::Read
 }
 
 /// How a job reads its lines, and how long one may be.
 fn lines_of(job: Job) -> (LineKind, usize) {
     match job {
-        Job::Run | Job::Race { .. } => (LineKind::Statement, usize::MAX),
+        Job::Run | Job::Race { runs: None, .. } => (LineKind::Statement, usize::MAX),
         Job::Coordinate { .. } => (LineKind::Call, LINE_BYTES),
+        Job::Stops { .. } => (LineKind::Stopped, usize::MAX),
         Job::Serve => (LineKind::Statement, LINE_BYTES),
         Job::Show => (LineKind::Shown, LINE_BYTES),
         Job::Judge { .. } => (LineKind::Record, usize::MAX),
-        Job::Explore { .. } => (LineKind::Explored, usize::MAX),
+        Job::Explore { .. } | Job::Race { runs: Some(_), .. } => (LineKind::Explored, usize::MAX),
     }
 }
 
 /// What a job writes its lines as.
 fn form_of(job: Job) -> LineForm {
     match job {
-        Job::Run | Job::Race { .. } | Job::Coordinate { .. } | Job::Serve | Job::Explore { .. } => {
-            LineForm::Answers
-        }
+        Job::Run | Job::Race { .. } | Job::Coordinate { .. } | Job::Serve => LineForm::Answers,
+        Job::Explore { .. } | Job::Stops { .. } => LineForm::Answers,
         Job::Show => LineForm::Shown,
-        Job::Judge { .. } => LineForm::Verdict,
+        Job::Judge { json: true, .. } => LineForm::Object,
+        Job::Judge { json: false, .. } => LineForm::Verdict,
     }
 }
 
 /// Does a job on what a reader gives, and gives the status.
-fn carry_out_on<I: Read + Drop, R: Print + Eprint + Alloc<A = Global> + Threads + Wait + Sync>(
+fn carry_out_on<
+    I: Read + Drop,
+    R: Clock + Print + Eprint + Alloc<A = Global> + Threads + Wait + Sync,
+>(
     rt: &R,
     input: I,
     job: Job,
     manner: &Manner<'_>,
+    allowances: &[Allowance],
 ) -> Result<u8, ScriptFault>
     requires { CanBeDone job }
 {
@@ -185,10 +194,10 @@ fn carry_out_on<I: Read + Drop, R: Print + Eprint + Alloc<A = Global> + Threads 
     let mut watch = Watch::new(rt, input, kind, most, manner.verbose, manner.strict);
     let status = if manner.text {
         let output = jobs::text_output(rt, manner.verbose, form_of(job))?;
-        carry_out_job(rt, &mut watch, output, job, manner.verbose)?
+        carry_out_job(rt, &mut watch, output, job, manner, allowances)?
     } else {
         let output = jobs::output(rt, manner.verbose)?;
-        carry_out_job(rt, &mut watch, output, job, manner.verbose)?
+        carry_out_job(rt, &mut watch, output, job, manner, allowances)?
     };
     if watch.has_faults()? && manner.strict && status == DONE {
         return Ok(UNREAD);
@@ -200,13 +209,14 @@ fn carry_out_on<I: Read + Drop, R: Print + Eprint + Alloc<A = Global> + Threads 
 fn carry_out_job<
     I: Read + Drop,
     W: Write + Drop,
-    R: Eprint + Alloc<A = Global> + Threads + Wait + Sync,
+    R: Clock + Eprint + Alloc<A = Global> + Threads + Wait + Sync,
 >(
     rt: &R,
     input: &mut Watch<'_, I, R>,
     output: BufWriter<W>,
     job: Job,
-    speaks: bool,
+    manner: &Manner<'_>,
+    allowances: &[Allowance],
 ) -> Result<u8, ScriptFault>
     requires { CanBeDone job }
 {
@@ -216,21 +226,36 @@ fn carry_out_job<
             capacity,
             schedule,
             renews,
+            runs: None,
         } => jobs::race(rt, input, output, capacity, schedule, renews),
+        Job::Race {
+            capacity,
+            schedule,
+            renews,
+            runs: Some(runs),
+        } => jobs::races(rt, input, output, capacity, schedule, renews, runs),
         Job::Coordinate {
             stores,
             capacity,
             fixed,
         } => {
             if fixed {
-                return jobs::coordinate_fixed(rt, input, output, speaks, stores, capacity);
+                return jobs::coordinate_fixed(rt, input, output, manner.verbose, stores, capacity);
             }
-            jobs::coordinate(rt, input, output, speaks, stores)
+            jobs::coordinate(rt, input, output, manner.verbose, stores)
         }
         Job::Serve => jobs::serve(rt, input, output),
         Job::Show => jobs::show(rt, input, output),
-        Job::Judge { limit } => jobs::judge(rt, input, output, limit),
+        Job::Judge {
+            limit,
+            explain,
+            json,
+        } => {
+            let asked = asked(limit, explain, json);
+            jobs::judge(rt, input, output, allowances, asked, manner.quiet)
+        }
         Job::Explore { limit } => jobs::explore(rt, input, output, limit),
+        Job::Stops { stores, .. } => jobs::stops(rt, input, output, stores),
     }
 }
 

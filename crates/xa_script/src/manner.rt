@@ -1,7 +1,7 @@
 //! How a job is to be done.
 ghost use Rattle.std.specs.Prelude.{◌≡◌, IfOk, map, codes};
 ghost use Rattle.clap.specs.Words.{app_of, found_of, first_value, one_text};
-ghost use Rattle.xa_script.specs.CommandLine.{script_app, IsRenewalOf};
+ghost use Rattle.xa_script.specs.CommandLine.{script_app, IsFlagOf};
 ghost use Rattle.xa_script.specs.Manner.{IsManner, HasManner};
 
 use crate::subcommands::script_command;
@@ -10,36 +10,43 @@ use clap::{ArgMatches, Command, Error};
 use std::alloc::Global;
 use std::convert::AsStr;
 
-/// How a job is to be done: what the options say that every job has.
+/// How a job is to be done: what the options say that every job has, and what `judge` does beside judging.
 #[derive(Clone, Copy, Debug, PartialEq, Eq)]
 pub struct Manner<'a> {
     /// The file that is read in place of the standard input.
     pub file: Option<&'a str>,
+    /// The file of the differences that are allowed.
+    pub allow: Option<&'a str>,
     /// Whether the standard error says what to do about faults.
     pub verbose: bool,
     /// Whether the status tells of syntax faults.
     pub strict: bool,
     /// Whether texts of printable bytes are written as texts.
     pub text: bool,
+    /// Whether the standard error doesn't say how far the judging is.
+    pub quiet: bool,
 }
 
 /// Whether an option without a value is given.
-fn flag_in(found: &ArgMatches<'_>, name: &str) -> bool
-    ensures { IsRenewalOf (one_text (found_of found.now) name.now) result }
+pub fn flag_in(found: &ArgMatches<'_>, name: &str) -> bool
+    ensures { IsFlagOf (one_text (found_of found.now) name.now) result }
 {
     found.get_one::<bool>(name).unwrap_or(false)
 }
 
 /// The manner that was found.
 fn manner_in<'a>(found: &ArgMatches<'a>) -> Manner<'a>
-    ensures { IsManner (first_value (found_of found.now) (codes "file")) (one_text (found_of found.now) (codes "verbose"))
-        (one_text (found_of found.now) (codes "strict")) (one_text (found_of found.now) (codes "text")) result }
+    ensures { IsManner (first_value (found_of found.now) (codes "file")) (first_value (found_of found.now) (codes "allow"))
+        (one_text (found_of found.now) (codes "verbose")) (one_text (found_of found.now) (codes "strict"))
+        (one_text (found_of found.now) (codes "text")) (one_text (found_of found.now) (codes "quiet")) result }
 {
     Manner {
         file: found.get_str("file"),
+        allow: found.get_str("allow"),
         verbose: flag_in(found, "verbose"),
         strict: flag_in(found, "strict"),
         text: flag_in(found, "text"),
+        quiet: flag_in(found, "quiet"),
     }
 }
 

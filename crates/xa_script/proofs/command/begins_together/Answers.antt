@@ -1,7 +1,7 @@
 use Rattle.std.proofs.Common.{◌∙◌, sym, codes}
 use Rattle.std.specs.Str.Parse.{ParsesBool}
 use Rattle.clap.specs.Words.{found_of, one_text}
-use Rattle.xa_script.proofs.Options.{flag_read, no_flag_read}
+use Rattle.xa_script.proofs.Values.{flag_read, no_flag_read}
 use Rattle.xa_script.proofs.command.begins_together.Goals as goal
 
 pub returns-clause-given : goal.returns-clause-given

@@ -1,7 +1,10 @@
 use Rattle.std.proofs.Common.{sym, codes}
 use Rattle.std.proofs.lemmas.Slice.Eq.{bytes_eq-Decides}
 use Rattle.clap.specs.Words.{found_of, rows_of}
-use Rattle.xa_script.proofs.NamedJobs.{rows_are, races_if, no_race, coordinates_if, no_coordinates, judges_if, no_judge, explores_if, no_explore}
+use Rattle.xa_script.proofs.NamedCalls.{coordinates_if, no_coordinates, stops_if, no_stops}
+use Rattle.xa_script.proofs.NamedJobs.{rows_are}
+use Rattle.xa_script.proofs.NamedLimits.{judges_if, no_judge, explores_if, no_explore}
+use Rattle.xa_script.proofs.NamedRaces.{races_if, no_race}
 use Rattle.xa_script.proofs.command.job_in.Goals as goal
 
 pub returns-then-eq-2-clause-some : goal.returns-then-eq-2-clause-some
@@ -51,3 +54,15 @@ returns-then-eq-7-clause-none c none =
     let named = (bytes_eq-Decides c.in-Some.name.now (codes "explore")).0 (sym c.if-eq-7.ensures) in
     let rows = rows_are c.args.matches.now c.in-Some.name.now (rows_of (found_of c.in-Some.found.now)) c.in-Some.ensures.name c.in-Some.ensures.rows in
     no_explore c.args.matches.now c.in-Some.found.now c.in-Some.name.now rows named (c.explore_in.ensures.none none)
+
+pub returns-then-eq-8-clause-some : goal.returns-then-eq-8-clause-some
+returns-then-eq-8-clause-some c =
+    let named = (bytes_eq-Decides c.in-Some.name.now (codes "stops")).0 (sym c.if-eq-8.ensures) in
+    let rows = rows_are c.args.matches.now c.in-Some.name.now (rows_of (found_of c.in-Some.found.now)) c.in-Some.ensures.name c.in-Some.ensures.rows in
+    stops_if c.args.matches.now c.in-Some.found.now c.in-Some.name.now c.stops_in.result rows named c.stops_in.ensures.some
+
+pub returns-then-eq-8-clause-none : goal.returns-then-eq-8-clause-none
+returns-then-eq-8-clause-none c none =
+    let named = (bytes_eq-Decides c.in-Some.name.now (codes "stops")).0 (sym c.if-eq-8.ensures) in
+    let rows = rows_are c.args.matches.now c.in-Some.name.now (rows_of (found_of c.in-Some.found.now)) c.in-Some.ensures.name c.in-Some.ensures.rows in
+    no_stops c.args.matches.now c.in-Some.found.now c.in-Some.name.now rows named (c.stops_in.ensures.none none)

@@ -1,7 +1,7 @@
 use Rattle.std.proofs.Common.{codes}
 use Rattle.std.specs.Str.Parse.{ParsesUnsigned, ExplainsUnsignedError, HasUnsignedDigitsIfOk}
 use Rattle.clap.specs.Words.{found_of, one_text}
-use Rattle.xa_script.proofs.Options.{seed_read, none_read}
+use Rattle.xa_script.proofs.Values.{seed_read, none_read}
 use Rattle.xa_script.proofs.command.seed_in.Goals as goal
 
 pub returns-clause-some : goal.returns-clause-some

@@ -1,10 +1,10 @@
--- What the values of `--shuffle`, `--together` and `--renew` say.
+-- What the values of `--shuffle`, `--runs` and of options without a value say.
 use Rattle.std.proofs.Common.{◌≡◌, ◌∙◌, ◌<◌, ◌^◌, ℕ, Bool, true, false, refl, sym, ap, subst, List, length, Option, Some, None, codes, arith}
 use Rattle.std.specs.Prelude.{◌≢◌, IfSome, Result, Ok, Err, unwrap_or}
 use Rattle.std.specs.Option.{IsSomeAnd}
 use Rattle.std.specs.Str.Parse.{ParsesUnsigned, ParsesBool, true_text, false_text}
 use Rattle.clap.specs.Words.{Text, ReadsOne}
-use Rattle.xa_script.specs.CommandLine.{IsSeedText, HasNoSeed, IsRenewalOf, IsFixedOf}
+use Rattle.xa_script.specs.CommandLine.{IsSeedText, HasNoSeed, IsFlagOf, IsLimitText, IsRunsOf}
 
 some_is : {text other : Text} → Some text ≡ Some other → text ≡ other
 some_is e = cc
@@ -51,14 +51,14 @@ no_flag_read gives parses (Some text) None none value is same =
     let failed = value text refl in
     absurd ((parses text (Err failed.0) failed.1).0 (some_is same))
 
--- histories end where the flag is given
-pub fixed_of : (fixed : Option Text) (ends : Bool) → (ends ≡ true → fixed ≡ Some (codes "true")) → (ends ≡ false → fixed ≢ Some (codes "true"))
-    → IsFixedOf fixed ends
-fixed_of fixed true given absent = given refl
-fixed_of fixed false given absent = absent refl
+-- the flag is as the option says
+pub flag_of : (given : Option Text) (flag : Bool) → (flag ≡ true → given ≡ Some (codes "true")) → (flag ≡ false → given ≢ Some (codes "true"))
+    → IsFlagOf given flag
+flag_of given true is absent = is refl
+flag_of given false is absent = absent refl
 
--- a race goes on where the flag is given
-pub renewal_of : (renew : Option Text) (renews : Bool) → (renews ≡ true → renew ≡ Some (codes "true")) → (renews ≡ false → renew ≢ Some (codes "true"))
-    → IsRenewalOf renew renews
-renewal_of renew true given absent = given refl
-renewal_of renew false given absent = absent refl
+-- as many runs as a number says, and none without it
+pub runs_of : (given : Option Text) (read : Option ℕ) → IfSome read (λ count. IsSomeAnd given (IsLimitText count))
+    → (read ≡ None → (count : ℕ) → IsSomeAnd given (IsLimitText count) → ⊥) → IsRunsOf given read
+runs_of given None some none = none refl
+runs_of given (Some count) some none = some

@@ -1,0 +1,62 @@
+//! Reads the differences that are allowed.
+ghost use Rattle.std.specs.Prelude.{IfOk, IfSome};
+ghost use Rattle.std.specs.Option.{option_map};
+ghost use Rattle.xa_script.specs.Status.{IsAllowedBy};
+
+use crate::files::opened;
+use crate::manner::Manner;
+use std::alloc::{AllocError, Global};
+use std::io::Read;
+use std::rt::Files;
+use xa_lines::{ScriptFault, read_all};
+use xa_record::{AllowFault, Allowance, read_allowances};
+use xa_xid::NoMemory;
+
+/// What a text allows; nothing where a line of it isn't an allowance, which the standard error then names.
+///
+/// Error: `NoMemory`. Doesn't wait, unless the standard error does.
+fn allowances_of<R: Eprint + Alloc<A = Global>>(
+    rt: &R,
+    text: &[u8],
+) -> Result<Option<Vec<Allowance>>, NoMemory>
+    ensures { IfOk result (λ allowed. IsAllowedBy (option_map (λ list. list.items) allowed) text.now) }
+{
+    match read_allowances(rt.alloc(), text) {
+        Ok(list) => Ok(Some(list)),
+        Err(AllowFault::Line(number)) => {
+            let _ = eprintln!(rt; "xa_script: allow line {number}: not an allowance");
+            Ok(None)
+        }
+        Err(AllowFault::NoMemory) => Err(AllocError),
+    }
+}
+
+/// What all that the reader gives allows.
+///
+/// Errors: those of `read_all`. Doesn't wait, unless the reader or the standard error does.
+fn allowances_in<I: Read, R: Eprint + Alloc<A = Global>>(
+    rt: &R,
+    input: &mut I,
+) -> Result<Option<Vec<Allowance>>, ScriptFault>
+    ensures { IfOk result (λ allowed. IfSome (I.remaining input.old) (IsAllowedBy (option_map (λ list. list.items) allowed))) }
+{
+    let text = read_all(rt.alloc(), input)?;
+    let allowed = allowances_of(rt, text.as_slice())?;
+    Ok(allowed)
+}
+
+/// The differences that the manner's file allows; none where it names no file, and nothing where a line of it isn't an allowance.
+///
+/// Errors: `Read`, `TooLong` and `NoMemory`, for the file. Doesn't wait, unless the file or the standard error does.
+pub fn allowed<R: Files + Eprint + Alloc<A = Global>>(
+    rt: &R,
+    manner: &Manner<'_>,
+) -> Result<Option<Vec<Allowance>>, ScriptFault> {
+    match manner.allow {
+        None => Ok(Some(Vec::new(rt.alloc()))),
+        Some(name) => {
+            let mut file = opened(rt, name, manner.verbose)?;
+            allowances_in(rt, &mut file)
+        }
+    }
+}

@@ -1,0 +1,134 @@
+//! The options of the subcommands, as `clap` sees them.
+ghost use Rattle.std.specs.Prelude.{◌≡◌, false};
+ghost use Rattle.clap.specs.Words.{rule_of};
+ghost use Rattle.xa_script.specs.CommandLine.{capacity_rule, together_rule, shuffle_rule, renew_rule, runs_rule, fixed_rule, stores_rule, limit_rule};
+ghost use Rattle.xa_script.specs.CommandLine.{number_rule, flag_rule, named_file_rule};
+
+use clap::builder::ValueParser;
+use clap::{Arg, ArgAction, value_parser};
+use std::alloc::Global;
+
+/// What `--shuffle` does.
+const SHUFFLED: &str =
+    "Does so, and lets sessions step aside before their lines by turns of this seed; the turns \
+are repeatable, and not what the race comes to";
+
+/// An option whose value this parser reads, and which has a default.
+fn number_option<'a>(
+    alloc: Global,
+    name: &'a str,
+    help: &'a str,
+    parser: ValueParser<'a>,
+    default: &'a str,
+) -> Arg<'a>
+    ensures rule { rule_of result ≡ number_rule name.entry.now parser.entry default.entry.now }
+    ensures global { result.global ≡ false }
+{
+    Arg::new(alloc, name)
+        .long(name)
+        .value_name("N")
+        .help(help)
+        .value_parser(parser)
+        .default_value(default)
+}
+
+/// An option without a value.
+pub fn flag_option<'a>(alloc: Global, name: &'a str, help: &'a str) -> Arg<'a>
+    ensures rule { rule_of result ≡ flag_rule name.entry.now }
+    ensures global { result.global ≡ false }
+{
+    Arg::new(alloc, name)
+        .long(name)
+        .help(help)
+        .action(ArgAction::SetTrue)
+}
+
+/// The option that says for how many entries a log has room.
+pub fn capacity_option<'a>(alloc: Global) -> Arg<'a>
+    ensures rule { rule_of result ≡ capacity_rule }
+    ensures global { result.global ≡ false }
+{
+    let help = "How many entries the history has room for";
+    let parser = value_parser!(u64).range(1..=1024);
+    number_option(alloc, "capacity", help, parser, "1024")
+}
+
+/// The option by which the sessions of a race meet before their first lines.
+pub fn together_option<'a>(alloc: Global) -> Arg<'a>
+    ensures rule { rule_of result ≡ together_rule }
+    ensures global { result.global ≡ false }
+{
+    let help = "Lets no session past its first line until all stand there";
+    flag_option(alloc, "together", help)
+}
+
+/// The option by which they moreover step aside.
+pub fn shuffle_option<'a>(alloc: Global) -> Arg<'a>
+    ensures rule { rule_of result ≡ shuffle_rule }
+    ensures global { result.global ≡ false }
+{
+    Arg::new(alloc, "shuffle")
+        .long("shuffle")
+        .value_name("SEED")
+        .help(SHUFFLED)
+        .value_parser(value_parser!(u64))
+}
+
+/// The option by which a race goes on in rounds.
+pub fn renew_option<'a>(alloc: Global) -> Arg<'a>
+    ensures rule { rule_of result ≡ renew_rule }
+    ensures global { result.global ≡ false }
+{
+    let help = "Goes on where the history is full, in rounds of N entries each";
+    flag_option(alloc, "renew", help)
+}
+
+/// The option that says how often a script is raced.
+pub fn runs_option<'a>(alloc: Global) -> Arg<'a>
+    ensures rule { rule_of result ≡ runs_rule }
+    ensures global { result.global ≡ false }
+{
+    Arg::new(alloc, "runs")
+        .long("runs")
+        .value_name("N")
+        .help("Races the script N times, and counts how often each outcome of explore came")
+        .value_parser(value_parser!(u64).range(1..=1_000_000))
+}
+
+/// The option that says how many stores there are.
+pub fn stores_option<'a>(alloc: Global) -> Arg<'a>
+    ensures rule { rule_of result ≡ stores_rule }
+    ensures global { result.global ≡ false }
+{
+    let parser = value_parser!(u64).range(1..=16);
+    number_option(alloc, "stores", "How many stores there are", parser, "3")
+}
+
+/// The option by which the stores' histories end.
+pub fn fixed_option<'a>(alloc: Global) -> Arg<'a>
+    ensures rule { rule_of result ≡ fixed_rule }
+    ensures global { result.global ≡ false }
+{
+    let help = "Keeps each store's history, and answers log full where it has N entries";
+    flag_option(alloc, "fixed", help)
+}
+
+/// The option that says how many configurations, or ways, may be kept.
+pub fn limit_option<'a>(alloc: Global, help: &'a str) -> Arg<'a>
+    ensures rule { rule_of result ≡ limit_rule }
+    ensures global { result.global ≡ false }
+{
+    let parser = value_parser!(u64).range(1..=1_000_000);
+    number_option(alloc, "limit", help, parser, "100000")
+}
+
+/// An option whose value names a file.
+pub fn file_option<'a>(alloc: Global, name: &'a str, help: &'a str) -> Arg<'a>
+    ensures rule { rule_of result ≡ named_file_rule name.entry.now }
+    ensures global { result.global ≡ false }
+{
+    Arg::new(alloc, name)
+        .long(name)
+        .value_name("FILE")
+        .help(help)
+}

@@ -1,0 +1,69 @@
+//! Races a script again and again, and gives the exit status for how that ended.
+ghost use Rattle.std.specs.Prelude.{IfOk, IfErr};
+ghost use Rattle.decision_log.specs.Opens.{IsCapacity};
+ghost use Rattle.xa_runs.specs.Came.{AfterRunsFault};
+ghost use Rattle.xa_script.specs.CommandLine.{IsLimit};
+ghost use Rattle.xa_script.specs.Status.{AppendsCame};
+
+use crate::Schedule;
+use crate::exploring::status_of_end;
+use std::alloc::{Alloc, Global};
+use std::io::{Read, Write};
+use std::sync::Wait;
+use std::thread::Threads;
+use xa_lines::ScriptFault;
+use xa_runs::{ReshuffledGate, runs_script};
+use xa_store::{Gate, OpenGate, TogetherGate};
+
+/// Races a script so often behind a gate, in rounds where it renews.
+fn run_behind<I: Read, O: Write, G: Gate + Sync, R: Alloc<A = Global> + Threads + Wait + Sync>(
+    rt: &R,
+    input: &mut I,
+    output: &mut O,
+    capacity: u64,
+    gate: &G,
+    renews: bool,
+    runs: u64,
+) -> Result<u8, ScriptFault>
+    requires capacity { IsCapacity capacity }
+    requires runs { IsLimit runs }
+    ensures came { IfOk result (λ status. AppendsCame runs status (I.remaining input.old) (O.contents output.old) (O.contents output.new)) }
+    ensures fault { IfErr result (λ fault. AfterRunsFault renews runs fault (I.remaining input.old) (O.contents output.old) (O.contents output.new)) }
+{
+    let ended = runs_script(rt, rt.alloc(), input, output, capacity, renews, runs, gate)?;
+    Ok(status_of_end(ended))
+}
+
+/// Races a script so often by the gate of a schedule, in rounds where it renews, writes which outcomes came, or its faulty lines, and gives
+/// the exit status for it. Where the schedule is shuffled, each run has the seed behind the last one's.
+///
+/// A capacity is in `[1, 1024]`, and runs are in `[1, 1_000_000]`.
+/// Errors: those of `runs_script`. After `Write` a prefix of the text was written, after any other nothing.
+/// May answer `NoMemory`. Waits.
+/// Own rule: docs/ORDERS.md.
+pub fn run_by<I: Read, O: Write, R: Alloc<A = Global> + Threads + Wait + Sync>(
+    rt: &R,
+    input: &mut I,
+    output: &mut O,
+    capacity: u64,
+    schedule: Schedule,
+    renews: bool,
+    runs: u64,
+) -> Result<u8, ScriptFault>
+    requires capacity { IsCapacity capacity }
+    requires runs { IsLimit runs }
+    ensures came { IfOk result (λ status. AppendsCame runs status (I.remaining input.old) (O.contents output.old) (O.contents output.new)) }
+    ensures fault { IfErr result (λ fault. AfterRunsFault renews runs fault (I.remaining input.old) (O.contents output.old) (O.contents output.new)) }
+{
+    match schedule {
+        Schedule::Freely => run_behind(rt, input, output, capacity, &OpenGate, renews, runs),
+        Schedule::Together => {
+            let gate = TogetherGate::new();
+            run_behind(rt, input, output, capacity, &gate, renews, runs)
+        }
+        Schedule::Shuffled(seed) => {
+            let gate = ReshuffledGate::new(seed);
+            run_behind(rt, input, output, capacity, &gate, renews, runs)
+        }
+    }
+}

@@ -1,0 +1,63 @@
+//! Says on the standard error how far judging a record is.
+use std::alloc::Global;
+use std::rt::Clock;
+use std::time::Instant;
+use xa_judge::Progress;
+use xa_xid::NoMemory;
+
+/// Says on the standard error how far judging a record is, at most once a second, and not in the first one.
+#[derive(Drop)]
+pub struct Telling<'r, R> {
+    /// Where it is said.
+    rt: &'r R,
+    /// When the judging began, or it was said last; none where nothing is said.
+    last: Option<Instant>,
+}
+
+/// The number in digits, with commas between its thousands.
+fn grouped(alloc: Global, number: u64) -> Result<String, NoMemory> {
+    let digits = format!(in alloc; "{number}")?;
+    let digits = digits.as_bytes();
+    let mut text = String::new(alloc);
+    for place in 0..digits.len() {
+        if place > 0 && (digits.len() - place) % 3 == 0 {
+            text.push(',')?;
+        }
+        text.push(char::from(digits[place]))?;
+    }
+    Ok(text)
+}
+
+impl<'r, R: Clock + Eprint + Alloc<A = Global>> Telling<'r, R> {
+    /// Says it from now on, or nothing.
+    ///
+    /// Takes no memory. Doesn't wait.
+    pub fn new(rt: &'r R, quiet: bool) -> Telling<'r, R> {
+        let last = if quiet { None } else { Instant::now(rt).ok() };
+        Telling { rt, last }
+    }
+
+    /// Writes a line.
+    fn say(&self, done: u64, all: u64, configurations: u64) -> Result<(), NoMemory> {
+        let alloc = self.rt.alloc();
+        let done = grouped(alloc, done)?;
+        let all = grouped(alloc, all)?;
+        let configurations = grouped(alloc, configurations)?;
+        let _ = eprintln!(self.rt;
+            "judged {done} of {all} events, {configurations} configurations"
+        );
+        Ok(())
+    }
+}
+
+impl<'r, R: Clock + Eprint + Alloc<A = Global>> Progress for Telling<'r, R> {
+    fn judged(&mut self, done: u64, all: u64, configurations: u64) {
+        if let Some(last) = self.last {
+            let passed = last.elapsed(self.rt);
+            if passed.is_ok_and(|passed| passed.as_secs() >= 1) {
+                let _ = self.say(done, all, configurations);
+                self.last = Instant::now(self.rt).ok();
+            }
+        }
+    }
+}
