@@ -4,8 +4,7 @@ KINDS = {
     "stories": ["cases/show/*.script"],
     "scripts": ["examples/*.script", "examples/schedules/*.script"],
     "races": ["drivers/page/races/*.script", "examples/races/*.script"],
-    "calls": ["examples/*.calls"],
-    "stops": ["examples/stops/*.calls"],
+    "calls": ["examples/*.calls", "examples/stops/*.calls"],
     "records": ["drivers/page/records/*.record"],
     "judged": ["examples/**/*.record"],
 }

@@ -96,6 +96,12 @@ def race(pool, question):
     return {"words": words, "ran": ran}
 
 
+def outcomes(pool, question):
+    """All that a race's script can be answered, in a child that may use what its limit needs."""
+    ways = pool.limits.ways
+    return run_once(pool, ["explore", "--limit", str(ways)], script(question, "script"), pool.limits.answer_seconds, pool.limits.judge_kib(ways))
+
+
 def calls(pool, question):
     """How many calls the last of the lines makes in each store."""
     words, lines = coordinate_words(question), lines_in(question)
@@ -106,6 +112,12 @@ def calls(pool, question):
         return run_once(pool, words, text, pool.limits.answer_seconds)["output"].encode("latin-1")
 
     return {"calls": [calls_in(run, lines, store) for store in range(int(words[2]))]}
+
+
+def stops(pool, question):
+    """Every stop of a coordinator within these lines."""
+    words, lines = coordinate_words(question), lines_in(question)
+    return run_once(pool, ["stops", *words[1:]], b"".join(line + b"\n" for line in lines), pool.limits.answer_seconds)
 
 
 def judge(pool, question):
@@ -132,4 +144,4 @@ def end(pool, question):
     return {}
 
 
-JOBS = {"talk": talk, "calls": calls, "race": race, "judge": judge, "program": program, "end": end}
+JOBS = {"talk": talk, "calls": calls, "stops": stops, "race": race, "outcomes": outcomes, "judge": judge, "program": program, "end": end}

@@ -5,7 +5,7 @@ from xml.sax.saxutils import escape
 from .calls import calls_of, effects_of
 from .labels import Labels
 from .layout import BAR, EVENT, HEAD, LINE, Layout
-from .record_lines import EVENTS, lines_of, read_lines
+from .record_lines import EVENTS, GONE, LOSS, lines_of, read_lines
 from .svg import element, plain
 from .verdict import read_verdict
 
@@ -18,9 +18,11 @@ READING = "A bar reaches from a call to its return."
 ORDER = "Numbered strokes: an order of the effects that explains"
 
 
-def before_mark(record, verdict):
-    """The lines of a record before the one at which it is ILLEGAL."""
-    return b"".join(line + b"\n" for line in lines_of(record)[:verdict.line - 1])
+def before_mark(lines, mark):
+    """The lines before the one at which a record is ILLEGAL, and those behind it by which a session's connection was found closed that never returned since: it may have ended before."""
+    above, below = lines[:mark - 1], lines[mark - 1:]
+    here = {line.session for line in below if line.kind in EVENTS and line.kind != LOSS}
+    return above + [line for line in below if line.kind == LOSS and line.text == GONE and line.session not in here]
 
 
 def picture(record, judged, judge, chosen=None):
@@ -32,8 +34,8 @@ def picture(record, judged, judge, chosen=None):
     lines = read_lines(record, verdict.faults)
     explained, order = lines, verdict.order
     if verdict.kind == "ILLEGAL":
-        explained = lines[:verdict.line - 1]
-        order = read_verdict(judge(before_mark(record, verdict))).order
+        explained, texts = before_mark(lines, verdict.line), lines_of(record)
+        order = read_verdict(judge(b"".join(texts[line.number - 1] + b"\n" for line in explained))).order
     effects = effects_of(order, explained)
     return Picture(lines, verdict, effects, chosen or cut(lines, verdict)).text()
 

@@ -9,6 +9,7 @@ BLANKS = b" \t\r\n"
 
 CALL, RETURN, LOSS, ROW, REMARK, BLANK, OTHER = "call", "return", "loss", "row", "remark", "blank", "other"
 KINDS = {b">": CALL, b"<": RETURN, b"!": LOSS, b"?": RETURN}
+GONE = b"GONE"  # said by a loss that may have come at any time since the session's last return
 EVENTS = (CALL, RETURN, LOSS)
 
 
@@ -18,6 +19,7 @@ class Line:
     kind: str
     session: Optional[int]  # of an event
     text: bytes             # what is said: without the session and the sign, or without the comment's sign
+    is_known: bool = True   # of a return: what it returned
 
 
 def lines_of(text):
@@ -49,5 +51,5 @@ def read_line(number, text, may_be_row):
         return Line(number, REMARK, None, trimmed[1:].strip(BLANKS))
     said = SAID.fullmatch(text)
     if said:
-        return Line(number, KINDS[said[2]], int(said[1]), (said[3] or b"").strip(BLANKS))
+        return Line(number, KINDS[said[2]], int(said[1]), (said[3] or b"").strip(BLANKS), said[2] != b"?")
     return Line(number, ROW if may_be_row else OTHER, None, trimmed)

@@ -6,7 +6,7 @@ from selenium.webdriver.common.keys import Keys
 from support import ROOT, says
 from views import View
 
-STOPS = sorted((ROOT / "examples/stops").glob("*.calls"))
+TRANSFER = (ROOT / "examples/stops/transfer.calls").read_text()
 ROW = re.compile(r"(\d+) (\d+) \d+ 0x([0-9a-f]*)")
 
 
@@ -56,31 +56,40 @@ class Commit(View):
             .map((it) => [Number(it.dataset.store), ...['.statement-call > bdi', '.store-answer bdi'].map((part) =>
                 [...it.querySelectorAll(part)].map((text) => text.textContent))])""", line)
 
-    def open_stop(self, stop):
-        self.browser.choose("#stops", stop)
-
     def push(self, call):
         before = self.given()
         self.browser.push(f'#calls-form button[value="{call}"]')
         self.until(lambda: self.given() == before + 1, f"{call} is answered")
 
-    def test_the_table_of_stops(self):
-        self.open()
-        self.assertEqual(len(STOPS), 17, "0 to 15, and the twelfth before and behind the decision")
-        for stop in STOPS:
-            with self.subTest(stop=stop.stem):
-                calls = stop.read_text().splitlines()
-                self.open(calls=stop.read_text(), at=0)
-                self.until(lambda calls=calls: len(self.browser.all(".calls-list > li")) == len(calls), "the example is open")
-                self.assertEqual(self.browser.text("#stops option:checked"), stop.stem.removeprefix("after-").replace("-", " ").removeprefix("0") or "0")
-                self.assertEqual(self.given(), 0, "it is at its beginning")
+    def listed(self):
+        """The stops that can be chosen."""
+        return self.browser.texts("#stops optgroup option")
+
+    def test_every_stop_is_shown(self):
+        """Each stop that the program lists is offered, and the calls that show it are answered with what it recovers."""
+        printed = says("stops", TRANSFER.encode())[0].decode().splitlines()
+        stops = [(line.split()[1:], printed[at + 1]) for at, line in enumerate(printed) if line.startswith("STOP ")]
+        self.open(calls=TRANSFER, at=0)
+        self.until(lambda: len(self.listed()) == len(stops), "all stops are offered")
+        for place, recovered in stops:
+            with self.subTest(stop=place):
+                self.open(calls=TRANSFER, at=0)
+                self.until(lambda: len(self.listed()) == len(stops), "all stops are offered")
+                self.browser.choose("#stops", ".".join(place))
+                self.until(lambda: self.browser.texts(".calls-list > li:last-child .said")[-1:] == ["RECOVER"] or "RECOVER" in self.browser.text(".calls-list > li:last-child"),
+                           "its calls are open")
                 self.browser.chord(Keys.ALT, Keys.END)
-                self.until(lambda: self.given() == len(calls), "all is answered")
-                self.assertEqual("\n".join(self.answers()) + "\n", stop.with_suffix(".transcript").read_text())
+                self.until(lambda: not self.browser.all(".calls-list > li.waiting"), "all is answered")
+                self.assertEqual(self.answers()[-1], recovered)
+                self.assertEqual(len(self.listed()), len(stops), "the other stops are still offered")
+
+    def test_calls_with_crashes_have_no_stops(self):
+        self.open(calls="BEGIN\nFAIL 0 AFTER 0")
+        self.until(lambda: self.given() == 2, "all is answered")
+        self.assertEqual(self.listed(), [])
 
     def test_branches_are_marked_from_the_vote_to_their_end(self):
-        stop = ROOT / "examples/stops/after-13.calls"
-        calls = stop.read_text().splitlines()
+        calls = ["BEGIN", "FAIL 1 AFTER 4", *[f"WORK 1 {store} PUT 'k','v'" for store in range(3)], "PREPARE 1", "DECIDE 1", "FINISH 1", "STOP", "RECOVER", "SHOW"]
         self.open(calls="\n".join(calls))
         self.until(lambda: self.given() == len(calls), "all is answered")
         marks = [self.marked(at + 1) for at in range(len(calls))]

@@ -73,16 +73,18 @@ class Lesson(View):
 
     def test_a_crash(self):
         self.browser.go(f"{self.page.address}#commit")
-        self.browser.choose("#stops", "12 undecided")
-        self.until(lambda: self.browser.all(".calls-list > li"), "the example is open")
+        self.browser.choose("#calls-example", "transfer")
+        self.until(lambda: self.browser.texts("#stops optgroup option"), "the example is open")
+        self.browser.choose("#stops", "17.0")
+        self.until(lambda: self.browser.texts(".calls-list > li") and "RECOVER" in self.browser.texts(".calls-list > li")[-1], "the stop's calls are open")
         prepare = 1 + self.browser.run("return [...document.querySelectorAll('.calls-list > li')].findIndex((it) => it.textContent.includes('PREPARE 1'))")
         self.run_to("commit", prepare)
         self.assertEqual(len(self.browser.all(f'.calls-list [data-line="{prepare}"] .row:last-child .lane.doubt')), 3)
         self.browser.chord(Keys.ALT, Keys.END)
         self.until(lambda: self.browser.text("#doubt") == "No branch is in doubt.", "it is over")
         self.assertIn("RECOVERED committed 0 rolled back 3 missing 0", self.browser.texts(".calls-list .answer-line"))
-        self.browser.choose("#stops", "12 decided")
-        self.until(lambda: self.given("commit") == 0 and self.browser.all(".calls-list > li"), "the other example is open")
+        self.browser.choose("#stops", "19.0")
+        self.until(lambda: self.given("commit") == 0 and self.browser.all(".calls-list > li"), "the other stop's calls are open")
         self.browser.chord(Keys.ALT, Keys.END)
         self.until(lambda: "RECOVERED committed 3 rolled back 0 missing 0" in self.browser.texts(".calls-list .answer-line"), "all commits")
 

@@ -48,7 +48,7 @@ def events(record):
     """The lines of calls, and for each the line where it ends."""
     ends, opened = {}, {}
     for number, line in enumerate(record.split(b"\n"), 1):
-        said = re.match(rb"\s*(\d+)\s+([<>!])", line)
+        said = re.match(rb"\s*(\d+)\s+([<>!?])", line)
         if said and said[2] == b">":
             opened[said[1]] = number
             ends[number] = None
@@ -95,6 +95,18 @@ class Pictures(unittest.TestCase):
         drawn = Drawn(RECORDS["lost_client"])
         self.assertEqual(len(drawn.of("cross")), 1)
         self.assertEqual([line for _, line, _ in drawn.ticks()], ["2", "4", "7", None, "9"])
+
+    def test_a_connection_found_closed_may_have_ended_since_its_last_return(self):
+        drawn = Drawn(RECORDS["gone_branch_ended_before"])
+        self.assertEqual([line for _, line, _ in drawn.ticks()], ["2", "4", None, "7"])
+        self.assertLess(drawn.ticks()[2][2], drawn.heights()[8])
+        above = RECORDS["gone_branch_ended_before"].replace(b"# The client", b"2 > GET 'k'\n2 < NONE\n# The client")
+        self.assertEqual([line for _, line, _ in Drawn(above).ticks()][:4], ["2", "4", None, "7"])
+
+    def test_a_call_whose_answer_is_unknown_has_a_stroke_or_none(self):
+        self.assertEqual([line for _, line, _ in Drawn(RECORDS["unknown_took_effect"]).ticks()], ["2", "4"])
+        self.assertEqual([line for _, line, _ in Drawn(RECORDS["unknown_took_no_effect"]).ticks()], ["4"])
+        self.assertEqual([line for _, line, _ in Drawn(RECORDS["unknown_and_called_again"]).ticks()], ["4", "6"])
 
     def test_an_illegal_return_is_marked_with_what_could_be_and_explained_up_to_there(self):
         drawn = Drawn(DIRTY)

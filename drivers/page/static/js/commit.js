@@ -10,6 +10,7 @@ import { callItem, doubtList, heads, isCaption } from "./lanes.js";
 import { Patch } from "./patch.js";
 import { readStores } from "./shown_stores.js";
 import { saidToStores } from "./statements.js";
+import { linesUntil, nameOfStop, readStops } from "./stops.js";
 import { Tape } from "./tape.js";
 import { follow, titleOf } from "./titles.js";
 
@@ -17,12 +18,6 @@ const STORES = 3;
 const MOST_STORES = 16;
 const PEEK = 60; // so much of the calls that wait is seen
 const NUMBERS = ["UNDECIDED", "DECIDED", "CLOSED"];
-
-// A stop's number of calls, and whether the decision came before it: `12 decided`.
-function callsOfStop({ name }) {
-  const [, number, decided] = /^after-0?(\d+)-?(.*)$/.exec(name);
-  return decided ? `${number} ${decided}` : number;
-}
 
 export class Commit {
   constructor(app) {
@@ -35,6 +30,10 @@ export class Commit {
     this.head = el("div.lane-heads");
     this.wanted = []; // for each line how many calls it makes of the session in each store, as far as the program was asked
     this.looked = []; // the lines of which that is known
+    this.whole = null; // the lines of which a stop is shown, and the calls that show it
+    this.shown = null;
+    this.stops = []; // of the whole lines, or of those that stand here
+    this.stopped = null; // the lines of which these are
     byId("lanes").append(this.head, this.list);
     this.patch = new Patch(this.list);
     this.does = {
@@ -48,23 +47,58 @@ export class Commit {
     byId("any-call").addEventListener("keydown", (event) => this.enterKey(event));
     byId("stores").addEventListener("change", (event) => this.open(this.tape.lines, this.tape.at, Number(event.target.value)));
     byId("calls-example").addEventListener("change", (event) => this.openExample(this.examples[event.target.value]));
-    byId("stops").addEventListener("change", (event) => this.openExample(this.stops[event.target.value]));
+    byId("stops").addEventListener("change", (event) => this.openStop(this.stops[event.target.value]));
   }
 
-  offer({ calls, stops }) {
+  offer({ calls }) {
     this.examples = calls;
-    this.stops = stops;
     options(byId("calls-example"), [["Calls", calls.map((story, at) => [String(at), titleOf(story)])]]);
-    const named = stops.map((stop, at) => [String(at), callsOfStop(stop)]);
-    options(byId("stops"), [["Calls of sessions", named]]);
+    options(byId("stops"), []);
   }
 
   openExample(example) {
     if (example) this.open(linesOf(example.text), 0, STORES);
   }
 
+  // The lines whose stops are offered: of a stop that is shown those from which it comes.
+  wholeLines() {
+    return this.whole ?? this.tape.lines;
+  }
+
+  async openStop(stop) {
+    if (!stop) return;
+    const lines = this.wholeLines();
+    const counts = stop.line === null ? [] : await this.callsOf({ lines: lines.slice(0, stop.line), stores: this.stores });
+    const calls = linesUntil(lines, stop, counts).join("\n");
+    this.app.visit("commit", { calls, at: 0, stores: this.stores === STORES ? "" : this.stores, whole: lines.join("\n") });
+  }
+
+  // Asks for the stops of the lines, where they are others than before.
+  async offerStops() {
+    const lines = this.wholeLines();
+    const wanted = JSON.stringify([this.stores, lines]);
+    if (this.stopped === wanted) return;
+    this.stopped = wanted;
+    const found = await this.stopsOf({ lines, stores: this.stores });
+    if (this.stopped !== wanted) return;
+    this.stops = found;
+    options(byId("stops"), [["Line, and calls of sessions in it", found.map((stop, at) => [String(at), nameOfStop(stop, lines)])]]);
+  }
+
+  async stopsOf(asked) {
+    if (!asked.lines.length) return [];
+    try {
+      return readStops((await ask("stops", asked)).output);
+    } catch (fault) {
+      if (!(fault instanceof Failure)) throw fault;
+      return [];
+    }
+  }
+
   enter(state) {
     const lines = linesOf(state.calls ?? "");
+    this.whole = state.whole ? linesOf(state.whole) : null;
+    this.shown = state.whole ? lines.join("\n") : null;
     const at = whole(state.at, 0, lines.length, lines.length);
     const stores = whole(state.stores, 1, MOST_STORES, STORES);
     byId("stores").value = stores;
@@ -82,7 +116,7 @@ export class Commit {
 
   state() {
     const { lines, at } = this.tape;
-    return { calls: lines.join("\n"), at: at !== lines.length ? at : "", stores: this.stores === STORES ? "" : this.stores };
+    return { calls: lines.join("\n"), at: at !== lines.length ? at : "", stores: this.stores === STORES ? "" : this.stores, whole: this.whole?.join("\n") };
   }
 
   // A button's call, with the numbers and the statement of the form.
@@ -125,7 +159,8 @@ export class Commit {
     printedInto(byId("calls-printed"), last ? last.join("") : "");
     const isOpen = (example) => linesOf(example.text).join("\n") === this.tape.lines.join("\n");
     follow(byId("calls-example"), this.examples, isOpen);
-    follow(byId("stops"), this.stops, isOpen);
+    if (this.shown !== null && this.shown !== this.tape.lines.join("\n")) this.whole = this.shown = null;
+    this.offerStops();
     this.followNumber(answers);
     enable(this.view, this.tape);
     this.app.keep("commit", this.state());

@@ -2,16 +2,18 @@
 import { whole } from "./address.js";
 import { ask, Failure } from "./api.js";
 import { fromText, linesOf, toText } from "./bytes.js";
-import { byId, el, fill, options, printedInto, sessionClass, shown } from "./dom.js";
+import { byId, el, fill, keepingFocus, options, printedInto, sessionClass, shown } from "./dom.js";
 import { isCaption } from "./columns.js";
 import { endingText } from "./ending.js";
 import { orderOf, readOutcome, tie } from "./outcome.js";
+import { answersOf, possibleItems, readPossible } from "./possible.js";
 import { draw } from "./timeline.js";
 import { follow, titleOf } from "./titles.js";
 
 const BATCH = 10;
 const STRIP = 48; // entries that a bar shows
 const UNSHUFFLED = "none"; // in place of a seed: else the sessions' turns are shuffled, so that a script shows its histories soon
+const MANY = "The possible outcomes are too many to be listed.";
 const GONE = "The history that the address names didn't come in these runs.";
 
 // A short name for a history, so that an address can say which one is looked at.
@@ -31,6 +33,7 @@ export class Race {
     this.begun = null;
     this.address = {};
     this.histories = new Map();
+    this.came = new Map(); // how often each outcome came, by its answers
     this.picked = null;
     byId("race-form").addEventListener("submit", (event) => {
       event.preventDefault();
@@ -95,9 +98,14 @@ export class Race {
     this.begun = null;
     this.raced = null;
     this.histories = new Map();
+    this.came = new Map();
+    this.possible = null;
+    this.isExplored = false;
     this.picked = null;
     this.chosen = false;
     fill(byId("histories"));
+    fill(byId("possible"));
+    byId("all-outcomes").hidden = true;
     fill(byId("race-faults"));
     fill(byId("race-progress"));
     byId("one-history").hidden = true;
@@ -116,6 +124,7 @@ export class Race {
     const seed = byId("shuffled").checked ? Number(byId("seed").value) : null;
     this.app.notify({});
     fill(byId("race-progress"), `0 of ${times} runs`);
+    this.explore(wanted);
     try {
       for (let done = 0; done < times && this.begun === wanted; ) {
         const { ran } = await ask("race", { ...question, times: Math.min(BATCH, times - done), seed: seed === null ? null : seed + done });
@@ -131,6 +140,29 @@ export class Race {
     }
   }
 
+  // Asks for all that the script can be answered, beside the runs.
+  async explore(wanted) {
+    let found = null;
+    try {
+      found = readPossible((await ask("outcomes", { script: this.raced })).output, this.raced);
+    } catch (fault) {
+      if (!(fault instanceof Failure)) throw fault;
+    }
+    if (this.begun !== wanted) return;
+    this.possible = found;
+    this.isExplored = true;
+    this.drawPossible();
+  }
+
+  drawPossible() {
+    if (!this.isExplored || !this.histories.size) return;
+    byId("all-outcomes").hidden = false;
+    if (this.possible === null) return void fill(byId("possible-seen"), MANY);
+    const { seen, items } = possibleItems(this.possible, this.came, this.raced, (lines) => this.app.visit("sessions", { script: lines.join("\n") }));
+    fill(byId("possible-seen"), seen);
+    keepingFocus(byId("possible"), () => fill(byId("possible"), items));
+  }
+
   // Counts what came; false where a child ended badly, or the script has faulty lines.
   take(ran) {
     for (const { output, status, error } of ran) {
@@ -144,6 +176,7 @@ export class Race {
     }
     this.drawFaults([]);
     this.drawBars();
+    this.drawPossible();
     return true;
   }
 
@@ -152,6 +185,8 @@ export class Race {
     const found = this.histories.get(outcome.key);
     found.count += 1;
     found.outcomes.set(output, (found.outcomes.get(output) ?? 0) + 1);
+    const answers = answersOf(outcome, this.raced);
+    this.came.set(answers, (this.came.get(answers) ?? 0) + 1);
   }
 
   drawFaults(faults) {
