@@ -67,8 +67,10 @@ export class Commit {
 
   async openStop(stop) {
     if (!stop) return;
+    this.wantedStop = stop;
     const lines = this.wholeLines();
     const counts = stop.line === null ? [] : await this.callsOf({ lines: lines.slice(0, stop.line), stores: this.stores });
+    if (this.wantedStop !== stop) return; // another was chosen meanwhile
     const calls = linesUntil(lines, stop, counts).join("\n");
     this.app.visit("commit", { calls, at: 0, stores: this.stores === STORES ? "" : this.stores, whole: lines.join("\n") });
   }
