@@ -12,6 +12,7 @@
 //! | `proto` | cycles of sessions over such a log, each with a server of its own | cycles |
 //! | `protomix5` | of a hundred statements of such sessions outside branches five write, the others read | statements |
 //! | `lib-enum`, `lib-text` | cycles on one server behind a lock; the statements are values, or texts that are read first | cycles |
+//! | `get-text` | texts that read rows outside branches, on one server behind a lock | reads |
 //! | `libmix5` | the statements of `protomix5` on one server behind a lock | statements |
 mod log;
 mod reader;
@@ -121,6 +122,25 @@ fn behind_a_lock(threads: usize, seconds: f64, reads: bool) -> f64 {
     })
 }
 
+fn reads_behind_a_lock(threads: usize, seconds: f64) -> f64 {
+    let (server, stops) = (Mutex::new(Server::default()), AtomicBool::new(false));
+    for thread in 1..=threads {
+        for (key, value) in Mix::new(thread).rows {
+            server.lock().unwrap().apply(thread, &Statement::Put(key, value)).expect();
+        }
+    }
+    rate(threads, seconds, || stops.store(true, Relaxed), |thread| {
+        let texts: Vec<_> = (0..TURNS).map(|turn| format!("GET 'k{thread}_{turn}'")).collect();
+        let mut done = 0;
+        while done % 64 != 0 || !stops.load(Relaxed) {
+            let statement = Reader::read(black_box(texts[done as usize % TURNS].as_bytes())).unwrap();
+            server.lock().unwrap().apply(thread, &statement).expect();
+            done += 1;
+        }
+        done
+    })
+}
+
 fn mixed_behind_a_lock(threads: usize, seconds: f64) -> f64 {
     let (server, stops) = (Mutex::new(Server::default()), AtomicBool::new(false));
     rate(threads, seconds, || stops.store(true, Relaxed), |thread| {
@@ -149,6 +169,7 @@ fn main() {
                 "protomix5" => mixed_sessions(threads, seconds),
                 "lib-enum" => behind_a_lock(threads, seconds, false),
                 "lib-text" => behind_a_lock(threads, seconds, true),
+                "get-text" => reads_behind_a_lock(threads, seconds),
                 "libmix5" => mixed_behind_a_lock(threads, seconds),
                 _ => panic!("there is no mode {mode}"),
             };

@@ -2,6 +2,7 @@
 --     seat_of          the session that a handle holds, if it holds one
 --     status_of        the number that C is answered
 --     Fits             what X/Open's layout can hold of a statement's identifier
+--     Attempts         a statement was tried, where a session is held
 --     Goes             what each outcome says of the session
 --     Comes            the same, of what a handle holds
 use Rattle.std.specs.Prelude.{◌≡◌, ◌<◌, ◌^◌, ℕ, false, List, Option, None, Some}
@@ -83,6 +84,13 @@ Tried statement (Unanswered fault) old new = Stays old new
 Tried statement (Misspelled fault) old new = ⊥
 Tried statement Vacant old new = ⊥
 Tried statement OutOfRange old new = (Fits statement → ⊥) × (new ≡ old)
+
+-- a statement that X/Open's layout can hold was tried, where a session is held
+abbrev pub Attempts : Statement → Outcome → Option Seat → Option Seat → Type 0
+Attempts statement Vacant None None = Unit {0}
+Attempts statement (Answered answer) (Some old) (Some new) = Tried statement (Answered answer) old new
+Attempts statement (Unanswered fault) (Some old) (Some new) = Tried statement (Unanswered fault) old new
+Attempts statement outcome old new = ⊥
 
 -- the text's statement was tried, or it spells none
 abbrev pub Goes : List ℕ → Outcome → Seat → Seat → Type 0

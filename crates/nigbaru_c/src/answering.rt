@@ -1,8 +1,8 @@
 //! A session's answers to C.
 ghost use Rattle.std.specs.Prelude.{IsTrue};
-ghost use Rattle.nigbaru_c.specs.Outcome.{Fits, Tried, Goes};
+ghost use Rattle.nigbaru_c.specs.Outcome.{seat_in, Fits, Attempts, Comes};
 
-use crate::{Outcome, Seat};
+use crate::{Chair, Hold, Outcome, Seat};
 use xa_statement::read_statement;
 use xa_xid::Statement;
 
@@ -21,40 +21,54 @@ fn fits(statement: &Statement) -> bool
     }
 }
 
-impl Seat {
-    /// Tries a statement once.
-    fn attempt(self, statement: &Statement) -> (Seat, Outcome)
-        ensures { Tried statement.now result.1 self result.0 }
+impl Chair {
+    /// Tries a statement once, where a session is held. The session is moved out and back once, whatever is said to it.
+    fn attempt(&mut self, statement: &Statement) -> Outcome
+        ensures { Attempts statement.now result (seat_in self.old.hold) (seat_in self.new.hold) }
     {
-        if !fits(statement) {
-            return (self, Outcome::OutOfRange);
+        match self.hold.take() {
+            Some(Hold::Session(seat)) => {
+                let Seat {
+                    store,
+                    pass,
+                    replica,
+                } = seat;
+                let mut session = store.resume(pass, replica);
+                let outcome = match session.attempt(statement) {
+                    Ok(answer) => Outcome::Answered(answer),
+                    Err(fault) => Outcome::Unanswered(fault),
+                };
+                let (pass, replica) = session.pause();
+                self.hold = Some(Hold::Session(Seat {
+                    store,
+                    pass,
+                    replica,
+                }));
+                outcome
+            }
+            other => {
+                self.hold = other;
+                Outcome::Vacant
+            }
         }
-        let Seat {
-            store,
-            pass,
-            replica,
-        } = self;
-        let mut session = store.resume(pass, replica);
-        let outcome = match session.attempt(statement) {
-            Ok(answer) => Outcome::Answered(answer),
-            Err(fault) => Outcome::Unanswered(fault),
-        };
-        let (pass, replica) = session.pause();
-        let seat = Seat {
-            store,
-            pass,
-            replica,
-        };
-        (seat, outcome)
     }
 
-    /// Tries the statement that a text spells once.
-    pub(crate) fn answer(self, text: &[u8]) -> (Seat, Outcome)
-        ensures { Goes text.now result.1 self result.0 }
+    /// Tries the statement that a text spells once, where a session is held.
+    pub(crate) fn answer(&mut self, text: &[u8]) -> Outcome
+        ensures { Comes text.now result (seat_in self.old.hold) (seat_in self.new.hold) }
     {
+        let Some(Hold::Session(_)) = &self.hold else {
+            return Outcome::Vacant;
+        };
         match read_statement(text) {
-            Ok(statement) => self.attempt(&statement),
-            Err(fault) => (self, Outcome::Misspelled(fault)),
+            Ok(statement) => {
+                if fits(&statement) {
+                    self.attempt(&statement)
+                } else {
+                    Outcome::OutOfRange
+                }
+            }
+            Err(fault) => Outcome::Misspelled(fault),
         }
     }
 }

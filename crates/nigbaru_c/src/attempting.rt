@@ -1,31 +1,12 @@
 //! Statements of C.
 ghost use Rattle.std.specs.Prelude.{◌≡◌, Some};
-ghost use Rattle.nigbaru_c.specs.Outcome.{seat_in, seat_of, status_of, Comes};
+ghost use Rattle.nigbaru_c.specs.Outcome.{seat_of, status_of, Comes};
 ghost use Rattle.nigbaru_c.specs.Telling.{Tells, Lists};
 ghost use Rattle.nigbaru_c.specs.declared.outcome.Outcome.{Outcome as OutcomeOf};
 
 use crate::telling::list;
-use crate::{Chair, Handle, Hold, Outcome, Told, XidPart, status};
+use crate::{Handle, Outcome, Told, XidPart, status};
 use std::alloc::Global;
-
-impl Chair {
-    /// Tries the statement that a text spells once, where a session is held.
-    fn answer(&mut self, text: &[u8]) -> Outcome
-        ensures { Comes text.now result (seat_in self.old.hold) (seat_in self.new.hold) }
-    {
-        match self.hold.take() {
-            Some(Hold::Session(seat)) => {
-                let (seat, outcome) = seat.answer(text);
-                self.hold = Some(Hold::Session(seat));
-                outcome
-            }
-            other => {
-                self.hold = other;
-                Outcome::Vacant
-            }
-        }
-    }
-}
 
 /// Tries the statement that a text spells once, where the handle holds a session.
 fn answer(alloc: Global, session: &mut Handle, text: &[u8]) -> Outcome
