@@ -1,5 +1,6 @@
 //! A session that fails from a certain call on, and when that call comes.
 ghost use Rattle.std.specs.Prelude.{◌≡◌, ◌+◌, true, false, ◌<◌, Some, map, slice_get, vec_len};
+ghost use Rattle.std.specs.Borrow.{Lends, sem};
 ghost use Rattle.xa_coordinator.specs.Fusing.{AnswersAsWithin};
 ghost use Rattle.xa_coordinator.specs.Stores.{ChangesAt};
 
@@ -18,6 +19,8 @@ pub struct Fused<S: Speak> {
 }
 
 impl<S: Speak> Fused<S> {
+    ghost use Rattle.xa_coordinator.specs.contracts.fused.Fused.{the_row};
+
     /// The session that passes `calls` calls on, in `[0, 2^64)`.
     ///
     /// Takes no memory. Doesn't wait.
@@ -37,6 +40,16 @@ impl<S: Speak> Fused<S> {
     {
         let Fused { inner, left: _ } = self;
         inner
+    }
+
+    /// The session within. What is done with it uses up no call.
+    ///
+    /// Takes no memory. Doesn't wait.
+    pub fn inner_mut(&mut self) -> &mut S
+        ensures inner { result.now ≡ self.old.inner }
+        ensures* writes_back { sem 𝓛 (Lends (the_row S.row) S.row self.entry result (λ inner. record self.old { inner = inner })) }
+    {
+        &mut self.inner
     }
 
     /// Whether one more call is passed on.
