@@ -3,3 +3,5 @@ pub mod Meetings
 pub mod GoingOn
 pub mod RenewedLists
 pub mod Coursing
+pub mod Placing
+pub mod Calling

@@ -44,7 +44,7 @@ zip_there R (a ∷ xs) [] zip index x is = absurd zip
 zip_there R (a ∷ xs) (b ∷ ys) zip zero x is = let same : a ≡ x = cc in (b, refl, subst (λ z. R z b) same zip.0)
 zip_there R (a ∷ xs) (b ∷ ys) zip (suc index) x is = zip_there R xs ys zip.1 index x is
 
-zip_back : {X Y : Type 0} (R : X → Y → Type 0) (xs : List X) (ys : List Y) → AllZip R xs ys → (index : ℕ) (y : Y) → slice_get ys index ≡ Some y
+pub zip_back : {X Y : Type 0} (R : X → Y → Type 0) (xs : List X) (ys : List Y) → AllZip R xs ys → (index : ℕ) (y : Y) → slice_get ys index ≡ Some y
     → (x : X) × (slice_get xs index ≡ Some x) × R x y
 zip_back R [] [] zip index y is = absurd (cc)
 zip_back R [] (b ∷ ys) zip index y is = absurd zip

@@ -1,12 +1,14 @@
 -- What opening and renewing make of the sessions of a store.
 --     Opens            a store's sessions before its first entry
+--     IsOfItsStore     a session that was spoken to, or wasn't
 --     GoesOn           the session has all that it had, in the store that is renewed
 --     HasRoom          the log is empty, and of the same capacity
-use Rattle.std.specs.Prelude.{◌≡◌, ◌+◌, ℕ, List, [], length}
+--     HasRoomAt        the same of one store of a coordinator
+use Rattle.std.specs.Prelude.{◌≡◌, ◌+◌, ℕ, List, [], Some, length, slice_get}
 use Rattle.std.specs.List.{All}
 use Rattle.decision_log.specs.History.{Begins}
 use Rattle.xa_server.specs.State.{no_state}
-use Rattle.xa_session.specs.View.{SessionView}
+use Rattle.xa_session.specs.View.{SessionView, StaysOfLog}
 use Rattle.xa_coordinator.specs.OpenBranches.{association_seen}
 use Rattle.xa_renewal.specs.Sessions.{view_of, log_in, AreAllOf}
 use Rattle.xa_renewal.specs.declared.kept.Kept.{Kept}
@@ -16,6 +18,11 @@ pub record Opens (sessions : ℕ) (all : List Kept) : Type 0 where
   pub are_all : AreAllOf all
   pub count : length all ≡ sessions
   pub empty : All (λ session. ((view_of session).base ≡ no_state) × ((view_of session).known.seen ≡ [])) all
+
+-- it is of the log that it was of, under its number
+pub record IsOfItsStore (old new : SessionView) : Type 0 where
+  pub log : StaysOfLog old new
+  pub number : new.known.number ≡ old.known.number
 
 -- its history begins as before, and it has seen no less of it; it has added nothing, and has open what it had; the store has as many sessions
 pub record GoesOn (old new : SessionView) : Type 0 where
@@ -30,3 +37,8 @@ pub record GoesOn (old new : SessionView) : Type 0 where
 -- behind all that the session has seen there is room for as many entries as its log could have
 abbrev pub HasRoom : Kept → Kept → Type 0
 HasRoom old new = (view_of new).identity.capacity ≡ length (view_of new).known.seen + (log_in old.seat).capacity
+
+-- so it is with the kept session of this store
+abbrev pub HasRoomAt : {S : Type 0} → (S → Kept) → ℕ → List S → List S → Type 0
+HasRoomAt {S} kept store old new =
+    (before after : S) → slice_get old store ≡ Some before → slice_get new store ≡ Some after → HasRoom (kept before) (kept after)

@@ -1,40 +1,84 @@
 //! A store of a coordinator is renewed.
-ghost use Rattle.std.specs.Prelude.{◌≡◌, ◌<◌, ◌++◌, ◌∷◌, [], Some, slice_get, vec_len};
+ghost use Rattle.std.specs.Prelude.{◌≡◌, ◌<◌, ◌++◌, ◌∷◌, [], Some, OnOk, map, slice_get, vec_len};
 ghost use Rattle.std.specs.List.{AllZip};
 ghost use Rattle.xa_coordinator.specs.Stores.{AtStore, ChangesAt};
 ghost use Rattle.xa_renewal.specs.Sessions.{view_of, AreAllOf};
-ghost use Rattle.xa_renewal.specs.Renewal.{GoesOn};
+ghost use Rattle.xa_renewal.specs.Renewal.{GoesOn, HasRoom, HasRoomAt};
 
 use crate::{Kept, renew};
 use std::alloc::Global;
-use xa_coordinator::Coordinator;
-use xa_xid::{Bytes, NoMemory};
+use xa_coordinator::{Coordinator, Fused};
+use xa_xid::NoMemory;
 
-/// Renews a store, in `[0, number of stores)`, between two calls of a coordinator of this name, whose session there has the greatest
-/// number; `others` are the store's other sessions, in the order of their numbers.
+/// Renews a store, in `[0, number of stores)`, between two calls of a coordinator whose session there has the greatest number;
+/// `others` are the store's other sessions, in the order of their numbers.
 ///
-/// All sessions go on, as `renew` has it, also after `NoMemory`. The coordinator that comes back has the same name and sessions. Of
-/// branches that it has open itself it has no record, as after `stop`: they stay open in its sessions.
+/// All sessions go on, as `renew` has it, also after `NoMemory`. The coordinator that comes back is as it was: of the same name, with
+/// the same branches open, and with the same sessions of its other stores.
 ///
 /// Error: `NoMemory`. May answer `NoMemory`. Doesn't wait.
 /// Own rule: docs/COORDINATOR.md, 'Renewed between calls'.
 pub fn renew_store(
     alloc: Global,
-    name: Bytes,
     coordinator: Coordinator<Kept>,
     store: u8,
     others: &mut Vec<Kept>,
 ) -> (Coordinator<Kept>, Result<(), NoMemory>)
-    requires name { name ≡ coordinator.name }
     requires store { store < vec_len coordinator.stores }
     requires all { (own : _) → slice_get coordinator.stores.items store ≡ Some own → AreAllOf (others.old.items ++ own ∷ []) }
-    ensures name { result.0.name ≡ name }
+    ensures name { result.0.name ≡ coordinator.name }
+    ensures branches { result.0.branches ≡ coordinator.branches }
     ensures all { (own : _) → slice_get result.0.stores.items store ≡ Some own → AreAllOf (others.new.items ++ own ∷ []) }
     ensures own { AtStore view_of store GoesOn coordinator.stores.items result.0.stores.items }
     ensures others { AllZip (λ old new. GoesOn (view_of old) (view_of new)) others.old.items others.new.items }
     ensures elsewhere { ChangesAt store coordinator.stores.items result.0.stores.items }
+    ensures room { OnOk result.1
+        (HasRoomAt (λ session. session) store coordinator.stores.items result.0.stores.items × AllZip HasRoom others.old.items others.new.items) }
 {
-    let mut sessions = coordinator.stop();
+    let (mut sessions, paused) = coordinator.pause();
     let renewed = renew(alloc, others, &mut sessions[store as usize]);
-    (Coordinator::new(name, sessions), renewed)
+    (paused.resume(sessions), renewed)
+}
+
+/// Renews a store of a session that has a limit, which stays.
+fn renew_within(
+    alloc: Global,
+    others: &mut Vec<Kept>,
+    own: &mut Fused<Kept>,
+) -> Result<(), NoMemory>
+    requires { AreAllOf (others.old.items ++ own.old.inner ∷ []) }
+    ensures left { own.new.left ≡ own.old.left }
+    ensures all { AreAllOf (others.new.items ++ own.new.inner ∷ []) }
+    ensures own { GoesOn (view_of own.old.inner) (view_of own.new.inner) }
+    ensures others { AllZip (λ old new. GoesOn (view_of old) (view_of new)) others.old.items others.new.items }
+    ensures room { OnOk result (HasRoom own.old.inner own.new.inner × AllZip HasRoom others.old.items others.new.items) }
+{
+    renew(alloc, others, own.inner_mut())
+}
+
+/// `renew_store` of a coordinator whose sessions have limits: each passes on as many calls as before.
+///
+/// Error: `NoMemory`. May answer `NoMemory`. Doesn't wait.
+/// Own rule: docs/COORDINATOR.md, 'Renewed between calls'.
+pub fn renew_fused_store(
+    alloc: Global,
+    coordinator: Coordinator<Fused<Kept>>,
+    store: u8,
+    others: &mut Vec<Kept>,
+) -> (Coordinator<Fused<Kept>>, Result<(), NoMemory>)
+    requires store { store < vec_len coordinator.stores }
+    requires all { (own : _) → slice_get coordinator.stores.items store ≡ Some own → AreAllOf (others.old.items ++ own.inner ∷ []) }
+    ensures name { result.0.name ≡ coordinator.name }
+    ensures branches { result.0.branches ≡ coordinator.branches }
+    ensures left { map (λ session. session.left) result.0.stores.items ≡ map (λ session. session.left) coordinator.stores.items }
+    ensures all { (own : _) → slice_get result.0.stores.items store ≡ Some own → AreAllOf (others.new.items ++ own.inner ∷ []) }
+    ensures own { AtStore (λ session. view_of session.inner) store GoesOn coordinator.stores.items result.0.stores.items }
+    ensures others { AllZip (λ old new. GoesOn (view_of old) (view_of new)) others.old.items others.new.items }
+    ensures elsewhere { ChangesAt store coordinator.stores.items result.0.stores.items }
+    ensures room { OnOk result.1
+        (HasRoomAt (λ session. session.inner) store coordinator.stores.items result.0.stores.items × AllZip HasRoom others.old.items others.new.items) }
+{
+    let (mut fused, paused) = coordinator.pause();
+    let renewed = renew_within(alloc, others, &mut fused[store as usize]);
+    (paused.resume(fused), renewed)
 }

@@ -13,7 +13,7 @@ mod seat;
 mod segment;
 mod speaking;
 
-pub use coordinating::renew_store;
+pub use coordinating::{renew_fused_store, renew_store};
 pub use kept::Kept;
 pub use past::Past;
 pub use renewing::renew;
