@@ -42,7 +42,7 @@ use Rattle.xa_coordinator.specs.Outcomes.{EndsAs, VotesAs, KeepsMark, finish_for
 use Rattle.xa_coordinator.specs.Participants.{takes_part}
 use Rattle.xa_coordinator.specs.Recovery.{Recovers, BreaksOff, asked_by_fault}
 use Rattle.xa_coordinator.specs.Stores.{AtStore, EachStore, ChangesAt}
-use Rattle.xa_coordinator.specs.Work.{WorksAs}
+use Rattle.xa_coordinator.specs.Work.{KeepsOthers, WorksAs}
 use Rattle.xa_lines.specs.Printed.{converts}
 use Rattle.xa_manager.specs.declared.call.Call.{Call}
 use Rattle.xa_manager.specs.declared.call.Call.TheVariants.{Silent as SilentCall, Unread, Begin, Work, Prepare, Decide, Finish, Abandon, Fail}
@@ -55,7 +55,7 @@ use Rattle.xa_manager.specs.declared.stage.Stage.{Stage}
 use Rattle.xa_manager.specs.declared.stage.Stage.TheVariants.{Working, Ready, Voted as VotedStage, Over}
 use Rattle.xa_manager.specs.declared.vote_answer.VoteAnswer.{VoteAnswer}
 use Rattle.xa_manager.specs.declared.vote_answer.VoteAnswer.TheVariants.{Ready as ToldReady, OnePhase as ToldOnePhase, Nothing as ToldNothing, No as ToldNo}
-use Rattle.xa_manager.specs.Ledger.{stage_of, with_stage}
+use Rattle.xa_manager.specs.Ledger.{stage_of, with_stage, IsTransactionOf}
 use Rattle.xa_manager.specs.Limits.{LimitsAlone, StartsAnew}
 use Rattle.xa_manager.specs.Said.{IsGiven, IsListed}
 
@@ -69,9 +69,10 @@ pub record WholeManager (C T : Type 0) : Type 0 where
   pub sessions : List C
   pub other_clients : List T
 
--- only the coordinator's sessions were spoken to, and each stays of its log; the numbers and the transactions stand so now
+-- only the coordinator's sessions were spoken to, each stays of its log, and there are as many; the numbers and the transactions stand so now
 pub record SpeaksAlone {C T : Type 0} (view : C → SessionView) (decisions : List Decision) (stages : List Stage) (old new : WholeManager C T) : Type 0 where
   pub logs : EachStore view (λ store. StaysOfLog) old.sessions new.sessions
+  pub count : length new.sessions ≡ length old.sessions
   pub stands : new ≡ record old { decisions = decisions; stages = stages; branches = new.branches; sessions = new.sessions }
 
 -- what is told of a vote
@@ -88,9 +89,10 @@ stage_after (VoteOnePhase prepared) = VotedStage prepared
 stage_after (VoteNo prepared store cause) = VotedStage prepared
 stage_after VoteNothing = Over
 
--- a transaction of the next number was begun, in which no store takes part, and is undecided
+-- a transaction of the next number was begun, of the coordinator `c`, in which no store takes part, and is undecided
 pub record IsBegun {C T : Type 0} (old : WholeManager C T) (response : Response) (new : WholeManager C T) : Type 0 where
   pub transaction : Transaction
+  pub named : IsTransactionOf old.stores (length old.stages + 1) transaction
   pub nobody : (store : ℕ) → takes_part transaction.participants store ≡ false
   pub told : response ≡ Begun (length old.stages + 1)
   pub stands : new ≡ record old { decisions = old.decisions ++ Undecided ∷ []; stages = old.stages ++ Working transaction ∷ [] }
@@ -101,7 +103,7 @@ pub record IsSpent {C T : Type 0} (old : WholeManager C T) (response : Response)
   pub told : response ≡ NumbersSpent
   pub stands : new ≡ old
 
--- a transaction that takes work worked in a store, and its work came to this; in the other stores nothing changed
+-- a transaction that takes work worked in a store, and its work came to this; in the other stores nothing changed, nor whether they take part
 pub record HasWorked {C T : Type 0} (view : C → SessionView) (number store : ℕ) (statement : Statement) (old : WholeManager C T) (response : Response)
     (new : WholeManager C T) : Type 0 where
   pub before : Transaction
@@ -110,6 +112,7 @@ pub record HasWorked {C T : Type 0} (view : C → SessionView) (number store : �
   pub known : store < old.stores
   pub working : stage_of old.stages number ≡ Some (Working before)
   pub told : response ≡ Worked answer
+  pub keeps : KeepsOthers store before after
   pub works : WorksAs view old.branches new.branches before after store statement answer old.sessions new.sessions
   pub others : ChangesAt store old.sessions new.sessions
   pub marks : ChangesAt store old.branches new.branches

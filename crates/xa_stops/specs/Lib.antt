@@ -3,3 +3,4 @@ pub mod Runs
 pub mod Stops
 pub mod Rows
 pub mod Scripts
+pub mod Atomic

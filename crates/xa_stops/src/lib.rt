@@ -7,6 +7,7 @@ mod counting;
 mod ended;
 mod faulty;
 mod fresh;
+pub mod laws;
 mod limits;
 mod named;
 mod places;

@@ -41,6 +41,7 @@ returns-in-Ok g c =
         alone = record {
           logs = agreed_logs g.C.Speak.view [] was.coordinator.name.items was.coordinator.stores.items c.abandon.new.self.stores.items
               (c.abandon.ensures.agrees [] (none_decided c.in-Ok.transaction.number));
+          count = sym c.abandon.new.self.stores.ok.0 ∙ c.abandon.ensures.count ∙ was.coordinator.stores.ok.0;
           stands = same_whole _ _ _ _ _ _ _ _ _ c.abandon.ensures.count refl c.in-Ok.ensures.over;
         };
       };

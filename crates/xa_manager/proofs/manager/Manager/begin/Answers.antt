@@ -32,8 +32,10 @@ returns-in-Ok-clause-answers g c =
     let begun = Working c.in-Ok.transaction in
     let number : c.number-number.result ≡ length was.ledger + 1 = c.number-number.ensures ∙ c.in-Ok.ensures.number ∙ ap (λ n. n + 1) (sym was.counted) in
     let on = begun_on was.ledger c.number-number.result begun c.add.new.self c.put.new.self number c.in_ok-add.ensures.ok c.put.ensures in
+    let one = c.in-Ok.ensures.number ∙ ap (λ n. n + 1) (sym was.counted) in
     inl (record {
       transaction = c.in-Ok.transaction;
+      named = record { number = one; name = ap (λ name. name.items) c.in-Ok.ensures.name ∙ was.named; stores = c.in-Ok.ensures.stores };
       nobody = c.in-Ok.ensures.nobody;
       told = ap (λ n. Begun n) number;
       stands = same_whole _ _ _ _ _ _ _ _ _ refl c.in-Ok.ensures.undecided on;

@@ -46,6 +46,7 @@ returns-in-Ok g c =
         alone = record {
           logs = agreed_logs g.C.Speak.view was.decisions was.coordinator.name.items was.coordinator.stores.items c.finish.new.self.stores.items
               c.finish.ensures.agrees;
+          count = sym c.finish.new.self.stores.ok.0 ∙ c.finish.ensures.count ∙ was.coordinator.stores.ok.0;
           stands = same_whole _ _ _ _ _ _ _ _ _ c.finish.ensures.count refl c.in-Ok.ensures.over;
         };
       };

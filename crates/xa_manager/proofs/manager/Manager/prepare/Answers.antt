@@ -59,6 +59,7 @@ returns-in-Ok g c =
       alone = record {
         logs = agreed_logs g.C.Speak.view [] was.coordinator.name.items was.coordinator.stores.items c.prepare-vote.new.self.stores.items
             (c.prepare-vote.ensures.agrees []);
+        count = sym c.prepare-vote.new.self.stores.ok.0 ∙ c.prepare-vote.ensures.count ∙ was.coordinator.stores.ok.0;
         stands = same_whole _ _ _ _ _ _ _ _ _ c.prepare-vote.ensures.count refl on;
       };
     })

@@ -1,4 +1,4 @@
-use Rattle.std.proofs.Common.{refl}
+use Rattle.std.proofs.Common.{◌∙◌, sym, refl}
 use Rattle.xa_manager.proofs.States.{same_whole}
 use Rattle.xa_manager.proofs.Said.{agreed_logs}
 use Rattle.xa_manager.proofs.manager.Manager.recover.Goals as goal
@@ -14,6 +14,7 @@ returns g c = record {
   alone = record {
     logs = agreed_logs g.C.Speak.view c.recover.new.decisions c.args.self.now.coordinator.name.items c.args.self.now.coordinator.stores.items
         c.recover.new.self.stores.items c.recover.ensures.agrees;
+    count = sym c.recover.new.self.stores.ok.0 ∙ c.recover.ensures.count ∙ c.args.self.now.coordinator.stores.ok.0;
     stands = same_whole _ _ _ _ _ _ _ _ _ c.recover.ensures.count c.recover.ensures.closed refl;
   };
 }

@@ -47,12 +47,14 @@ returns-in-Ok g c =
       known = search rules;
       working = c.in-Ok.ensures.taken;
       told = refl;
+      keeps = c.work-worked.ensures.keeps;
       works = c.work-worked.ensures.works;
       others = c.work-worked.ensures.frame;
       marks = c.work-worked.ensures.marks;
       alone = record {
         logs = agreed_logs g.C.Speak.view [] was.coordinator.name.items was.coordinator.stores.items c.work-worked.new.self.stores.items
             (c.work-worked.ensures.agrees []);
+        count = c.work-worked.ensures.frame.count;
         stands = same_whole _ _ _ _ _ _ _ _ _ count refl on;
       };
     })

@@ -1,0 +1,62 @@
+-- What a run of calls leaves of each transaction, behind a recovery that came to its end.
+--     branch_in        the branch that a transaction has in a store
+--     HasAdded         the coordinator's session added a statement
+--     IsPlain          a call that isn't RECOVER
+--     IsAlone          of a transaction's branches, the coordinator began at most the one in this store
+--     GoesWith         a statement goes with the decisions
+--     KeepsToDecisions     all that the coordinator added goes with them, and nothing of it is prepared
+use Rattle.std.specs.Prelude.{◌≡◌, ◌<◌, ◌^◌, ℕ, true, false, Some, slice_get, List, Contains, codes}
+use Rattle.xa_xid.specs.declared.xid.Xid.{Xid}
+use Rattle.xa_xid.specs.declared.statement.Statement.{Statement}
+use Rattle.xa_xid.specs.declared.statement.Statement.TheVariants.{Start, Commit, Rollback}
+use Rattle.xa_session.specs.Answer.{entry_of}
+use Rattle.xa_coordinator.specs.Branch.{branch_xid, IsBranchOf}
+use Rattle.xa_coordinator.specs.Decisions.{is_decided}
+use Rattle.xa_coordinator.specs.Recovery.{NoneLeft}
+use Rattle.xa_coordinator.specs.declared.decisions.Decision.{Decision}
+use Rattle.xa_coordinator.specs.declared.fused.Fused.{Fused}
+use Rattle.xa_manager.specs.Calls.{takes_rows}
+use Rattle.xa_manager.specs.declared.call.Call.{Call}
+use Rattle.xa_manager.specs.declared.call.Call.TheVariants.{Work, Recover}
+use Rattle.xa_stops.specs.declared.counted_store.CountedStore.{CountedStore}
+use Rattle.xa_stops.specs.Counted.{own_of}
+use Rattle.xa_stops.specs.Runs.{Managing}
+
+-- the branch that the transaction of a number has in a store: the coordinator is `c`
+abbrev pub branch_in : ℕ → ℕ → Xid
+branch_in number store = branch_xid (codes "c") number store
+
+-- the coordinator's session added the statement to the store's history
+abbrev pub HasAdded : Fused CountedStore → Statement → Type 0
+HasAdded session statement = Contains (own_of session.inner).known.mine (entry_of 1 statement)
+
+-- a call that isn't RECOVER; work gives GET, PUT or DEL, as in each call that a line tells
+abbrev pub IsPlain : Call → Type 0
+IsPlain (Work number store statement) = takes_rows statement ≡ true
+IsPlain Recover = ⊥
+IsPlain call = Unit {0}
+
+-- whatever store the coordinator began a branch of the transaction in is this one
+abbrev pub IsAlone : List (Fused CountedStore) → ℕ → ℕ → Type 0
+IsAlone sessions number store =
+    (other : ℕ) (session : Fused CountedStore) → slice_get sessions other ≡ Some session → HasAdded session (Start (branch_in number other)) → other ≡ store
+
+-- an undecided transaction that was committed all the same
+pub record IsOnePhase (decisions : List Decision) (sessions : List (Fused CountedStore)) (store number : ℕ) : Type 0 where
+  pub undecided : is_decided decisions number ≡ false
+  pub alone : IsAlone sessions number store
+
+-- XA COMMIT is of a decided transaction's branch; with ONE PHASE it is of an undecided one's that has no branch in another store; XA ROLLBACK is of an undecided
+-- one's
+abbrev pub GoesWith : List Decision → List (Fused CountedStore) → ℕ → Statement → Type 0
+GoesWith decisions sessions store (Commit xid false) = (number : ℕ) × IsBranchOf (codes "c") number store xid × (is_decided decisions number ≡ true)
+GoesWith decisions sessions store (Commit xid true) = (number : ℕ) × IsBranchOf (codes "c") number store xid × IsOnePhase decisions sessions store number
+GoesWith decisions sessions store (Rollback xid) = (number : ℕ) × IsBranchOf (codes "c") number store xid × (is_decided decisions number ≡ false)
+GoesWith decisions sessions store statement = Unit {0}
+
+-- in each store, all that the coordinator's session added, in all calls from the first on, goes with the decisions as they stand in the end, and none of its
+-- branches is prepared
+pub record KeepsToDecisions (last : Managing) : Type 0 where
+  pub goes : (store : ℕ) (session : Fused CountedStore) (statement : Statement) → slice_get last.sessions store ≡ Some session → HasAdded session statement
+      → GoesWith last.decisions last.sessions store statement
+  pub none_left : (store : ℕ) (session : Fused CountedStore) → slice_get last.sessions store ≡ Some session → NoneLeft (codes "c") store (own_of session.inner)
