@@ -1,8 +1,8 @@
 -- What serving a statement makes of what the sessions of a store know.
-use Rattle.std.proofs.Common.{◌≡◌, ◌≢◌, ◌≤◌, ◌+◌, ℕ, zero, suc, Bool, true, false, List, [], ◌∷◌, ◌++◌, length, take, refl, ap, sym, ◌∙◌, subst, arith}
+use Rattle.std.proofs.Common.{◌≡◌, ◌≢◌, inl, inr, ◌≤◌, ◌+◌, ℕ, zero, suc, Bool, true, false, List, [], ◌∷◌, ◌++◌, length, take, refl, ap, sym, ◌∙◌, subst, arith}
 use Rattle.std.proofs.Common.{append-nil, length-append}
 use Rattle.std.proofs.lemmas.List.{take_all, take-append-le}
-use Rattle.std.specs.Prelude.{Result, Ok, Err, IfOk, OnErr}
+use Rattle.std.specs.Prelude.{Result, Ok, Err, IfOk, OnErr, slice_get, Some}
 use Rattle.xa_words.specs.Entry.{Entry}
 use Rattle.xa_xid.specs.declared.statement.Statement.{Statement}
 use Rattle.xa_server.specs.State.{State}
@@ -11,14 +11,14 @@ use Rattle.xa_server.specs.Step.{enters, after}
 use Rattle.decision_log.specs.History.{Begins, is_of, entries_of}
 use Rattle.decision_log.specs.Calls.{Looked, IsAdded}
 use Rattle.decision_log.specs.declared.known.Known.{Known}
-use Rattle.decision_log.proofs.Histories.{begins_itself}
+use Rattle.decision_log.proofs.Histories.{begins_itself, begins_append, get_last}
 use Rattle.xa_session.specs.Answer.{entry_of, IsAnswered}
 use Rattle.xa_session.specs.Replay.{state_after, state_at}
 use Rattle.xa_session.specs.declared.answer.Answer.{Answer}
 use Rattle.xa_session.specs.declared.fault.Fault.{Fault}
 use Rattle.xa_session.proofs.Answering.{IsReply, answered_outside, answered_entered}
-use Rattle.xa_session.proofs.Replaying.{state_after-last, state_at-whole, state_after-nil}
-use Rattle.xa_lasting.specs.Watched.{known_by, HasSeenOwn, Serves}
+use Rattle.xa_session.proofs.Replaying.{state_after-last, state_at-whole, state_at-begins, state_after-nil, place_below}
+use Rattle.xa_lasting.specs.Watched.{known_by, HasSeenOwn, AllEntered, Serves}
 use Rattle.xa_lasting.specs.declared.watch.Watch.{Watch}
 use Rattle.decision_log.proofs.Histories.{own_last, own_other}
 
@@ -47,6 +47,35 @@ starts base = state_after-nil base
 pub none_seen : (session : ℕ) (watch : Watch) → watch.seen ≡ 0 → HasSeenOwn session watch []
 none_seen session watch is = record { within = omega (arith, is); own = ap (λ n. entries_of session (take n [])) is }
 
+pub none_entered : (base : State) → AllEntered base []
+none_entered base = record { entered = λ place entry is. absurd (cc); two = λ place entry is. absurd (cc) }
+
+-- one entry more, which entered
+entered_more : (base : State) (history : List Entry) (last : Entry) → enters (state_after base history) last.session last.statement ≡ true
+    → (1 ≤ last.session) × (last.session ≤ 2) → AllEntered base history → AllEntered base (history ++ last ∷ [])
+entered_more base history last entering number all = record {
+  entered = λ place entry is.
+      elim (get_last history last place entry is) [
+        | inl before ↦
+            ap (λ s. enters s entry.session entry.statement)
+            (state_at-begins base history (history ++ last ∷ []) place (begins_append history (last ∷ []))
+            (let below = place_below history place entry before in omega (arith, below)))
+            ∙ all.entered place entry before
+        | inr at ↦
+            let there : state_at base (history ++ last ∷ []) place ≡ state_after base history =
+            ap (state_at base (history ++ last ∷ [])) at.0
+            ∙ state_at-begins base history (history ++ last ∷ []) (length history) (begins_append history (last ∷ [])) (omega arith)
+            ∙ state_at-whole base history in
+            subst (λ (e : Entry). enters (state_at base (history ++ last ∷ []) place) e.session e.statement ≡ true) at.1
+            (ap (λ s. enters s last.session last.statement) there ∙ entering)
+      ];
+  two = λ place entry is.
+      elim (get_last history last place entry is) [
+        | inl before ↦ all.two place entry before
+        | inr at ↦ subst (λ (e : Entry). (1 ≤ e.session) × (e.session ≤ 2)) at.1 number
+      ];
+}
+
 module _ (session : ℕ) (statement : Statement) (answer : Answer) (base old new : State) (history history' : List Entry) (watch watch' : Watch)
     (serves : Serves session statement answer old history watch new history' watch') where
   abbrev entry : Entry
@@ -72,6 +101,13 @@ module _ (session : ℕ) (statement : Statement) (answer : Answer) (base old new
       either (new ≡ state_after base history')
       (λ is e. e.1 ∙ ap (λ s. after s session statement) stands ∙ sym (state_after-last base history entry) ∙ ap (state_after base) (sym e.0))
       (λ is e. e.1 ∙ stands ∙ ap (state_after base) (sym e.0))
+
+  -- each entry entered
+  pub entered_still : old ≡ state_after base history → (1 ≤ session) × (session ≤ 2) → AllEntered base history → AllEntered base history'
+  entered_still stands number all =
+      either (AllEntered base history')
+      (λ is e. subst (AllEntered base) (sym e.0) (entered_more base history entry (ap (λ s. enters s session statement) (sym stands) ∙ is) number all))
+      (λ is e. subst (AllEntered base) (sym e.0) all)
 
   -- the session has seen all entries of its own
   pub sees_own : HasSeenOwn session watch' history'
@@ -140,20 +176,22 @@ module _ (session : ℕ) (statement : Statement) (answer : Answer) (base old new
       known_same session _ _ _ _ _ _ (whole_taken watch'.seen history' serves.whole ∙ e.0) (ap (entries_of session) e.0) serves.looked in
       subst (IsAnswered base statement answer before) (sym same) (answered_outside base statement answer before mid looked (is_reply false stands is)))
 
--- however serving ends, the server is what the history leaves, and both sessions have seen their own entries
+-- however serving ends, the server is what the history leaves, both sessions have seen their own entries, and each entry entered
 pub after_serving : (session other : ℕ) (statement : Statement) (result : Result Answer Fault) (base old new : State) (history history' : List Entry)
     (watch watch' mark : Watch)
     → IfOk result (λ answer. Serves session statement answer old history watch new history' watch')
     → OnErr result (new ≡ old) → OnErr result (history' ≡ history) → OnErr result (watch' ≡ watch) → (session ≡ other → ⊥) → old ≡ state_after base history
-    → HasSeenOwn session watch history → HasSeenOwn other mark history
-    → (new ≡ state_after base history') × HasSeenOwn session watch' history' × HasSeenOwn other mark history'
-after_serving session other statement (Ok answer) base old new history history' watch watch' mark serves same none still apart stands own others = (
+    → HasSeenOwn session watch history → HasSeenOwn other mark history → (1 ≤ session) × (session ≤ 2) → AllEntered base history
+    → (new ≡ state_after base history') × HasSeenOwn session watch' history' × HasSeenOwn other mark history' × AllEntered base history'
+after_serving session other statement (Ok answer) base old new history history' watch watch' mark serves same none still apart stands own others number all = (
   stands_still session statement answer base old new history history' watch watch' serves stands,
   sees_own session statement answer base old new history history' watch watch' serves,
   other_sees session statement answer base old new history history' watch watch' serves other mark apart others,
+  entered_still session statement answer base old new history history' watch watch' serves stands number all,
 )
-after_serving session other statement (Err fault) base old new history history' watch watch' mark serves same none still apart stands own others = (
+after_serving session other statement (Err fault) base old new history history' watch watch' mark serves same none still apart stands own others number all = (
   same ∙ stands ∙ ap (state_after base) (sym none),
   subst (HasSeenOwn session watch') (sym none) (subst (λ w. HasSeenOwn session w history) (sym still) own),
   subst (HasSeenOwn other mark) (sym none) others,
+  subst (AllEntered base) (sym none) all,
 )

@@ -1,8 +1,9 @@
 -- What a session of a lasting store knows of its history, and how a statement is served.
 --     known_by         what a session knows, by how far it has come
 --     HasSeenOwn       a session has seen all entries of its own
+--     AllEntered       each entry of a history entered where it stands
 --     Serves           a statement was answered from the state that the whole history leaves
-use Rattle.std.specs.Prelude.{◌≡◌, ◌≤◌, ◌+◌, ℕ, true, false, List, [], ◌∷◌, ◌++◌, length, take}
+use Rattle.std.specs.Prelude.{◌≡◌, ◌≤◌, ◌+◌, ℕ, true, false, List, [], ◌∷◌, ◌++◌, length, take, slice_get, Some}
 use Rattle.xa_words.specs.Entry.{Entry}
 use Rattle.xa_xid.specs.declared.statement.Statement.{Statement}
 use Rattle.xa_server.specs.State.{State}
@@ -11,6 +12,7 @@ use Rattle.xa_server.specs.Step.{enters, after}
 use Rattle.decision_log.specs.History.{entries_of}
 use Rattle.decision_log.specs.declared.known.Known.{Known}
 use Rattle.xa_session.specs.Answer.{entry_of}
+use Rattle.xa_session.specs.Replay.{state_at}
 use Rattle.xa_session.specs.declared.answer.Answer.{Answer}
 use Rattle.xa_lasting.specs.declared.watch.Watch.{Watch}
 
@@ -29,6 +31,12 @@ known_by session watch history = record {
 pub record HasSeenOwn (session : ℕ) (watch : Watch) (history : List Entry) : Type 0 where
   pub within : watch.seen ≤ length history
   pub own : entries_of session (take watch.seen history) ≡ entries_of session history
+
+-- each entry entered where it stands, and is of session 1 or 2
+pub record AllEntered (base : State) (history : List Entry) : Type 0 where
+  pub entered : (place : ℕ) (entry : Entry) → slice_get history place ≡ Some entry
+      → enters (state_at base history place) entry.session entry.statement ≡ true
+  pub two : (place : ℕ) (entry : Entry) → slice_get history place ≡ Some entry → (1 ≤ entry.session) × (entry.session ≤ 2)
 
 -- the reply is the server's, at the end of the history; a statement that enters is carried out and stands next, else nothing changes; the session has looked,
 -- and has seen all

@@ -3,7 +3,7 @@ ghost use Rattle.std.specs.Prelude.{◌≡◌, Err, IfOk, OnErr, [], map};
 ghost use Rattle.xa_server.specs.Locks.{LockLaw};
 ghost use Rattle.xa_session.specs.Replay.{state_after};
 ghost use Rattle.xa_session.specs.declared.fault.Fault.TheVariants.{NoMemory as WantsMemory};
-ghost use Rattle.xa_lasting.specs.Watched.{HasSeenOwn};
+ghost use Rattle.xa_lasting.specs.Watched.{HasSeenOwn, AllEntered};
 
 use crate::Watch;
 use crate::serving::serve;
@@ -29,6 +29,7 @@ pub struct LastingStore {
     ghost stands: { server ≡ state_after first.value (map (λ one. one.value) history.items) },
     ghost own_seen: { HasSeenOwn 1 own (map (λ one. one.value) history.items) },
     ghost other_seen: { HasSeenOwn 2 other (map (λ one. one.value) history.items) },
+    ghost entered: { AllEntered first.value (map (λ one. one.value) history.items) },
 }
 
 impl LastingStore {
@@ -39,7 +40,7 @@ impl LastingStore {
     ///
     /// Takes no memory. Doesn't wait.
     /// Own rule: docs/COORDINATOR.md, 'Stores that last'.
-    #[tactic(auto, using(crate::proofs::Served::starts))]
+    #[tactic(auto, using(crate::proofs::Served::starts, crate::proofs::Served::none_entered))]
     pub fn new(alloc: Global, server: Server) -> LastingStore
         ensures base { result.first.value ≡ server }
         ensures empty { history_of result ≡ [] }

@@ -6,3 +6,7 @@ pub mod Holding
 pub mod Moving
 pub mod Holds
 pub mod Recovering
+pub mod Finding
+pub mod Others
+pub mod Standing
+pub mod Plain

@@ -55,7 +55,7 @@ none_decided number is = by (number == 0) is
 pub one_of : {A : Type 0} (P : A → Type 0) (xs : List A) (place : ℕ) (x : A) → All P xs → slice_get xs place ≡ Some x → P x
 one_of P xs place x each is = subst P (get_or_from_slice_get xs place x x is) (each place x (slice_get_within xs place x is))
 
-nothing_in : {A : Type 0} (x : A) → Contains [] x → ⊥
+pub nothing_in : {A : Type 0} (x : A) → Contains [] x → ⊥
 nothing_in x there = let below : there.0 < 0 = there.1 in absurd (omega (arith, below))
 
 none_added : (session : Session) (statement : Statement) → IsPair (own_of session.inner) (other_of session.inner) → HasAdded session statement → ⊥
@@ -87,11 +87,11 @@ fresh_holds stores first fresh =
 
 -- ---- calls, and the last of them
 
-front_all : {A : Type 0} (P : A → Type 0) (xs : List A) (x : A) → All P (xs ++ x ∷ []) → All P xs
+pub front_all : {A : Type 0} (P : A → Type 0) (xs : List A) (x : A) → All P (xs ++ x ∷ []) → All P xs
 front_all P xs x each place d within =
     subst P (get_or_append_left xs (x ∷ []) d place within) (each place d (omega (arith, within, length-append xs (x ∷ []))))
 
-last_all : {A : Type 0} (P : A → Type 0) (xs : List A) (x : A) → All P (xs ++ x ∷ []) → P x
+pub last_all : {A : Type 0} (P : A → Type 0) (xs : List A) (x : A) → All P (xs ++ x ∷ []) → P x
 last_all P xs x each = All-contains P (xs ++ x ∷ []) x each (Contains-push xs x)
 
 pub calls_hold : (old new : Managing) (calls : List Call) (responses : List Response) → CarriesOut old calls responses new → All IsPlain calls → Holds old

@@ -4,23 +4,35 @@
 --     IsPlain          a call that isn't RECOVER
 --     IsAlone          of a transaction's branches, the coordinator began at most the one in this store
 --     GoesWith         a statement goes with the decisions
+--     LeavesBranches   a call that has no other client end a branch of the coordinator's
+--     WasCommitted     a prepared branch was committed, with all its writes
+--     AllOrNone        each transaction stands in all of its stores, or in none
 --     KeepsToDecisions     all that the coordinator added goes with them, and nothing of it is prepared
-use Rattle.std.specs.Prelude.{◌≡◌, ◌<◌, ◌^◌, ℕ, true, false, Some, slice_get, List, Contains, codes}
+--     LeavesWhole      so it is behind a stop, where the recovery came to its end
+use Rattle.std.specs.Prelude.{◌≡◌, ◌<◌, ◌+◌, ◌^◌, ℕ, Bool, true, false, Some, Ok, slice_get, List, Contains, codes}
+use Rattle.std.specs.FinMap as map
 use Rattle.xa_xid.specs.declared.xid.Xid.{Xid}
 use Rattle.xa_xid.specs.declared.statement.Statement.{Statement}
 use Rattle.xa_xid.specs.declared.statement.Statement.TheVariants.{Start, Commit, Rollback}
+use Rattle.xa_server.specs.State.{Branch, State, is_prepared}
+use Rattle.xa_server.specs.Step.{with_writes}
 use Rattle.xa_session.specs.Answer.{entry_of}
+use Rattle.xa_session.specs.Replay.{state_at}
 use Rattle.xa_coordinator.specs.Branch.{branch_xid, IsBranchOf}
 use Rattle.xa_coordinator.specs.Decisions.{is_decided}
-use Rattle.xa_coordinator.specs.Recovery.{NoneLeft}
+use Rattle.xa_coordinator.specs.Recovery.{NoneLeft, IsNamed}
 use Rattle.xa_coordinator.specs.declared.decisions.Decision.{Decision}
 use Rattle.xa_coordinator.specs.declared.fused.Fused.{Fused}
+use Rattle.xa_coordinator.specs.declared.report.Report.{Report}
+use Rattle.xa_lasting.specs.Lasting.{history_of}
 use Rattle.xa_manager.specs.Calls.{takes_rows}
 use Rattle.xa_manager.specs.declared.call.Call.{Call}
-use Rattle.xa_manager.specs.declared.call.Call.TheVariants.{Work, Recover}
+use Rattle.xa_manager.specs.declared.call.Call.TheVariants.{Work, Recover, At}
+use Rattle.xa_manager.specs.declared.response.Response.TheVariants.{Recovered}
 use Rattle.xa_stops.specs.declared.counted_store.CountedStore.{CountedStore}
 use Rattle.xa_stops.specs.Counted.{own_of}
 use Rattle.xa_stops.specs.Runs.{Managing}
+use Rattle.xa_stops.specs.Stops.{IsLeft}
 
 -- the branch that the transaction of a number has in a store: the coordinator is `c`
 abbrev pub branch_in : ℕ → ℕ → Xid
@@ -60,3 +72,40 @@ pub record KeepsToDecisions (last : Managing) : Type 0 where
   pub goes : (store : ℕ) (session : Fused CountedStore) (statement : Statement) → slice_get last.sessions store ≡ Some session → HasAdded session statement
       → GoesWith last.decisions last.sessions store statement
   pub none_left : (store : ℕ) (session : Fused CountedStore) → slice_get last.sessions store ≡ Some session → NoneLeft (codes "c") store (own_of session.inner)
+
+-- XA COMMIT and XA ROLLBACK are of no branch of the coordinator's naming
+abbrev pub EndsNone : ℕ → Statement → Type 0
+EndsNone store (Commit xid one_phase) = IsNamed (codes "c") store xid → ⊥
+EndsNone store (Rollback xid) = IsNamed (codes "c") store xid → ⊥
+EndsNone store statement = Unit {0}
+
+-- a call that has no other client end a branch of the coordinator's naming
+abbrev pub LeavesBranches : Call → Type 0
+LeavesBranches (At store statement) = EndsNone store statement
+LeavesBranches call = Unit {0}
+
+-- the state that the store's first so many entries left
+abbrev pub state_before : CountedStore → ℕ → State
+state_before counted place = state_at counted.store.first.value (history_of counted.store) place
+
+-- at a place of the store's history the branch was PREPARED, and the coordinator's XA COMMIT there made all its writes the committed values
+pub record WasCommitted (counted : CountedStore) (xid : Xid) : Type 0 where
+  pub place : ℕ
+  pub there : slice_get (history_of counted.store) place ≡ Some (entry_of 1 (Commit xid false))
+  pub prepared : is_prepared (state_before counted place) xid ≡ true
+  pub rows : (branch : Branch) → map.get (state_before counted place).branches xid ≡ Some branch
+      → (state_before counted (place + 1)).rows ≡ with_writes (map.entries branch.writes) (state_before counted place).rows
+
+-- a decided transaction was committed in each store in which the coordinator began a branch of it; of an undecided one an XA COMMIT, whoever gave it, stands in a
+-- store's history only with ONE PHASE, and then the coordinator began no branch of it in another store
+pub record AllOrNone (last : Managing) : Type 0 where
+  pub all : (number store : ℕ) (session : Fused CountedStore) → number < 2 ^ 64 → is_decided last.decisions number ≡ true
+      → slice_get last.sessions store ≡ Some session → HasAdded session (Start (branch_in number store)) → WasCommitted session.inner (branch_in number store)
+  pub none : (number store : ℕ) (session : Fused CountedStore) (place client : ℕ) (one_phase : Bool) → number < 2 ^ 64
+      → is_decided last.decisions number ≡ false → slice_get last.sessions store ≡ Some session
+      → slice_get (history_of session.inner.store) place ≡ Some (entry_of client (Commit (branch_in number store) one_phase))
+      → (one_phase ≡ true) × IsAlone last.sessions number store
+
+-- where the recovery behind a stop came to its end, what it left is so
+abbrev pub LeavesWhole : {stores : ℕ} {script told : List Call} {text : List ℕ} → IsLeft stores script told text → Type 0
+LeavesWhole left = (report : Report) → left.response ≡ Recovered (Ok report) → KeepsToDecisions left.last × AllOrNone left.last

@@ -6,7 +6,10 @@ ghost use Rattle.xa_manager.specs.declared.call.Call.TheVariants.{Recover};
 ghost use Rattle.xa_manager.specs.declared.response.Response.{Response};
 ghost use Rattle.xa_manager.specs.declared.response.Response.TheVariants.{Recovered};
 ghost use Rattle.xa_stops.specs.Runs.{Managing, IsRun};
-ghost use Rattle.xa_stops.specs.Atomic.{IsPlain, KeepsToDecisions};
+ghost use Rattle.xa_stops.specs.declared.stop.Stop.{Stop};
+ghost use Rattle.xa_stops.specs.Atomic.{IsPlain, KeepsToDecisions, LeavesBranches, AllOrNone, LeavesWhole};
+ghost use Rattle.xa_stops.specs.Scripts.{calls_of};
+ghost use Rattle.xa_stops.specs.Stops.{IsStopText, IsShown};
 
 /// Behind calls, none of them `RECOVER`, and a recovery that came to its end, everything that the coordinator ever added to a store goes with
 /// the decisions as they stand then, and none of its branches is prepared.
@@ -16,4 +19,26 @@ pub fn recovery_keeps_to_decisions()
     ensures { (stores : ℕ) (told : List Call) (responses : List Response) (report : Report) (last : Managing) → All IsPlain told
         → IsRun stores (told ++ Recover ∷ []) (responses ++ Recovered (Ok report) ∷ []) last
         → KeepsToDecisions last }
+{}
+
+/// Then each transaction stands in all stores in which it has a branch, or in none: a decided one was committed in each, and one that isn't
+/// decided in none, or by ONE PHASE in the only store in which it has one. The condition is that no call has another client end a branch of
+/// the coordinator's naming.
+///
+/// Own rule: docs/COORDINATOR.md, 'Every stop'.
+pub fn transactions_stand_whole_or_not_at_all()
+    ensures { (stores : ℕ) (told : List Call) (responses : List Response) (report : Report) (last : Managing) → All IsPlain told
+        → All LeavesBranches told
+        → IsRun stores (told ++ Recover ∷ []) (responses ++ Recovered (Ok report) ∷ []) last
+        → AllOrNone last }
+{}
+
+/// So it is behind each stop that is shown of a script, and behind all its lines, wherever `RECOVERED` is written.
+///
+/// Own rule: docs/COORDINATOR.md, 'Every stop'.
+pub fn each_stop_leaves_all_or_none()
+    ensures stop { (stores : ℕ) (script : List ℕ) (made : List (List ℕ)) (stop : Stop) (text : List ℕ) → All LeavesBranches (calls_of script)
+        → (shown : IsStopText stores (calls_of script) made stop text)
+        → LeavesWhole shown.left }
+    ensures end { (stores : ℕ) (script text : List ℕ) → All LeavesBranches (calls_of script) → (shown : IsShown stores (calls_of script) text) → LeavesWhole shown.left }
 {}

@@ -21,8 +21,8 @@ invariant_of-self c =
     store.other
     (subst (λ n. IfOk c.serve.result (λ answer. Serves n c.args.statement.now answer store.server history store.own c.serve.new.server history' c.serve.new.watch))
     c.in-Some.ensures.number c.serve.ensures.ok)
-    c.serve.ensures.server c.serve.ensures.history c.serve.ensures.watch apart store.stands store.own_seen store.other_seen in
-    record { lawful = store.lawful; stands = all.0; own_seen = all.1; other_seen = all.2 }
+    c.serve.ensures.server c.serve.ensures.history c.serve.ensures.watch apart store.stands store.own_seen store.other_seen (omega arith, omega arith) store.entered in
+    record { lawful = store.lawful; stands = all.0; own_seen = all.1; other_seen = all.2; entered = all.3 }
 
 pub returns-in-Ok-clause-answered : goal.returns-in-Ok-clause-answered
 returns-in-Ok-clause-answered c =
