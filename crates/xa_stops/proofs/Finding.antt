@@ -160,44 +160,66 @@ prepares state session xid entering =
 
 -- ---- along a history
 
--- at this place the branch is PREPARED, and the entry there ends it
-pub record IsEndedAt (base : State) (history : List Entry) (xid : Xid) : Type 0 where
+-- from one place on the branch is PREPARED, up to this one, and the entry there ends it
+pub record IsEndedAt (base : State) (history : List Entry) (from : ℕ) (xid : Xid) : Type 0 where
   pub place : ℕ
+  pub behind : from ≤ place
   pub entry : Entry
   pub there : slice_get history place ≡ Some entry
-  pub prepared : is_prepared (state_at base history place) xid ≡ true
+  pub prepared : (at : ℕ) → from ≤ at → at ≤ place → is_prepared (state_at base history at) xid ≡ true
   pub ends : EndsBranch xid entry.statement
 
-later : (base : State) (first : Entry) (rest : List Entry) (xid : Xid) → IsEndedAt (after base first.session first.statement) rest xid
-    → IsEndedAt base (first ∷ rest) xid
+later : (base : State) (first : Entry) (rest : List Entry) (from : ℕ) (xid : Xid)
+    → IsEndedAt (after base first.session first.statement) rest from xid → IsEndedAt base (first ∷ rest) (suc from) xid
 unfolding state_after
-later base first rest xid is = record { place = suc is.place; entry = is.entry; there = is.there; prepared = is.prepared; ends = is.ends }
+later base first rest from xid is =
+    record { place = suc is.place; behind = omega (arith, is.behind); entry = is.entry; there = is.there; prepared = by; ends = is.ends }
+  where
+    by : (at : ℕ) → suc from ≤ at → at ≤ suc is.place → is_prepared (state_at base (first ∷ rest) at) xid ≡ true
+    by zero less more = absurd (omega (arith, less))
+    by (suc at) less more = is.prepared at (omega (arith, less)) (omega (arith, more))
+
+-- one entry before it the branch is PREPARED, too
+sooner : (base : State) (first : Entry) (rest : List Entry) (xid : Xid) → is_prepared base xid ≡ true
+    → IsEndedAt (after base first.session first.statement) rest 0 xid → IsEndedAt base (first ∷ rest) 0 xid
+unfolding state_after
+sooner base first rest xid now is =
+    record { place = suc is.place; behind = omega arith; entry = is.entry; there = is.there; prepared = by; ends = is.ends }
+  where
+    by : (at : ℕ) → 0 ≤ at → at ≤ suc is.place → is_prepared (state_at base (first ∷ rest) at) xid ≡ true
+    by zero less more = now
+    by (suc at) less more = is.prepared at (omega arith) (omega (arith, more))
 
 first_or_later : (base : State) (first : Entry) (rest : List Entry) (xid : Xid) → is_prepared base xid ≡ true → (b : Bool)
     → is_prepared (after base first.session first.statement) xid ≡ b
-    → (is_prepared (after base first.session first.statement) xid ≡ true → IsEndedAt (after base first.session first.statement) rest xid)
-    → IsEndedAt base (first ∷ rest) xid
+    → (is_prepared (after base first.session first.statement) xid ≡ true → IsEndedAt (after base first.session first.statement) rest 0 xid)
+    → IsEndedAt base (first ∷ rest) 0 xid
 unfolding state_after
-first_or_later base first rest xid is true still behind = later base first rest xid (behind still)
-first_or_later base first rest xid is false gone behind = record {
+first_or_later base first rest xid is true still rest_of = sooner base first rest xid is (rest_of still)
+first_or_later base first rest xid is false gone rest_of = record {
   place = zero;
+  behind = omega arith;
   entry = first;
   there = refl;
-  prepared = is;
+  prepared = at_first;
   ends = ends_prepared base first.session first.statement xid is gone;
 }
+  where
+    at_first : (at : ℕ) → 0 ≤ at → at ≤ 0 → is_prepared (state_at base (first ∷ rest) at) xid ≡ true
+    at_first zero less more = is
+    at_first (suc at) less more = absurd (omega (arith, more))
 
 -- a branch that is PREPARED at a place and isn't in the end was ended
-pub ended_behind : (base : State) (history : List Entry) (place : ℕ) (xid : Xid) → is_prepared (state_at base history place) xid ≡ true
-    → is_prepared (state_after base history) xid ≡ false → IsEndedAt base history xid
+pub ended_behind : (base : State) (history : List Entry) (from : ℕ) (xid : Xid) → from ≤ length history → is_prepared (state_at base history from) xid ≡ true
+    → is_prepared (state_after base history) xid ≡ false → IsEndedAt base history from xid
 unfolding state_after
-ended_behind base [] zero xid is isn't = clash (is_prepared base xid) is isn't
-ended_behind base [] (suc place) xid is isn't = clash (is_prepared base xid) is isn't
-ended_behind base (first ∷ rest) (suc place) xid is isn't =
-    later base first rest xid (ended_behind (after base first.session first.statement) rest place xid is isn't)
-ended_behind base (first ∷ rest) zero xid is isn't =
+ended_behind base [] zero xid within is isn't = clash (is_prepared base xid) is isn't
+ended_behind base [] (suc from) xid within is isn't = clash (is_prepared base xid) is isn't
+ended_behind base (first ∷ rest) (suc from) xid within is isn't =
+    later base first rest from xid (ended_behind (after base first.session first.statement) rest from xid (omega (arith, within)) is isn't)
+ended_behind base (first ∷ rest) zero xid within is isn't =
     first_or_later base first rest xid is (is_prepared (after base first.session first.statement) xid) refl
-    (λ still. ended_behind (after base first.session first.statement) rest zero xid still isn't)
+    (λ still. ended_behind (after base first.session first.statement) rest zero xid (omega arith) still isn't)
 
 -- ---- what a commit does to the rows
 

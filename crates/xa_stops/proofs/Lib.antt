@@ -10,3 +10,4 @@ pub mod Finding
 pub mod Others
 pub mod Standing
 pub mod Plain
+pub mod Changing

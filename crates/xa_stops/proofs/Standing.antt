@@ -194,17 +194,20 @@ module _ (decisions : _) (sessions : List Session) (number store : ℕ) (session
       let prepared : is_prepared (state_at base seen (found.0 + 1)) xid ≡ true =
       ap (λ s. is_prepared s xid) (state_at-next base seen found.0 (entry_of 1 (Prepare xid)) found.1)
       ∙ prepares (state_at base seen found.0) 1 xid entering in
-      let ended : IsEndedAt base seen xid = ended_behind base seen (found.0 + 1) xid prepared gone in
+      let ended : IsEndedAt base seen (found.0 + 1) xid = ended_behind base seen (found.0 + 1) xid (omega (arith, below)) prepared gone in
       let at : slice_get history ended.place ≡ Some ended.entry = get_begins seen history ended.place ended.entry begins ended.there in
       let is : ended.entry ≡ entry_of 1 (Commit xid false) = ended_how ended.entry ended.place decided at ended.ends in
       let commits : slice_get history ended.place ≡ Some (entry_of 1 (Commit xid false)) = at ∙ ap Some is in
       let within_seen : ended.place < length seen = slice_get_within seen ended.place ended.entry ended.there in
-      let same_state : state_at base history ended.place ≡ state_at base seen ended.place =
-      state_at-begins base seen history ended.place begins (omega (arith, within_seen)) in
       record {
+        prepare = found.0;
+        prepares = there;
         place = ended.place;
-        there = commits;
-        prepared = ap (λ s. is_prepared s xid) same_state ∙ ended.prepared;
+        later = omega (arith, ended.behind);
+        prepared = λ k more less.
+            ap (λ s. is_prepared s xid) (state_at-begins base seen history k begins (omega (arith, less, within_seen)))
+            ∙ ended.prepared k (omega (arith, more)) less;
+        commits = commits;
         rows = λ branch found_branch.
             ap (λ (s : State). s.rows) (state_at-next base history ended.place (entry_of 1 (Commit xid false)) commits)
             ∙ commit_rows (state_at base history ended.place) 1 xid false branch

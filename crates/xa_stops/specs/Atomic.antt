@@ -5,16 +5,20 @@
 --     IsAlone          of a transaction's branches, the coordinator began at most the one in this store
 --     GoesWith         a statement goes with the decisions
 --     LeavesBranches   a call that has no other client end a branch of the coordinator's
+--     ChangesRows      a statement that changes committed values
 --     WasCommitted     a prepared branch was committed, with all its writes
 --     AllOrNone        each transaction stands in all of its stores, or in none
 --     KeepsToDecisions     all that the coordinator added goes with them, and nothing of it is prepared
 --     LeavesWhole      so it is behind a stop, where the recovery came to its end
-use Rattle.std.specs.Prelude.{◌≡◌, ◌<◌, ◌+◌, ◌^◌, ℕ, Bool, true, false, Some, Ok, slice_get, List, Contains, codes}
+use Rattle.std.specs.Prelude.{◌≡◌, ◌⊎◌, ◌<◌, ◌≤◌, ◌+◌, ◌^◌, ℕ, Bool, true, false, Some, Ok, slice_get, List, Contains, codes}
 use Rattle.std.specs.FinMap as map
+use Rattle.xa_words.specs.Entry.{Entry}
 use Rattle.xa_xid.specs.declared.xid.Xid.{Xid}
 use Rattle.xa_xid.specs.declared.statement.Statement.{Statement}
-use Rattle.xa_xid.specs.declared.statement.Statement.TheVariants.{Start, Commit, Rollback}
-use Rattle.xa_server.specs.State.{Branch, State, is_prepared}
+use Rattle.xa_xid.specs.declared.statement.Statement.TheVariants.{Start, Prepare, Commit, Rollback, Put, Del}
+use Rattle.xa_server.specs.State.{Branch, State, association_of, is_prepared}
+use Rattle.xa_server.specs.declared.association.Association.{Association}
+use Rattle.xa_server.specs.declared.association.Association.TheVariants.{Free}
 use Rattle.xa_server.specs.Step.{with_writes}
 use Rattle.xa_session.specs.Answer.{entry_of}
 use Rattle.xa_session.specs.Replay.{state_at}
@@ -88,11 +92,28 @@ LeavesBranches call = Unit {0}
 abbrev pub state_before : CountedStore → ℕ → State
 state_before counted place = state_at counted.store.first.value (history_of counted.store) place
 
--- at a place of the store's history the branch was PREPARED, and the coordinator's XA COMMIT there made all its writes the committed values
+-- a commit, or a write of a session that has no branch open, which is carried out at once
+abbrev pub ChangesRows : Association → Statement → Type 0
+ChangesRows association (Commit xid one_phase) = Unit {0}
+ChangesRows association (Put key value) = association ≡ Free
+ChangesRows association (Del key) = association ≡ Free
+ChangesRows association statement = ⊥
+
+-- the committed values are as before, or the entry at this place is of that kind
+abbrev pub KeepsRowsOr : CountedStore → ℕ → Entry → Type 0
+KeepsRowsOr counted place entry =
+    ((state_before counted (place + 1)).rows ≡ (state_before counted place).rows)
+    ⊎ ChangesRows (association_of (state_before counted place) entry.session) entry.statement
+
+-- the coordinator's XA PREPARE of the branch stands in the store's history, from there on the branch was PREPARED up to a later place, and the coordinator's XA COMMIT
+-- there made all its writes the committed values
 pub record WasCommitted (counted : CountedStore) (xid : Xid) : Type 0 where
+  pub prepare : ℕ
+  pub prepares : slice_get (history_of counted.store) prepare ≡ Some (entry_of 1 (Prepare xid))
   pub place : ℕ
-  pub there : slice_get (history_of counted.store) place ≡ Some (entry_of 1 (Commit xid false))
-  pub prepared : is_prepared (state_before counted place) xid ≡ true
+  pub later : prepare < place
+  pub prepared : (at : ℕ) → prepare < at → at ≤ place → is_prepared (state_before counted at) xid ≡ true
+  pub commits : slice_get (history_of counted.store) place ≡ Some (entry_of 1 (Commit xid false))
   pub rows : (branch : Branch) → map.get (state_before counted place).branches xid ≡ Some branch
       → (state_before counted (place + 1)).rows ≡ with_writes (map.entries branch.writes) (state_before counted place).rows
 

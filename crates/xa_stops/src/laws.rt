@@ -1,5 +1,5 @@
 //! What follows from what a recovery leaves behind a stop.
-ghost use Rattle.std.specs.Prelude.{◌≡◌, ◌++◌, ◌∷◌, [], Ok, List, ℕ, All};
+ghost use Rattle.std.specs.Prelude.{◌≡◌, Some, slice_get, ◌++◌, ◌∷◌, [], Ok, List, ℕ, All};
 ghost use Rattle.xa_coordinator.specs.declared.report.Report.{Report};
 ghost use Rattle.xa_manager.specs.declared.call.Call.{Call};
 ghost use Rattle.xa_manager.specs.declared.call.Call.TheVariants.{Recover};
@@ -7,7 +7,10 @@ ghost use Rattle.xa_manager.specs.declared.response.Response.{Response};
 ghost use Rattle.xa_manager.specs.declared.response.Response.TheVariants.{Recovered};
 ghost use Rattle.xa_stops.specs.Runs.{Managing, IsRun};
 ghost use Rattle.xa_stops.specs.declared.stop.Stop.{Stop};
-ghost use Rattle.xa_stops.specs.Atomic.{IsPlain, KeepsToDecisions, LeavesBranches, AllOrNone, LeavesWhole};
+ghost use Rattle.xa_stops.specs.Atomic.{IsPlain, KeepsToDecisions, LeavesBranches, AllOrNone, LeavesWhole, KeepsRowsOr};
+ghost use Rattle.xa_lasting.specs.Lasting.{history_of};
+ghost use Rattle.xa_stops.specs.declared.counted_store.CountedStore.{CountedStore};
+ghost use Rattle.xa_words.specs.Entry.{Entry};
 ghost use Rattle.xa_stops.specs.Scripts.{calls_of};
 ghost use Rattle.xa_stops.specs.Stops.{IsStopText, IsShown};
 
@@ -41,4 +44,11 @@ pub fn each_stop_leaves_all_or_none()
         → (shown : IsStopText stores (calls_of script) made stop text)
         → LeavesWhole shown.left }
     ensures end { (stores : ℕ) (script text : List ℕ) → All LeavesBranches (calls_of script) → (shown : IsShown stores (calls_of script) text) → LeavesWhole shown.left }
+{}
+
+/// In a store's history nothing changes a committed value but commits, and writes of sessions that have no branch open.
+///
+/// Own rule: docs/BEHAVIOR.md, 'Rows'.
+pub fn commits_change_rows()
+    ensures { (counted : CountedStore) (place : ℕ) (entry : Entry) → slice_get (history_of counted.store) place ≡ Some entry → KeepsRowsOr counted place entry }
 {}
