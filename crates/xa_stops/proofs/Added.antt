@@ -1,8 +1,8 @@
 -- Which statements calls add in the stores.
-use Rattle.std.proofs.Common.{◌≡◌, ◌≢◌, ◌⊎◌, ℕ, Bool, true, false, List, [], ◌∷◌, ◌++◌, map, refl, ap, sym, ◌∙◌, subst, inl, inr, append-nil, append_assoc, Result, Ok, Err}
-use Rattle.std.specs.Prelude.{slice_get, Option, Some, All, Contains}
+use Rattle.std.proofs.Common.{◌≡◌, ◌⊎◌, ℕ, Bool, true, false, List, [], ◌∷◌, ◌++◌, map, refl, ap, sym, ◌∙◌, subst, inl, inr, append-nil, append_assoc, Result, Ok, Err}
+use Rattle.std.specs.Prelude.{slice_get, Option, All, Contains}
 use Rattle.std.proofs.lemmas.List.{map-append}
-use Rattle.std.proofs.lemmas.List.Elements.{All-nil, All-cons, All-append, All-head, All-tail, All-contains, Contains-append_left, Contains-append_right, Contains-append_cases}
+use Rattle.std.proofs.lemmas.List.Elements.{All-nil, All-cons, All-append, All-head, All-tail, All-contains, Contains-append_left, Contains-append_cases}
 use Rattle.xa_words.specs.Entry.{Entry}
 use Rattle.xa_xid.specs.declared.xid.Xid.{Xid}
 use Rattle.xa_xid.specs.declared.statement.Statement.{Statement}
@@ -12,16 +12,14 @@ use Rattle.xa_server.specs.declared.reply.Reply.{Reply}
 use Rattle.xa_session.specs.Answer.{entry_of}
 use Rattle.xa_session.specs.Replay.{state_at}
 use Rattle.xa_session.specs.View.{SessionView}
-use Rattle.xa_session.specs.declared.fault.Fault.{Fault}
 use Rattle.xa_coordinator.specs.Agreement.{AddsStatements}
 use Rattle.xa_coordinator.specs.Branch.{IsBranchOf}
 use Rattle.xa_coordinator.specs.Decisions.{is_decided}
-use Rattle.xa_coordinator.specs.OpenBranches.{IsWorking}
 use Rattle.xa_coordinator.specs.Outcomes.{branch_of, finish_statement, ends_in, lists_store, IsClosed, Settles, SettlesIn, IsVoted, IsEnded, EndsAs, VotesAs}
 use Rattle.xa_coordinator.specs.Participants.{takes_part}
-use Rattle.xa_coordinator.specs.Recovery.{IsDisconnected, IsNamed, SettlesOne, foreign, committed, rolled_back, missing, Settled, nothing, one_more, IsRecovered}
+use Rattle.xa_coordinator.specs.Recovery.{IsDisconnected, SettlesOne, foreign, committed, rolled_back, missing, Settled, nothing, one_more, IsRecovered}
 use Rattle.xa_coordinator.specs.Stores.{AtStore, EachStore, ChangesAt}
-use Rattle.xa_coordinator.specs.Told.{IsDone, IsUndone, IsUndoneBehind, IsStopped, IsMissing, IsUnfinished}
+use Rattle.xa_coordinator.specs.Told.{IsUndone, IsUndoneBehind, IsStopped, IsMissing, IsUnfinished}
 use Rattle.xa_coordinator.specs.Work.{MayBe, MayStart, was_open, was_started, IsReplied, IsWorked, IsCut, WorksAs}
 use Rattle.xa_coordinator.specs.declared.branches.OpenBranch.{OpenBranch}
 use Rattle.xa_coordinator.specs.declared.closing.Closing.{Closing}
@@ -35,7 +33,7 @@ use Rattle.xa_coordinator.specs.declared.report.Tally.{Tally}
 use Rattle.xa_coordinator.specs.declared.transaction.Transaction.{Transaction}
 use Rattle.xa_coordinator.specs.declared.vote.Vote.{Vote}
 use Rattle.xa_coordinator.specs.declared.vote.Vote.TheVariants.{Ready, OnePhase, No, Nothing}
-use Rattle.xa_coordinator.proofs.Walk.{at_weaker, at_same, from_ends, only_at, same_one}
+use Rattle.xa_coordinator.proofs.Walk.{at_weaker, at_same, from_ends, only_at}
 
 -- a session added statements of this kind alone
 pub record AddsOnly (kind : Statement → Type 0) (old new : SessionView) : Type 0 where

@@ -1,9 +1,8 @@
 -- How a prepared branch of a history is ended.
-use Rattle.std.proofs.Common.{◌≡◌, ◌⊎◌, ◌<◌, ◌≤◌, ◌+◌, ℕ, zero, suc, Bool, true, false, cond, List, [], ◌∷◌, ◌++◌, length, take, filter, refl, ap, sym, ◌∙◌, subst, inl, inr, Some, None, arith}
-use Rattle.std.specs.Prelude.{slice_get, Option, Contains, not, ◌&&◌}
+use Rattle.std.proofs.Common.{◌≡◌, ◌⊎◌, ◌≤◌, ℕ, zero, suc, Bool, true, false, cond, List, [], ◌∷◌, length, refl, ap, sym, ◌∙◌, subst, inl, inr, Some, None, arith}
+use Rattle.std.specs.Prelude.{slice_get, Option, not, ◌&&◌}
 use Rattle.std.specs.Option.{option_map, option_map_or}
 use Rattle.std.specs.FinMap as map
-use Rattle.std.proofs.lemmas.Map.Made.{Contains-tail}
 use mathlib.Core.Bool.{true≢false}
 use Rattle.xa_xid.specs.Xid.{same_xid}
 use Rattle.xa_xid.specs.declared.xid.Xid.{Xid}
@@ -17,7 +16,7 @@ use Rattle.xa_server.specs.Step.{enters, may_enter, is_refused, after, effect, c
 use Rattle.xa_server.specs.declared.association.Association.{Association}
 use Rattle.xa_server.specs.declared.association.Association.TheVariants.{Free, Active, Idle}
 use Rattle.xa_server.specs.declared.branch.Phase.{Phase}
-use Rattle.xa_server.specs.declared.branch.Phase.TheVariants.{Active as PhaseActive, Idle as PhaseIdle, Prepared as PhasePrepared}
+use Rattle.xa_server.specs.declared.branch.Phase.TheVariants.{Active as PhaseActive, Idle as PhaseIdle}
 use Rattle.xa_server.proofs.Accepted.{open_association, own_is, accepted_start, accepted_end, known_prepared}
 use Rattle.xa_server.proofs.Changes.{idle, detached, branch_after, effect-branch, accepted_done, outcome}
 use Rattle.xa_server.proofs.Maps.{same_or_apart, same_itself}

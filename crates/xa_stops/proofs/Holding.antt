@@ -1,34 +1,26 @@
 -- What holds of a manager before any recovery: what the coordinator added goes with how far each transaction has come.
-use Rattle.std.proofs.Common.{◌≡◌, ◌≢◌, ◌⊎◌, ◌<◌, ◌+◌, ◌-◌, ◌^◌, ℕ, zero, suc, Bool, true, false, cond, List, [], ◌∷◌, ◌++◌, length, map, refl, ap, sym, ◌∙◌, subst, inl, inr, Some, None, arith}
-use Rattle.std.specs.Prelude.{slice_get, slice_set, Option, Contains, codes, ◌==◌}
-use Rattle.std.proofs.lemmas.Bool.{eqb-false, eqb-true}
-use Rattle.std.proofs.lemmas.Bool.Decides.{eqb_tells}
-use Rattle.std.proofs.lemmas.Option.{slice_get-get_or, slice_get_within, same_Some}
-use Rattle.xa_xid.specs.declared.xid.Xid.{Xid}
+use Rattle.std.proofs.Common.{◌≡◌, ◌⊎◌, ◌<◌, ◌^◌, ℕ, true, false, List, length, ap, sym, ◌∙◌, subst, inl, inr, Some, None, arith}
+use Rattle.std.specs.Prelude.{slice_get, Option, codes}
+use Rattle.std.proofs.lemmas.Option.{slice_get-get_or, slice_get_within}
 use Rattle.xa_xid.specs.declared.statement.Statement.{Statement}
 use Rattle.xa_xid.specs.declared.statement.Statement.TheVariants.{Start, End, Prepare, Commit, Rollback, Recover, Unsupported, Get, Put, Del, Disconnect}
 use Rattle.xa_session.specs.Answer.{entry_of}
-use Rattle.xa_session.specs.View.{SessionView}
 use Rattle.xa_coordinator.specs.Branch.{IsBranchOf}
-use Rattle.xa_coordinator.specs.Decisions.{decision_of, is_decided, decides, with_decided}
+use Rattle.xa_coordinator.specs.Decisions.{is_decided}
 use Rattle.xa_coordinator.specs.Participants.{takes_part, OnlyTakesPart}
 use Rattle.xa_coordinator.specs.Stores.{EachStore}
-use Rattle.xa_coordinator.specs.declared.decisions.Decision.{Decision}
-use Rattle.xa_coordinator.specs.declared.decisions.Decision.TheVariants.{Undecided, Decided}
 use Rattle.xa_coordinator.specs.declared.fused.Fused.{Fused}
 use Rattle.xa_coordinator.specs.declared.transaction.Prepared.{Prepared}
-use Rattle.xa_coordinator.specs.declared.transaction.Transaction.{Transaction}
 use Rattle.xa_coordinator.specs.declared.transaction.VoteKind.TheVariants.{OnePhase as VoteKindOnePhase}
-use Rattle.xa_coordinator.proofs.Places.{get_set_same, get_set_other}
 use Rattle.xa_manager.specs.Beside.{within}
-use Rattle.xa_manager.specs.Ledger.{stage_of, with_stage, transaction_in, IsTransactionOf}
+use Rattle.xa_manager.specs.Ledger.{stage_of, IsTransactionOf}
 use Rattle.xa_manager.specs.declared.stage.Stage.{Stage}
 use Rattle.xa_manager.specs.declared.stage.Stage.TheVariants.{Working, Ready, Voted, Over}
-use Rattle.xa_manager.proofs.Stages.{Kept, AllReady, kept_with, ready_with}
+use Rattle.xa_manager.proofs.Stages.{Kept, AllReady}
 use Rattle.xa_stops.specs.declared.counted_store.CountedStore.{CountedStore}
 use Rattle.xa_stops.specs.Counted.{own_of}
 use Rattle.xa_stops.specs.Runs.{Managing}
-use Rattle.xa_stops.specs.Atomic.{branch_in, HasAdded, IsAlone, IsOnePhase}
+use Rattle.xa_stops.specs.Atomic.{branch_in, HasAdded, IsAlone}
 use Rattle.xa_stops.proofs.Added.{AddsOnly, adds_none, added_or_there, stays_there}
 
 abbrev pub Session : Type 0

@@ -1,11 +1,10 @@
 -- What holds of a manager through calls of which none is RECOVER.
-use Rattle.std.proofs.Common.{◌≡◌, ◌≢◌, ◌⊎◌, ◌<◌, ◌+◌, ◌^◌, ℕ, zero, suc, Bool, true, false, List, [], ◌∷◌, ◌++◌, length, map, refl, ap, sym, ◌∙◌, subst, inl, inr, ⊎_elim, Some, None, arith}
-use Rattle.std.specs.Prelude.{slice_get, Option, Contains, codes, All, ◌==◌}
+use Rattle.std.proofs.Common.{◌≡◌, ◌⊎◌, ◌<◌, ◌^◌, ℕ, Bool, true, false, List, [], ◌∷◌, length, map, refl, ap, sym, ◌∙◌, subst, inl, inr, ⊎_elim, Some, arith}
+use Rattle.std.specs.Prelude.{slice_get, Contains, codes}
 use Rattle.std.specs.Option.{option_map}
-use Rattle.std.specs.Int.{w64, from_be_bytes}
 use Rattle.std.proofs.lemmas.Bool.Decides.{eqb_tells}
 use Rattle.std.proofs.lemmas.List.{length-map}
-use Rattle.std.proofs.lemmas.List.Elements.{All-head, All-tail, Contains-append_right}
+use Rattle.std.proofs.lemmas.List.Elements.{Contains-append_right}
 use Rattle.std.proofs.lemmas.Option.{slice_get-get_or, slice_get_within, slice_get-map, same_Some}
 use Rattle.xa_words.specs.Entry.{Entry}
 use Rattle.xa_xid.specs.declared.xid.Xid.{Xid}
@@ -13,18 +12,12 @@ use Rattle.xa_xid.specs.declared.statement.Statement.{Statement}
 use Rattle.xa_xid.specs.declared.statement.Statement.TheVariants.{Start, End, Prepare, Commit, Rollback, Recover as RecoverStatement, Unsupported, Get, Put, Del, Disconnect}
 use Rattle.xa_session.specs.Answer.{entry_of}
 use Rattle.xa_session.specs.View.{SessionView}
-use Rattle.xa_coordinator.specs.Agreement.{AddsStatements}
-use Rattle.xa_coordinator.specs.Beside.{IsLeftAlone}
 use Rattle.xa_coordinator.specs.Branch.{branch_xid, IsBranchOf}
 use Rattle.xa_coordinator.specs.Decisions.{is_decided}
-use Rattle.xa_coordinator.specs.OpenBranches.{KeepsOpen}
 use Rattle.xa_coordinator.specs.Outcomes.{branch_of, finish_statement, finish_for, VotesAs, IsVoted}
 use Rattle.xa_coordinator.specs.Participants.{takes_part, OnlyTakesPart}
-use Rattle.xa_coordinator.specs.Stores.{EachStore}
-use Rattle.xa_coordinator.specs.Work.{KeepsOthers}
 use Rattle.xa_coordinator.specs.declared.closing.Closing.{Closing}
 use Rattle.xa_coordinator.specs.declared.closing.Closing.TheVariants.{InTwoPhases, InOnePhase, RollBack}
-use Rattle.xa_coordinator.specs.declared.fused.Fused.{Fused}
 use Rattle.xa_coordinator.specs.declared.transaction.Prepared.{Prepared}
 use Rattle.xa_coordinator.specs.declared.transaction.Transaction.{Transaction}
 use Rattle.xa_coordinator.specs.declared.transaction.VoteKind.{VoteKind}
@@ -35,8 +28,8 @@ use Rattle.xa_coordinator.proofs.Listed.{number_behind_is}
 use Rattle.xa_lasting.specs.Lasting.{own_view}
 use Rattle.xa_manager.specs.Beside.{within, CarriesBeside, LeavesAlone}
 use Rattle.xa_manager.specs.Calls.{takes_rows}
-use Rattle.xa_manager.specs.Carried.{HasWorked, HasVoted, IsDecided, IsFinished, IsAbandoned, HasEnded, stage_after}
-use Rattle.xa_manager.specs.Ledger.{stage_of, with_stage, transaction_in, IsTransactionOf}
+use Rattle.xa_manager.specs.Carried.{HasWorked, HasVoted, IsFinished, IsAbandoned, HasEnded, stage_after}
+use Rattle.xa_manager.specs.Ledger.{stage_of, with_stage, IsTransactionOf}
 use Rattle.xa_manager.specs.declared.call.Call.{Call}
 use Rattle.xa_manager.specs.declared.call.Call.TheVariants.{Silent, Unread, Begin, Work, Prepare as PrepareCall, Decide, Finish, Abandon, Fail, Stop, Recover, At, Show}
 use Rattle.xa_manager.specs.declared.response.Response.{Response}
@@ -49,8 +42,8 @@ use Rattle.xa_stops.specs.Counted.{own_of, other_of}
 use Rattle.xa_stops.specs.Runs.{Managing, IsAnswered}
 use Rattle.xa_stops.specs.Atomic.{branch_in, HasAdded, IsPlain, IsAlone}
 use Rattle.xa_stops.proofs.Added.{AddsOnly, adds_none, ending_adds, vote_adds, work_adds, work_keeps}
-use Rattle.xa_stops.proofs.Holding.{Session, MayStandDecided, TookPart, IsUndecidedOver, Goes, Holds, Grows, grows_each, grows_same, grew_cases, Never, quiet}
-use Rattle.xa_stops.proofs.Moving.{Acts, acts, begins, decides_one, stage_put}
+use Rattle.xa_stops.proofs.Holding.{Session, MayStandDecided, TookPart, IsUndecidedOver, Goes, Holds, Grows, grows_each, grew_cases, Never, quiet}
+use Rattle.xa_stops.proofs.Moving.{acts, begins, decides_one, stage_put}
 
 -- ---- sessions that weren't spoken to
 

@@ -1,14 +1,14 @@
 -- What calls make of it.
-use Rattle.std.proofs.Common.{◌≡◌, ◌≢◌, ◌⊎◌, ◌<◌, ◌+◌, ◌-◌, ◌^◌, ℕ, zero, suc, Bool, true, false, cond, List, [], ◌∷◌, ◌++◌, length, map, refl, ap, sym, ◌∙◌, subst, inl, inr, Some, None, arith, length-append}
-use Rattle.std.specs.Prelude.{slice_get, slice_set, Option, Contains, codes, ◌==◌}
+use Rattle.std.proofs.Common.{◌≡◌, ◌≢◌, ◌⊎◌, ◌<◌, ◌+◌, ◌-◌, ◌^◌, ℕ, zero, suc, Bool, true, false, cond, List, [], ◌∷◌, ◌++◌, length, refl, ap, sym, ◌∙◌, subst, inl, inr, Some, None, arith, length-append}
+use Rattle.std.specs.Prelude.{slice_get, slice_set, Option, ◌==◌}
 use Rattle.std.proofs.lemmas.Bool.{eqb-false, eqb-true}
 use Rattle.std.proofs.lemmas.Bool.Decides.{eqb_tells}
 use Rattle.std.proofs.lemmas.List.{length-set}
-use Rattle.std.proofs.lemmas.Option.{slice_get-get_or, slice_get_within, same_Some}
+use Rattle.std.proofs.lemmas.Option.{slice_get_within, same_Some}
 use Rattle.xa_xid.specs.declared.statement.Statement.{Statement}
 use Rattle.xa_xid.specs.declared.statement.Statement.TheVariants.{Start, Prepare}
 use Rattle.xa_coordinator.specs.Decisions.{decision_of, is_decided, decides, with_decided}
-use Rattle.xa_coordinator.specs.Participants.{takes_part, OnlyTakesPart}
+use Rattle.xa_coordinator.specs.Participants.{OnlyTakesPart}
 use Rattle.xa_coordinator.specs.declared.decisions.Decision.{Decision}
 use Rattle.xa_coordinator.specs.declared.decisions.Decision.TheVariants.{Undecided, Decided}
 use Rattle.xa_coordinator.specs.declared.transaction.Prepared.{Prepared}
@@ -19,11 +19,11 @@ use Rattle.xa_coordinator.proofs.DecisionsOf.{decided_kept}
 use Rattle.xa_manager.specs.Ledger.{stage_of, with_stage, transaction_in, IsTransactionOf}
 use Rattle.xa_manager.specs.declared.stage.Stage.{Stage}
 use Rattle.xa_manager.specs.declared.stage.Stage.TheVariants.{Working, Ready, Voted, Over}
-use Rattle.xa_manager.proofs.Stages.{Kept, AllReady, kept_with, ready_with, kept_more, ready_more, stage_of-with, stage_of-append, with_stage-length}
+use Rattle.xa_manager.proofs.Stages.{kept_with, ready_with, kept_more, ready_more, stage_of-with, stage_of-append, with_stage-length}
 use Rattle.xa_manager.proofs.States.{working_kept}
 use Rattle.xa_stops.specs.Runs.{Managing}
 use Rattle.xa_stops.specs.Atomic.{branch_in, HasAdded}
-use Rattle.xa_stops.proofs.Holding.{Session, MayStandDecided, TookPart, IsUndecidedOver, Goes, PreparesAll, Holds, Grows, grows_same, grew_cases, grew_stays, GoesOn, Never, all_go, still_prepared}
+use Rattle.xa_stops.proofs.Holding.{Session, MayStandDecided, TookPart, Goes, PreparesAll, Holds, Grows, grows_same, grew_cases, GoesOn, Never, all_go, still_prepared}
 
 -- ---- another stage in the place of one
 

@@ -1,6 +1,6 @@
 -- What other clients add, where no call has them end a branch of the coordinator's.
-use Rattle.std.proofs.Common.{◌≡◌, ◌⊎◌, ◌<◌, ◌+◌, ℕ, Bool, true, false, List, [], ◌∷◌, ◌++◌, length, map, refl, ap, sym, ◌∙◌, subst, inl, inr, ⊎_elim, Some, None, Result, Ok, Err, arith, append-nil}
-use Rattle.std.specs.Prelude.{slice_get, Option, Contains, All}
+use Rattle.std.proofs.Common.{◌≡◌, ◌<◌, ℕ, Bool, true, false, List, [], ◌∷◌, length, refl, ap, sym, ◌∙◌, subst, inl, inr, ⊎_elim, Some, Result, Ok, Err, arith, append-nil}
+use Rattle.std.specs.Prelude.{slice_get, Contains, All}
 use Rattle.std.specs.Option.{option_map}
 use Rattle.std.proofs.lemmas.Bool.Decides.{eqb_tells}
 use Rattle.std.proofs.lemmas.List.{length-map}
@@ -19,7 +19,7 @@ use Rattle.xa_session.specs.declared.fault.Fault.{Fault}
 use Rattle.xa_session.proofs.Answering.{fails_unanswered}
 use Rattle.xa_lasting.specs.Lasting.{own_view}
 use Rattle.xa_manager.specs.Beside.{within, others_of, CarriesBeside, HasRepliedBeside, IsShownBeside}
-use Rattle.xa_manager.specs.Said.{IsGiven, IsListed}
+use Rattle.xa_manager.specs.Said.{IsGiven}
 use Rattle.xa_manager.specs.Whole.{IsPair}
 use Rattle.xa_manager.specs.declared.call.Call.{Call}
 use Rattle.xa_manager.specs.declared.call.Call.TheVariants.{Silent, Unread, Begin, Work, Prepare, Decide, Finish, Abandon, Fail, Stop, Recover, At, Show}

@@ -1,9 +1,8 @@
 -- The calls of a script, and those that are carried out for a stop of it.
-use Rattle.std.proofs.Common.{◌≡◌, ◌+◌, ℕ, zero, suc, Bool, true, false, List, [], ◌∷◌, ◌++◌, take, drop, map, refl, ap, sym, ◌∙◌, subst, Some, None, Result, Ok, Err, append_assoc}
+use Rattle.std.proofs.Common.{◌≡◌, ◌+◌, ℕ, zero, suc, Bool, true, false, List, [], ◌∷◌, ◌++◌, take, drop, map, refl, sym, subst, Some, None, Result, Ok, Err, append_assoc}
 use Rattle.std.specs.Prelude.{Option, All, if◌then◌else◌, bytes_eq, codes}
-use Rattle.std.proofs.lemmas.List.Elements.{All-nil, All-cons, All-append, All-head, All-tail, All-take, All-drop}
+use Rattle.std.proofs.lemmas.List.Elements.{All-nil, All-cons, All-append, All-take, All-drop}
 use Rattle.xa_xid.specs.declared.statement.Statement.{Statement}
-use Rattle.xa_coordinator.specs.declared.report.Report.{Report}
 use Rattle.xa_lines.specs.Received.{Received, Whole, TooLong, received_line}
 use Rattle.xa_xid.specs.Bytes.{unblank}
 use Rattle.xa_statement.specs.Reading.{read_of}
@@ -11,14 +10,14 @@ use Rattle.xa_lines.specs.Script.{lines_of, is_comment_line, first_word, behind_
 use Rattle.xa_manager.specs.Calls.{takes_rows, lone_number, alone, numbered, work_call, at_call, with_number, work_of, at_of, fail_of, plain_call, call_named, filled_call, call_of}
 use Rattle.xa_manager.specs.Served.{call_said}
 use Rattle.xa_manager.specs.declared.call.Call.{Call}
-use Rattle.xa_manager.specs.declared.call.Call.TheVariants.{Silent, Unread, Begin, Work, Prepare, Decide, Finish, Abandon, Fail, Stop as StopCall, Recover, At, Show}
+use Rattle.xa_manager.specs.declared.call.Call.TheVariants.{Silent, Unread, Begin, Work, Prepare, Decide, Finish, Abandon, Fail, Stop as StopCall, Recover, Show}
 use Rattle.xa_manager.specs.declared.response.Response.{Response}
 use Rattle.xa_manager.specs.declared.response.Response.TheVariants.{Recovered}
 use Rattle.xa_stops.specs.declared.stop.Stop.{Stop}
-use Rattle.xa_stops.specs.Runs.{Managing, IsRun}
+use Rattle.xa_stops.specs.Runs.{IsRun}
 use Rattle.xa_stops.specs.Scripts.{taken, call_in, calls_of}
-use Rattle.xa_stops.specs.Stops.{fails_from, ended_calls, cut_line, stopped_calls, limits_for, IsLeft, IsStopText, IsShown}
-use Rattle.xa_stops.specs.Atomic.{IsPlain, LeavesBranches, KeepsToDecisions, AllOrNone, LeavesWhole}
+use Rattle.xa_stops.specs.Stops.{fails_from, ended_calls, cut_line, limits_for, IsLeft, IsStopText, IsShown}
+use Rattle.xa_stops.specs.Atomic.{IsPlain, LeavesBranches, LeavesWhole}
 use Rattle.xa_stops.proofs.Recovering.{keeps_to_decisions}
 use Rattle.xa_stops.proofs.Standing.{all_or_none}
 

@@ -1,23 +1,20 @@
 -- Calls of which none is RECOVER, and a recovery that came to its end.
-use Rattle.std.proofs.Common.{◌≡◌, ◌⊎◌, ◌<◌, ◌+◌, ◌-◌, ◌^◌, ℕ, zero, suc, Bool, true, false, cond, List, [], ◌∷◌, ◌++◌, length, refl, ap, sym, ◌∙◌, subst, inl, inr, ⊎_elim, Some, None, Ok, arith, length-append}
-use Rattle.std.specs.Prelude.{slice_get, Option, Contains, codes, All, ◌==◌, IfOk}
+use Rattle.std.proofs.Common.{◌≡◌, ◌<◌, ◌-◌, ℕ, Bool, true, false, cond, List, [], ◌∷◌, ◌++◌, length, refl, ap, sym, ◌∙◌, subst, inl, inr, Some, None, Ok, arith, length-append}
+use Rattle.std.specs.Prelude.{slice_get, Contains, codes, All, ◌==◌, IfOk}
 use Rattle.std.proofs.lemmas.List.{get_or_append_left}
 use Rattle.std.proofs.lemmas.List.Elements.{All-contains, Contains-push}
-use Rattle.std.proofs.lemmas.Option.{slice_get-get_or, slice_get_within, get_or_from_slice_get}
+use Rattle.std.proofs.lemmas.Option.{slice_get_within, get_or_from_slice_get}
 use Rattle.decision_log.specs.declared.known.Known.{Known}
 use Rattle.xa_words.specs.Entry.{Entry}
-use Rattle.xa_xid.specs.declared.xid.Xid.{Xid}
 use Rattle.xa_xid.specs.declared.statement.Statement.{Statement}
 use Rattle.xa_xid.specs.declared.statement.Statement.TheVariants.{Start, End, Prepare, Commit, Rollback, Recover as RecoverStatement, Unsupported, Get, Put, Del, Disconnect}
 use Rattle.xa_session.specs.Answer.{entry_of}
-use Rattle.xa_session.specs.View.{SessionView}
 use Rattle.xa_coordinator.specs.Branch.{IsBranchOf}
 use Rattle.xa_coordinator.specs.Decisions.{decision_of, decides, is_decided}
 use Rattle.xa_coordinator.specs.Recovery.{Recovers}
 use Rattle.xa_coordinator.specs.declared.decisions.Decision.{Decision}
 use Rattle.xa_coordinator.specs.declared.report.Report.{Report}
 use Rattle.xa_coordinator.proofs.DecisionsOf.{closed_decides}
-use Rattle.xa_lasting.specs.Lasting.{own_view}
 use Rattle.xa_manager.specs.Beside.{within}
 use Rattle.xa_manager.specs.Carried.{HasRecovered}
 use Rattle.xa_manager.specs.Ledger.{stage_of}
@@ -29,8 +26,8 @@ use Rattle.xa_manager.specs.declared.response.Response.TheVariants.{Recovered}
 use Rattle.xa_manager.specs.declared.stage.Stage.{Stage}
 use Rattle.xa_stops.specs.Counted.{own_of, other_of}
 use Rattle.xa_stops.specs.Runs.{Managing, IsAnswered, CarriesOut, none_yet, one_more, IsFresh, IsRun}
-use Rattle.xa_stops.specs.Atomic.{branch_in, HasAdded, IsPlain, IsAlone, IsOnePhase, GoesWith, KeepsToDecisions}
-use Rattle.xa_stops.proofs.Added.{AddsOnly, recovered}
+use Rattle.xa_stops.specs.Atomic.{branch_in, HasAdded, IsPlain, IsAlone, GoesWith, KeepsToDecisions}
+use Rattle.xa_stops.proofs.Added.{recovered}
 use Rattle.xa_stops.proofs.Holding.{Session, IsUndecidedOver, Goes, Holds, Grows, grows_each, grew_cases}
 use Rattle.xa_stops.proofs.Holds.{answered_holds}
 

@@ -1,20 +1,17 @@
 -- What stands of each transaction in the end.
-use Rattle.std.proofs.Common.{◌≡◌, ◌⊎◌, ◌<◌, ◌≤◌, ◌+◌, ◌^◌, ℕ, zero, suc, Bool, true, false, cond, List, [], ◌∷◌, ◌++◌, length, take, refl, ap, sym, ◌∙◌, subst, inl, inr, Some, None, Ok, arith}
-use Rattle.std.specs.Prelude.{slice_get, slice_index_or, Option, Contains, All, codes, filter, nat_eq}
-use Rattle.std.specs.FinMap as map
+use Rattle.std.proofs.Common.{◌≡◌, ◌⊎◌, ◌<◌, ◌≤◌, ◌+◌, ◌^◌, ℕ, zero, suc, Bool, true, false, cond, List, [], ◌∷◌, ◌++◌, length, take, refl, ap, sym, ◌∙◌, subst, inl, inr, Some, Ok, arith}
+use Rattle.std.specs.Prelude.{slice_get, slice_index_or, Contains, All, codes, nat_eq}
 use Rattle.std.proofs.lemmas.Bool.Decides.{eqb_tells}
-use Rattle.std.proofs.lemmas.List.Elements.{All-push, Contains-append_left}
-use Rattle.std.proofs.lemmas.Option.{slice_get_within, slice_get-get_or, same_Some}
-use Rattle.std.proofs.lemmas.Map.Made.{Contains-tail}
+use Rattle.std.proofs.lemmas.Option.{slice_get_within}
 use mathlib.Core.Bool.{true≢false}
 use Rattle.xa_words.specs.Entry.{Entry}
 use Rattle.xa_xid.specs.declared.xid.Xid.{Xid}
 use Rattle.xa_xid.specs.declared.statement.Statement.{Statement}
 use Rattle.xa_xid.specs.declared.statement.Statement.TheVariants.{Start, Prepare, Commit, Rollback}
 use Rattle.decision_log.specs.History.{Begins, is_of, entries_of}
-use Rattle.decision_log.proofs.Histories.{get_begins, own_append, behind}
-use Rattle.xa_server.specs.State.{Branch, State, is_prepared}
-use Rattle.xa_server.specs.Step.{enters, after, with_writes}
+use Rattle.decision_log.proofs.Histories.{get_begins}
+use Rattle.xa_server.specs.State.{State, is_prepared}
+use Rattle.xa_server.specs.Step.{enters}
 use Rattle.xa_session.specs.Answer.{entry_of}
 use Rattle.xa_session.specs.Replay.{state_after, state_at}
 use Rattle.xa_session.proofs.Replaying.{state_at-next, state_at-begins}
@@ -27,9 +24,9 @@ use Rattle.xa_manager.specs.declared.call.Call.TheVariants.{Recover}
 use Rattle.xa_manager.specs.declared.response.Response.{Response}
 use Rattle.xa_manager.specs.declared.response.Response.TheVariants.{Recovered}
 use Rattle.xa_stops.specs.declared.counted_store.CountedStore.{CountedStore}
-use Rattle.xa_stops.specs.Counted.{own_of, other_of}
+use Rattle.xa_stops.specs.Counted.{own_of}
 use Rattle.xa_stops.specs.Runs.{Managing, IsRun}
-use Rattle.xa_stops.specs.Atomic.{branch_in, HasAdded, IsPlain, IsAlone, IsOnePhase, GoesWith, KeepsToDecisions, EndsNone, LeavesBranches, state_before, WasCommitted, AllOrNone}
+use Rattle.xa_stops.specs.Atomic.{branch_in, HasAdded, IsPlain, IsAlone, GoesWith, KeepsToDecisions, EndsNone, LeavesBranches, WasCommitted, AllOrNone}
 use Rattle.xa_stops.proofs.Holding.{Session, Holds, grew_cases, grew_stays}
 use Rattle.xa_stops.proofs.Holds.{one_number}
 use Rattle.xa_stops.proofs.Recovering.{Recovering, HasEndedWell, ended_well, keeps, last_call, calls_hold, fresh_holds}
