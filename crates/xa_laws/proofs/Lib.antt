@@ -1,6 +1,3 @@
-pub mod Lines
-pub mod Effects
-pub mod Answers
 pub mod Tests
 pub mod Steps
 pub mod Histories

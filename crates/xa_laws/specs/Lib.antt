@@ -1,2 +1,1 @@
-pub mod Replaying
 pub mod Overlapping

@@ -1,8 +1,6 @@
-//! What holds of every race and of the order that is written for a legal record, as contracts of functions that do nothing.
+//! What holds of every race, as the contract of a function that does nothing.
 #![tactic(auto)]
 
-mod order;
 mod races;
 
-pub use order::order_is_replayed;
 pub use races::race_is_explained;

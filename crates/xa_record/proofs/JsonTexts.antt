@@ -12,10 +12,10 @@ use Rattle.xa_lines.specs.Script.{lines_of}
 use Rattle.xa_record.specs.Forms.{text_value, texts_value, values_of, with_verdict, with_line}
 
 -- one character more
-pub characters-more : (text old new : List ℕ) (index : ℕ) → index < length text → old ≡ encode_utf8_all (take index text)
+pub characters_more : (text old new : List ℕ) (index : ℕ) → index < length text → old ≡ encode_utf8_all (take index text)
     → new ≡ old ++ encode_utf8 (get_or text index 0)
     → new ≡ encode_utf8_all (take (index + 1) text)
-characters-more text old new index within before put =
+characters_more text old new index within before put =
     let byte = get_or text index 0 in
     put ∙ ap (λ l. l ++ encode_utf8 byte) before ∙ ap (λ l. encode_utf8_all (take index text) ++ l) (sym (append-nil (encode_utf8 byte)))
     ∙ sym (encodes-append (take index text) (byte ∷ [])) ∙ sym (ap encode_utf8_all (take_more text index 0 within))

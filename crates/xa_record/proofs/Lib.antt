@@ -15,5 +15,11 @@ pub mod LastReturns
 pub mod RecordLines
 pub mod RecordReads
 pub mod Reasons
+pub mod Feeds
+pub mod LinesBack
+pub mod ReplayedEffects
+pub mod RunAnswers
+pub mod BareTexts
+pub mod Replays
 pub mod Reported
 pub mod JudgedTexts

@@ -1,5 +1,7 @@
 -- What is told of a record of which no line is faulty.
 use Rattle.std.proofs.Common.{◌≡◌, ℕ, ◌==◌, true, false, Result, Ok, Err, IfOk, List, [], ◌∷◌, length, map, refl, sym, subst, arith}
+use Rattle.std.specs.List.{All}
+use Rattle.std.proofs.lemmas.List.Elements.{recursion_from_All}
 use Rattle.std.proofs.lemmas.Grind.{common_steps}
 use Rattle.xa_server.specs.State.{State, no_state}
 use Rattle.xa_judge.specs.declared.event.Event.{Event}
@@ -13,7 +15,9 @@ use Rattle.xa_record.specs.Judged.{IsJudgement, IsReportedOf, IsReportedWith}
 use Rattle.xa_record.specs.Kept.{numbered_kept, report_kept}
 use Rattle.xa_record.specs.Reading.{NumberedEvent}
 use Rattle.xa_record.specs.Events.{AreEvents}
+use Rattle.xa_record.specs.Replaying.{AreBare, IsWrittenCall}
 use Rattle.xa_record.specs.Reports.{Report, IsReportOf}
+use Rattle.xa_record.proofs.Replays.{bare_replayed}
 
 reported_of : (allowances : List Allowance) (numbered : List NumberedRead) (asked : Asked) (report : Report) → (length numbered == 0) ≡ false
     → IsJudgement allowances (map numbered_kept numbered) asked report → IsReportedOf allowances (map numbered_kept numbered) asked report
@@ -22,19 +26,22 @@ reported_of allowances (one ∷ numbered) asked report some is = is
 
 -- what happens was judged
 pub judged_so : {E : Type 0} (result : Result ReportMade E) (allowances : List Allowance) (numbered : List NumberedEvent) (asked : Asked)
-    (events first second : List Event) (base : State) (verdict : Verdict) → first ≡ events → second ≡ events → base ≡ no_state
-    → AreEvents allowances numbered events → IsVerdict base first asked.limit verdict
+    (events first second third : List Event) (base : State) (verdict : Verdict) → first ≡ events → second ≡ events → base ≡ no_state
+    → AreBare numbered → AreEvents allowances numbered events → All IsWrittenCall third → third ≡ events → IsVerdict base first asked.limit verdict
     → IfOk result (λ report. IsReportOf asked numbered second verdict (report_kept report))
     → IfOk result (λ report. IsJudgement allowances numbered asked (report_kept report))
-judged_so (Ok report) allowances numbered asked events first second base verdict one two none are right told = record {
-  events = events;
-  verdict = verdict;
-  are = are;
-  right =
-      subst (λ (b : State). IsVerdict b events asked.limit verdict) none (subst (λ (l : List Event). IsVerdict base l asked.limit verdict) one right);
-  is = subst (λ (l : List Event). IsReportOf asked numbered l verdict (report_kept report)) two told;
-}
-judged_so (Err fault) allowances numbered asked events first second base verdict one two none are right told = tt
+judged_so (Ok report) allowances numbered asked events first second third base verdict one two none bare are written three right told =
+    let right_so : IsVerdict no_state events asked.limit verdict =
+    subst (λ (b : State). IsVerdict b events asked.limit verdict) none (subst (λ (l : List Event). IsVerdict base l asked.limit verdict) one right) in
+    record {
+      events = events;
+      verdict = verdict;
+      are = are;
+      right = right_so;
+      replayed = bare_replayed allowances numbered events asked.limit verdict bare are (recursion_from_All IsWrittenCall events (subst (All IsWrittenCall) three written)) right_so;
+      is = subst (λ (l : List Event). IsReportOf asked numbered l verdict (report_kept report)) two told;
+    }
+judged_so (Err fault) allowances numbered asked events first second third base verdict one two none bare are written three right told = tt
 
 -- something happens in the record, and it was judged
 pub reported : {E : Type 0} (result : Result ReportMade E) (allowances : List Allowance) (faults : List ℕ) (numbered : List NumberedRead) (asked : Asked)

@@ -20,6 +20,7 @@ use Rattle.xa_record.specs.declared.asked.Asked.{Asked}
 use Rattle.xa_record.specs.declared.outcome.Outcome.{Outcome}
 use Rattle.xa_record.specs.Reading.{NumberedEvent, Notes, notes_of}
 use Rattle.xa_record.specs.Events.{AreEvents}
+use Rattle.xa_record.specs.Replaying.{IsReplayed}
 use Rattle.xa_record.specs.Reports.{Report, Faulty, Empty, outcome_of, IsReportOf}
 use Rattle.xa_record.specs.Forms.{text_in}
 
@@ -30,12 +31,14 @@ record_bytes = 16777216
 abbrev pub record_reads : ℕ
 record_reads = 33554432
 
--- some verdict on the events that the lines say, from a server that holds nothing on, is right, and this is told of it
+-- some verdict on the events that the lines say, from a server that holds nothing on, is right, its order gives the answers of its moves where it is run, and this
+-- is told of it
 pub record IsJudgement (allowances : List Allowance) (numbered : List NumberedEvent) (asked : Asked) (report : Report) : Type 0 where
   pub events : List Event
   pub verdict : Verdict
   pub are : AreEvents allowances numbered events
   pub right : IsVerdict no_state events asked.limit verdict
+  pub replayed : IsReplayed numbered events verdict
   pub is : IsReportOf asked numbered events verdict report
 
 -- lines of which none is faulty are judged where something happens on them; else there is nothing to judge

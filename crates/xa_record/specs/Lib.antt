@@ -5,6 +5,7 @@ pub mod Allowances
 pub mod Records
 pub mod Events
 pub mod VerdictText
+pub mod Replaying
 pub mod Reports
 pub mod Forms
 pub mod Kept

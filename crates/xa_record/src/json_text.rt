@@ -18,6 +18,7 @@ use xa_lines::split_line;
 use xa_xid::NoMemory;
 
 /// The text as characters: each byte is the character of its number.
+#[tactic(auto, using(crate::proofs::JsonTexts::characters_more))]
 fn characters(alloc: Global, text: &[u8]) -> Result<String, NoMemory>
     ensures { IfOk result (λ string. string_bytes string ≡ encode_utf8_all text.now) }
 {

@@ -4,6 +4,7 @@ ghost use Rattle.xa_record.specs.Forms.{text_in as text_of_report};
 ghost use Rattle.xa_record.specs.Judged.{IsJudgement, IsReported, IsJudged};
 ghost use Rattle.xa_record.specs.Kept.{numbered_kept, report_kept};
 ghost use Rattle.xa_record.specs.Reading.{notes_of};
+ghost use Rattle.xa_record.specs.Replaying.{AreBare};
 
 use crate::allowance::Allowance;
 use crate::asked::Asked;
@@ -16,6 +17,7 @@ use crate::plain_text::plain_text;
 use crate::reading::read_notes;
 use crate::report::Report;
 use crate::report_of::report_of;
+use crate::written_calls::are_written_calls;
 use std::alloc::Global;
 use xa_judge::{Progress, judge_telling};
 use xa_server::Server;
@@ -36,9 +38,11 @@ fn verdict_on<P: Progress>(
     asked: Asked,
     progress: &mut P,
 ) -> Result<Report, NoMemory>
+    requires { AreBare (map numbered_kept numbered.now) }
     ensures { IfOk result (λ report. IsJudgement allowances.now (map numbered_kept numbered.now) asked (report_kept report)) }
 {
     let events = events_of(alloc, allowances, numbered)?;
+    are_written_calls(events.as_slice());
     let base = Server::new(alloc);
     let verdict = judge_telling(alloc, &base, events.as_slice(), asked.limit, progress)?;
     report_of(

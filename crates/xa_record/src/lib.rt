@@ -31,6 +31,7 @@ mod rows;
 mod run;
 mod shown;
 mod statement_kind;
+mod written_calls;
 
 pub use allow_fault::AllowFault;
 pub use allowance::Allowance;

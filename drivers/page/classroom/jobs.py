@@ -125,7 +125,7 @@ def judge(pool, question):
     limit, record = number(question, "limit", 1, 1_000_000, 100_000), script(question, "record")
 
     def run(text):
-        return run_once(pool, ["judge", "--limit", str(limit)], text, pool.limits.judge_seconds, pool.limits.judge_kib(limit))
+        return run_once(pool, ["judge", "--quiet", "--limit", str(limit)], text, pool.limits.judge_seconds, pool.limits.judge_kib(limit))
 
     ran = run(record)
     return {**ran, "picture": picture(record, ran["output"].encode("latin-1"), lambda text: run(text)["output"].encode("latin-1"))}

@@ -32,8 +32,8 @@ use Rattle.xa_record.specs.Reading.{NumberedEvent}
 use Rattle.xa_record.specs.Allowances.{no_kinds, kinds_after}
 use Rattle.xa_record.specs.Events.{request_read, request_called, IsEvent, AreEventsAfter, AreEvents}
 use Rattle.xa_record.specs.VerdictText.{call_text, text_of_call, with_call, no_calls}
-use Rattle.xa_laws.specs.Replaying.{effect_line, order_lines, open_request, IsEffectLine, AreEffects, IsWellCalled, IsWellTold, AreWellCalled}
-use Rattle.xa_laws.proofs.Lines.{line_back, call_bare, call_back}
+use Rattle.xa_record.specs.Replaying.{HasNoFeed, effect_line, order_lines, open_request, IsEffectLine, AreEffects, IsWellCalled, IsWellTold, AreWellCalled}
+use Rattle.xa_record.proofs.LinesBack.{line_back, line_feed, call_bare, call_feed, call_back}
 
 -- the text of a request that may still take effect stands in the list
 pub record KeepsText (calls : List (List ℕ)) (session : ℕ) (request : Request) : Type 0 where
@@ -140,6 +140,7 @@ statement_line calls config session request is kept opened =
         given = ap line_of line ∙ line_back session is (call_text keeps.text) (call_bare keeps.text keeps.well.bare);
         asks = keeps.is ∙ call_back keeps.text keeps.well;
       };
+      whole = subst HasNoFeed (sym line) (line_feed session is (call_text keeps.text) (call_feed keeps.text keeps.well));
     }
 
 disconnect_line : (calls : List (List ℕ)) (config : Config) (session : ℕ) → IsSession session
@@ -153,6 +154,7 @@ disconnect_line calls config session is = record {
     given = line_back session is (codes "DISCONNECT") refl;
     asks = sym (ap request_read ((reads_spelled (codes "DISCONNECT") Disconnect).1 disconnect_spelled));
   };
+  whole = line_feed session is (codes "DISCONNECT") refl;
 }
 
 -- a statement took effect: its line, and what is still open

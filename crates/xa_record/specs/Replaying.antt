@@ -6,31 +6,40 @@
 --     requested                    what takes effect by an act of a session
 --     AreEffects                   the lines give what takes effect, in order, along moves that lead through the events
 --     AreWellCalled                what sessions call for begins with no blank, and is written so that it is read as the same
-use Rattle.std.specs.Prelude.{◌≡◌, ◌≢◌, ℕ, Option, Some, None, Ok, List, [], ◌∷◌, ◌++◌, codes, decimal, slice_get}
+--     IsAnswered                   what `run` writes for what takes effect
+--     AnswersAlong                 so it does for each effect, in order, along moves that lead through the events
+--     IsReplayed                   so it is with the order of a legal verdict
+use Rattle.std.specs.Prelude.{◌≡◌, ◌≢◌, ℕ, ◌==◌, true, not, Option, Some, None, Ok, List, [], ◌∷◌, ◌++◌, codes, decimal, slice_get}
+use Rattle.std.specs.List.{AllByRecursion, list_all}
 use Rattle.xa_xid.specs.Bytes.{unblank}
 use Rattle.xa_xid.specs.declared.statement.Statement.{Statement}
-use Rattle.xa_xid.specs.declared.statement.Statement.TheVariants.{Unsupported, Disconnect}
+use Rattle.xa_xid.specs.declared.statement.Statement.TheVariants.{Start, End, Prepare, Commit, Rollback, Recover, Unsupported, Get, Put, Del, Disconnect}
+use Rattle.xa_xid.specs.XidText.{IsWritable}
 use Rattle.xa_statement.specs.Canonical.{statement_text}
 use Rattle.xa_statement.specs.Grammar.{Spells}
 use Rattle.xa_statement.specs.Reading.{read_of}
-use Rattle.xa_server.specs.State.{State}
+use Rattle.xa_server.specs.State.{State, no_state}
 use Rattle.xa_server.specs.Replies.{reply_to}
 use Rattle.xa_lines.specs.Script.{Given, line_of}
+use Rattle.xa_lines.specs.Transcript.{transcript}
 use Rattle.xa_lines.specs.Printed.{reply_text, syntax_text, converts, answer_text}
 use Rattle.xa_judge.specs.declared.request.Request.{Request}
 use Rattle.xa_judge.specs.declared.request.Request.TheVariants.{Statement as Asked, Unread}
 use Rattle.xa_judge.specs.declared.event.Event.{Event}
+use Rattle.xa_judge.specs.declared.event.Event.TheVariants.{Call}
+use Rattle.xa_judge.specs.declared.verdict.Verdict.{Verdict}
+use Rattle.xa_judge.specs.declared.verdict.Verdict.TheVariants.{Legal as LegalBy}
 use Rattle.xa_judge.specs.declared.client_state.ClientState.{ClientState}
 use Rattle.xa_judge.specs.declared.client_state.ClientState.TheVariants.{Idle, Called, Answered, Gone, Left}
 use Rattle.xa_judge.specs.declared.moves.Act.{Act}
 use Rattle.xa_judge.specs.declared.moves.Act.TheVariants.{Statement as ItsStatement, Disconnect as ItsDisconnect}
 use Rattle.xa_judge.specs.declared.moves.Move.{Move}
 use Rattle.xa_judge.specs.declared.moves.Move.TheVariants.{Event as Seeing, Effect}
-use Rattle.xa_judge.specs.Explained.{Config, effect_of, observed}
+use Rattle.xa_judge.specs.Explained.{Config, opening_config, effect_of, observed}
 use Rattle.xa_record.specs.Lines.{Told, Calls, Returns, ReturnsUnknown, Leaves}
 use Rattle.xa_record.specs.Reading.{NumberedEvent}
 use Rattle.xa_record.specs.Events.{request_read}
-use Rattle.xa_record.specs.VerdictText.{with_call, act_text}
+use Rattle.xa_record.specs.VerdictText.{with_call, act_text, order_text, no_calls}
 
 -- the line of an effect, without its line feed
 abbrev pub effect_line : List (List ℕ) → ℕ → Act → List ℕ
@@ -47,6 +56,10 @@ order_lines calls (numbered ∷ more) (Seeing ∷ moves) = order_lines (with_cal
 unfoldable pub joined : List (List ℕ) → List ℕ
 joined [] = []
 joined (line ∷ lines) = line ++ codes "\n" ++ joined lines
+
+-- no byte of the text is a line feed
+abbrev pub HasNoFeed : List ℕ → Type 0
+HasNoFeed text = list_all (λ byte. not (byte == 10)) text ≡ true
 
 -- the line gives this request of the session
 pub record GivesRequest (line : List ℕ) (session : ℕ) (request : Request) : Type 0 where
@@ -73,11 +86,12 @@ abbrev pub requested : Config → ℕ → Act → Option Request
 requested config session ItsStatement = open_request (slice_get config.clients session)
 requested config session ItsDisconnect = Some (Asked Disconnect)
 
--- the line gives what takes effect
+-- the line gives what takes effect, and is one line
 pub record IsEffectLine (config : Config) (session : ℕ) (act : Act) (line : List ℕ) : Type 0 where
   pub request : Request
   pub is : requested config session act ≡ Some request
   pub gives : GivesRequest line session request
+  pub whole : HasNoFeed line
 
 -- the lines give what takes effect, in order, along moves that lead through the events
 abbrev pub AreEffects : Config → List Event → List Move → List (List ℕ) → Type 0
@@ -90,11 +104,45 @@ AreEffects old [] [] [] = Unit {0}
 AreEffects old [] [] (line ∷ lines) = ⊥
 AreEffects old (event ∷ events) [] lines = ⊥
 
--- a text that a session calls for begins with no blank, and the canonical form of its statement is read as that statement, as `canonical_text_is_spelled` of
--- `xa_statement` says of each
+-- the canonical form of a statement is read as that statement, and is no more than a line
+pub record IsWrittenBack (statement : Statement) : Type 0 where
+  pub spelled : Spells (statement_text statement) statement
+  pub whole : HasNoFeed (statement_text statement)
+
+-- the parts of a statement are as those of every statement of a program
+abbrev pub IsFit : Statement → Type 0
+IsFit (Start xid) = IsWritable xid
+IsFit (End xid) = IsWritable xid
+IsFit (Prepare xid) = IsWritable xid
+IsFit (Commit xid one_phase) = IsWritable xid
+IsFit (Rollback xid) = IsWritable xid
+IsFit (Recover convert) = Unit {0}
+IsFit Unsupported = Unit {0}
+IsFit (Get key) = Unit {0}
+IsFit (Put key value) = Unit {0}
+IsFit (Del key) = Unit {0}
+IsFit Disconnect = Unit {0}
+
+-- the text begins with no blank and has no line feed
+pub record IsBare (text : List ℕ) : Type 0 where
+  pub bare : unblank text ≡ text
+  pub whole : HasNoFeed text
+
+-- so it is with what is told
+abbrev pub IsBareTold : Told → Type 0
+IsBareTold (Calls session text) = IsBare text
+IsBareTold (Returns session shown) = Unit {0}
+IsBareTold (ReturnsUnknown session) = Unit {0}
+IsBareTold (Leaves session) = Unit {0}
+
+abbrev pub AreBare : List NumberedEvent → Type 0
+AreBare numbered = AllByRecursion (λ one. IsBareTold one.told) numbered
+
+-- a text that a session calls for begins with no blank and has no line feed; where it is a statement, that is written back
 pub record IsWellCalled (text : List ℕ) : Type 0 where
   pub bare : unblank text ≡ text
-  pub canonical : (statement : Statement) → read_of text ≡ Ok statement → statement ≢ Unsupported → Spells (statement_text statement) statement
+  pub whole : HasNoFeed text
+  pub canonical : (statement : Statement) → read_of text ≡ Ok statement → statement ≢ Unsupported → IsWrittenBack statement
 
 abbrev pub IsWellTold : Told → Type 0
 IsWellTold (Calls session text) = IsWellCalled text
@@ -106,3 +154,30 @@ IsWellTold (Leaves session) = Unit {0}
 abbrev pub AreWellCalled : List NumberedEvent → Type 0
 AreWellCalled [] = Unit {0}
 AreWellCalled (numbered ∷ more) = IsWellTold numbered.told × AreWellCalled more
+
+-- a statement that is called for is written back, unless it isn't supported
+abbrev pub IsWrittenCall : Event → Type 0
+IsWrittenCall (Call session (Asked statement)) = statement ≢ Unsupported → IsWrittenBack statement
+IsWrittenCall event = Unit {0}
+
+-- what `run` writes for what takes effect by an act of a session
+pub record IsAnswered (config : Config) (session : ℕ) (act : Act) (written : List ℕ) : Type 0 where
+  pub request : Request
+  pub is : requested config session act ≡ Some request
+  pub answers : AnswersSo config.state session request written
+
+-- one answer for each effect, in order, along moves that lead through the events; a return shows the answer that its session has there
+abbrev pub AnswersAlong : Config → List Event → List Move → List ℕ → Type 0
+AnswersAlong old events (Effect session act ∷ moves) written =
+    (mid : Config) × (answer rest : List ℕ) × (effect_of old session act ≡ Some mid) × IsAnswered old session act answer × (written ≡ answer ++ rest)
+    × AnswersAlong mid events moves rest
+AnswersAlong old [] (Seeing ∷ moves) written = ⊥
+AnswersAlong old (event ∷ events) (Seeing ∷ moves) written = (mid : Config) × (observed old event ≡ Some mid) × AnswersAlong mid events moves written
+AnswersAlong old [] [] written = written ≡ []
+AnswersAlong old (event ∷ events) [] written = ⊥
+
+-- the order of a legal verdict, run as a script, gives the answers that its moves give, by which what was seen is explained
+abbrev pub IsReplayed : List NumberedEvent → List Event → Verdict → Type 0
+IsReplayed numbered events (LegalBy moves) =
+    AnswersAlong (opening_config no_state) events moves.items (transcript (order_text no_calls numbered moves.items))
+IsReplayed numbered events verdict = Unit {0}

@@ -12,7 +12,7 @@ use Rattle.xa_judge.specs.declared.moves.Move.TheVariants.{Event as Seeing, Effe
 use Rattle.xa_record.specs.Events.{request_read}
 use Rattle.xa_record.specs.Reading.{NumberedEvent}
 use Rattle.xa_record.specs.VerdictText.{with_call, effect_text, order_text}
-use Rattle.xa_laws.specs.Replaying.{order_lines, joined, GivesRequest, AnswersSo}
+use Rattle.xa_record.specs.Replaying.{order_lines, joined, GivesRequest, AnswersSo}
 
 answered_by : (state : State) (session : ℕ) (read : Result Statement ℕ) → AnswersSo state session (request_read read) (written_for state session read)
 answered_by state session (Ok statement) = refl

@@ -1,6 +1,6 @@
 -- The line of an effect, read back.
 use Rattle.std.proofs.Common.{◌≡◌, ◌≢◌, ℕ, zero, suc, true, false, Result, Ok, Err, List, [], ◌∷◌, ◌++◌, codes, decimal, refl, ap, sym, ◌∙◌, subst}
-use Rattle.std.proofs.Common.{arith, lit<, lit≤}
+use Rattle.std.proofs.Common.{◌<◌, ◌≤◌, ◌^◌, arith, lit<, lit≤}
 use Rattle.std.proofs.lemmas.Fmt.{decimal_digit, decimal_step}
 use Rattle.xa_xid.specs.Bytes.{belongs, behind, unblank}
 use Rattle.xa_xid.specs.declared.statement.Statement.{Statement}
@@ -13,7 +13,8 @@ use Rattle.xa_lines.specs.Script.{Given, line_of}
 use Rattle.xa_judge.specs.Explained.{IsSession}
 use Rattle.xa_record.specs.Events.{request_read, request_called}
 use Rattle.xa_record.specs.VerdictText.{call_text, text_read, canonical_text}
-use Rattle.xa_laws.specs.Replaying.{IsWellCalled}
+use Rattle.xa_record.specs.Replaying.{HasNoFeed, IsWrittenBack, IsWellCalled}
+use Rattle.xa_record.proofs.Feeds.{feed-append, decimal_feed}
 
 -- a session's number, a blank and a text that begins with none are a line of that session
 pub line_back : (session : ℕ) → IsSession session → (text : List ℕ) → unblank text ≡ text
@@ -89,19 +90,19 @@ call_bare text bare = text_bare (read_of text) text bare
 spelled_back : (statement : Statement) → Spells (statement_text statement) statement → read_of (statement_text statement) ≡ Ok statement
 spelled_back statement spells = (reads_spelled (statement_text statement) statement).1 spells
 
-canonical_back : (statement : Statement) (text : List ℕ) → read_of text ≡ Ok statement → (statement ≢ Unsupported → Spells (statement_text statement) statement)
+canonical_back : (statement : Statement) (text : List ℕ) → read_of text ≡ Ok statement → (statement ≢ Unsupported → IsWrittenBack statement)
     → read_of (canonical_text statement text) ≡ Ok statement
-canonical_back (Start xid) text is spells = spelled_back (Start xid) (spells (λ e. cc))
-canonical_back (End xid) text is spells = spelled_back (End xid) (spells (λ e. cc))
-canonical_back (Prepare xid) text is spells = spelled_back (Prepare xid) (spells (λ e. cc))
-canonical_back (Commit xid one_phase) text is spells = spelled_back (Commit xid one_phase) (spells (λ e. cc))
-canonical_back (Rollback xid) text is spells = spelled_back (Rollback xid) (spells (λ e. cc))
-canonical_back (Recover convert) text is spells = spelled_back (Recover convert) (spells (λ e. cc))
+canonical_back (Start xid) text is spells = spelled_back (Start xid) (spells (λ e. cc)).spelled
+canonical_back (End xid) text is spells = spelled_back (End xid) (spells (λ e. cc)).spelled
+canonical_back (Prepare xid) text is spells = spelled_back (Prepare xid) (spells (λ e. cc)).spelled
+canonical_back (Commit xid one_phase) text is spells = spelled_back (Commit xid one_phase) (spells (λ e. cc)).spelled
+canonical_back (Rollback xid) text is spells = spelled_back (Rollback xid) (spells (λ e. cc)).spelled
+canonical_back (Recover convert) text is spells = spelled_back (Recover convert) (spells (λ e. cc)).spelled
 canonical_back Unsupported text is spells = is
-canonical_back (Get key) text is spells = spelled_back (Get key) (spells (λ e. cc))
-canonical_back (Put key value) text is spells = spelled_back (Put key value) (spells (λ e. cc))
-canonical_back (Del key) text is spells = spelled_back (Del key) (spells (λ e. cc))
-canonical_back Disconnect text is spells = spelled_back Disconnect (spells (λ e. cc))
+canonical_back (Get key) text is spells = spelled_back (Get key) (spells (λ e. cc)).spelled
+canonical_back (Put key value) text is spells = spelled_back (Put key value) (spells (λ e. cc)).spelled
+canonical_back (Del key) text is spells = spelled_back (Del key) (spells (λ e. cc)).spelled
+canonical_back Disconnect text is spells = spelled_back Disconnect (spells (λ e. cc)).spelled
 
 read_back : (read : Result Statement ℕ) (text : List ℕ) → read_of text ≡ read → IsWellCalled text
     → request_read read ≡ request_read (read_of (text_read read text))
@@ -111,3 +112,34 @@ read_back (Err place) text is well = sym (ap request_read is)
 -- what is written for a text that a session called for is read as the same
 pub call_back : (text : List ℕ) → IsWellCalled text → request_called text ≡ request_read (read_of (call_text text))
 call_back text well = read_back (read_of text) text refl well
+
+-- what is written for a text that a session called for is no more than a line
+canonical_feed : (statement : Statement) (text : List ℕ) → HasNoFeed text → (statement ≢ Unsupported → IsWrittenBack statement)
+    → HasNoFeed (canonical_text statement text)
+canonical_feed (Start xid) text free written = (written (λ e. cc)).whole
+canonical_feed (End xid) text free written = (written (λ e. cc)).whole
+canonical_feed (Prepare xid) text free written = (written (λ e. cc)).whole
+canonical_feed (Commit xid one_phase) text free written = (written (λ e. cc)).whole
+canonical_feed (Rollback xid) text free written = (written (λ e. cc)).whole
+canonical_feed (Recover convert) text free written = (written (λ e. cc)).whole
+canonical_feed Unsupported text free written = free
+canonical_feed (Get key) text free written = (written (λ e. cc)).whole
+canonical_feed (Put key value) text free written = (written (λ e. cc)).whole
+canonical_feed (Del key) text free written = (written (λ e. cc)).whole
+canonical_feed Disconnect text free written = (written (λ e. cc)).whole
+
+read_feed : (read : Result Statement ℕ) (text : List ℕ) → read_of text ≡ read → IsWellCalled text → HasNoFeed (text_read read text)
+read_feed (Ok statement) text is well = canonical_feed statement text well.whole (well.canonical statement is)
+read_feed (Err place) text is well = well.whole
+
+pub call_feed : (text : List ℕ) → IsWellCalled text → HasNoFeed (call_text text)
+call_feed text well = read_feed (read_of text) text refl well
+
+below_bound : (session : ℕ) → session ≤ 16 → session < 2 ^ 64
+below_bound session is = omega (arith, is)
+
+-- a session's number, a blank and such a text are no more than a line
+pub line_feed : (session : ℕ) → IsSession session → (text : List ℕ) → HasNoFeed text → HasNoFeed (decimal session ++ codes " " ++ text)
+line_feed session is text free =
+    feed-append (decimal session ++ codes " ") text
+    (feed-append (decimal session) (codes " ") (decimal_feed session (below_bound session is.1)) refl) free

@@ -1,0 +1,216 @@
+-- What the lines of a record tell sessions to call for begins with no blank, and has no line feed.
+use Rattle.std.proofs.Common.{◌≡◌, ℕ, zero, suc, ◌==◌, true, false, Bool, not, cond, if◌then◌else◌, Option, Some, None, Ok, Err, List, [], ◌∷◌, ◌++◌, reverse, drop, codes, refl, ap, sym, ◌∙◌, subst}
+use Rattle.std.specs.Prelude.{bytes_eq, nat_lt}
+use Rattle.std.specs.List.{AllByRecursion as All, list_all, prefix_len}
+use Rattle.std.proofs.lemmas.List.{reverse-append}
+use Rattle.xa_xid.specs.Bytes.{belongs, behind, unblank}
+use Rattle.xa_xid.specs.Literal.{Reading, literal_ahead}
+use Rattle.xa_xid.specs.Xid.{Text}
+use Rattle.xa_xid.specs.declared.byte_class.ByteClass.TheVariants.{Blank as BlankByte}
+use Rattle.xa_lines.specs.Script.{lines_of, with_first, Line, Blank, line_of, first_word, after_word, behind_word, is_no_blank, is_empty_line}
+use Rattle.xa_lines.specs.Script.{line_given, session_named, filled_line, number_of_word}
+use Rattle.xa_record.specs.Lines.{ShowsOk, ShowsValue, Calls, Returns, ReturnsUnknown, Leaves, LineSaid, Nothing, Bad, Says, Awaits, Closed, is_silent, trimmed, alone}
+use Rattle.xa_record.specs.Lines.{value_said, rows_said, error_said, return_said, loss_said, session_said, filled_said, reading_of_line}
+use Rattle.xa_record.specs.Rows.{leading_number}
+use Rattle.xa_record.specs.Reading.{NumberedEvent, no_notes, noted_lines, notes_of}
+use Rattle.xa_record.specs.Records.{Tells, no_line, silent_line, call_line, return_line, rows_lines, unknown_line, lost_line, gone_line, on_next_line}
+use Rattle.xa_record.specs.Replaying.{HasNoFeed, IsBare, IsBareTold, AreBare}
+use Rattle.xa_record.proofs.Feeds.{both, both_first, both_second, feed-append}
+use Rattle.xa_record.proofs.NoFaults.{ended}
+use Rattle.xa_record.proofs.RecordLines.{lines-tell}
+
+-- parts of a text without a line feed have none
+first_of : (byte : ℕ) (text : List ℕ) → HasNoFeed (byte ∷ text) → not (byte == 10) ≡ true
+first_of byte text free = both_first (not (byte == 10)) (list_all (λ b. not (b == 10)) text) free
+
+rest_of : (byte : ℕ) (text : List ℕ) → HasNoFeed (byte ∷ text) → HasNoFeed text
+rest_of byte text free = both_second (not (byte == 10)) (list_all (λ b. not (b == 10)) text) free
+
+feed-drop : (count : ℕ) (text : List ℕ) → HasNoFeed text → HasNoFeed (drop count text)
+feed-drop zero text free = free
+feed-drop (suc count) [] free = refl
+feed-drop (suc count) (byte ∷ text) free = feed-drop count text (rest_of byte text free)
+
+feed-unblank : (text : List ℕ) → HasNoFeed text → HasNoFeed (unblank text)
+unfolding behind
+feed-unblank [] free = refl
+feed-unblank (byte ∷ text) free = by (belongs BlankByte byte) (feed-unblank text (rest_of byte text free))
+  where
+    by : (b : Bool) → HasNoFeed (behind (belongs BlankByte) text) → HasNoFeed (if b then behind (belongs BlankByte) text else byte ∷ text)
+    by true later = later
+    by false later = free
+
+feed-reverse : (text : List ℕ) → HasNoFeed text → HasNoFeed (reverse text)
+feed-reverse [] free = refl
+feed-reverse (byte ∷ text) free =
+    subst HasNoFeed (sym (reverse-append (byte ∷ []) text))
+    (feed-append (reverse text) (byte ∷ []) (feed-reverse text (rest_of byte text free)) (both _ _ (first_of byte text free) refl))
+
+-- a text is as it is where its first byte is no blank
+unblank_end : (text : List ℕ) (byte : ℕ) → belongs BlankByte byte ≡ false → unblank (text ++ byte ∷ []) ≡ unblank text ++ byte ∷ []
+unfolding behind
+unblank_end [] byte full = rw full refl
+unblank_end (first ∷ text) byte full = by (belongs BlankByte first) (unblank_end text byte full)
+  where
+    by : (b : Bool) → behind (belongs BlankByte) (text ++ byte ∷ []) ≡ behind (belongs BlankByte) text ++ byte ∷ [] → (if b then behind (belongs BlankByte) (text ++ byte ∷ []) else first ∷ (text ++ byte ∷ []))
+        ≡ (if b then behind (belongs BlankByte) text else first ∷ text) ++ byte ∷ []
+    by true later = later
+    by false later = refl
+
+begins_full : (text : List ℕ) (byte : ℕ) (more : List ℕ) → unblank text ≡ byte ∷ more → belongs BlankByte byte ≡ false
+unfolding behind
+begins_full [] byte more is = absurd (cc)
+begins_full (first ∷ text) byte more is = by (belongs BlankByte first) refl (begins_full text byte more) is
+  where
+    by : (b : Bool) → belongs BlankByte first ≡ b → (unblank text ≡ byte ∷ more → belongs BlankByte byte ≡ false) → (if b then behind (belongs BlankByte) text else first ∷ text) ≡ byte ∷ more → belongs BlankByte byte ≡ false
+    by true blank later same = later same
+    by false full later same = let alike : first ≡ byte = cc in subst (λ (n : ℕ). belongs BlankByte n ≡ false) alike full
+
+trimmed_begins : (byte : ℕ) (more : List ℕ) → belongs BlankByte byte ≡ false → trimmed (byte ∷ more) ≡ byte ∷ reverse (unblank (reverse more))
+unfolding trimmed
+trimmed_begins byte more full =
+    ap (λ (l : List ℕ). reverse (unblank l)) (reverse-append (byte ∷ []) more) ∙ ap reverse (unblank_end (reverse more) byte full)
+    ∙ reverse-append (unblank (reverse more)) (byte ∷ [])
+
+stands_full : (byte : ℕ) (more : List ℕ) → belongs BlankByte byte ≡ false → unblank (byte ∷ more) ≡ byte ∷ more
+unfolding behind
+stands_full byte more full = rw full refl
+
+bare_where : (text : List ℕ) → ((byte : ℕ) (more : List ℕ) → text ≡ byte ∷ more → belongs BlankByte byte ≡ false) → unblank (trimmed text) ≡ trimmed text
+unfolding trimmed behind
+bare_where [] full = refl
+bare_where (byte ∷ more) full =
+    let is : belongs BlankByte byte ≡ false = full byte more refl in
+    let shape : trimmed (byte ∷ more) ≡ byte ∷ reverse (unblank (reverse more)) = trimmed_begins byte more is in
+    ap unblank shape ∙ stands_full byte (reverse (unblank (reverse more))) is ∙ sym shape
+
+feed-trimmed : (text : List ℕ) → HasNoFeed text → HasNoFeed (trimmed text)
+unfolding trimmed
+feed-trimmed text free = feed-reverse (unblank (reverse text)) (feed-unblank (reverse text) (feed-reverse text free))
+
+trimmed_bare : (text : List ℕ) → HasNoFeed text → IsBare (trimmed (unblank text))
+trimmed_bare text free = record {
+  bare = bare_where (unblank text) (λ byte more is. begins_full text byte more is);
+  whole = feed-trimmed (unblank text) (feed-unblank text free);
+}
+
+-- where a line says that a session calls for a text, that is bare
+abbrev CallsBare : LineSaid → Type 0
+CallsBare (Says (Calls session text)) = IsBare text
+CallsBare said = Unit {0}
+
+either : (b : Bool) (one two : LineSaid) → CallsBare one → CallsBare two → CallsBare (if b then one else two)
+either true one two first second = first
+either false one two first second = second
+
+alone_bare : (said : LineSaid) (text : List ℕ) → CallsBare said → CallsBare (alone said text)
+alone_bare said [] is = is
+alone_bare said (byte ∷ text) is = tt
+
+value_bare : (session : ℕ) (reading : Reading Text) → CallsBare (value_said session reading)
+value_bare session (Ok (value, rest)) = alone_bare (Says (Returns session (ShowsValue (Some value)))) (unblank rest) tt
+value_bare session (Err fault) = tt
+
+rows_bare : (session : ℕ) (count : Option ℕ) (rest : List ℕ) → CallsBare (rows_said session count rest)
+rows_bare session None rest = tt
+rows_bare session (Some count) rest = alone_bare (Awaits session count) rest tt
+
+error_bare : (session : ℕ) (number : Option ℕ) → CallsBare (error_said session number)
+error_bare session None = tt
+error_bare session (Some number) = either (nat_lt number 65536) _ Bad tt tt
+
+return_bare : (session : ℕ) (word text : List ℕ) → CallsBare (return_said session word text)
+unfolding return_said
+return_bare session word text =
+    either (bytes_eq word (codes "OK")) _ _ (alone_bare (Says (Returns session ShowsOk)) text tt)
+    (either (bytes_eq word (codes "NONE")) _ _ (alone_bare (Says (Returns session (ShowsValue None))) text tt)
+    (either (bytes_eq word (codes "VALUE")) _ _ (value_bare session (literal_ahead text))
+    (either (bytes_eq word (codes "ROWS")) _ _ (rows_bare session (number_of_word (first_word text)) (behind_word text))
+    (either (bytes_eq word (codes "ERROR")) _ Bad (error_bare session (leading_number text)) tt))))
+
+loss_bare : (session : ℕ) (word text : List ℕ) → CallsBare (loss_said session word text)
+unfolding loss_said
+loss_bare session word text =
+    either (bytes_eq word (codes "LOST")) _ _ (alone_bare (Says (Leaves session)) text tt)
+    (either (bytes_eq word (codes "GONE")) _ Bad (alone_bare (Closed session) text tt) tt)
+
+given_bare : (session : ℕ) (text : List ℕ) → HasNoFeed text → CallsBare (session_said session (first_word text) (behind_word text))
+unfolding session_said
+given_bare session text free =
+    let sign = first_word text in
+    let rest = behind_word text in
+    either (bytes_eq sign (codes ">")) _ _ (trimmed_bare (after_word text) (feed-drop (prefix_len is_no_blank text) text free))
+    (either (bytes_eq sign (codes "<")) _ _ (return_bare session (first_word rest) (behind_word rest))
+    (either (bytes_eq sign (codes "?")) _ _ (either (bytes_eq (first_word rest) (codes "ERROR")) (Says (ReturnsUnknown session)) Bad tt tt)
+    (either (bytes_eq sign (codes "!")) _ Bad (loss_bare session (first_word rest) (behind_word rest)) tt)))
+
+named_bare : (session : Option ℕ) (text : List ℕ) → HasNoFeed text → CallsBare (filled_said (line_given session text))
+named_bare None text free = tt
+named_bare (Some session) text free = given_bare session text free
+
+said_bare : (b : Bool) (one two : Line) → CallsBare (filled_said one) → CallsBare (filled_said two) → CallsBare (filled_said (cond b one two))
+said_bare true one two first second = first
+said_bare false one two first second = second
+
+line_bare : (line : List ℕ) → HasNoFeed line → CallsBare (reading_of_line line)
+unfolding reading_of_line line_of
+line_bare line free =
+    let text = unblank line in
+    let whole : HasNoFeed text = feed-unblank line free in
+    either (is_silent line) Nothing _ tt
+    (said_bare (is_empty_line text) Blank (filled_line text) tt
+    (named_bare (session_named (first_word text)) (behind_word text) (feed-unblank (after_word text) (feed-drop (prefix_len is_no_blank text) text whole))))
+
+All-append : {A : Type 0} (P : A → Type 0) (xs ys : List A) → All P xs → All P ys → All P (xs ++ ys)
+All-append P [] ys first second = second
+All-append P (x ∷ xs) ys first second = (first.0, All-append P xs ys first.1 second)
+
+All-parts : {A : Type 0} (P : A → Type 0) (xs ys : List A) → All P (xs ++ ys) → All P xs × All P ys
+All-parts P [] ys all = (tt, all)
+All-parts P (x ∷ xs) ys all = let parts = All-parts P xs ys all.1 in ((all.0, parts.0), parts.1)
+
+tells-bare : (lines : List (List ℕ)) (list : List NumberedEvent) → Tells lines list → All HasNoFeed lines → AreBare list
+tells-bare lines list no_line free = tt
+tells-bare lines list (silent_line before line same tells is) free =
+    tells-bare before same tells (All-parts HasNoFeed before (line ∷ []) free).0
+tells-bare lines list (call_line before line old session text tells is) free =
+    let parts = All-parts HasNoFeed before (line ∷ []) free in
+    All-append (λ one. IsBareTold one.told) old (on_next_line before (Calls session text) ∷ []) (tells-bare before old tells parts.0)
+    (subst CallsBare is (line_bare line parts.1.0), tt)
+tells-bare lines list (return_line before line old session shown tells is) free =
+    All-append (λ one. IsBareTold one.told) old _ (tells-bare before old tells (All-parts HasNoFeed before (line ∷ []) free).0) (tt, tt)
+tells-bare lines list (rows_lines before line more old session count rows tells is came) free =
+    All-append (λ one. IsBareTold one.told) old _ (tells-bare before old tells (All-parts HasNoFeed before (line ∷ more) free).0) (tt, tt)
+tells-bare lines list (unknown_line before line old session tells is) free =
+    All-append (λ one. IsBareTold one.told) old _ (tells-bare before old tells (All-parts HasNoFeed before (line ∷ []) free).0) (tt, tt)
+tells-bare lines list (lost_line before line old session tells is) free =
+    All-append (λ one. IsBareTold one.told) old _ (tells-bare before old tells (All-parts HasNoFeed before (line ∷ []) free).0) (tt, tt)
+tells-bare lines list (gone_line before line front back session tells is ends_so last) free =
+    let all = All-parts (λ (one : NumberedEvent). IsBareTold one.told) front back
+    (tells-bare before (front ++ back) tells (All-parts HasNoFeed before (line ∷ []) free).0) in
+    All-append (λ one. IsBareTold one.told) front (on_next_line before (Leaves session) ∷ back) all.0 (tt, all.1)
+
+-- lines are cut at line feeds
+first-feed : (byte : ℕ) (lines : List (List ℕ)) → (byte == 10) ≡ false → All HasNoFeed lines → All HasNoFeed (with_first byte lines)
+first-feed byte [] apart free = (both _ _ (ap not apart) refl, tt)
+first-feed byte (line ∷ lines) apart free = (both _ _ (ap not apart) free.0, free.1)
+
+lines-feed : (text : List ℕ) → All HasNoFeed (lines_of text)
+unfolding lines_of
+lines-feed [] = tt
+lines-feed (byte ∷ bytes) = by (byte == 10) refl (lines-feed bytes)
+  where
+    by : (b : Bool) → (byte == 10) ≡ b → All HasNoFeed (lines_of bytes) → All HasNoFeed (cond b ([] ∷ lines_of bytes) (with_first byte (lines_of bytes)))
+    by true is later = (refl, later)
+    by false is later = first-feed byte (lines_of bytes) is later
+
+notes-tell : (text : List ℕ) → (notes_of text).faults ≡ [] → Tells (lines_of text) (notes_of text).told
+unfolding notes_of
+notes-tell text clean =
+    let notes = noted_lines no_notes 1 (lines_of text) in
+    let over = ended notes.awaited notes clean in
+    subst (λ n. Tells (lines_of text) n.told) (sym over.2) (lines-tell (lines_of text) over.0 over.1)
+
+-- what sessions are told to call for is bare, where no line is faulty
+pub notes-bare : (text : List ℕ) → (notes_of text).faults ≡ [] → AreBare (notes_of text).told
+notes-bare text clean = tells-bare (lines_of text) (notes_of text).told (notes-tell text clean) (lines-feed text)

@@ -1,0 +1,105 @@
+-- Texts without a line feed, and lines that are cut where they were joined.
+use Rattle.std.proofs.Common.{◌≡◌, ℕ, zero, suc, ◌+◌, ◌<◌, ◌/◌, ◌%◌, ◌^◌, ◌==◌, true, false, Bool, not, ◌&&◌, List, [], ◌∷◌, ◌++◌, map, codes, decimal, refl, ap, sym, ◌∙◌, subst}
+use Rattle.std.proofs.Common.{arith, lit<}
+use Rattle.std.specs.Prelude.{slice_index}
+use Rattle.std.specs.List.{AllByRecursion as All, list_all}
+use Rattle.std.proofs.lemmas.Bool.Decides.{nat_tests}
+use Rattle.std.proofs.lemmas.Fmt.{decimal_digit, decimal-digits_of}
+use Rattle.std.specs.Int.Digits.{digits_of}
+use Rattle.std.proofs.lemmas.List.Folds.{list_all-append}
+use Rattle.hex.specs.Hex.{encode_with, encode_lower, lower_digits}
+use Rattle.xa_xid.specs.XidText.{part_text, xid_text}
+use Rattle.xa_xid.specs.declared.xid.Xid.{Xid}
+use Rattle.xa_xid.specs.declared.statement.Statement.{Statement}
+use Rattle.xa_xid.specs.declared.statement.Statement.TheVariants.{Start, End, Prepare, Commit, Rollback, Recover, Unsupported, Get, Put, Del, Disconnect}
+use Rattle.xa_statement.specs.Canonical.{statement_text}
+use Rattle.xa_lines.specs.Script.{lines_of, with_first}
+use Rattle.xa_record.specs.Replaying.{HasNoFeed, joined, IsFit}
+
+-- both of two tests
+pub both : (one two : Bool) → one ≡ true → two ≡ true → (one && two) ≡ true
+both one two first second = ap (λ b. b && two) first ∙ second
+
+pub both_first : (one two : Bool) → (one && two) ≡ true → one ≡ true
+both_first true two is = refl
+both_first false two is = is
+
+pub both_second : (one two : Bool) → (one && two) ≡ true → two ≡ true
+both_second true two is = is
+both_second false two is = absurd (cc)
+
+not_so : (test : Bool) → not test ≡ true → test ≡ false
+not_so true is = sym is
+not_so false is = refl
+
+-- one text behind another
+pub feed-append : (one two : List ℕ) → HasNoFeed one → HasNoFeed two → HasNoFeed (one ++ two)
+feed-append one two first second =
+    let p : ℕ → Bool = λ byte. not (byte == 10) in
+    list_all-append p one two ∙ both (list_all p one) (list_all p two) first second
+
+-- a line without a line feed is cut off whole
+cut : (line rest : List ℕ) → HasNoFeed line → lines_of ((line ++ codes "\n") ++ rest) ≡ line ∷ lines_of rest
+unfolding lines_of
+cut [] rest free = refl
+cut (byte ∷ line) rest free =
+    let p : ℕ → Bool = λ b. not (b == 10) in
+    rw (not_so (byte == 10) (both_first (p byte) (list_all p line) free)) (ap (with_first byte) (cut line rest (both_second (p byte) (list_all p line) free)))
+
+pub cut_where_joined : (lines : List (List ℕ)) → All HasNoFeed lines → lines_of (joined lines) ≡ lines
+unfolding lines_of joined
+cut_where_joined [] free = refl
+cut_where_joined (line ∷ lines) free = cut line (joined lines) free.0 ∙ ap (λ (l : List (List ℕ)). line ∷ l) (cut_where_joined lines free.1)
+
+-- digits are no line feeds
+digit_feed : (table : List ℕ) → HasNoFeed table → (place : ℕ) → not (slice_index table place == 10) ≡ true
+digit_feed [] free place = refl
+digit_feed (byte ∷ table) free zero = both_first (not (byte == 10)) (list_all (λ b. not (b == 10)) table) free
+digit_feed (byte ∷ table) free (suc place) = digit_feed table (both_second (not (byte == 10)) (list_all (λ b. not (b == 10)) table) free) place
+
+encoded_feed : (table : List ℕ) → HasNoFeed table → (bytes : List ℕ) → HasNoFeed (encode_with table bytes)
+unfolding encode_with
+encoded_feed table free [] = refl
+encoded_feed table free (byte ∷ bytes) =
+    both _ _ (digit_feed table free (byte / 16)) (both _ _ (digit_feed table free (byte % 16)) (encoded_feed table free bytes))
+
+part_feed : (bytes : List ℕ) → HasNoFeed (part_text bytes)
+part_feed [] = refl
+part_feed (byte ∷ bytes) = feed-append (codes "0x") (encode_lower (byte ∷ bytes)) refl (encoded_feed lower_digits refl (byte ∷ bytes))
+
+shifted : (digit : ℕ) → not (48 + digit == 10) ≡ true
+shifted digit = let apart : (48 + digit == 10) ≡ false = grind (arith, nat_tests) in ap not apart
+
+shifted_feed : (digits : List ℕ) → HasNoFeed (map (λ d. 48 + d) digits)
+shifted_feed [] = refl
+shifted_feed (digit ∷ digits) = both _ _ (shifted digit) (shifted_feed digits)
+
+pub decimal_feed : (number : ℕ) → number < 2 ^ 64 → HasNoFeed (decimal number)
+decimal_feed zero fits = subst HasNoFeed (sym (decimal_digit 0 (lit< tt))) refl
+decimal_feed (suc number) fits =
+    subst HasNoFeed (sym (decimal-digits_of (suc number) (omega arith) fits)) (shifted_feed (digits_of 10 (suc number)))
+
+xid_feed : (xid : Xid) → xid.format_id < 2 ^ 64 → HasNoFeed (xid_text xid)
+xid_feed xid fits =
+    feed-append (part_text xid.gtrid.items) (44 ∷ (part_text xid.bqual.items ++ (44 ∷ decimal xid.format_id))) (part_feed xid.gtrid.items)
+    (feed-append (part_text xid.bqual.items) (44 ∷ decimal xid.format_id) (part_feed xid.bqual.items) (decimal_feed xid.format_id fits))
+
+-- the canonical form of a statement is no more than a line
+pub statement_feed : (statement : Statement) → IsFit statement → HasNoFeed (statement_text statement)
+unfolding statement_text
+statement_feed (Start xid) fit = feed-append (codes "XA START ") (xid_text xid) refl (xid_feed xid fit.format_fits)
+statement_feed (End xid) fit = feed-append (codes "XA END ") (xid_text xid) refl (xid_feed xid fit.format_fits)
+statement_feed (Prepare xid) fit = feed-append (codes "XA PREPARE ") (xid_text xid) refl (xid_feed xid fit.format_fits)
+statement_feed (Commit xid false) fit = feed-append (codes "XA COMMIT ") (xid_text xid) refl (xid_feed xid fit.format_fits)
+statement_feed (Commit xid true) fit =
+    feed-append (codes "XA COMMIT ") (xid_text xid ++ codes " ONE PHASE") refl (feed-append (xid_text xid) (codes " ONE PHASE") (xid_feed xid fit.format_fits) refl)
+statement_feed (Rollback xid) fit = feed-append (codes "XA ROLLBACK ") (xid_text xid) refl (xid_feed xid fit.format_fits)
+statement_feed (Recover false) fit = refl
+statement_feed (Recover true) fit = refl
+statement_feed Unsupported fit = refl
+statement_feed (Get key) fit = feed-append (codes "GET ") (part_text key) refl (part_feed key)
+statement_feed (Put key value) fit =
+    feed-append (codes "PUT ") (part_text key ++ (44 ∷ part_text value.items)) refl
+    (feed-append (part_text key) (44 ∷ part_text value.items) (part_feed key) (part_feed value.items))
+statement_feed (Del key) fit = feed-append (codes "DEL ") (part_text key) refl (part_feed key)
+statement_feed Disconnect fit = refl

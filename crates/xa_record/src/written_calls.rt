@@ -1,0 +1,72 @@
+//! What sessions call for is written in an order so that it is read back.
+ghost use Rattle.std.specs.Prelude.{◌≢◌};
+ghost use Rattle.std.specs.List.{All};
+ghost use Rattle.xa_record.specs.Replaying.{IsFit, IsWrittenBack, IsWrittenCall};
+
+use xa_judge::{Event, Request};
+use xa_statement::laws::canonical_text_is_spelled;
+use xa_xid::Statement;
+use xa_xid::laws::is_writable;
+
+/// The parts of a statement are as those of every statement.
+fn is_fit(statement: &Statement)
+    ensures { IsFit statement.now }
+{
+    match statement {
+        Statement::Start(xid) => is_writable(xid),
+        Statement::End(xid) => is_writable(xid),
+        Statement::Prepare(xid) => is_writable(xid),
+        Statement::Commit { xid, one_phase: _ } => is_writable(xid),
+        Statement::Rollback(xid) => is_writable(xid),
+        Statement::Recover { convert: _ } => {}
+        Statement::Unsupported => {}
+        Statement::Get(_) => {}
+        Statement::Put(_, _) => {}
+        Statement::Del(_) => {}
+        Statement::Disconnect => {}
+    }
+}
+
+/// The canonical form of a statement is read as that statement, and is no more than a line.
+#[tactic(auto, using(crate::proofs::Feeds::statement_feed))]
+fn is_written_back(statement: &Statement)
+    requires { statement.now ≢ Statement.Unsupported }
+    ensures { IsWrittenBack statement.now }
+{
+    is_fit(statement);
+    canonical_text_is_spelled(statement);
+}
+
+/// So it is where this is a call.
+fn is_written_call(event: &Event)
+    ensures { IsWrittenCall event.now }
+{
+    match event {
+        Event::Call(_, Request::Statement(statement)) => match statement {
+            Statement::Unsupported => {}
+            Statement::Start(_)
+            | Statement::End(_)
+            | Statement::Prepare(_)
+            | Statement::Commit { .. }
+            | Statement::Rollback(_)
+            | Statement::Recover { .. }
+            | Statement::Get(_)
+            | Statement::Put(_, _)
+            | Statement::Del(_)
+            | Statement::Disconnect => is_written_back(statement),
+        },
+        Event::Call(_, Request::Unread) => {}
+        Event::Return(_, _) => {}
+        Event::Lost(_) => {}
+        Event::Unknown(_) => {}
+    }
+}
+
+/// So it is with each call.
+pub fn are_written_calls(events: &[Event])
+    ensures { All IsWrittenCall events.now }
+{
+    for event in events {
+        is_written_call(event);
+    }
+}
