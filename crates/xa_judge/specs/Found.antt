@@ -9,6 +9,7 @@
 --     Reaches          its path leads to it, behind the trunk
 --     AllReached       so it is with each of a list
 --     Has              a list has a configuration that stands so
+--     IsEffectAt       an act leads to it from the one at a place of a list
 --     IsSpread         a list has more different configurations than a limit
 --     Grows            a list has more at its end, which is reached where the list is
 --     IsExpandedBelow, IsClosedBelow      what acts that count lead to is in the list
@@ -110,6 +111,12 @@ IsSettledFrom session old new =
 -- the list is as it was, and things stood so in one of it; or it has this one more
 abbrev pub AddsUnlessThere : List Configuration → Configuration → List Configuration → Type 0
 AddsUnlessThere old one new = (Has old (config_of one) × (new ≡ old)) ⊎ (new ≡ old ++ one ∷ [])
+
+-- the session's act leads to this configuration from the one at the place
+pub record IsEffectAt (list : List Configuration) (place session : ℕ) (act : Act) (next : Configuration) : Type 0 where
+  pub before : Configuration
+  pub at : slice_get list place ≡ Some before
+  pub leads : effect_of (config_of before) session act ≡ Some (config_of next)
 
 -- the event can't be seen, and the list is as it was; or what it leads to is added
 abbrev pub IsSeenAdded : Event → Configuration → List Configuration → List Configuration → Type 0

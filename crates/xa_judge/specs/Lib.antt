@@ -1,4 +1,5 @@
 pub mod Explained
+pub mod Kept
 pub mod Verdicts
 pub mod Found
 pub mod Advances

@@ -1,6 +1,7 @@
 -- The number by which configurations are told apart: where two configurations' numbers differ, so do they. All of it is our own.
 --     with_word              a number, and a word more
 --     with_text .. with_row  a number, and what such a thing is more
+--     with_server            a number, and what a server is more
 --     mark                   a configuration's number, where these are the keys of the rows that were written
 use Rattle.std.specs.Prelude.{ℕ, ◌+◌, ◌*◌, ◌/◌, ◌%◌, ◌^◌, Option, Some, None, List, length, fold, bit_xor}
 use Rattle.xa_xid.specs.declared.xid.Xid.{Xid}
@@ -104,7 +105,10 @@ with_branch state number branch = with_rows (with_owner (with_phase (with_xid nu
 abbrev pub with_key : State → ℕ → List ℕ → ℕ
 with_key state number key = with_value number (committed_value state key)
 
+-- a server's branches with their rows, and the committed values of these rows, more
+abbrev pub with_server : List (List ℕ) → ℕ → State → ℕ
+with_server keys number state = fold (with_key state) (fold (with_branch state) number (branches_of state)) keys
+
 -- a configuration's number: of what its sessions are about, of its server's branches and their rows, and of the committed values of these rows
 unfoldable pub mark : List (List ℕ) → Config → ℕ
-mark keys config =
-    fold (with_key config.state) (fold (with_branch config.state) (fold with_client 0 config.clients) (branches_of config.state)) keys
+mark keys config = with_server keys (fold with_client 0 config.clients) config.state

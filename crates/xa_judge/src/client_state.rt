@@ -1,8 +1,8 @@
 //! What a session is about.
 ghost use Rattle.std.specs.Prelude.{◌≡◌, true};
 
-use crate::answer::Answer;
-use crate::request::Request;
+use crate::shared_answer::SharedAnswer;
+use crate::shared_request::SharedRequest;
 use std::alloc::AllocError;
 
 /// What a session is about.
@@ -11,11 +11,11 @@ pub enum ClientState {
     /// It has no open call.
     Idle,
     /// It has called, and its request has taken no effect yet.
-    Called(Request),
+    Called(SharedRequest),
     /// Its request has taken effect, and was answered so.
-    Answered(Answer),
+    Answered(SharedAnswer),
     /// Its client is gone: the request, if there is one, may still take effect, and after that its DISCONNECT.
-    Gone(Option<Request>),
+    Gone(Option<SharedRequest>),
     /// Its client is gone, and its DISCONNECT has taken effect.
     Left,
 }
@@ -26,17 +26,17 @@ impl Clone for ClientState {
     fn clone(&self) -> Result<ClientState, AllocError> {
         match self {
             ClientState::Idle => Ok(ClientState::Idle),
-            ClientState::Called(request) => Ok(ClientState::Called(request.copy())),
-            ClientState::Answered(answer) => Ok(ClientState::Answered(answer.copy()?)),
+            ClientState::Called(request) => Ok(ClientState::Called(request.try_clone()?)),
+            ClientState::Answered(answer) => Ok(ClientState::Answered(answer.try_clone()?)),
             ClientState::Gone(None) => Ok(ClientState::Gone(None)),
-            ClientState::Gone(Some(request)) => Ok(ClientState::Gone(Some(request.copy()))),
+            ClientState::Gone(Some(request)) => Ok(ClientState::Gone(Some(request.try_clone()?))),
             ClientState::Left => Ok(ClientState::Left),
         }
     }
 }
 
 /// Whether two requests are known to be the same, or neither is there.
-fn is_same_request(left: &Option<Request>, right: &Option<Request>) -> bool
+fn is_same_request(left: &Option<SharedRequest>, right: &Option<SharedRequest>) -> bool
     ensures { result ≡ true → left.now ≡ right.now }
 {
     match left {

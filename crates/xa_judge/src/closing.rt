@@ -9,7 +9,7 @@ use crate::client_state::ClientState;
 use crate::configuration::Configuration;
 use crate::event::Event;
 use crate::fingerprint_index::FingerprintIndex;
-use crate::known::{add, expand};
+use crate::known::{add, expand, fit};
 use std::alloc::Global;
 use xa_xid::{NoMemory, SessionNo};
 
@@ -100,8 +100,10 @@ pub fn observe_all(
     ensures reach { IfOk result (λ list. ReachesPast event.now known.items list.items) }
 {
     index.go_on(event)?;
+    let count = known.len();
     let mut list = Vec::new(alloc);
     while let Some(one) = known.pop() {
+        let one = fit(one, count)?;
         add_seen(&mut list, index, one, event)?;
     }
     Ok(list)
@@ -120,7 +122,7 @@ fn add_answer(
         Some(ClientState::Idle) => Ok(()),
         Some(ClientState::Called(_)) => Ok(()),
         Some(ClientState::Answered(answer)) => {
-            answers.push(answer.copy()?)?;
+            answers.push(answer.answer().copy()?)?;
             Ok(())
         }
         Some(ClientState::Gone(_)) => Ok(()),

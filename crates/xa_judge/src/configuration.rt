@@ -8,8 +8,11 @@ ghost use Rattle.xa_judge.specs.Explained.{opening_config, answer_to, next_state
 ghost use Rattle.xa_judge.specs.Found.{config_of, moved_to, called_for, call_is_answered, has_unheard, is_over, after_settling, IsSettledFrom};
 
 use crate::client_state::ClientState;
+use crate::kept_server::KeptServer;
 use crate::moves::{Act, Move};
 use crate::request::Request;
+use crate::shared_answer::SharedAnswer;
+use crate::shared_request::SharedRequest;
 use std::alloc::Global;
 use xa_server::Server;
 use xa_xid::{NoMemory, SessionNo, Statement};
@@ -21,7 +24,7 @@ const PLACES: usize = 17;
 #[derive(Drop)]
 pub struct Configuration {
     /// The server.
-    pub server: Server,
+    pub server: KeptServer,
     /// What each session is about, at the place of its number.
     pub clients: Vec<ClientState>,
     /// The moves that led here, from where the trunk ends.
@@ -52,6 +55,13 @@ fn is_same_list(left: &[ClientState], right: &[ClientState]) -> bool
     }
 }
 
+/// A session's DISCONNECT, as a request.
+fn leaving(alloc: Global) -> Result<SharedRequest, NoMemory>
+    ensures { IfOk result (λ request. request ≡ Request.Statement Disconnect) }
+{
+    SharedRequest::of(alloc, Request::Statement(Statement::Disconnect))
+}
+
 impl Configuration {
     /// How things stand before all events.
     #[tactic(auto, unfolding(crate::specs::Explained::opening_config))]
@@ -60,7 +70,7 @@ impl Configuration {
         ensures path { IfOk result (λ first. first.path.items ≡ []) }
     {
         Ok(Configuration {
-            server: base.copy()?,
+            server: KeptServer::of(alloc, base.copy()?)?,
             clients: all_idle(alloc)?,
             path: Vec::new(alloc),
         })
@@ -75,24 +85,42 @@ impl Configuration {
         self
     }
 
-    /// A copy.
+    /// A copy, with a server of its own.
     pub fn copy(&self) -> Result<Configuration, NoMemory>
         ensures config { IfOk result (λ copy. config_of copy ≡ config_of self.now) }
         ensures path { IfOk result (λ copy. copy.path.items ≡ self.now.path.items) }
     {
         Ok(Configuration {
-            server: self.server.copy()?,
+            server: self.server.apart()?,
             clients: self.clients.clone()?,
             path: self.path.clone()?,
         })
     }
 
     /// Whether things are known to stand the same in both. How it came to that is not compared.
-    pub fn is_same(&self, other: &Configuration) -> bool
-        ensures { result ≡ true → config_of self.now ≡ config_of other.now }
+    pub fn is_same(&self, other: &Configuration) -> Result<bool, NoMemory>
+        ensures { IfOk result (λ same. same ≡ true → config_of self.now ≡ config_of other.now) }
     {
-        is_same_list(self.clients.as_slice(), other.clients.as_slice())
-            && self.server.is_same(&other.server)
+        if !is_same_list(self.clients.as_slice(), other.clients.as_slice()) {
+            return Ok(false);
+        }
+        self.server.is_same(&other.server)
+    }
+
+    /// The same, with a server that is kept as itself.
+    pub fn whole(self) -> Result<Configuration, NoMemory>
+        ensures { IfOk result (λ whole. whole ≡ self) }
+    {
+        let Configuration {
+            server,
+            clients,
+            path,
+        } = self;
+        Ok(Configuration {
+            server: server.whole()?,
+            clients,
+            path,
+        })
     }
 
     /// What the session is about.
@@ -104,17 +132,17 @@ impl Configuration {
     }
 
     /// What the session has called for, where that has taken no effect yet.
-    fn called_for(&self, session: SessionNo) -> Option<Request>
-        ensures value { result ≡ called_for (slice_get self.now.clients.items session) }
+    fn called_for(&self, session: SessionNo) -> Result<Option<SharedRequest>, NoMemory>
+        ensures value { IfOk result (λ request. request ≡ called_for (slice_get self.now.clients.items session)) }
         ensures session { IsSession session }
     {
         match self.client(session) {
-            None => None,
-            Some(ClientState::Idle) => None,
-            Some(ClientState::Called(request)) => Some(request.copy()),
-            Some(ClientState::Answered(_)) => None,
-            Some(ClientState::Gone(_)) => None,
-            Some(ClientState::Left) => None,
+            None => Ok(None),
+            Some(ClientState::Idle) => Ok(None),
+            Some(ClientState::Called(request)) => Ok(Some(request.try_clone()?)),
+            Some(ClientState::Answered(_)) => Ok(None),
+            Some(ClientState::Gone(_)) => Ok(None),
+            Some(ClientState::Left) => Ok(None),
         }
     }
 
@@ -135,30 +163,52 @@ impl Configuration {
     }
 
     /// What the session has called for takes effect, and it is answered.
-    fn answered(mut self, session: SessionNo, request: &Request) -> Result<Configuration, NoMemory>
+    fn answered(
+        self,
+        session: SessionNo,
+        request: &SharedRequest,
+    ) -> Result<Configuration, NoMemory>
         requires { session < vec_len self.clients }
         ensures config { IfOk result
             (λ new. config_of new ≡ moved_to (next_state self.server session request.now) self.clients.items session
             (ClientState.Answered (answer_to self.server session request.now))) }
         ensures path { IfOk result (λ new. new.path.items ≡ self.path.items ++ Move.Effect session Act.Statement ∷ []) }
     {
-        let answer = request.carry_out(&mut self.server, session)?;
-        self.moved(
-            session,
-            ClientState::Answered(answer),
-            Move::Effect(session, Act::Statement),
-        )
+        let Configuration {
+            server,
+            clients,
+            path,
+        } = self;
+        let alloc = server.alloc();
+        let (server, answer) = server.carried_out(session, request)?;
+        let answered = ClientState::Answered(SharedAnswer::of(alloc, answer)?);
+        Configuration {
+            server,
+            clients,
+            path,
+        }
+        .moved(session, answered, Move::Effect(session, Act::Statement))
     }
 
     /// What the session had called for takes effect, and nobody hears the answer.
-    fn unheard(mut self, session: SessionNo, request: &Request) -> Result<Configuration, NoMemory>
+    fn unheard(self, session: SessionNo, request: &SharedRequest) -> Result<Configuration, NoMemory>
         requires { session < vec_len self.clients }
         ensures config { IfOk result
             (λ new. config_of new ≡ moved_to (next_state self.server session request.now) self.clients.items session (ClientState.Gone None)) }
         ensures path { IfOk result (λ new. new.path.items ≡ self.path.items ++ Move.Effect session Act.Statement ∷ []) }
     {
-        let _answer = request.carry_out(&mut self.server, session)?;
-        self.moved(
+        let Configuration {
+            server,
+            clients,
+            path,
+        } = self;
+        let (server, _answer) = server.carried_out(session, request)?;
+        Configuration {
+            server,
+            clients,
+            path,
+        }
+        .moved(
             session,
             ClientState::Gone(None),
             Move::Effect(session, Act::Statement),
@@ -166,13 +216,24 @@ impl Configuration {
     }
 
     /// The session's DISCONNECT takes effect.
-    fn left(mut self, session: SessionNo) -> Result<Configuration, NoMemory>
+    fn left(self, session: SessionNo) -> Result<Configuration, NoMemory>
         requires { session < vec_len self.clients }
         ensures config { IfOk result (λ new. config_of new ≡ moved_to (after self.server session Disconnect) self.clients.items session ClientState.Left) }
         ensures path { IfOk result (λ new. new.path.items ≡ self.path.items ++ Move.Effect session Act.Disconnect ∷ []) }
     {
-        let _reply = self.server.apply(session, &Statement::Disconnect)?;
-        self.moved(
+        let Configuration {
+            server,
+            clients,
+            path,
+        } = self;
+        let request = leaving(server.alloc())?;
+        let (server, _answer) = server.carried_out(session, &request)?;
+        Configuration {
+            server,
+            clients,
+            path,
+        }
+        .moved(
             session,
             ClientState::Left,
             Move::Effect(session, Act::Disconnect),
@@ -224,7 +285,7 @@ impl Configuration {
         ensures config { IfOk result (λ new. config_of new ≡ after_settling (config_of self) session) }
         ensures reach { IfOk result (IsSettledFrom session self) }
     {
-        match self.called_for(session) {
+        match self.called_for(session)? {
             None => Ok(self),
             Some(request) => {
                 let new = self.answered(session, &request)?;
@@ -244,13 +305,13 @@ impl Configuration {
             None => Ok(None),
             Some(ClientState::Idle) => Ok(None),
             Some(ClientState::Called(request)) => {
-                let request = request.copy();
+                let request = request.try_clone()?;
                 Ok(Some(self.answered(session, &request)?))
             }
             Some(ClientState::Answered(_)) => Ok(None),
             Some(ClientState::Gone(None)) => Ok(None),
             Some(ClientState::Gone(Some(request))) => {
-                let request = request.copy();
+                let request = request.try_clone()?;
                 Ok(Some(self.unheard(session, &request)?))
             }
             Some(ClientState::Left) => Ok(None),
@@ -317,5 +378,57 @@ impl Configuration {
             return Ok(None);
         }
         self.copy()?.once_effected(session, act)
+    }
+
+    /// The server after the session's act, kept over the same one, where that can take effect.
+    #[tactic(auto, unfolding(crate::specs::Explained::effect_of, crate::specs::Explained::carried_out, crate::specs::Explained::disconnected))]
+    fn server_after(&self, session: SessionNo, act: Act) -> Result<Option<KeptServer>, NoMemory>
+        ensures { IfOk result (λ found. found ≡ option_map (λ config. config.state) (effect_of (config_of self.now) session act)) }
+    {
+        match act {
+            Act::Statement => match self.client(session) {
+                Some(ClientState::Called(request)) => {
+                    Ok(Some(self.server.after(session, request)?))
+                }
+                Some(ClientState::Gone(Some(request))) => {
+                    Ok(Some(self.server.after(session, request)?))
+                }
+                _ => Ok(None),
+            },
+            Act::Disconnect => match self.client(session) {
+                Some(ClientState::Gone(_)) => {
+                    let request = leaving(self.server.alloc())?;
+                    Ok(Some(self.server.after(session, &request)?))
+                }
+                _ => Ok(None),
+            },
+        }
+    }
+
+    /// The same, with a server that is kept over that of the configuration before it, from which the session's act leads here.
+    pub fn over(
+        self,
+        before: &Configuration,
+        session: SessionNo,
+        act: Act,
+    ) -> Result<Configuration, NoMemory>
+        requires { effect_of (config_of before.now) session act ≡ Some (config_of self) }
+        ensures { IfOk result (λ new. new ≡ self) }
+    {
+        match before.server_after(session, act)? {
+            None => Ok(self),
+            Some(server) => {
+                let Configuration {
+                    server: _,
+                    clients,
+                    path,
+                } = self;
+                Ok(Configuration {
+                    server,
+                    clients,
+                    path,
+                })
+            }
+        }
     }
 }

@@ -20,6 +20,8 @@ pub struct FingerprintIndex {
     last: BTreeMap<u64, usize>,
     /// For each place the one before it that has its fingerprint, if there is one.
     before: Vec<Option<usize>>,
+    /// The fingerprint of the configuration that was looked for last.
+    sought: Option<u64>,
     /// The rows that any event called to write. All others have the same value in each configuration.
     written: Vec<Key>,
     alloc: Global,
@@ -40,6 +42,7 @@ impl FingerprintIndex {
         FingerprintIndex {
             last: BTreeMap::new(alloc),
             before: Vec::new(alloc),
+            sought: None,
             written: Vec::new(alloc),
             alloc,
         }
@@ -49,6 +52,7 @@ impl FingerprintIndex {
     pub fn clear(&mut self) {
         self.last.clear();
         self.before.clear();
+        self.sought = None;
     }
 
     /// Forgets all places, for a list of configurations that have seen this event too.
@@ -88,15 +92,36 @@ impl FingerprintIndex {
     pub fn catch_up(&mut self, known: &[Configuration]) -> Result<(), NoMemory> {
         for place in self.before.len()..known.len() {
             let fingerprint = self.mark_of(&known[place])?;
-            let before = self.last.insert(fingerprint, place)?;
-            self.before.push(before)?;
+            self.push(fingerprint)?;
         }
         Ok(())
     }
 
+    /// The next place has this fingerprint.
+    fn push(&mut self, fingerprint: u64) -> Result<(), NoMemory> {
+        let before = self.last.insert(fingerprint, self.before.len())?;
+        self.before.push(before)?;
+        Ok(())
+    }
+
+    /// Takes up the last of `count` places, where it is of the configuration that was looked for last.
+    pub fn note(&mut self, count: usize) -> Result<(), NoMemory> {
+        match self.sought {
+            None => Ok(()),
+            Some(fingerprint) => {
+                self.sought = None;
+                if self.before.len().saturating_add(1) == count {
+                    self.push(fingerprint)?;
+                }
+                Ok(())
+            }
+        }
+    }
+
     /// The last place that has the fingerprint of this configuration, if one has.
-    pub fn last_of(&self, one: &Configuration) -> Result<Option<usize>, NoMemory> {
+    pub fn last_of(&mut self, one: &Configuration) -> Result<Option<usize>, NoMemory> {
         let fingerprint = self.mark_of(one)?;
+        self.sought = Some(fingerprint);
         Ok(self.last.get(&fingerprint).copied())
     }
 

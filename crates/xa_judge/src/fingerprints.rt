@@ -1,7 +1,7 @@
 //! Fingerprints: numbers that tell configurations apart.
 ghost use Rattle.std.specs.Prelude.{◌≡◌, fold, map, IfOk};
 ghost use Rattle.xa_judge.specs.Marks.{with_word, with_text, with_xid, with_value, with_xids, with_state, with_error, with_answer, with_client};
-ghost use Rattle.xa_judge.specs.Marks.{with_phase, with_owner, with_hold, with_row, with_rows, with_branch, with_key, mark};
+ghost use Rattle.xa_judge.specs.Marks.{with_phase, with_owner, with_hold, with_row, with_rows, with_branch, with_key, with_server, mark};
 ghost use Rattle.xa_server.specs.Overview.{branches_of};
 ghost use Rattle.xa_judge.specs.Found.{config_of};
 
@@ -129,7 +129,7 @@ impl Fingerprint {
         match client {
             ClientState::Idle => self.with(0),
             ClientState::Called(_) => self.with(1),
-            ClientState::Answered(answer) => self.with(2).with_answer(answer),
+            ClientState::Answered(answer) => self.with(2).with_answer(answer.answer()),
             ClientState::Gone(None) => self.with(3),
             ClientState::Gone(Some(_)) => self.with(4),
             ClientState::Left => self.with(5),
@@ -232,6 +232,19 @@ impl Fingerprint {
         }
         fingerprint
     }
+
+    /// With the branches of the server, and the committed values of these rows, more.
+    fn with_server(
+        self,
+        alloc: Global,
+        server: &Server,
+        keys: &[Key],
+    ) -> Result<Fingerprint, NoMemory>
+        ensures { IfOk result (λ new. new.number ≡ with_server keys.now self.number server.now) }
+    {
+        let branches = self.with_branches(alloc, server)?;
+        Ok(branches.with_values(server, keys))
+    }
 }
 
 /// The fingerprint of a configuration: of what its sessions are about, of its server's branches and the rows that they hold, and of
@@ -241,6 +254,9 @@ pub fn mark_of(alloc: Global, one: &Configuration, keys: &[Key]) -> Result<u64, 
     ensures { IfOk result (λ number. number ≡ mark keys.now (config_of one.now)) }
 {
     let clients = Fingerprint::new().with_clients(one.clients.as_slice());
-    let branches = clients.with_branches(alloc, &one.server)?;
-    Ok(branches.with_values(&one.server, keys).number)
+    let whole = match one.server.own() {
+        Some(server) => clients.with_server(alloc, server, keys)?,
+        None => clients.with_server(alloc, &one.server.made()?, keys)?,
+    };
+    Ok(whole.number)
 }

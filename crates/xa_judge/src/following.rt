@@ -139,6 +139,6 @@ pub fn server_after(
 {
     match followed(alloc, base, events, moves)? {
         None => Ok(None),
-        Some(one) => Ok(Some(one.server)),
+        Some(one) => Ok(Some(one.server.into_server()?)),
     }
 }

@@ -67,7 +67,9 @@ pub fn suits(here: &Following, events: &[Event], effect: &Effect) -> Result<bool
         Some(ClientState::Called(request)) => {
             match answer_ahead(events, here.seen, effect.session) {
                 None => Ok(true),
-                Some(seen) => Ok(seen.shows(&request.answer(&here.one.server, effect.session)?)),
+                Some(seen) => Ok(seen.shows(
+                    &here.one.server.answer(effect.session, request.request())?,
+                )),
             }
         }
         _ => Ok(true),
@@ -78,7 +80,7 @@ pub fn suits(here: &Following, events: &[Event], effect: &Effect) -> Result<bool
 pub fn can_be_seen(here: &Following, event: &Event) -> bool {
     match event {
         Event::Return(session, seen) => match here.one.client(*session) {
-            Some(ClientState::Answered(answer)) => seen.shows(answer),
+            Some(ClientState::Answered(answer)) => seen.shows(answer.answer()),
             _ => false,
         },
         _ => true,

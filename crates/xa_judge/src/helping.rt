@@ -58,7 +58,7 @@ fn distance_at(here: &Following, event: &Event) -> Result<usize, NoMemory> {
     match event {
         Event::Return(session, seen) => match here.one.client(*session) {
             Some(ClientState::Called(request)) => {
-                Ok(distance(seen, &request.answer(&here.one.server, *session)?))
+                Ok(distance(seen, &here.one.server.answer(*session, request.request())?))
             }
             _ => Ok(1),
         },
@@ -101,7 +101,7 @@ impl Helped {
 /// Adds a way, unless one leads to the same, or enough are there that are no further off.
 fn add_way(ways: &mut Vec<Helped>, one: Helped) -> Result<(), NoMemory> {
     for other in ways.iter() {
-        if other.distance < one.distance || other.here.one.is_same(&one.here.one) {
+        if other.distance < one.distance || other.here.one.is_same(&one.here.one)? {
             return Ok(());
         }
     }

@@ -1,8 +1,8 @@
 //! Lists in which each configuration is kept once.
-ghost use Rattle.std.specs.Prelude.{◌≡◌, ◌∷◌, ◌++◌, ◌≢◌, ◌<◌, ℕ, true, Some, slice_get, vec_len, IfOk, OnOk};
+ghost use Rattle.std.specs.Prelude.{◌≡◌, ◌∷◌, ◌++◌, ◌≢◌, ◌<◌, ℕ, true, Some, slice_get, length, vec_len, IfOk, OnOk};
 ghost use Rattle.xa_judge.specs.declared.configuration.Configuration.{Configuration as Found};
 ghost use Rattle.xa_judge.specs.Explained.{Config, IsSession, effect_of};
-ghost use Rattle.xa_judge.specs.Found.{config_of, call_is_answered, Has, Grows, AddsUnlessThere, IsExpandedBelow};
+ghost use Rattle.xa_judge.specs.Found.{config_of, call_is_answered, Has, Grows, AddsUnlessThere, IsEffectAt, IsExpandedBelow};
 
 use crate::configuration::Configuration;
 use crate::fingerprint_index::FingerprintIndex;
@@ -12,32 +12,38 @@ use xa_xid::{NoMemory, SessionNo};
 /// Lists that are shorter are looked through place by place: a fingerprint costs more than a few comparisons.
 const LONG: usize = 16;
 
+/// In lists that are shorter each configuration has a server of its own.
+const WIDE: usize = 256;
+
 /// Whether things are known to stand so in a configuration of the list.
-fn is_among(known: &[Configuration], one: &Configuration) -> bool
-    ensures { result ≡ true → Has known.now (config_of one.now) }
+fn is_among(known: &[Configuration], one: &Configuration) -> Result<bool, NoMemory>
+    ensures { IfOk result (λ found. found ≡ true → Has known.now (config_of one.now)) }
 {
     for other in known {
-        if one.is_same(other) {
-            return true;
+        if one.is_same(other)? {
+            return Ok(true);
         }
     }
-    false
+    Ok(false)
 }
 
 /// Whether the list has this place, and things are known to stand so there.
-fn is_at(known: &[Configuration], place: usize, one: &Configuration) -> bool
-    ensures { result ≡ true → Has known.now (config_of one.now) }
+fn is_at(known: &[Configuration], place: usize, one: &Configuration) -> Result<bool, NoMemory>
+    ensures { IfOk result (λ found. found ≡ true → Has known.now (config_of one.now)) }
 {
     match known.get(place) {
-        None => false,
-        Some(other) => one.is_same(other),
+        None => Ok(false),
+        Some(other) => {
+            let same = one.is_same(other)?;
+            Ok(same)
+        }
     }
 }
 
 /// Whether things are known to stand so at one of the places that have the configuration's fingerprint.
 fn is_marked(
     known: &[Configuration],
-    index: &FingerprintIndex,
+    index: &mut FingerprintIndex,
     one: &Configuration,
 ) -> Result<bool, NoMemory>
     ensures { IfOk result (λ found. found ≡ true → Has known.now (config_of one.now)) }
@@ -47,7 +53,7 @@ fn is_marked(
         match next {
             None => return Ok(false),
             Some(place) => {
-                if is_at(known, place, one) {
+                if is_at(known, place, one)? {
                     return Ok(true);
                 }
                 next = index.before(place);
@@ -66,7 +72,7 @@ fn is_known(
     ensures { IfOk result (λ found. found ≡ true → Has known.now (config_of one.now)) }
 {
     if known.len() < LONG {
-        return Ok(is_among(known, one));
+        return is_among(known, one);
     }
     index.catch_up(known)?;
     is_marked(known, index, one)
@@ -84,7 +90,53 @@ pub fn add(
         return Ok(());
     }
     known.push(one)?;
-    Ok(())
+    index.note(known.len())
+}
+
+/// The same, as a list of `count` is to keep it.
+pub fn fit(one: Configuration, count: usize) -> Result<Configuration, NoMemory>
+    ensures { IfOk result (λ same. same ≡ one) }
+{
+    if count < WIDE { one.whole() } else { Ok(one) }
+}
+
+/// The configuration to which the session's act leads from the one at this place, as a list of these keeps it.
+fn fitting(
+    known: &[Configuration],
+    place: usize,
+    session: SessionNo,
+    act: Act,
+    next: Configuration,
+) -> Result<Configuration, NoMemory>
+    requires place { place < length known.now }
+    requires leads { IsEffectAt known.now place session act next }
+    ensures { IfOk result (λ new. new ≡ next) }
+{
+    if known.len() < WIDE {
+        return Ok(next);
+    }
+    next.over(&known[place], session, act)
+}
+
+/// Adds the configuration to which the session's act leads from the one at this place, unless things are known to stand so.
+fn add_next(
+    known: &mut Vec<Configuration>,
+    index: &mut FingerprintIndex,
+    place: usize,
+    session: SessionNo,
+    act: Act,
+    next: Configuration,
+) -> Result<(), NoMemory>
+    requires place { place < vec_len known.old }
+    requires leads { IsEffectAt known.old.items place session act next }
+    ensures { OnOk result (AddsUnlessThere known.old.items next known.new.items) }
+{
+    if is_known(known.as_slice(), index, &next)? {
+        return Ok(());
+    }
+    let new = fitting(known.as_slice(), place, session, act, next)?;
+    known.push(new)?;
+    index.note(known.len())
 }
 
 /// Adds what the session's act leads to from the configuration at this place.
@@ -106,7 +158,7 @@ fn add_effect(
     match known[place].effected(session, act)? {
         None => Ok(()),
         Some(next) => {
-            add(known, index, next)?;
+            add_next(known, index, place, session, act, next)?;
             Ok(())
         }
     }

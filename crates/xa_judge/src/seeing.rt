@@ -9,9 +9,17 @@ use crate::configuration::Configuration;
 use crate::event::{Event, Seen};
 use crate::moves::Move;
 use crate::request::Request;
+use crate::shared_request::SharedRequest;
 use xa_xid::{NoMemory, SessionNo};
 
 impl Configuration {
+    /// The request, to be shared.
+    fn shared(&self, request: &Request) -> Result<SharedRequest, NoMemory>
+        ensures { IfOk result (λ shared. shared ≡ request.now) }
+    {
+        SharedRequest::of(self.server.alloc(), request.copy())
+    }
+
     /// How things stand once the session has called, where it can.
     #[tactic(auto, unfolding(crate::specs::Explained::observed, crate::specs::Explained::called))]
     fn called(
@@ -25,13 +33,13 @@ impl Configuration {
         match self.client(session) {
             None => Ok(None),
             Some(ClientState::Idle) => {
-                let client = ClientState::Called(request.copy());
+                let client = ClientState::Called(self.shared(request)?);
                 Ok(Some(self.moved(session, client, Move::Event)?))
             }
             Some(ClientState::Called(_)) => Ok(None),
             Some(ClientState::Answered(_)) => Ok(None),
             Some(ClientState::Gone(None)) => {
-                let client = ClientState::Gone(Some(request.copy()));
+                let client = ClientState::Gone(Some(self.shared(request)?));
                 Ok(Some(self.moved(session, client, Move::Event)?))
             }
             Some(ClientState::Gone(Some(_))) => Ok(None),
@@ -52,7 +60,7 @@ impl Configuration {
             Some(ClientState::Idle) => Ok(None),
             Some(ClientState::Called(_)) => Ok(None),
             Some(ClientState::Answered(answer)) => {
-                if seen.shows(answer) {
+                if seen.shows(answer.answer()) {
                     Ok(Some(self.moved(session, ClientState::Idle, Move::Event)?))
                 } else {
                     Ok(None)
@@ -72,7 +80,7 @@ impl Configuration {
         let client = match self.client(session) {
             None => return Ok(None),
             Some(ClientState::Idle) => ClientState::Gone(None),
-            Some(ClientState::Called(request)) => ClientState::Gone(Some(request.copy())),
+            Some(ClientState::Called(request)) => ClientState::Gone(Some(request.try_clone()?)),
             Some(ClientState::Answered(_)) => ClientState::Gone(None),
             Some(ClientState::Gone(_)) => return Ok(None),
             Some(ClientState::Left) => return Ok(None),

@@ -1,3 +1,5 @@
+use Rattle.std.proofs.Common.{subst}
+use Rattle.xa_judge.specs.Found.{IsSeenAdded}
 use Rattle.xa_judge.proofs.Loops.{sees_step, sees_reach}
 use Rattle.xa_judge.proofs.closing.observe_all.Goals as goal
 
@@ -8,7 +10,8 @@ loop-one-preserved c =
     let rest = c.pop.new.self.items in
     let list = c.loop-one.list.items in
     let new = c.add_seen.new.list.items in
+    let seen = subst (λ one. IsSeenAdded c.args.event.now one list new) c.in_ok-fit.ensures c.in_ok-add_seen.ensures in
     record {
-      has = sees_step c.args.event.now first known rest list new c.in-Some.one c.in-Some.ensures.items c.in_ok-add_seen.ensures c.loop-one.invariant.has;
-      reach = sees_reach c.args.event.now first known rest list new c.in-Some.one c.in-Some.ensures.items c.in_ok-add_seen.ensures c.loop-one.invariant.reach;
+      has = sees_step c.args.event.now first known rest list new c.in-Some.one c.in-Some.ensures.items seen c.loop-one.invariant.has;
+      reach = sees_reach c.args.event.now first known rest list new c.in-Some.one c.in-Some.ensures.items seen c.loop-one.invariant.reach;
     }

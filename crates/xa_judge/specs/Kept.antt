@@ -1,0 +1,15 @@
+-- Servers that are kept by what they carried out.
+--     state_after     the state after a request that was carried out
+--     state_since     the state after all of them
+use Rattle.std.specs.Prelude.{List, fold}
+use Rattle.xa_server.specs.State.{State}
+use Rattle.xa_judge.specs.declared.done.Done.{Done}
+use Rattle.xa_judge.specs.Explained.{next_state}
+
+-- the state after a request that was carried out
+abbrev pub state_after : State → Done → State
+state_after state done = next_state state done.session done.request
+
+-- the state after all that was carried out, in order
+abbrev pub state_since : State → List Done → State
+state_since state since = fold state_after state since

@@ -1,0 +1,26 @@
+//! What a server carried out.
+ghost use Rattle.std.specs.Prelude.{◌≡◌};
+
+use crate::shared_request::SharedRequest;
+use std::alloc::AllocError;
+use xa_xid::SessionNo;
+
+/// A request that a server carried out.
+#[derive(Drop)]
+pub struct Done {
+    /// Whose it was.
+    pub session: SessionNo,
+    /// The request.
+    pub request: SharedRequest,
+}
+
+impl Clone for Done {
+    ghost is_clone = { λ done copy. copy ≡ done };
+
+    fn clone(&self) -> Result<Done, AllocError> {
+        Ok(Done {
+            session: self.session,
+            request: self.request.try_clone()?,
+        })
+    }
+}

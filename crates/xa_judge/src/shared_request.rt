@@ -1,0 +1,56 @@
+//! A request with several owners.
+ghost use Rattle.std.specs.Prelude.{◌≡◌, true, IfOk};
+
+use crate::request::Request;
+use std::alloc::Global;
+use std::marker::Model;
+use std::sync::Arc;
+use xa_xid::NoMemory;
+
+/// A request that configurations own together. A contract sees the request.
+#[derive(Debug, Drop)]
+pub struct SharedRequest {
+    shared: Arc<Request>,
+}
+
+impl Model for SharedRequest {
+    ghost use Rattle.xa_judge.specs.declared.request.Request.{Request as RequestSeen};
+
+    ghost Value = { RequestSeen };
+
+    ghost view = { λ request. request.shared.value };
+}
+
+impl SharedRequest {
+    /// A request with one owner.
+    pub fn of(alloc: Global, request: Request) -> Result<SharedRequest, NoMemory>
+        ensures { IfOk result (λ shared. shared ≡ request) }
+    {
+        Ok(SharedRequest {
+            shared: Arc::new(alloc, request)?,
+        })
+    }
+
+    /// One more owner.
+    pub fn try_clone(&self) -> Result<SharedRequest, NoMemory>
+        ensures { IfOk result (λ shared. shared ≡ self.now) }
+    {
+        Ok(SharedRequest {
+            shared: Arc::try_clone(&self.shared)?,
+        })
+    }
+
+    /// The request.
+    pub fn request(&self) -> &Request
+        ensures { result.now ≡ self.now }
+    {
+        &self.shared
+    }
+
+    /// Whether both are known to be the same.
+    pub fn is_same(&self, other: &SharedRequest) -> bool
+        ensures { result ≡ true → self.now ≡ other.now }
+    {
+        self.request().is_same(other.request())
+    }
+}
