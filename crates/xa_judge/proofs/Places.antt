@@ -2,7 +2,7 @@
 use Rattle.std.proofs.Common.{◌≡◌, ◌≢◌, ◌⊎◌, ℕ, ◌<◌, zero, suc, Some, List, [], ◌∷◌, ◌++◌, length, set, map, get_or, refl, ap, inl, inr, arith}
 use Rattle.std.specs.Prelude.{slice_get}
 use Rattle.std.specs.List.{Contains}
-use Rattle.std.proofs.lemmas.Option.{none-some, same_Some}
+use Rattle.std.proofs.lemmas.Option.{none-some, same_Some, slice_get_read}
 
 pub same_number : (m n : ℕ) → (m ≡ n) ⊎ (m ≢ n)
 same_number zero zero = inl refl
@@ -11,6 +11,10 @@ same_number (suc m) zero = inr (λ e. absurd (omega arith))
 same_number (suc m) (suc n) = elim (same_number m n) [ inl is ↦ inl (ap suc is) | inr apart ↦ inr (λ e. apart (omega arith)) ]
 
 module _ {A : Type 0} where
+  -- what is read at a place of the list stands there
+  pub stands_at : (xs : List A) (i : ℕ) (x : A) → i < length xs → x ≡ get_or xs i x → slice_get xs i ≡ Some x
+  stands_at xs i x within at = slice_get_read xs (length xs) i x refl within at
+
   -- the place that was written
   pub get_written : (xs : List A) (i : ℕ) (x a : A) → slice_get xs i ≡ Some x → slice_get (set xs i a) i ≡ Some a
   get_written [] i x a found = absurd (none-some x found)
