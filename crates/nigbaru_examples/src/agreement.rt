@@ -3,7 +3,7 @@ ghost use Rattle.std.specs.Prelude.{◌≡◌, ◌<◌, ◌∷◌, [], IfOk, vec
 ghost use Rattle.nigbaru.specs.coordinator.Work.{IsRow};
 ghost use Rattle.nigbaru.specs.store.Passes.{log_of, identity_of};
 
-use crate::meeting::opened;
+use crate::meeting::{connected, opened};
 use anyhow::{Result, bail};
 use nigbaru::{
     Bytes, Coordinator, Decisions, Ending, Key, Log, Pass, Reply, Session, Speak, Statement, Store,
@@ -19,6 +19,16 @@ pub fn text(byte: u8) -> Bytes
     let mut text = Bytes::new();
     text.push(byte);
     text
+}
+
+/// The statement that gives the row `k` the value `v`.
+pub fn put() -> Result<Statement>
+    ensures { IfOk result IsRow }
+{
+    let Some(key) = Key::of(text(b'k')) else {
+        bail!("an empty key");
+    };
+    Ok(Statement::Put(key, text(b'v')))
 }
 
 /// Whether a store carries a transaction's work out. The transaction stays the coordinator's.
@@ -78,28 +88,34 @@ pub fn over_both<'a>(
     requires south { log_of second ≡ identity_of south.now.log }
     ensures { IfOk result (λ coordinator. vec_len coordinator.stores ≡ 2) }
 {
-    let (Ok(first), Ok(second)) = (north.connect(first), south.connect(second)) else {
-        bail!("out of memory");
-    };
+    let first = connected(north, first)?;
+    let second = connected(south, second)?;
     let sessions = vec![in alloc; first, second]?;
     Ok(Coordinator::new(text(b'c'), sessions))
 }
 
-/// A row is written in both of two stores, or in neither.
+/// A row is written in both of a coordinator's stores, or in neither.
+fn write_in_both<S: Speak, R: Wait>(
+    rt: &R,
+    coordinator: &mut Coordinator<S>,
+    decisions: &mut Decisions,
+) -> Result<Ending>
+    requires { vec_len coordinator.old.stores ≡ 2 }
+{
+    let put = put()?;
+    let mut transaction = coordinator.begin(decisions)?;
+    let worked = work(rt, coordinator, &mut transaction, 0, &put)
+        && work(rt, coordinator, &mut transaction, 1, &put);
+    if !worked {
+        return Ok(coordinator.abandon(rt, transaction));
+    }
+    finish(rt, coordinator, decisions, transaction)
+}
+
+/// How a transaction ends that writes a row in two stores.
 pub fn in_both<R: Wait>(rt: &R, alloc: Global) -> Result<Ending> {
     let (north, first, _) = opened(alloc)?;
     let (south, second, _) = opened(alloc)?;
     let mut coordinator = over_both(alloc, &north, first, &south, second)?;
-    let mut decisions = Decisions::new(alloc);
-    let Some(key) = Key::of(text(b'k')) else {
-        bail!("an empty key");
-    };
-    let put = Statement::Put(key, text(b'v'));
-    let mut transaction = coordinator.begin(&mut decisions)?;
-    let worked = work(rt, &mut coordinator, &mut transaction, 0, &put)
-        && work(rt, &mut coordinator, &mut transaction, 1, &put);
-    if !worked {
-        return Ok(coordinator.abandon(rt, transaction));
-    }
-    finish(rt, &mut coordinator, &mut decisions, transaction)
+    write_in_both(rt, &mut coordinator, &mut Decisions::new(alloc))
 }

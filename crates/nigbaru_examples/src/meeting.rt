@@ -5,7 +5,7 @@ ghost use Rattle.nigbaru.specs.store.Passes.{log_of, identity_of};
 use crate::speech::say;
 use anyhow::{Result, bail};
 use nigbaru::history::Entry;
-use nigbaru::{Pass, Reply, Store};
+use nigbaru::{Log, Pass, Reply, Session, Store};
 use std::alloc::Global;
 use std::sync::Wait;
 
@@ -21,23 +21,43 @@ pub fn opened(alloc: Global) -> Result<(Store, Pass, Pass)>
     Ok((store, first, second))
 }
 
-/// One session writes a row, and meets another, which then reads it.
+/// A session of a store, of one of its passes.
+pub fn connected(store: &Store, pass: Pass) -> Result<Session<'_, Log>>
+    requires { log_of pass ≡ identity_of store.now.log }
+    ensures { IfOk result (λ session. log_of session.pass ≡ log_of pass) }
+{
+    match store.connect(pass) {
+        Ok(session) => Ok(session),
+        Err((_, error)) => Err(error.into()),
+    }
+}
+
+/// A session writes a row, and meets another, which then reads it.
+fn read_by_second<R: Wait>(
+    rt: &R,
+    first: &mut Session<'_, Log>,
+    second: &mut Session<'_, Log>,
+) -> Result<Reply>
+    requires { log_of first.old.pass ≡ log_of second.old.pass }
+{
+    say(rt, first, "PUT 'k','v'")?;
+    first.meet(second);
+    say(rt, second, "GET 'k'")
+}
+
+/// What one session of a store reads of what the other has written.
 pub fn read_elsewhere<R: Wait>(rt: &R, alloc: Global) -> Result<Reply> {
     let (store, first, second) = opened(alloc)?;
-    let (Ok(mut first), Ok(mut second)) = (store.connect(first), store.connect(second)) else {
-        bail!("out of memory");
-    };
-    say(rt, &mut first, "PUT 'k','v'")?;
-    first.meet(&mut second);
-    say(rt, &mut second, "GET 'k'")
+    let mut first = connected(&store, first)?;
+    let mut second = connected(&store, second)?;
+    read_by_second(rt, &mut first, &mut second)
 }
 
 /// The history of a store after each of its sessions has written a row.
 pub fn written_down<R: Wait>(rt: &R, alloc: Global) -> Result<Vec<Entry>> {
     let (store, first, second) = opened(alloc)?;
-    let (Ok(mut first), Ok(mut second)) = (store.connect(first), store.connect(second)) else {
-        bail!("out of memory");
-    };
+    let mut first = connected(&store, first)?;
+    let mut second = connected(&store, second)?;
     say(rt, &mut first, "PUT 'k','v'")?;
     say(rt, &mut second, "PUT 'm','w'")?;
     let mut sessions = vec![in alloc; first, second]?;

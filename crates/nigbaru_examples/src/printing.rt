@@ -19,6 +19,19 @@ pub fn show_reply<R: Print>(rt: &R, what: &str, reply: &Reply) -> Result<()> {
     Ok(())
 }
 
+/// Prints what a server replies to a text, or why that is no statement.
+fn show_statement<R: Print>(
+    rt: &R,
+    server: &mut Server,
+    session: SessionNo,
+    text: &str,
+) -> Result<()> {
+    match reply_to_text(server, session, text.as_bytes()) {
+        Ok(reply) => show_reply(rt, text, &reply),
+        Err(fault) => Ok(println!(rt; "{text}: {fault}")?),
+    }
+}
+
 /// Prints what a server replies to statements that come as bytes, and that another text is none.
 pub fn show_statements<R: Print>(rt: &R, alloc: Global) -> Result<()> {
     let mut server = Server::new(alloc);
@@ -26,10 +39,7 @@ pub fn show_statements<R: Print>(rt: &R, alloc: Global) -> Result<()> {
         bail!("no session 1");
     };
     for text in ["XA START 'a'", "PUT 'k','v'", "XA COMMIT 'a'", "XA GO 'a'"] {
-        match reply_to_text(&mut server, session, text.as_bytes()) {
-            Ok(reply) => show_reply(rt, text, &reply)?,
-            Err(fault) => println!(rt; "{text}: {fault}")?,
-        }
+        show_statement(rt, &mut server, session, text)?;
     }
     Ok(())
 }

@@ -2,38 +2,60 @@
 ghost use Rattle.std.specs.Prelude.{◌≡◌, IfOk, vec_len};
 ghost use Rattle.nigbaru.specs.store.Passes.{log_of, identity_of};
 
-use crate::agreement::{text, work};
+use crate::agreement::{put, text, work};
 use crate::kept::{read_back, write_down};
-use crate::meeting::opened;
+use crate::meeting::{connected, opened};
 use anyhow::{Result, bail};
-use nigbaru::{
-    Coordinator, Decisions, Key, Log, Pass, Report, Session, Speak, Statement, Store, Vote,
-};
+use nigbaru::{Coordinator, Decisions, Log, Pass, Report, Session, Speak, Store, Vote};
 use std::alloc::Global;
 use std::sync::Wait;
 
 /// A session of each of three stores.
 fn of_three<'a>(
     alloc: Global,
-    stores: (&'a Store, &'a Store, &'a Store),
-    passes: (Pass, Pass, Pass),
+    north: &'a Store,
+    first: Pass,
+    south: &'a Store,
+    second: Pass,
+    east: &'a Store,
+    third: Pass,
 ) -> Result<Vec<Session<'a, Log>>>
-    requires first { log_of passes.0 ≡ identity_of stores.0.now.log }
-    requires second { log_of passes.1 ≡ identity_of stores.1.now.log }
-    requires third { log_of passes.2 ≡ identity_of stores.2.now.log }
+    requires north { log_of first ≡ identity_of north.now.log }
+    requires south { log_of second ≡ identity_of south.now.log }
+    requires east { log_of third ≡ identity_of east.now.log }
     ensures { IfOk result (λ sessions. vec_len sessions ≡ 3) }
 {
-    let (Ok(first), Ok(second), Ok(third)) = (
-        stores.0.connect(passes.0),
-        stores.1.connect(passes.1),
-        stores.2.connect(passes.2),
-    ) else {
-        bail!("out of memory");
-    };
+    let first = connected(north, first)?;
+    let second = connected(south, second)?;
+    let third = connected(east, third)?;
     Ok(vec![in alloc; first, second, third]?)
 }
 
-/// A transaction writes a row in each store and is decided, and there its coordinator stops. What is left are the sessions, and the decisions as a text.
+/// A transaction writes a row in each of three stores and is decided.
+fn decide_over_three<S: Speak, R: Wait>(
+    rt: &R,
+    coordinator: &mut Coordinator<S>,
+    decisions: &mut Decisions,
+) -> Result<()>
+    requires { vec_len coordinator.old.stores ≡ 3 }
+    ensures { vec_len coordinator.new.stores ≡ 3 }
+{
+    let put = put()?;
+    let mut transaction = coordinator.begin(decisions)?;
+    let worked = work(rt, coordinator, &mut transaction, 0, &put)
+        && work(rt, coordinator, &mut transaction, 1, &put)
+        && work(rt, coordinator, &mut transaction, 2, &put);
+    if !worked {
+        bail!("a store has not done its work");
+    }
+    let Vote::Ready(prepared) = coordinator.prepare(rt, transaction) else {
+        bail!("a store has not voted yes");
+    };
+    decisions.decide(&prepared)?;
+    Ok(())
+}
+
+/// Where a transaction is decided its coordinator stops. What is left are the sessions, and the decisions as a text.
 fn decided<S: Speak + Drop, R: Wait>(
     rt: &R,
     alloc: Global,
@@ -43,22 +65,9 @@ fn decided<S: Speak + Drop, R: Wait>(
     ensures { IfOk result (λ left. vec_len left.0 ≡ 3) }
 {
     let mut decisions = Decisions::new(alloc);
-    let Some(key) = Key::of(text(b'k')) else {
-        bail!("an empty key");
-    };
-    let put = Statement::Put(key, text(b'v'));
-    let mut transaction = coordinator.begin(&mut decisions)?;
-    let worked = work(rt, &mut coordinator, &mut transaction, 0, &put)
-        && work(rt, &mut coordinator, &mut transaction, 1, &put)
-        && work(rt, &mut coordinator, &mut transaction, 2, &put);
-    if !worked {
-        bail!("a store has not done its work");
-    }
-    let Vote::Ready(prepared) = coordinator.prepare(rt, transaction) else {
-        bail!("a store has not voted yes");
-    };
-    decisions.decide(&prepared)?;
-    Ok((coordinator.stop(), write_down(alloc, &decisions)?))
+    decide_over_three(rt, &mut coordinator, &mut decisions)?;
+    let text = write_down(alloc, &decisions)?;
+    Ok((coordinator.stop(), text))
 }
 
 /// Another coordinator of the same name reads the decisions back, and commits what was decided.
@@ -75,12 +84,19 @@ fn taken_up<S: Speak + Drop, R: Wait>(
     Ok(coordinator.recover(rt, alloc, &mut decisions)?)
 }
 
+/// A coordinator over these sessions decides a transaction and stops, and another recovers.
+fn handed_on<S: Speak + Drop, R: Wait>(rt: &R, alloc: Global, sessions: Vec<S>) -> Result<Report>
+    requires { vec_len sessions ≡ 3 }
+{
+    let (sessions, text) = decided(rt, alloc, Coordinator::new(text(b'c'), sessions))?;
+    taken_up(rt, alloc, sessions, text.as_slice())
+}
+
 /// What a recovery of three stores does with decisions that were read back.
 pub fn recovered<R: Wait>(rt: &R, alloc: Global) -> Result<Report> {
     let (north, first, _) = opened(alloc)?;
     let (south, second, _) = opened(alloc)?;
     let (east, third, _) = opened(alloc)?;
-    let sessions = of_three(alloc, (&north, &south, &east), (first, second, third))?;
-    let (sessions, text) = decided(rt, alloc, Coordinator::new(text(b'c'), sessions))?;
-    taken_up(rt, alloc, sessions, text.as_slice())
+    let sessions = of_three(alloc, &north, first, &south, second, &east, third)?;
+    handed_on(rt, alloc, sessions)
 }

@@ -1,12 +1,11 @@
 //! Sessions of one store on threads of their own.
 ghost use Rattle.std.specs.Prelude.{◌≡◌};
 
-use crate::meeting::opened;
+use crate::meeting::{connected, opened};
 use anyhow::{Result, bail};
 use nigbaru::history::DecisionLog;
 use nigbaru::{
-    Answer, Bytes, Fault, OpenGate, Outcome, Reply, Run, Session, Statement, Xid, race,
-    read_statement,
+    Answer, Bytes, OpenGate, Outcome, Reply, Run, Session, Statement, Xid, race, read_statement,
 };
 use std::alloc::Global;
 use std::snapshot::Snapshot;
@@ -14,11 +13,17 @@ use std::sync::Wait;
 use std::thread;
 use std::thread::{Promise, Threads};
 
+/// The one statement of a session.
+fn said_once(alloc: Global, text: &str) -> Result<Vec<Statement>> {
+    let statement = read_statement(text.as_bytes())?;
+    Ok(vec![in alloc; statement]?)
+}
+
 /// Two runs of one statement each, raced: each on a thread of its own, and one history that explains all answers.
 pub fn raced<R: Threads + Wait + Sync>(rt: &R, alloc: Global) -> Result<Outcome> {
     let (store, first, second) = opened(alloc)?;
-    let left = vec![in alloc; read_statement(b"XA START 'a'")?]?;
-    let right = vec![in alloc; read_statement(b"XA START 'a'")?]?;
+    let left = said_once(alloc, "XA START 'a'")?;
+    let right = said_once(alloc, "XA START 'a'")?;
     let runs = vec![in alloc;
         Run {
             pass: first,
@@ -43,10 +48,16 @@ fn branch(letter: u8) -> Xid {
     }
 }
 
-/// Whether a statement was carried out.
-fn is_ok(answer: &Result<Answer, Fault>) -> bool {
+/// Whether a session carries a statement out. It stays a session of its store.
+fn is_done<L: DecisionLog, R: Wait>(
+    rt: &R,
+    session: &mut Session<'_, L>,
+    statement: &Statement,
+) -> bool
+    ensures { L.belongs_to session.new.pass ≡ L.belongs_to session.old.pass }
+{
     matches!(
-        answer,
+        session.execute(rt, statement),
         Ok(Answer {
             reply: Reply::Ok,
             ..
@@ -62,9 +73,9 @@ fn prepare<'a, L: DecisionLog, R: Wait>(
 ) -> (Session<'a, L>, bool)
     ensures { L.belongs_to result.0.pass ≡ L.belongs_to session.entry.pass }
 {
-    let prepared = is_ok(&session.execute(rt, &Statement::Start(xid.copy())))
-        && is_ok(&session.execute(rt, &Statement::End(xid.copy())))
-        && is_ok(&session.execute(rt, &Statement::Prepare(xid)));
+    let prepared = is_done(rt, &mut session, &Statement::Start(xid.copy()))
+        && is_done(rt, &mut session, &Statement::End(xid.copy()))
+        && is_done(rt, &mut session, &Statement::Prepare(xid));
     (session, prepared)
 }
 
@@ -123,9 +134,8 @@ where
 /// The list of prepared branches of a store, of which two sessions have prepared one each, on threads of their own.
 pub fn side_by_side<R: Threads + Wait + Sync>(rt: &R, alloc: Global) -> Result<Reply> {
     let (store, first, second) = opened(alloc)?;
-    let (Ok(first), Ok(second)) = (store.connect(first), store.connect(second)) else {
-        bail!("out of memory");
-    };
+    let first = connected(&store, first)?;
+    let second = connected(&store, second)?;
     let Some(reply) = listed_by_second(rt, first, second, branch(b'a'), branch(b'b')) else {
         bail!("a branch isn't prepared");
     };

@@ -2,9 +2,9 @@
 ghost use Rattle.std.specs.Prelude.{◌≡◌};
 ghost use Rattle.nigbaru.specs.store.Passes.{log_of};
 
-use crate::meeting::opened;
+use crate::meeting::{connected, opened};
 use crate::speech::say;
-use anyhow::{Result, bail};
+use anyhow::Result;
 use nigbaru::{Log, Reply, Session};
 use std::alloc::Global;
 use std::sync::Wait;
@@ -27,13 +27,24 @@ pub fn say_in_turn<R: Wait>(
     Ok(())
 }
 
+/// Both say these texts in turn, meet, and the first reads a row.
+fn read_after<R: Wait>(
+    rt: &R,
+    first: &mut Session<'_, Log>,
+    second: &mut Session<'_, Log>,
+    texts: &[&str],
+) -> Result<Reply>
+    requires { log_of first.old.pass ≡ log_of second.old.pass }
+{
+    say_in_turn(rt, first, second, texts)?;
+    second.meet(first);
+    say(rt, first, "GET 'm'")
+}
+
 /// Two sessions write the same rows in turn, and the first reads what is there once both have met.
 pub fn written_in_turn<R: Wait>(rt: &R, alloc: Global) -> Result<Reply> {
     let (store, first, second) = opened(alloc)?;
-    let (Ok(mut first), Ok(mut second)) = (store.connect(first), store.connect(second)) else {
-        bail!("out of memory");
-    };
-    say_in_turn(rt, &mut first, &mut second, &["PUT 'k','v'", "PUT 'm','w'"])?;
-    second.meet(&mut first);
-    say(rt, &mut first, "GET 'm'")
+    let mut first = connected(&store, first)?;
+    let mut second = connected(&store, second)?;
+    read_after(rt, &mut first, &mut second, &["PUT 'k','v'", "PUT 'm','w'"])
 }

@@ -1,4 +1,4 @@
-//! Jobs of lines on what no case of the repository's folder cases can show: streams that fault or give little at a time, gates, greatest lengths, events.
+//! Jobs of lines on what no case of the repository's folder cases can show: streams that fault or give little at a time, gates, the longest script, events.
 #![tactic(auto)]
 
 #[cfg(test)]

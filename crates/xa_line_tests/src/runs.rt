@@ -1,6 +1,5 @@
 //! Runs over streams that fault, give little at a time, or give much.
 use std::alloc::Global;
-use std::io::{Read, Write};
 use std::process::Abort;
 use std::test::Fail;
 use xa_lines::{CutReader, CutWriter, ScriptFault, run_script};
@@ -51,27 +50,6 @@ fn write_fault_leaves_a_prefix(rt: HostRuntime) {
         is_cut(&rt, rt.alloc(), &mut output, room);
         assert_eq!(rt; output.writes_after_a_fault(), 0);
     }
-}
-
-#[test]
-fn cut_reader_goes_on_after_one_fault(rt: HostRuntime) {
-    let mut input = CutReader::once(b"abc", 2, 1);
-    let mut piece = [0u8; 4];
-    assert_eq!(rt; input.read(&mut piece).ok(), Some(2));
-    assert!(rt; input.read(&mut piece).is_err());
-    assert_eq!(rt; input.read(&mut piece).ok(), Some(1));
-    assert_eq!(rt; piece[0], b'c');
-    assert_eq!(rt; input.reads_after_a_fault(), 1);
-}
-
-#[test]
-fn cut_writer_goes_on_after_one_fault(rt: HostRuntime) {
-    let mut output = CutWriter::once(rt.alloc(), 2, 1);
-    assert_eq!(rt; output.write(b"abc").ok(), Some(1));
-    assert!(rt; output.write(b"bc").is_err());
-    assert_eq!(rt; output.write(b"bc").ok(), Some(2));
-    assert_eq!(rt; output.as_slice(), b"abc".as_slice());
-    assert_eq!(rt; output.writes_after_a_fault(), 1);
 }
 
 #[test]
