@@ -53,13 +53,26 @@ pub fn read_elsewhere<R: Wait>(rt: &R, alloc: Global) -> Result<Reply> {
     read_by_second(rt, &mut first, &mut second)
 }
 
+/// A session of a pass that has written a row.
+fn written<'a, R: Wait>(
+    rt: &R,
+    store: &'a Store,
+    pass: Pass,
+    text: &str,
+) -> Result<Session<'a, Log>>
+    requires { log_of pass ≡ identity_of store.now.log }
+    ensures { IfOk result (λ session. log_of session.pass ≡ log_of pass) }
+{
+    let mut session = connected(store, pass)?;
+    say(rt, &mut session, text)?;
+    Ok(session)
+}
+
 /// The history of a store after each of its sessions has written a row.
 pub fn written_down<R: Wait>(rt: &R, alloc: Global) -> Result<Vec<Entry>> {
     let (store, first, second) = opened(alloc)?;
-    let mut first = connected(&store, first)?;
-    let mut second = connected(&store, second)?;
-    say(rt, &mut first, "PUT 'k','v'")?;
-    say(rt, &mut second, "PUT 'm','w'")?;
+    let first = written(rt, &store, first, "PUT 'k','v'")?;
+    let second = written(rt, &store, second, "PUT 'm','w'")?;
     let mut sessions = vec![in alloc; first, second]?;
     Ok(store.history(alloc, &mut sessions)?)
 }

@@ -10,6 +10,23 @@ use nigbaru::{Coordinator, Decisions, Log, Pass, Report, Session, Speak, Store, 
 use std::alloc::Global;
 use std::sync::Wait;
 
+/// A session of each of two stores.
+fn of_two<'a>(
+    alloc: Global,
+    north: &'a Store,
+    first: Pass,
+    south: &'a Store,
+    second: Pass,
+) -> Result<Vec<Session<'a, Log>>>
+    requires north { log_of first ≡ identity_of north.now.log }
+    requires south { log_of second ≡ identity_of south.now.log }
+    ensures { IfOk result (λ sessions. vec_len sessions ≡ 2) }
+{
+    let first = connected(north, first)?;
+    let second = connected(south, second)?;
+    Ok(vec![in alloc; first, second]?)
+}
+
 /// A session of each of three stores.
 fn of_three<'a>(
     alloc: Global,
@@ -25,10 +42,9 @@ fn of_three<'a>(
     requires east { log_of third ≡ identity_of east.now.log }
     ensures { IfOk result (λ sessions. vec_len sessions ≡ 3) }
 {
-    let first = connected(north, first)?;
-    let second = connected(south, second)?;
-    let third = connected(east, third)?;
-    Ok(vec![in alloc; first, second, third]?)
+    let mut sessions = of_two(alloc, north, first, south, second)?;
+    sessions.push(connected(east, third)?)?;
+    Ok(sessions)
 }
 
 /// A transaction writes a row in each of three stores and is decided.

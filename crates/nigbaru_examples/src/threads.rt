@@ -4,26 +4,18 @@ ghost use Rattle.std.specs.Prelude.{◌≡◌};
 use crate::meeting::{connected, opened};
 use anyhow::{Result, bail};
 use nigbaru::history::DecisionLog;
-use nigbaru::{
-    Answer, Bytes, OpenGate, Outcome, Reply, Run, Session, Statement, Xid, race, read_statement,
-};
+use nigbaru::{Answer, Bytes, OpenGate, Outcome, Reply, Run, Session, Statement, Xid, race};
 use std::alloc::Global;
 use std::snapshot::Snapshot;
 use std::sync::Wait;
 use std::thread;
 use std::thread::{Promise, Threads};
 
-/// The one statement of a session.
-fn said_once(alloc: Global, text: &str) -> Result<Vec<Statement>> {
-    let statement = read_statement(text.as_bytes())?;
-    Ok(vec![in alloc; statement]?)
-}
-
 /// Two runs of one statement each, raced: each on a thread of its own, and one history that explains all answers.
 pub fn raced<R: Threads + Wait + Sync>(rt: &R, alloc: Global) -> Result<Outcome> {
     let (store, first, second) = opened(alloc)?;
-    let left = said_once(alloc, "XA START 'a'")?;
-    let right = said_once(alloc, "XA START 'a'")?;
+    let left = vec![in alloc; Statement::Start(branch(b'a'))]?;
+    let right = vec![in alloc; Statement::Start(branch(b'a'))]?;
     let runs = vec![in alloc;
         Run {
             pass: first,
