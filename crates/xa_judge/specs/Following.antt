@@ -1,7 +1,7 @@
 -- Whether moves lead through events.
 --     LeadsOn          moves lead through what is still to be seen
 --     Leads            moves lead through the events, to this configuration
-use Rattle.std.specs.Prelude.{ℕ, Option, Some, None, List, drop}
+use Rattle.std.specs.Prelude.{Option, Some, None, List, drop}
 use Rattle.xa_server.specs.State.{State}
 use Rattle.xa_judge.specs.declared.event.Event.{Event}
 use Rattle.xa_judge.specs.declared.moves.Move.{Move}

@@ -1,6 +1,6 @@
-use Rattle.std.proofs.Common.{◌≡◌, ◌↔◌, ◌<◌, ◌≤◌, ◌∷◌, ◌+◌, ◌∙◌, Some, drop, length, ap, sym, subst, arith}
+use Rattle.std.proofs.Common.{◌≡◌, ◌↔◌, ◌<◌, ◌∷◌, ◌+◌, ◌∙◌, Some, drop, length, ap, sym, subst, arith}
 use Rattle.std.proofs.lemmas.List.{drop_more, drop_all}
-use Rattle.xa_judge.specs.Explained.{Config, LeadsThrough}
+use Rattle.xa_judge.specs.Explained.{LeadsThrough}
 use Rattle.xa_judge.specs.Found.{config_of}
 use Rattle.xa_judge.specs.Following.{LeadsOn}
 use Rattle.xa_judge.proofs.Places.{get_within}

@@ -1,4 +1,4 @@
-use Rattle.std.proofs.Common.{◌≡◌, sym, ◌∙◌}
+use Rattle.std.proofs.Common.{sym, ◌∙◌}
 use Rattle.xa_judge.proofs.Steps.{some_leads, leads_some}
 use Rattle.xa_judge.proofs.following.follows.Goals as goal
 

@@ -1,4 +1,4 @@
-use Rattle.std.proofs.Common.{◌≡◌, Some, IfSome, subst, sym}
+use Rattle.std.proofs.Common.{IfSome, subst, sym}
 use Rattle.xa_judge.specs.Explained.{opening_config, LeadsThrough}
 use Rattle.xa_judge.specs.Found.{config_of}
 use Rattle.xa_judge.proofs.following.server_after.Goals as goal

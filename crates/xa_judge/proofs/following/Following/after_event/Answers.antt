@@ -1,4 +1,4 @@
-use Rattle.std.proofs.Common.{ap, sym, ◌∙◌, subst, ◌≡◌, ◌+◌, Some, drop, length, refl}
+use Rattle.std.proofs.Common.{ap, sym, ◌∙◌, ◌+◌, Some, drop, length, refl}
 use Rattle.std.proofs.lemmas.Option.{slice_get_read}
 use Rattle.std.specs.Option.{option_map}
 use Rattle.xa_judge.specs.Found.{config_of}
