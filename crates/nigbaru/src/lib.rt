@@ -13,11 +13,11 @@ pub mod script;
 
 pub use xa_coordinator::{
     BeginFault, Beside, Cause, Closed, Closing, Coordinator, Decision, Decisions, Ending,
-    FORMAT_ID, Fused, Prepared, RecoverFault, Report, Speak, Transaction, Vote, VoteKind,
+    FORMAT_ID, Fused, Paused, Prepared, RecoverFault, Report, Speak, Transaction, Vote, VoteKind,
     WorkFault, xid_of_branch,
 };
 pub use xa_lasting::LastingStore;
-pub use xa_renewal::{Kept, renew, renew_store};
+pub use xa_renewal::{Kept, renew, renew_fused_store, renew_store};
 pub use xa_server::{
     BranchEntry, BranchState, HeldRow, Hold, Phase, Reply, Server, XaError, XidList,
 };
