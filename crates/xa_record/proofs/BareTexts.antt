@@ -12,12 +12,11 @@ use Rattle.xa_lines.specs.Script.{line_given, session_named, filled_line, number
 use Rattle.xa_record.specs.Lines.{ShowsOk, ShowsValue, Calls, Returns, ReturnsUnknown, Leaves, LineSaid, Nothing, Bad, Says, Awaits, Closed, is_silent, trimmed, alone}
 use Rattle.xa_record.specs.Lines.{value_said, rows_said, error_said, return_said, loss_said, session_said, filled_said, reading_of_line}
 use Rattle.xa_record.specs.Rows.{leading_number}
-use Rattle.xa_record.specs.Reading.{NumberedEvent, no_notes, noted_lines, notes_of}
+use Rattle.xa_record.specs.Reading.{NumberedEvent, notes_of}
 use Rattle.xa_record.specs.Records.{Tells, no_line, silent_line, call_line, return_line, rows_lines, unknown_line, lost_line, gone_line, on_next_line}
 use Rattle.xa_record.specs.Replaying.{HasNoFeed, IsBare, IsBareTold, AreBare}
 use Rattle.xa_record.proofs.Feeds.{both, both_first, both_second, feed-append}
-use Rattle.xa_record.proofs.NoFaults.{ended}
-use Rattle.xa_record.proofs.RecordLines.{lines-tell}
+use Rattle.xa_record.proofs.TextsTold.{text-tells}
 
 -- parts of a text without a line feed have none
 first_of : (byte : ℕ) (text : List ℕ) → HasNoFeed (byte ∷ text) → not (byte == 10) ≡ true
@@ -173,19 +172,19 @@ tells-bare : (lines : List (List ℕ)) (list : List NumberedEvent) → Tells lin
 tells-bare lines list no_line free = tt
 tells-bare lines list (silent_line before line same tells is) free =
     tells-bare before same tells (All-parts HasNoFeed before (line ∷ []) free).0
-tells-bare lines list (call_line before line old session text tells is) free =
+tells-bare lines list (call_line before line old session text tells is fits) free =
     let parts = All-parts HasNoFeed before (line ∷ []) free in
     All-append (λ one. IsBareTold one.told) old (on_next_line before (Calls session text) ∷ []) (tells-bare before old tells parts.0)
     (subst CallsBare is (line_bare line parts.1.0), tt)
-tells-bare lines list (return_line before line old session shown tells is) free =
+tells-bare lines list (return_line before line old session shown tells is fits) free =
     All-append (λ one. IsBareTold one.told) old _ (tells-bare before old tells (All-parts HasNoFeed before (line ∷ []) free).0) (tt, tt)
-tells-bare lines list (rows_lines before line more old session count rows tells is came) free =
+tells-bare lines list (rows_lines before line more old session count rows tells is came fits) free =
     All-append (λ one. IsBareTold one.told) old _ (tells-bare before old tells (All-parts HasNoFeed before (line ∷ more) free).0) (tt, tt)
-tells-bare lines list (unknown_line before line old session tells is) free =
+tells-bare lines list (unknown_line before line old session tells is fits) free =
     All-append (λ one. IsBareTold one.told) old _ (tells-bare before old tells (All-parts HasNoFeed before (line ∷ []) free).0) (tt, tt)
-tells-bare lines list (lost_line before line old session tells is) free =
+tells-bare lines list (lost_line before line old session tells is fits) free =
     All-append (λ one. IsBareTold one.told) old _ (tells-bare before old tells (All-parts HasNoFeed before (line ∷ []) free).0) (tt, tt)
-tells-bare lines list (gone_line before line front back session tells is ends_so last) free =
+tells-bare lines list (gone_line before line front back session tells is ends_so last fits) free =
     let all = All-parts (λ (one : NumberedEvent). IsBareTold one.told) front back
     (tells-bare before (front ++ back) tells (All-parts HasNoFeed before (line ∷ []) free).0) in
     All-append (λ one. IsBareTold one.told) front (on_next_line before (Leaves session) ∷ back) all.0 (tt, all.1)
@@ -204,13 +203,6 @@ lines-feed (byte ∷ bytes) = by (byte == 10) refl (lines-feed bytes)
     by true is later = (refl, later)
     by false is later = first-feed byte (lines_of bytes) is later
 
-notes-tell : (text : List ℕ) → (notes_of text).faults ≡ [] → Tells (lines_of text) (notes_of text).told
-unfolding notes_of
-notes-tell text clean =
-    let notes = noted_lines no_notes 1 (lines_of text) in
-    let over = ended notes.awaited notes clean in
-    subst (λ n. Tells (lines_of text) n.told) (sym over.2) (lines-tell (lines_of text) over.0 over.1)
-
 -- what sessions are told to call for is bare, where no line is faulty
 pub notes-bare : (text : List ℕ) → (notes_of text).faults ≡ [] → AreBare (notes_of text).told
-notes-bare text clean = tells-bare (lines_of text) (notes_of text).told (notes-tell text clean) (lines-feed text)
+notes-bare text clean = tells-bare (lines_of text) (notes_of text).told (text-tells text clean) (lines-feed text)

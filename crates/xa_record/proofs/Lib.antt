@@ -10,7 +10,6 @@ pub mod Pairs
 pub mod EventLists
 pub mod AllowanceLists
 pub mod Returns
-pub mod NoFaults
 pub mod LastReturns
 pub mod RecordLines
 pub mod RecordReads
@@ -23,3 +22,7 @@ pub mod BareTexts
 pub mod Replays
 pub mod Reported
 pub mod JudgedTexts
+pub mod Presences
+pub mod SessionsWithin
+pub mod FirstFaults
+pub mod TextsTold

@@ -1,15 +1,24 @@
--- What the lines of a record tell, one rule for each kind of line. The rules know no order of reading: they say which lines tell what, and Reading.antt says how
--- lines are read one by one, and which are faulty.
+-- What the lines of a record tell, and which of them is the first faulty one, a rule for each kind of line and of fault. The rules know no order of reading:
+-- Reading.antt says how lines are read one by one.
 --     RowsOf              so many rows stand on these lines
 --     on_next_line        this happens on the line behind these
 --     EndsInReturn, HasNoReturn      the last that happens is a return to the session;  none is
---     Tells               the lines tell what happens
-use Rattle.std.specs.Prelude.{◌≡◌, ◌⊎◌, ℕ, suc, ◌+◌, true, false, Some, List, [], ◌∷◌, ◌++◌, length}
+--     presence_in, Fits   what is said of a session by what happens;  this can happen next
+--     Tells               the lines tell what happens, and none is faulty
+--     filled, AreRows     how many of the lines aren't silent;  those are rows
+--     HasFault            the first faulty line has this number, for this cause
+--     Begins              a text begins with this one
+use Rattle.std.specs.Prelude.{◌≡◌, ◌⊎◌, ℕ, suc, ◌+◌, ◌==◌, ◌<◌, ◌≤◌, true, false, if◌then◌else◌, Option, Some, None, List, [], ◌∷◌, ◌++◌, length}
+use Rattle.std.specs.List.{AllByRecursion as All}
 use Rattle.xa_xid.specs.Bytes.{unblank}
 use Rattle.xa_xid.specs.declared.xid.Xid.{Xid}
-use Rattle.xa_record.specs.Lines.{Shown, ShowsRows, Told, Calls, Returns, ReturnsUnknown, Leaves, Nothing, Says, Awaits, Closed, is_silent, reading_of_line}
+use Rattle.xa_record.specs.declared.line_fault.LineFault.{LineFault}
+use Rattle.xa_record.specs.declared.line_fault.LineFault.TheVariants.{NotALine, NotARow, RowsMissing}
+use Rattle.xa_record.specs.declared.presence.Presence.{Presence}
+use Rattle.xa_record.specs.declared.presence.Presence.TheVariants.{Idle, Open, Lost}
+use Rattle.xa_record.specs.Lines.{Shown, ShowsRows, Told, Calls, Returns, ReturnsUnknown, Leaves, Nothing, Bad, Says, Awaits, Closed, is_silent, reading_of_line}
 use Rattle.xa_record.specs.Rows.{row_said}
-use Rattle.xa_record.specs.Reading.{NumberedEvent, is_return_of}
+use Rattle.xa_record.specs.Reading.{NumberedEvent, is_return_of, session_of, presence_after, cause_of}
 
 -- so many rows stand on these lines, with blank lines and comments before each of them
 pub data RowsOf : ℕ → List (List ℕ) → List Xid → Type 0 where
@@ -32,7 +41,30 @@ abbrev pub HasNoReturn : ℕ → List NumberedEvent → Type 0
 HasNoReturn session [] = Unit {0}
 HasNoReturn session (one ∷ more) = (is_return_of session one.told ≡ false) × HasNoReturn session more
 
--- the lines tell this, in this order
+-- what is said of the session once this has happened: a client that is gone stays so
+abbrev pub presence_then : Presence → Told → Presence
+presence_then Lost told = Lost
+presence_then Idle told = presence_after told
+presence_then Open told = presence_after told
+
+unfoldable pub presence_from : ℕ → Presence → List NumberedEvent → Presence
+presence_from session presence [] = presence
+presence_from session presence (one ∷ more) =
+    presence_from session (if session_of one.told == session then presence_then presence one.told else presence) more
+
+-- what is said of the session by what happens
+abbrev pub presence_in : ℕ → List NumberedEvent → Presence
+presence_in session list = presence_from session Idle list
+
+-- why this can't happen next, by what is said of its session; none where it can
+abbrev pub cause_next : List NumberedEvent → Told → Option LineFault
+cause_next list told = cause_of (Some (presence_in (session_of told) list)) told
+
+-- this can happen next
+abbrev pub Fits : List NumberedEvent → Told → Type 0
+Fits list told = cause_next list told ≡ None
+
+-- the lines tell this, in this order, and none is faulty
 pub data Tells : List (List ℕ) → List NumberedEvent → Type 0 where
   -- no line tells nothing
   no_line : Tells [] []
@@ -41,21 +73,58 @@ pub data Tells : List (List ℕ) → List NumberedEvent → Type 0 where
       → Tells (lines ++ line ∷ []) list
   -- a call
   call_line : (lines : List (List ℕ)) (line : List ℕ) (list : List NumberedEvent) (session : ℕ) (text : List ℕ) → Tells lines list
-      → reading_of_line line ≡ Says (Calls session text) → Tells (lines ++ line ∷ []) (list ++ on_next_line lines (Calls session text) ∷ [])
+      → reading_of_line line ≡ Says (Calls session text) → Fits list (Calls session text) → Tells (lines ++ line ∷ []) (list ++ on_next_line lines (Calls session text) ∷ [])
   -- a return on a line of its own
   return_line : (lines : List (List ℕ)) (line : List ℕ) (list : List NumberedEvent) (session : ℕ) (shown : Shown) → Tells lines list
-      → reading_of_line line ≡ Says (Returns session shown) → Tells (lines ++ line ∷ []) (list ++ on_next_line lines (Returns session shown) ∷ [])
+      → reading_of_line line ≡ Says (Returns session shown) → Fits list (Returns session shown) → Tells (lines ++ line ∷ []) (list ++ on_next_line lines (Returns session shown) ∷ [])
   -- a return with its rows below it
   rows_lines : (lines : List (List ℕ)) (line : List ℕ) (more : List (List ℕ)) (list : List NumberedEvent) (session count : ℕ) (rows : List Xid) → Tells lines list
-      → reading_of_line line ≡ Awaits session count → RowsOf count more rows
+      → reading_of_line line ≡ Awaits session count → RowsOf count more rows → Fits list (Returns session (ShowsRows rows))
       → Tells (lines ++ line ∷ more) (list ++ on_next_line lines (Returns session (ShowsRows rows)) ∷ [])
   -- a return of which no more is known
   unknown_line : (lines : List (List ℕ)) (line : List ℕ) (list : List NumberedEvent) (session : ℕ) → Tells lines list
-      → reading_of_line line ≡ Says (ReturnsUnknown session) → Tells (lines ++ line ∷ []) (list ++ on_next_line lines (ReturnsUnknown session) ∷ [])
+      → reading_of_line line ≡ Says (ReturnsUnknown session) → Fits list (ReturnsUnknown session) → Tells (lines ++ line ∷ []) (list ++ on_next_line lines (ReturnsUnknown session) ∷ [])
   -- a client that is lost
   lost_line : (lines : List (List ℕ)) (line : List ℕ) (list : List NumberedEvent) (session : ℕ) → Tells lines list
-      → reading_of_line line ≡ Says (Leaves session) → Tells (lines ++ line ∷ []) (list ++ on_next_line lines (Leaves session) ∷ [])
+      → reading_of_line line ≡ Says (Leaves session) → Fits list (Leaves session) → Tells (lines ++ line ∷ []) (list ++ on_next_line lines (Leaves session) ∷ [])
   -- a connection that was found closed: its client may be gone since the last return to it
   gone_line : (lines : List (List ℕ)) (line : List ℕ) (before after : List NumberedEvent) (session : ℕ) → Tells lines (before ++ after)
-      → reading_of_line line ≡ Closed session → EndsInReturn session before → HasNoReturn session after
+      → reading_of_line line ≡ Closed session → EndsInReturn session before → HasNoReturn session after → Fits (before ++ after) (Leaves session)
       → Tells (lines ++ line ∷ []) (before ++ on_next_line lines (Leaves session) ∷ after)
+
+-- how many of the lines aren't silent
+unfoldable pub filled : List (List ℕ) → ℕ
+filled [] = 0
+filled (line ∷ lines) = if is_silent line then filled lines else suc (filled lines)
+
+-- each of the lines is silent, or a row
+abbrev pub AreRows : List (List ℕ) → Type 0
+AreRows lines = All (λ line. (is_silent line ≡ true) ⊎ ((xid : Xid) × (row_said (unblank line) ≡ Some xid))) lines
+
+-- the first faulty line of these has this number, and this is why
+pub data HasFault : List (List ℕ) → ℕ → LineFault → Type 0 where
+  -- a line that isn't written as one
+  bad_line : (lines : List (List ℕ)) (line : List ℕ) (more : List (List ℕ)) (list : List NumberedEvent) → Tells lines list → reading_of_line line ≡ Bad
+      → HasFault (lines ++ line ∷ more) (length lines + 1) NotALine
+  -- what it says can't happen there
+  unfit_line : (lines : List (List ℕ)) (line : List ℕ) (more : List (List ℕ)) (list : List NumberedEvent) (told : Told) (fault : LineFault) → Tells lines list
+      → reading_of_line line ≡ Says told → cause_next list told ≡ Some fault → HasFault (lines ++ line ∷ more) (length lines + 1) fault
+  -- a connection was found closed whose client was lost
+  unfit_gone : (lines : List (List ℕ)) (line : List ℕ) (more : List (List ℕ)) (list : List NumberedEvent) (session : ℕ) (fault : LineFault) → Tells lines list
+      → reading_of_line line ≡ Closed session → cause_next list (Leaves session) ≡ Some fault → HasFault (lines ++ line ∷ more) (length lines + 1) fault
+  -- the record ends before all rows have come
+  rows_missing : (lines : List (List ℕ)) (line : List ℕ) (more : List (List ℕ)) (list : List NumberedEvent) (session count : ℕ) → Tells lines list
+      → reading_of_line line ≡ Awaits session count → filled more < count → HasFault (lines ++ line ∷ more) (length lines + 1) RowsMissing
+  -- they have come, or other lines in their place, and the return can't happen there
+  unfit_rows : (lines : List (List ℕ)) (line : List ℕ) (more : List (List ℕ)) (list : List NumberedEvent) (session count : ℕ) (fault : LineFault) → Tells lines list
+      → reading_of_line line ≡ Awaits session count → count ≤ filled more → cause_next list (Returns session (ShowsRows [])) ≡ Some fault
+      → HasFault (lines ++ line ∷ more) (length lines + 1) fault
+  -- it can, and the first line in the place of a row is this
+  bad_row : (lines : List (List ℕ)) (line : List ℕ) (rows : List (List ℕ)) (row : List ℕ) (more : List (List ℕ)) (list : List NumberedEvent) (session count : ℕ)
+      → Tells lines list → reading_of_line line ≡ Awaits session count → Fits list (Returns session (ShowsRows [])) → AreRows rows → filled rows < count
+      → is_silent row ≡ false → row_said (unblank row) ≡ None → count ≤ filled (rows ++ row ∷ more)
+      → HasFault (lines ++ line ∷ (rows ++ row ∷ more)) (length lines + 1 + (length rows + 1)) NotARow
+
+-- a text begins with this one
+abbrev pub Begins : List ℕ → List ℕ → Type 0
+Begins whole text = (rest : List ℕ) × (whole ≡ text ++ rest)

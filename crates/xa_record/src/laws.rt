@@ -1,5 +1,5 @@
 //! What holds of all records, as contracts of functions that do nothing.
-ghost use Rattle.std.specs.Prelude.{◌≡◌, ℕ, List, []};
+ghost use Rattle.std.specs.Prelude.{◌≡◌, ◌≢◌, ℕ, List, []};
 ghost use Rattle.xa_server.specs.State.{State};
 ghost use Rattle.xa_judge.specs.declared.event.Event.{Event};
 ghost use Rattle.xa_judge.specs.declared.moves.Move.{Move};
@@ -11,15 +11,26 @@ ghost use Rattle.xa_record.specs.declared.allowance.Allowance.{Allowance};
 ghost use Rattle.xa_record.specs.Events.{AreEvents};
 ghost use Rattle.xa_record.specs.VerdictText.{order_text, no_calls};
 ghost use Rattle.xa_record.specs.Replaying.{order_lines, joined, GivesRequest, AnswersSo, AreEffects, AreWellCalled};
-ghost use Rattle.xa_record.specs.Reading.{NumberedEvent, notes_of};
-ghost use Rattle.xa_record.specs.Records.{Tells};
+ghost use Rattle.xa_record.specs.declared.line_fault.LineFault.{LineFault};
+ghost use Rattle.xa_record.specs.Reading.{NumberedEvent, fault_text, notes_of};
+ghost use Rattle.xa_record.specs.Records.{Tells, HasFault, Begins};
 
-/// What is read of a record of which no line is faulty is what its lines tell by the rules, and the rules let them tell nothing else.
+/// What is read of a record of which no line is faulty is what its lines tell by the rules; and where these let lines tell something, no
+/// line is faulty, and that is what is read.
 ///
 /// Takes no memory. Doesn't wait. Own rule: docs/JUDGE.md, 'Records'.
 pub fn lines_tell_what_is_read()
     ensures told { (text : List ℕ) → (notes_of text).faults ≡ [] → Tells (lines_of text) (notes_of text).told }
-    ensures only { (text : List ℕ) (list : List NumberedEvent) → (notes_of text).faults ≡ [] → Tells (lines_of text) list → list ≡ (notes_of text).told }
+    ensures only { (text : List ℕ) (list : List NumberedEvent) → Tells (lines_of text) list → ((notes_of text).faults ≡ []) × (list ≡ (notes_of text).told) }
+{}
+
+/// Of a record with a faulty line one is the first by the rules, for one cause, and that is written first.
+///
+/// Takes no memory. Doesn't wait. Own rule: docs/JUDGE.md, 'Records'.
+pub fn first_fault_is_written_first()
+    ensures found { (text : List ℕ) → (notes_of text).faults ≢ [] → (number : ℕ) × (fault : LineFault) × HasFault (lines_of text) number fault }
+    ensures first { (text : List ℕ) (number : ℕ) (fault : LineFault) → HasFault (lines_of text) number fault
+        → Begins (notes_of text).faults (fault_text number fault) }
 {}
 
 /// The order that is written for a legal record is a script: each of its lines gives, to the session, the request that takes
