@@ -13,6 +13,9 @@ use std::sync::Arc;
 use xa_server::Server;
 use xa_xid::{NoMemory, SessionNo};
 
+/// What carried out so many requests since isn't kept so for long.
+const MUCH: usize = 128;
+
 /// A server, kept as one that several share and what it carried out since. A contract sees its state.
 #[derive(Drop)]
 pub struct KeptServer {
@@ -53,6 +56,11 @@ impl KeptServer {
             since: Vec::new(alloc),
             alloc,
         })
+    }
+
+    /// Whether it carried out so much that it takes long to make it again.
+    pub fn did_much(&self) -> bool {
+        self.since.len() >= MUCH
     }
 
     /// Where its memory comes from.

@@ -97,7 +97,11 @@ pub fn add(
 pub fn fit(one: Configuration, count: usize) -> Result<Configuration, NoMemory>
     ensures { IfOk result (λ same. same ≡ one) }
 {
-    if count < WIDE { one.whole() } else { Ok(one) }
+    if count < WIDE || one.server.did_much() {
+        one.whole()
+    } else {
+        Ok(one)
+    }
 }
 
 /// The configuration to which the session's act leads from the one at this place, as a list of these keeps it.
