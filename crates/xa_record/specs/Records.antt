@@ -9,7 +9,7 @@
 --     HasFault            the first faulty line has this number, for this cause
 --     Begins              a text begins with this one
 use Rattle.std.specs.Prelude.{◌≡◌, ◌⊎◌, ℕ, suc, ◌+◌, ◌==◌, ◌<◌, ◌≤◌, true, false, if◌then◌else◌, Option, Some, None, List, [], ◌∷◌, ◌++◌, length}
-use Rattle.std.specs.List.{AllByRecursion as All}
+use Rattle.std.specs.List.{AllByRecursion}
 use Rattle.xa_xid.specs.Bytes.{unblank}
 use Rattle.xa_xid.specs.declared.xid.Xid.{Xid}
 use Rattle.xa_record.specs.declared.line_fault.LineFault.{LineFault}
@@ -99,7 +99,7 @@ filled (line ∷ lines) = if is_silent line then filled lines else suc (filled l
 
 -- each of the lines is silent, or a row
 abbrev pub AreRows : List (List ℕ) → Type 0
-AreRows lines = All (λ line. (is_silent line ≡ true) ⊎ ((xid : Xid) × (row_said (unblank line) ≡ Some xid))) lines
+AreRows lines = AllByRecursion (λ line. (is_silent line ≡ true) ⊎ ((xid : Xid) × (row_said (unblank line) ≡ Some xid))) lines
 
 -- the first faulty line of these has this number, and this is why
 pub data HasFault : List (List ℕ) → ℕ → LineFault → Type 0 where
