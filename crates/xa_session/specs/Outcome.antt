@@ -2,12 +2,16 @@
 --     HasAnswered      the statement was answered
 --     HasFailed        it wasn't, for a cause of this fault
 --     Answers          the one after Ok, the other after Err
-use Rattle.std.specs.Prelude.{◌≤◌, Result, Ok, Err}
+--     Finds            the same of a replica, and of what its pass knew and knows
+use Rattle.std.specs.Prelude.{◌≤◌, ℕ, Bool, Result, Ok, Err}
+use Rattle.decision_log.specs.declared.known.Known.{Known}
 use Rattle.decision_log.specs.declared.log.DecisionLog.{Ghosts as LogOf}
 use Rattle.xa_xid.specs.declared.statement.Statement.{Statement}
+use Rattle.xa_server.specs.State.{State}
 use Rattle.xa_session.specs.Answer.{IsAnswered, Fails, IsKept, FullAfter, WantsMemory}
 use Rattle.xa_session.specs.declared.answer.Answer.{Answer}
 use Rattle.xa_session.specs.declared.fault.Fault.{Fault}
+use Rattle.xa_session.specs.declared.replica.Replica.{Replica}
 use Rattle.xa_session.specs.declared.session.Session.{Session}
 
 -- the reply is the server's at the answer's place, the replica had replayed what it was found on, and has replayed all that is seen since
@@ -26,3 +30,10 @@ pub record HasFailed {Log Pass : Type 0} {log : LogOf Log Pass} (statement : Sta
 abbrev pub Answers : {Log Pass : Type 0} {log : LogOf Log Pass} → Statement → Result Answer Fault → Session Log Pass log → Session Log Pass log → Type 0
 Answers statement (Ok answer) old new = HasAnswered statement answer old new
 Answers statement (Err fault) old new = HasFailed statement fault old new
+
+-- the same of a replica that is of no session, in a log with a turn or without, of a capacity
+abbrev pub Finds : Bool → ℕ → State → Statement → Result Answer Fault → Replica → Known → Known → Type 0
+Finds turns capacity base statement (Ok answer) replica old new =
+    IsAnswered base statement answer old new × (answer.place ≤ replica.replayed) × IsKept base statement answer replica new
+Finds turns capacity base statement (Err fault) replica old new =
+    Fails turns capacity base statement fault old new × FullAfter fault replica new × WantsMemory statement fault replica new

@@ -8,6 +8,7 @@ mod fault;
 mod pausing;
 mod replica;
 mod session;
+mod trying;
 mod whole;
 
 pub use answer::Answer;

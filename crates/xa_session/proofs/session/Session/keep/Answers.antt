@@ -1,5 +1,0 @@
-use Rattle.xa_session.proofs.Entering.{entering_accepted}
-use Rattle.xa_session.proofs.session.Session.keep.Goals as goal
-
-pub accept-requires-clause-accepted : goal.accept-requires-clause-accepted
-accept-requires-clause-accepted g c = entering_accepted c.args.self.now.replica.server c.args.session c.args.statement.now c.requires.enters

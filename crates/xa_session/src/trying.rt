@@ -1,0 +1,164 @@
+//! One try of a replica and a pass, which needn't be a session's then.
+ghost use Rattle.std.specs.Prelude.{◌≡◌, ◌⊎◌, ◌<◌, ◌≤◌, ◌^◌, true, length, slice_get, Some, IfOk, IfErr, OnOk, OnErr};
+ghost use Rattle.decision_log.specs.Calls.{Looked, Adds};
+ghost use Rattle.xa_server.specs.Step.{enters, may_take_memory};
+ghost use Rattle.xa_session.specs.Answer.{entry_of};
+ghost use Rattle.xa_session.specs.Outcome.{Finds};
+ghost use Rattle.xa_session.specs.Replay.{Stands};
+ghost use Rattle.xa_session.specs.Replays.{ReplaysOne, CatchesUp};
+ghost use Rattle.xa_session.specs.Tries.{TriesOnce, Leaves};
+
+use crate::{Answer, Fault, Replica};
+use decision_log::{AddFault, DecisionLog};
+use xa_server::Server;
+use xa_words::Entry;
+use xa_xid::{NoMemory, SessionNo, Statement};
+
+impl Replica {
+    /// Replays the entry behind those that it has replayed.
+    fn replay_next<L: DecisionLog>(
+        &mut self,
+        log: &L,
+        pass: &mut L::Pass,
+        base: &Server,
+    ) -> Result<(), NoMemory>
+        requires belongs { L.belongs_to pass.old ≡ L.identity log.now }
+        requires stands { Stands base.now (L.known pass.old).seen self.old }
+        requires seen { self.old.replayed < length (L.known pass.old).seen }
+        requires fits { length (L.known pass.old).seen < 2 ^ 64 }
+        ensures belongs { L.belongs_to pass.new ≡ L.belongs_to pass.old }
+        ensures stands { Stands base.now (L.known pass.new).seen self.new }
+        ensures known { L.known pass.new ≡ L.known pass.old }
+        ensures replays { ReplaysOne result self.old self.new }
+    {
+        let entry = log.entry(pass, self.replayed);
+        self.replay(&entry)
+    }
+
+    /// Has it stand for all that is seen, so many entries: it replays those that it hasn't replayed.
+    fn catch_up<L: DecisionLog>(
+        &mut self,
+        log: &L,
+        pass: &mut L::Pass,
+        base: &Server,
+        count: u64,
+    ) -> Result<(), NoMemory>
+        requires belongs { L.belongs_to pass.old ≡ L.identity log.now }
+        requires stands { Stands base.now (L.known pass.old).seen self.old }
+        requires count { count ≡ length (L.known pass.old).seen }
+        ensures belongs { L.belongs_to pass.new ≡ L.belongs_to pass.old }
+        ensures stands { Stands base.now (L.known pass.new).seen self.new }
+        ensures folds { self.old.replayed ≤ self.new.replayed }
+        ensures known { L.known pass.new ≡ L.known pass.old }
+        ensures catches_up { CatchesUp result self.new (L.known pass.new) }
+    {
+        for _ in self.replayed..count {
+            self.replay_next(log, pass, base)?;
+        }
+        Ok(())
+    }
+
+    /// Looks, and has it stand for all that is seen then. The answer is how many entries that is.
+    fn observe<L: DecisionLog>(
+        &mut self,
+        log: &L,
+        pass: &mut L::Pass,
+        base: &Server,
+    ) -> Result<u64, NoMemory>
+        requires belongs { L.belongs_to pass.old ≡ L.identity log.now }
+        requires stands { Stands base.now (L.known pass.old).seen self.old }
+        ensures belongs { L.belongs_to pass.new ≡ L.belongs_to pass.old }
+        ensures stands { Stands base.now (L.known pass.new).seen self.new }
+        ensures folds { self.old.replayed ≤ self.new.replayed }
+        ensures looked { Looked (L.known pass.old) (L.known pass.new) }
+        ensures length { IfOk result (λ count. count ≡ length (L.known pass.new).seen) }
+        ensures catches_up { CatchesUp result self.new (L.known pass.new) }
+    {
+        let count = log.look(pass);
+        self.catch_up(log, pass, base, count)?;
+        Ok(count)
+    }
+
+    /// Has it carry out the entry that it has to replay next, a statement of the pass's own that enters there.
+    fn keep<L: DecisionLog>(
+        &mut self,
+        log: &L,
+        pass: &L::Pass,
+        base: &Server,
+        session: SessionNo,
+        statement: &Statement,
+    ) -> Result<(), NoMemory>
+        requires belongs { L.belongs_to pass.now ≡ L.identity log.now }
+        requires stands { Stands base.now (L.known pass.now).seen self.old }
+        requires enters { enters self.old.server session statement.now ≡ true }
+        requires next { slice_get (L.known pass.now).seen self.old.replayed ≡ Some (entry_of session statement.now) }
+        ensures stands { Stands base.now (L.known pass.now).seen self.new }
+        ensures replays { ReplaysOne result self.old self.new }
+        ensures memory { OnErr result (may_take_memory self.old.server session statement.now ≡ true) }
+    {
+        // It bounds the count of entries.
+        let _capacity = log.capacity();
+        self.accept(session, statement)
+    }
+
+    /// Adds a statement that enters where all that is seen has been replayed, and has it carried out. Where there is no memory for
+    /// that, it is replayed later.
+    fn add<L: DecisionLog>(
+        &mut self,
+        log: &L,
+        pass: &mut L::Pass,
+        base: &Server,
+        session: SessionNo,
+        statement: &Statement,
+    ) -> Result<(), AddFault>
+        requires belongs { L.belongs_to pass.old ≡ L.identity log.now }
+        requires stands { Stands base.now (L.known pass.old).seen self.old }
+        requires own { session ≡ (L.known pass.old).number }
+        requires whole { self.old.replayed ≡ length (L.known pass.old).seen }
+        requires enters { enters self.old.server session statement.now ≡ true }
+        ensures belongs { L.belongs_to pass.new ≡ L.belongs_to pass.old }
+        ensures stands { Stands base.now (L.known pass.new).seen self.new }
+        ensures folds { self.old.replayed ≤ self.new.replayed }
+        ensures added { Adds L.TURNS (L.belongs_to pass.old).capacity (entry_of session statement.now) result (L.known pass.old)
+            (L.known pass.new) }
+        ensures kept { OnOk result
+            ((self.new.replayed ≡ length (L.known pass.new).seen) ⊎ (may_take_memory self.old.server session statement.now ≡ true)) }
+        ensures err { OnErr result (self.new ≡ self.old) }
+    {
+        let entry = Entry::entering(session, statement.copy());
+        log.try_add(pass, &entry)?;
+        let _kept = self.keep(log, pass, base, session, statement);
+        Ok(())
+    }
+
+    /// Answers a statement as `Session::attempt` does, which is of this pass, base and replica.
+    ///
+    /// May answer `NoMemory`, and never after an add. Doesn't wait.
+    /// Own rule: docs/BEHAVIOR.md, 'Sessions'.
+    pub fn attempt<L: DecisionLog>(
+        &mut self,
+        log: &L,
+        pass: &mut L::Pass,
+        base: &Server,
+        statement: &Statement,
+    ) -> Result<Answer, Fault>
+        requires belongs { L.belongs_to pass.old ≡ L.identity log.now }
+        requires stands { Stands base.now (L.known pass.old).seen self.old }
+        ensures belongs { L.belongs_to pass.new ≡ L.belongs_to pass.old }
+        ensures stands { Stands base.now (L.known pass.new).seen self.new }
+        ensures folds { self.old.replayed ≤ self.new.replayed }
+        ensures answers { Finds L.TURNS (L.belongs_to pass.old).capacity base.now statement.now result self.new (L.known pass.old) (L.known pass.new) }
+        ensures once { TriesOnce result (L.known pass.old) (L.known pass.new) }
+        ensures leaves { IfErr result (λ fault. Leaves fault self.new (L.known pass.old) (L.known pass.new)) }
+    {
+        let place = self.observe(log, pass, base)?;
+        let session = log.number(pass);
+        let (reply, enters) = self.server.reply(session, statement)?;
+        let answer = Answer { place, reply };
+        if !enters {
+            return Ok(answer);
+        }
+        self.add(log, pass, base, session, statement)?;
+        Ok(answer)
+    }
+}
