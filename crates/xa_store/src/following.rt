@@ -1,14 +1,16 @@
 //! What a session that was paused does: it goes on, and once it has seen a full history it makes the store that follows.
-ghost use Rattle.std.specs.Prelude.{◌≡◌, ◌↔◌, IfOk, IsTrue, length};
+ghost use Rattle.std.specs.Prelude.{◌≡◌, ◌↔◌, ◌≤◌, false, IfOk, IfErr, IsTrue, length};
 ghost use Rattle.decision_log.specs.Opens.{Opens};
+ghost use Rattle.xa_session.specs.Outcome.{Finds};
 ghost use Rattle.xa_session.specs.Replay.{Stands, state_after};
+ghost use Rattle.xa_session.specs.Tries.{TriesOnce, Leaves};
 ghost use Rattle.xa_store.specs.Passes.{identity_of, log_of, known_of};
 
 use crate::store::{Log, Pass, Store};
 use decision_log::DecisionLog;
 use std::alloc::Global;
-use xa_session::{Replica, Session};
-use xa_xid::NoMemory;
+use xa_session::{Answer, Fault, Replica, Session};
+use xa_xid::{NoMemory, Statement};
 
 impl Store {
     /// The session of a pass of this store and of a replica, as `Session::pause` gives both. Nothing is replayed.
@@ -23,6 +25,28 @@ impl Store {
         ensures replica { result.replica ≡ replica }
     {
         Session::resume(&self.log, pass, &self.base, replica)
+    }
+
+    /// Answers a statement as `Session::attempt` does, of a pass of this store and of a replica, as `Session::pause` gives both.
+    ///
+    /// May answer `NoMemory`, and never after an add. Doesn't wait.
+    /// Own rule: docs/BEHAVIOR.md, 'Sessions'.
+    pub fn attempt(
+        &self,
+        pass: &mut Pass,
+        replica: &mut Replica,
+        statement: &Statement,
+    ) -> Result<Answer, Fault>
+        requires belongs { log_of pass.old ≡ identity_of self.now.log }
+        requires stands { Stands self.now.base (known_of pass.old).seen replica.old }
+        ensures belongs { log_of pass.new ≡ log_of pass.old }
+        ensures stands { Stands self.now.base (known_of pass.new).seen replica.new }
+        ensures folds { replica.old.replayed ≤ replica.new.replayed }
+        ensures answers { Finds false (log_of pass.old).capacity self.now.base statement.now result replica.new (known_of pass.old) (known_of pass.new) }
+        ensures once { TriesOnce result (known_of pass.old) (known_of pass.new) }
+        ensures leaves { IfErr result (λ fault. Leaves fault replica.new (known_of pass.old) (known_of pass.new)) }
+    {
+        replica.attempt(&self.log, pass, &self.base, statement)
     }
 
     /// Whether the pass has seen as many entries as the store's history can have. Then nobody adds to that history any more.
