@@ -1,5 +1,5 @@
 //! A session's answers to C.
-ghost use Rattle.std.specs.Prelude.{IsTrue};
+ghost use Rattle.std.specs.Prelude.{Some, IsTrue};
 ghost use Rattle.nigbaru_c.specs.Outcome.{seat_in, Fits, Attempts, Comes};
 
 use crate::{Chair, Hold, Outcome, Seat};
@@ -21,45 +21,24 @@ fn fits(statement: &Statement) -> bool
     }
 }
 
-impl Chair {
-    /// Tries a statement once, where a session is held. The session is moved out and back once, whatever is said to it.
+impl Seat {
+    /// Tries a statement once, where the session lies.
     fn attempt(&mut self, statement: &Statement) -> Outcome
-        ensures { Attempts statement.now result (seat_in self.old.hold) (seat_in self.new.hold) }
+        ensures { Attempts statement.now result (Some self.old) (Some self.new) }
     {
-        match self.hold.take() {
-            Some(Hold::Session(seat)) => {
-                let Seat {
-                    store,
-                    pass,
-                    replica,
-                } = seat;
-                let mut session = store.resume(pass, replica);
-                let outcome = match session.attempt(statement) {
-                    Ok(answer) => Outcome::Answered(answer),
-                    Err(fault) => Outcome::Unanswered(fault),
-                };
-                let (pass, replica) = session.pause();
-                self.hold = Some(Hold::Session(Seat {
-                    store,
-                    pass,
-                    replica,
-                }));
-                outcome
-            }
-            other => {
-                self.hold = other;
-                Outcome::Vacant
-            }
+        match self
+            .store
+            .attempt(&mut self.pass, &mut self.replica, statement)
+        {
+            Ok(answer) => Outcome::Answered(answer),
+            Err(fault) => Outcome::Unanswered(fault),
         }
     }
 
-    /// Tries the statement that a text spells once, where a session is held.
-    pub(crate) fn answer(&mut self, text: &[u8]) -> Outcome
-        ensures { Comes text.now result (seat_in self.old.hold) (seat_in self.new.hold) }
+    /// Tries the statement that a text spells once.
+    fn answer(&mut self, text: &[u8]) -> Outcome
+        ensures { Comes text.now result (Some self.old) (Some self.new) }
     {
-        let Some(Hold::Session(_)) = &self.hold else {
-            return Outcome::Vacant;
-        };
         match read_statement(text) {
             Ok(statement) => {
                 if fits(&statement) {
@@ -69,6 +48,18 @@ impl Chair {
                 }
             }
             Err(fault) => Outcome::Misspelled(fault),
+        }
+    }
+}
+
+impl Chair {
+    /// Tries the statement that a text spells once, where a session is held.
+    pub(crate) fn answer(&mut self, text: &[u8]) -> Outcome
+        ensures { Comes text.now result (seat_in self.old.hold) (seat_in self.new.hold) }
+    {
+        match &mut self.hold {
+            Some(Hold::Session(seat)) => seat.answer(text),
+            _ => Outcome::Vacant,
         }
     }
 }
