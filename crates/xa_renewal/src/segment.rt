@@ -53,6 +53,16 @@ impl Segment {
         Ok((segment, passes))
     }
 
+    /// The state in which the segment that follows begins: what all that the pass has seen of this one leaves.
+    fn next_base(&self, last: &mut Pass) -> Result<Server, NoMemory>
+        requires { log_of last.old ≡ identity_of self.now.log }
+        ensures belongs { log_of last.new ≡ log_of last.old }
+        ensures same { known_of last.new ≡ known_of last.old }
+        ensures state { IfOk result (λ server. server ≡ state_after self.now.base (known_of last.old).seen) }
+    {
+        replayed(&self.log, &self.base, last)
+    }
+
     /// The segment that follows once a pass has seen the whole history of this one, and the passes of its sessions.
     ///
     /// Error: `NoMemory`, also where the histories together have more than 2 ^ 63 - 1024 entries.
@@ -74,7 +84,7 @@ impl Segment {
         if self.before > (1 << 63) - 1024 || seen > 1024 {
             return Err(AllocError);
         }
-        let base = replayed(&self.log, &self.base, last)?;
+        let base = self.next_base(last)?;
         let Ok((log, passes)) = Log::open(alloc, self.log.capacity(), self.log.sessions()) else {
             return Err(AllocError);
         };

@@ -100,6 +100,10 @@ pub record IsLeft (stores : ℕ) (script told : List Call) (text : List ℕ) : T
   pub remembered : response ≡ Recovered (Err NoMemory) → ⊥
   pub text_is : text ≡ answer_text last.decisions response ++ rows_text script 0 (map (λ (s : Fused CountedStore). state_in s.inner) last.sessions)
 
+-- STOPS m
+abbrev pub count_line : ℕ → List ℕ
+count_line count = codes "STOPS " ++ decimal count ++ codes "\n"
+
 -- STOP l j
 abbrev pub stop_line : Stop → List ℕ
 stop_line stop = codes "STOP " ++ decimal (stop.place + 1) ++ codes " " ++ decimal stop.calls ++ codes "\n"
@@ -122,4 +126,4 @@ pub record IsShown (stores : ℕ) (calls : List Call) (text : List ℕ) : Type 0
   pub last : List ℕ
   pub left : IsLeft stores calls (ended_calls calls) last
   pub text_is :
-      text ≡ codes "STOPS " ++ decimal (length (stops_in calls made)) ++ codes "\n" ++ concat blocks ++ codes "STOP END\n" ++ last
+      text ≡ count_line (length (stops_in calls made)) ++ concat blocks ++ codes "STOP END\n" ++ last

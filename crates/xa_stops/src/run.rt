@@ -8,7 +8,7 @@ ghost use Rattle.xa_lines.specs.Transcript.{AppendsPrefix, ConsumesMoreThan};
 ghost use Rattle.xa_manager.specs.Calls.{IsWritten};
 ghost use Rattle.xa_stops.specs.declared.stop.Stop.{Stop as StopOf};
 ghost use Rattle.xa_stops.specs.Rows.{AreNamed};
-ghost use Rattle.xa_stops.specs.Stops.{stop_line, IsStopText, IsShown};
+ghost use Rattle.xa_stops.specs.Stops.{count_line, stop_line, IsStopText, IsShown};
 ghost use Rattle.xa_stops.specs.Scripts.{IsStopsText, IsSomeText, AppendsStops, AfterStopsFault, IsFaultOfStops};
 
 use crate::counting::calls_made;
@@ -42,6 +42,16 @@ fn with_head(mut text: Vec<u8>, stop: Stop) -> Result<Vec<u8>, NoMemory>
     push_number(&mut text, stop.place as u64 + 1)?;
     text.extend_from_slice(b" ")?;
     push_number(&mut text, stop.calls)?;
+    text.extend_from_slice(b"\n")?;
+    Ok(text)
+}
+
+/// The line that says how many stops there are.
+fn with_count(alloc: Global, count: usize) -> Result<Vec<u8>, NoMemory>
+    ensures { IfOk result (λ text. text.items ≡ count_line count) }
+{
+    let mut text = Vec::from_slice(alloc, b"STOPS ")?;
+    push_number(&mut text, count as u64)?;
     text.extend_from_slice(b"\n")?;
     Ok(text)
 }
@@ -99,9 +109,7 @@ fn shown_stops<R: Wait>(
     let made = calls_made(rt, alloc, calls, stores)?;
     let stops = stops_in(alloc, calls, made.as_slice())?;
     let keys = keys_of_each(alloc, calls, stores)?;
-    let mut text = Vec::from_slice(alloc, b"STOPS ")?;
-    push_number(&mut text, stops.len() as u64)?;
-    text.extend_from_slice(b"\n")?;
+    let text = with_count(alloc, stops.len())?;
     let mut text = with_stops(
         rt,
         alloc,

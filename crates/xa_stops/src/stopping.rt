@@ -3,10 +3,11 @@ ghost use Rattle.std.specs.Prelude.{◌≡◌, ◌≤◌, ◌<◌, ◌++◌, Lis
 ghost use Rattle.xa_manager.specs.Calls.{IsWritten};
 ghost use Rattle.xa_manager.specs.Managed.{whole_of};
 ghost use Rattle.xa_manager.specs.declared.call.Call.{Call as CallOf};
+ghost use Rattle.xa_manager.specs.declared.call.Call.TheVariants.{Stop as StopCall, Recover as RecoverCall};
 ghost use Rattle.xa_coordinator.specs.declared.fault.RecoverFault.TheVariants.{NoMemory as WantsMemory};
 ghost use Rattle.xa_manager.specs.declared.response.Response.TheVariants.{Recovered as RecoveredAs};
 ghost use Rattle.xa_stops.specs.Rows.{AreNamed};
-ghost use Rattle.xa_stops.specs.Runs.{HasCarried};
+ghost use Rattle.xa_stops.specs.Runs.{IsAnswered, HasCarried};
 ghost use Rattle.xa_stops.specs.Stops.{IsLeft, limits_for as limits_of, fails_from, stopped_calls, ended_calls};
 
 use crate::carrying::{carry_out, limit_each};
@@ -28,6 +29,28 @@ fn ran_out(response: &Response) -> bool
     matches!(response, Response::Recovered(Err(RecoverFault::NoMemory)))
 }
 
+/// Stops the coordinator.
+fn stop<R: Wait>(
+    rt: &R,
+    alloc: Global,
+    manager: &mut Manager<Fused<CountedStore>, LastingStore>,
+) -> Result<Response, NoMemory>
+    ensures { IfOk result (λ response. IsAnswered (whole_of manager.old) StopCall response (whole_of manager.new)) }
+{
+    manager.answer_beside(rt, alloc, &Call::Stop)
+}
+
+/// Has a new coordinator recover.
+fn recover<R: Wait>(
+    rt: &R,
+    alloc: Global,
+    manager: &mut Manager<Fused<CountedStore>, LastingStore>,
+) -> Result<Response, NoMemory>
+    ensures { IfOk result (λ response. IsAnswered (whole_of manager.old) RecoverCall response (whole_of manager.new)) }
+{
+    manager.answer_beside(rt, alloc, &Call::Recover)
+}
+
 /// Stops the coordinator, has a new one recover, and appends what that is answered and the rows.
 fn with_recovery<R: Wait>(
     rt: &R,
@@ -41,8 +64,8 @@ fn with_recovery<R: Wait>(
         → HasCarried (length keys.now) told (whole_of manager)
         → (rest : List ℕ) × IsLeft (length keys.now) script (ended_calls told) rest × (longer.items ≡ text.items ++ rest)) }
 {
-    let _stopped = manager.answer_beside(rt, alloc, &Call::Stop)?;
-    let response = manager.answer_beside(rt, alloc, &Call::Recover)?;
+    let _stopped = stop(rt, alloc, &mut manager)?;
+    let response = recover(rt, alloc, &mut manager)?;
     if ran_out(&response) {
         return Err(AllocError);
     }

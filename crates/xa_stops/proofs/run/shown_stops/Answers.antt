@@ -1,10 +1,10 @@
-use Rattle.std.proofs.Common.{◌≡◌, ◌∙◌, ◌+◌, ◌<◌, ◌≤◌, ℕ, List, [], ◌∷◌, ◌++◌, All, length, map, refl, ap, sym, subst, arith, codes, decimal, Vec, Global}
+use Rattle.std.proofs.Common.{◌≡◌, ◌∙◌, ◌+◌, ◌<◌, ◌≤◌, ℕ, List, [], ◌∷◌, ◌++◌, All, length, map, refl, ap, sym, subst, arith, codes, Vec, Global}
 use Rattle.std.specs.List.{AllZip, concat}
 use Rattle.std.proofs.lemmas.List.{length-map}
 use Rattle.xa_xid.specs.declared.key.Key.{Key}
 use Rattle.xa_stops.specs.declared.stop.Stop.{Stop}
 use Rattle.xa_stops.specs.Rows.{AreNamed}
-use Rattle.xa_stops.specs.Stops.{IsStopText, IsLeft, stops_in, ended_calls}
+use Rattle.xa_stops.specs.Stops.{IsStopText, IsLeft, count_line, stops_in, ended_calls}
 use Rattle.xa_stops.proofs.Counts.{stops_within}
 use Rattle.xa_stops.proofs.run.shown_stops.Goals as goal
 
@@ -48,13 +48,7 @@ returns g c =
       text_is =
           left.2
           ∙ ap (λ (t : List ℕ). t ++ left.0)
-          (c.in_ok-extend_from_slice-2.ensures.items
-          ∙ ap (λ (t : List ℕ). t ++ codes "STOP END\n")
-          (blocks.2
-          ∙ ap (λ (t : List ℕ). t ++ concat blocks.0)
           (c.in_ok-extend_from_slice.ensures.items
-          ∙ ap (λ (t : List ℕ). t ++ codes "\n")
-          (c.in_ok-push_number.ensures
-          ∙ ap (λ (t : List ℕ). t ++ decimal c.len.result) c.in_ok-text.ensures.items
-          ∙ ap (λ (n : ℕ). codes "STOPS " ++ decimal n) counted))));
+          ∙ ap (λ (t : List ℕ). t ++ codes "STOP END\n")
+          (blocks.2 ∙ ap (λ (t : List ℕ). t ++ concat blocks.0) (c.in_ok-text.ensures ∙ ap count_line counted)));
     }

@@ -10,14 +10,14 @@ use Rattle.xa_stops.proofs.stopping.with_recovery.Goals as goal
 
 pub returns : goal.returns
 returns g c = λ script told named before.
-    let last = whole_of c.answer_beside-2.new.self in
+    let last = whole_of c.recover.new.manager in
     let kept = c.in_ok-stores.stores.items in
     let rows : List ℕ = rows_text script 0 (map state_in kept) in
     let answer : List ℕ = answer_text last.decisions c.in_ok-response.response in
     let said = c.as_slice.ensures ∙ c.in_ok-answer.ensures.text ∙ ap (λ (d : List Decision). answer_text d c.in_ok-response.response) c.decisions.ensures in (
       answer ++ rows,
-      recovered (length c.args.keys.now) script told (whole_of c.args.manager) (whole_of c.answer_beside.new.self) last c.in_ok-_stopped._stopped
-          c.in_ok-response.response kept (answer ++ rows) before c.in_ok-_stopped.ensures.answers c.in_ok-response.ensures.answers
+      recovered (length c.args.keys.now) script told (whole_of c.args.manager) (whole_of c.stop.new.manager) last c.in_ok-_stopped._stopped
+          c.in_ok-response.response kept (answer ++ rows) before c.in_ok-_stopped.ensures c.in_ok-response.ensures
           (c.ran_out.ensures c.if-ran_out.false) c.in_ok-stores.ensures.fed c.in_ok-stores.ensures.stores refl,
       c.in_ok-longer.ensures script named
           ∙ ap (λ (s : List CountedStore). c.extend_from_slice.new.self.items ++ rows_text script 0 (map state_in s)) c.as_slice-2.ensures.value

@@ -11,7 +11,7 @@ invariant_of-segment c =
     let old = c.args.self.now in
     let past = c.behind.result in
     let seen = (known_of c.args.last.now).seen in
-    let same = ap (λ known. known.seen) c.replayed.ensures.same in
+    let same = ap (λ known. known.seen) c.next_base.ensures.same in
     let whole = c.behind.ensures.history ∙ ap (λ list. history_of old.past ++ list) same in
     record {
       lawful = subst LockLaw (sym c.behind.ensures.first) old.lawful;
