@@ -1,5 +1,5 @@
 pub mod Lists
 pub mod Levels
-pub mod Texts
+pub mod Places
 pub mod Ends
 pub mod Scripts

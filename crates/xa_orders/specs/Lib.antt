@@ -3,3 +3,4 @@ pub mod Found
 pub mod Ends
 pub mod Scripts
 pub mod Kept
+pub mod Since

@@ -1,10 +1,11 @@
 //! What lines were answered.
-ghost use Rattle.std.specs.Prelude.{◌≡◌, ◌≢◌, ◌<◌, ◌==◌, ◌&&◌, ◌++◌, ◌∷◌, [], true, false, length, replicate, slice_set, map, position, IfOk, OnOk, IfSome};
+ghost use Rattle.std.specs.Prelude.{◌≡◌, ◌≢◌, ◌<◌, ◌==◌, ◌&&◌, ◌++◌, ◌∷◌, [], true, false, length, replicate, slice_set, position, IfOk, OnOk, IfSome};
 ghost use Rattle.std.specs.List.{concat, zip};
 ghost use Rattle.xa_orders.specs.Orders.{next_place as place_of_next};
 
-use crate::fingerprint_index::with_text;
 use crate::line::Line;
+use crate::marks::with;
+use crate::shared_text::SharedText;
 use std::alloc::Global;
 use std::marker::Model;
 use xa_xid::{NoMemory, SessionNo};
@@ -12,30 +13,32 @@ use xa_xid::{NoMemory, SessionNo};
 /// What each of a number of lines was answered: a text, which is empty where the line wasn't carried out.
 #[derive(Drop)]
 pub struct Answers {
-    texts: Vec<Vec<u8>>,
+    texts: Vec<SharedText>,
+    /// A number made of the texts and their places.
+    mark: u64,
 }
 
 impl Model for Answers {
-    ghost use Rattle.std.specs.Prelude.{ℕ, List, map};
+    ghost use Rattle.std.specs.Prelude.{ℕ, List};
 
     ghost Value = { List (List ℕ) };
 
-    ghost view = { λ answers. map (λ text. text.items) answers.texts.items };
+    ghost view = { λ answers. answers.texts.items };
 }
 
 /// The place of the session's first line that has no text.
-fn first_left(lines: &[Line<'_>], texts: &[Vec<u8>], session: SessionNo) -> Option<usize>
-    ensures place { result ≡ position (λ pair. (pair.0.session == session) && (length pair.1.items == 0)) (zip lines.now texts.now) }
+fn first_left(lines: &[Line<'_>], texts: &[SharedText], session: SessionNo) -> Option<usize>
+    ensures place { result ≡ position (λ pair. (pair.0.session == session) && (length pair.1 == 0)) (zip lines.now texts.now) }
     ensures line { IfSome result (λ place. place < length lines.now) }
     ensures text { IfSome result (λ place. place < length texts.now) }
 {
     lines.iter().zip(texts.iter()).position(|(line, text)| line.session() == session
-        && text.is_empty())
+        && text.text().is_empty())
 }
 
 /// The place of the session's first line that wasn't carried out.
-fn next_place(lines: &[Line<'_>], texts: &[Vec<u8>], session: SessionNo) -> Option<usize>
-    ensures place { result ≡ place_of_next session lines.now (map (λ text. text.items) texts.now) }
+fn next_place(lines: &[Line<'_>], texts: &[SharedText], session: SessionNo) -> Option<usize>
+    ensures place { result ≡ place_of_next session lines.now texts.now }
     ensures line { IfSome result (λ place. place < length lines.now) }
     ensures text { IfSome result (λ place. place < length texts.now) }
 {
@@ -51,26 +54,37 @@ pub fn is_same_text(left: &[u8], right: &[u8]) -> bool
 }
 
 /// Whether two lists have the same texts.
-fn is_same_texts(left: &[Vec<u8>], right: &[Vec<u8>]) -> bool
-    ensures { result ≡ true → map (λ text. text.items) left.now ≡ map (λ text. text.items) right.now }
+fn is_same_texts(left: &[SharedText], right: &[SharedText]) -> bool
+    ensures { result ≡ true → left.now ≡ right.now }
 {
     if left.len() != right.len() {
         return false;
     }
     for place in 0..left.len() {
-        if !is_same_text(left[place].as_slice(), right[place].as_slice()) {
+        if !left[place].is_same(&right[place]) {
             return false;
         }
     }
     true
 }
 
+/// A copy of a list of texts.
+fn copy_of_texts(alloc: Global, texts: &[SharedText]) -> Result<Vec<SharedText>, NoMemory>
+    ensures { IfOk result (λ copy. copy.items ≡ texts.now) }
+{
+    let mut copy = Vec::with_capacity(alloc, texts.len())?;
+    for text in texts {
+        copy.push(text.try_clone()?)?;
+    }
+    Ok(copy)
+}
+
 /// Appends each of the texts.
-fn push_texts(out: &mut Vec<u8>, texts: &[Vec<u8>]) -> Result<(), NoMemory>
-    ensures { OnOk result (out.new.items ≡ out.old.items ++ concat (map (λ text. text.items) texts.now)) }
+fn push_texts(out: &mut Vec<u8>, texts: &[SharedText]) -> Result<(), NoMemory>
+    ensures { OnOk result (out.new.items ≡ out.old.items ++ concat texts.now) }
 {
     for text in texts {
-        out.extend_from_slice(text.as_slice())?;
+        out.extend_from_slice(text.text())?;
     }
     Ok(())
 }
@@ -80,22 +94,33 @@ impl Answers {
     pub fn new(alloc: Global, count: usize) -> Result<Answers, NoMemory>
         ensures { IfOk result (λ answers. answers ≡ replicate count []) }
     {
+        let none = SharedText::of(alloc, Vec::new(alloc))?;
         let mut texts = Vec::new(alloc);
         for _ in 0..count {
-            texts.push(Vec::new(alloc))?;
+            texts.push(none.try_clone()?)?;
         }
-        Ok(Answers { texts })
+        Ok(Answers { texts, mark: 0 })
     }
 
     /// A copy.
-    pub fn copy(&self, alloc: Global) -> Result<Answers, NoMemory>
+    fn copy(&self, alloc: Global) -> Result<Answers, NoMemory>
         ensures { IfOk result (λ copy. copy ≡ self.now) }
     {
-        let mut texts = Vec::new(alloc);
-        for text in &self.texts {
-            texts.push(Vec::from_slice(alloc, text.as_slice())?)?;
-        }
-        Ok(Answers { texts })
+        let texts = copy_of_texts(alloc, self.texts.as_slice())?;
+        Ok(Answers {
+            texts,
+            mark: self.mark,
+        })
+    }
+
+    /// A copy in which the line at this place was answered so.
+    pub fn with(&self, alloc: Global, place: usize, text: SharedText) -> Result<Answers, NoMemory>
+        requires { place < length self.now }
+        ensures { IfOk result (λ answers. answers ≡ slice_set self.now place text) }
+    {
+        let mut answers = self.copy(alloc)?;
+        answers.set(place, text);
+        Ok(answers)
     }
 
     /// Whether both are known to be the same.
@@ -105,13 +130,9 @@ impl Answers {
         is_same_texts(self.texts.as_slice(), other.texts.as_slice())
     }
 
-    /// A number made of the texts.
+    /// A number made of the texts and their places.
     pub fn mark(&self) -> u64 {
-        let mut fingerprint = 0;
-        for text in &self.texts {
-            fingerprint = with_text(fingerprint, text.as_slice());
-        }
-        fingerprint
+        self.mark
     }
 
     /// The place of the session's first line that wasn't carried out.
@@ -124,10 +145,11 @@ impl Answers {
     }
 
     /// The line at this place was answered so.
-    pub fn set(&mut self, place: usize, text: Vec<u8>)
+    fn set(&mut self, place: usize, text: SharedText)
         requires { place < length self.old }
-        ensures { self.new ≡ slice_set self.old place text.items }
+        ensures { self.new ≡ slice_set self.old place text }
     {
+        self.mark ^= with(place as u64, text.mark());
         self.texts[place] = text;
     }
 

@@ -2,17 +2,27 @@
 #![tactic(auto)]
 
 mod answers;
+mod done;
 mod ended;
 mod explored_text;
 mod exploring;
 mod fingerprint_index;
+mod keeper;
+mod kept_server;
 mod line;
+mod marked_text;
+mod marks;
 mod outcome;
 mod outcomes;
+mod packing;
 mod run;
 mod script;
 mod searching;
+mod shared_statement;
+mod shared_text;
 mod stage;
+mod texts;
+mod wanted;
 mod way;
 mod ways;
 

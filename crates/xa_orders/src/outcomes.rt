@@ -39,7 +39,7 @@ fn text_of(alloc: Global, first: &[u8], way: &Way, later: &[Line<'_>]) -> Result
 {
     let mut text = Vec::from_slice(alloc, first)?;
     way.answers.push_to(&mut text)?;
-    let mut server = way.server.copy()?;
+    let mut server = way.server.made()?;
     push_told(alloc, &mut text, &mut server, later)?;
     Ok(text)
 }

@@ -3,7 +3,7 @@ ghost use Rattle.std.specs.Prelude.{◌≡◌, None, length, IfOk, IfSome};
 ghost use Rattle.xa_orders.specs.Orders.{opening};
 ghost use Rattle.xa_orders.specs.Found.{IsLevel, IsWide, IsOpening};
 
-use crate::fingerprint_index::FingerprintIndex;
+use crate::keeper::Keeper;
 use crate::line::Line;
 use crate::way::Way;
 use crate::ways::next_level;
@@ -31,10 +31,10 @@ pub fn every_way(
     ensures level { IfOk result (λ found. IfSome found (λ ways. IsLevel lines.now (opening lines.now server) (length lines.now) ways.items)) }
     ensures wide { IfOk result (λ found. found ≡ None → IsWide lines.now (opening lines.now server) limit) }
 {
-    let mut index = FingerprintIndex::new(alloc, written);
+    let mut keeper = Keeper::new(alloc, &server, lines, written)?;
     let mut ways = opening_ways(alloc, lines, server)?;
     for _ in 0..lines.len() {
-        match next_level(alloc, &mut index, lines, ways.as_slice(), limit)? {
+        match next_level(alloc, &mut keeper, lines, ways.as_slice(), limit)? {
             None => return Ok(None),
             Some(next) => ways = next,
         }

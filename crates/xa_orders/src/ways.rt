@@ -5,88 +5,117 @@ ghost use Rattle.xa_orders.specs.Orders.{Any, IsAscending};
 ghost use Rattle.xa_orders.specs.Found.{config_of, order_of, AddsUnlessThere, IsTurnAdded, AllPrecede, IsNextOf, IsWideNext};
 
 use crate::fingerprint_index::FingerprintIndex;
+use crate::keeper::Keeper;
 use crate::line::Line;
+use crate::packing::Packing;
 use crate::way::Way;
 use std::alloc::Global;
+use xa_server::Server;
 use xa_xid::{NoMemory, SessionNo};
 
+/// How many ways, the last ones of a list, have their servers kept as themselves: most of those that come again are among them.
+const WHOLE: usize = 256;
+
 /// Whether the list has this place, and the way there is known to have come to the same.
-fn is_at(known: &[Way], place: usize, one: &Way) -> bool
-    ensures { result ≡ true → Any (λ way. config_of way ≡ config_of one.now) known.now }
+fn is_at(known: &[Way], place: usize, one: &Way) -> Result<bool, NoMemory>
+    ensures { IfOk result (λ there. there ≡ true → Any (λ way. config_of way ≡ config_of one.now) known.now) }
 {
     match known.get(place) {
-        None => false,
+        None => Ok(false),
         Some(other) => other.is_same(one),
     }
 }
 
 /// Whether a way of the list, of this fingerprint, is known to have come to the same.
-fn is_known(known: &[Way], index: &FingerprintIndex, fingerprint: u64, one: &Way) -> bool
-    ensures { result ≡ true → Any (λ way. config_of way ≡ config_of one.now) known.now }
+fn is_known(
+    known: &[Way],
+    index: &FingerprintIndex,
+    fingerprint: u64,
+    one: &Way,
+) -> Result<bool, NoMemory>
+    ensures { IfOk result (λ there. there ≡ true → Any (λ way. config_of way ≡ config_of one.now) known.now) }
 {
     let mut next = index.last_of(fingerprint);
     for _ in 0..known.len() {
         match next {
-            None => return false,
+            None => return Ok(false),
             Some(place) => {
-                if is_at(known, place, one) {
-                    return true;
+                if is_at(known, place, one)? {
+                    return Ok(true);
                 }
                 next = index.before(place);
             }
         }
     }
-    false
+    Ok(false)
+}
+
+/// Keeps the way that is as many places before the end in less memory.
+fn pack_before(known: &mut Vec<Way>, packing: &Packing) -> Result<(), NoMemory>
+    ensures { OnOk result (known.new.items ≡ known.old.items) }
+{
+    let count = known.len();
+    if count <= WHOLE {
+        return Ok(());
+    }
+    match known.get_mut(count - 1 - WHOLE) {
+        None => Ok(()),
+        Some(way) => way.pack(packing),
+    }
 }
 
 /// Adds a way, unless one that is there is known to have come to the same.
-fn add(known: &mut Vec<Way>, index: &mut FingerprintIndex, one: Way) -> Result<(), NoMemory>
+fn add(known: &mut Vec<Way>, keeper: &mut Keeper, one: Way) -> Result<(), NoMemory>
     ensures { OnOk result (AddsUnlessThere known.old.items one known.new.items) }
 {
-    let fingerprint = index.mark_of(&one);
-    if is_known(known.as_slice(), index, fingerprint, &one) {
+    let fingerprint = keeper.mark_of(&one);
+    if is_known(known.as_slice(), &keeper.index, fingerprint, &one)? {
         return Ok(());
     }
-    index.push(fingerprint)?;
+    keeper.index.push(fingerprint)?;
     known.push(one)?;
-    Ok(())
+    pack_before(known, &keeper.packing)
 }
 
-/// Adds what the session's turn leads to, where it has one.
+/// Adds what the session's turn leads to, where it has one. The server is the way's.
 fn add_turn(
     alloc: Global,
     next: &mut Vec<Way>,
-    index: &mut FingerprintIndex,
+    keeper: &mut Keeper,
     lines: &[Line<'_>],
     way: &Way,
+    server: &Server,
     session: SessionNo,
 ) -> Result<(), NoMemory>
+    requires { server.now ≡ way.now.server }
     ensures { OnOk result (IsTurnAdded lines.now way.now session next.old.items next.new.items) }
 {
-    match way.turned(alloc, lines, session)? {
+    match way.turned(alloc, &mut keeper.texts, server, lines, session)? {
         None => Ok(()),
         Some(new) => {
-            add(next, index, new)?;
+            add(next, keeper, new)?;
             Ok(())
         }
     }
 }
 
-/// Adds what the turn of the session of this number leads to, where there is such a session and it has one.
+/// Adds what the turn of the session of this number leads to, where there is such a session and it has one. The server is the way's.
 fn add_number(
     alloc: Global,
     next: &mut Vec<Way>,
-    index: &mut FingerprintIndex,
+    keeper: &mut Keeper,
     lines: &[Line<'_>],
     way: &Way,
+    server: &Server,
     number: u64,
 ) -> Result<(), NoMemory>
+    requires { server.now ≡ way.now.server }
     ensures { OnOk result (IsTurnAdded lines.now way.now number next.old.items next.new.items) }
 {
     match SessionNo::of(number) {
         None => Ok(()),
         Some(session) => {
-            add_turn(alloc, next, index, lines, way, session)?;
+            add_turn(alloc, next, keeper, lines, way, server, session)?;
             Ok(())
         }
     }
@@ -96,7 +125,7 @@ fn add_number(
 fn add_turns(
     alloc: Global,
     next: &mut Vec<Way>,
-    index: &mut FingerprintIndex,
+    keeper: &mut Keeper,
     lines: &[Line<'_>],
     way: &Way,
 ) -> Result<(), NoMemory>
@@ -106,8 +135,9 @@ fn add_turns(
         → IsNextOf lines.now front next.old.items
         → IsNextOf lines.now (front ++ way.now ∷ []) next.new.items) }
 {
+    let server = way.server.made()?;
     for number in 1..17 {
-        add_number(alloc, next, index, lines, way, number)?;
+        add_number(alloc, next, keeper, lines, way, &server, number)?;
     }
     Ok(())
 }
@@ -115,7 +145,7 @@ fn add_turns(
 /// What one turn more leads to, each place once; or none, where those are more than `limit`.
 pub fn next_level(
     alloc: Global,
-    index: &mut FingerprintIndex,
+    keeper: &mut Keeper,
     lines: &[Line<'_>],
     ways: &[Way],
     limit: usize,
@@ -124,10 +154,10 @@ pub fn next_level(
     ensures next { IfOk result (λ found. IfSome found (λ next. IsNextOf lines.now ways.now next.items)) }
     ensures wide { IfOk result (λ found. found ≡ None → IsWideNext lines.now ways.now limit) }
 {
-    index.clear();
+    keeper.index.clear();
     let mut next = Vec::new(alloc);
     for way in ways {
-        add_turns(alloc, &mut next, index, lines, way)?;
+        add_turns(alloc, &mut next, keeper, lines, way)?;
         if limit < next.len() {
             return Ok(None);
         }

@@ -1,5 +1,5 @@
-use Rattle.std.proofs.Common.{◌≡◌, map, take}
+use Rattle.std.proofs.Common.{◌≡◌, take}
 use Rattle.xa_orders.proofs.answers.is_same_texts.Given as goal
 
 abbrev pub invariant-loop-place : goal.invariant-loop-place
-invariant-loop-place l = map (λ text. text.items) (take l.place l.left) ≡ map (λ text. text.items) (take l.place l.right)
+invariant-loop-place l = take l.place l.left ≡ take l.place l.right

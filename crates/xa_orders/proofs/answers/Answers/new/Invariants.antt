@@ -1,5 +1,5 @@
-use Rattle.std.proofs.Common.{◌≡◌, map, replicate, []}
+use Rattle.std.proofs.Common.{◌≡◌, replicate, []}
 use Rattle.xa_orders.proofs.answers.Answers.new.Given as goal
 
 abbrev pub invariant-loop : goal.invariant-loop
-invariant-loop l = map (λ text. text.items) l.texts.items ≡ replicate l.counter []
+invariant-loop l = l.texts.items ≡ replicate l.counter []

@@ -1,0 +1,15 @@
+-- Servers that are kept as what leads to them.
+--     state_after     the state after a statement that was carried out
+--     state_since     the state after all of them
+use Rattle.std.specs.Prelude.{List, fold}
+use Rattle.xa_server.specs.State.{State}
+use Rattle.xa_server.specs.Step.{after}
+use Rattle.xa_orders.specs.declared.done.Done.{Done}
+
+-- the state after a statement that was carried out
+abbrev pub state_after : State → Done → State
+state_after state done = after state done.session done.statement
+
+-- the state after all that was carried out, in order
+abbrev pub state_since : State → List Done → State
+state_since state since = fold state_after state since

@@ -1,0 +1,91 @@
+//! Servers that are kept by what they carried out.
+ghost use Rattle.std.specs.Prelude.{◌≡◌, true, IfOk, OnOk, IfSome};
+ghost use Rattle.xa_orders.specs.Since.{state_since};
+
+use crate::done::Done;
+use std::alloc::Global;
+use std::marker::Model;
+use std::sync::Arc;
+use xa_server::Server;
+use xa_xid::NoMemory;
+
+/// A server, kept as one that several share and what it carried out since. A contract sees its state.
+#[derive(Drop)]
+pub struct KeptServer {
+    base: Arc<Server>,
+    since: Vec<Done>,
+}
+
+impl Model for KeptServer {
+    ghost use Rattle.xa_server.specs.State.{State};
+    ghost use Rattle.xa_server.specs.Coding.{coded_state};
+    ghost use Rattle.xa_orders.specs.Since.{state_since};
+
+    ghost Value = { State };
+
+    ghost coded = { coded_state };
+
+    ghost view = { λ kept. state_since kept.base.value kept.since.items };
+}
+
+/// Has a server carry out what another one did that was as it is.
+fn carry_out_all(server: &mut Server, since: &[Done]) -> Result<(), NoMemory>
+    ensures { OnOk result (server.new ≡ state_since server.old since.now) }
+{
+    for done in since {
+        let _reply = server.apply(done.session, done.statement.statement())?;
+    }
+    Ok(())
+}
+
+impl KeptServer {
+    /// A server, kept as itself.
+    pub fn of(alloc: Global, server: Server) -> Result<KeptServer, NoMemory>
+        ensures { IfOk result (λ kept. kept ≡ server) }
+    {
+        Ok(KeptServer {
+            base: Arc::new(alloc, server)?,
+            since: Vec::new(alloc),
+        })
+    }
+
+    /// The server that carried this out, from another one on.
+    pub fn since(base: &Arc<Server>, since: Vec<Done>) -> Result<KeptServer, NoMemory>
+        ensures { IfOk result (λ kept. kept ≡ state_since base.now.value since.items) }
+    {
+        Ok(KeptServer {
+            base: Arc::try_clone(base)?,
+            since,
+        })
+    }
+
+    /// The server, where it is kept as itself.
+    pub fn own(&self) -> Option<&Server>
+        ensures { IfSome result (λ server. server.now ≡ self.now) }
+    {
+        if self.since.is_empty() {
+            Some(&self.base)
+        } else {
+            None
+        }
+    }
+
+    /// A copy of the server.
+    pub fn made(&self) -> Result<Server, NoMemory>
+        ensures { IfOk result (λ server. server ≡ self.now) }
+    {
+        let mut server = self.base.copy()?;
+        carry_out_all(&mut server, self.since.as_slice())?;
+        Ok(server)
+    }
+
+    /// Whether this is known to be the server.
+    pub fn is_like(&self, server: &Server) -> Result<bool, NoMemory>
+        ensures { IfOk result (λ same. same ≡ true → self.now ≡ server.now) }
+    {
+        match self.own() {
+            Some(own) => Ok(own.is_same(server)),
+            None => Ok(self.made()?.is_same(server)),
+        }
+    }
+}

@@ -1,0 +1,10 @@
+//! A text and its mark.
+
+/// A text and a number made of its bytes.
+#[derive(Drop)]
+pub struct MarkedText {
+    /// A number made of the bytes, by which two texts mostly differ.
+    pub mark: u64,
+    /// The text.
+    pub text: Vec<u8>,
+}

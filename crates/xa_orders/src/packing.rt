@@ -1,0 +1,191 @@
+//! Servers kept as the fewest statements that lead to them.
+ghost use Rattle.std.specs.Prelude.{◌≡◌, IfOk, OnOk, IfSome};
+
+use crate::done::Done;
+use crate::kept_server::KeptServer;
+use crate::line::Line;
+use crate::shared_statement::SharedStatement;
+use crate::wanted::Wanted;
+use std::alloc::Global;
+use std::sync::Arc;
+use xa_server::{BranchEntry, Phase, Server};
+use xa_statement::read_statement;
+use xa_xid::{Key, NoMemory, SessionNo, Statement};
+
+/// How many statements a server is kept as at most: to carry more out again would take longer than to copy the server.
+const MOST: usize = 64;
+
+/// Keeps servers as statements that lead to them from another one, the one that all share.
+///
+/// Whether they do is tried, so nothing rests on the choice of the statements but memory.
+#[derive(Drop)]
+pub struct Packing {
+    /// The server before all lines.
+    base: Arc<Server>,
+    /// A session that has no branch there, if there is one.
+    free: Option<SessionNo>,
+    /// The rows that a line writes. All others have the same value in each server.
+    written: Vec<Key>,
+    /// The statements of the lines, each once.
+    statements: Vec<SharedStatement>,
+    alloc: Global,
+}
+
+/// A session that has none of these branches, if there is one.
+fn free_session(branches: &[BranchEntry]) -> Option<SessionNo> {
+    for number in 1..17 {
+        let session = SessionNo::of(number);
+        if !branches.iter().any(|branch| branch.owner == session) {
+            return session;
+        }
+    }
+    None
+}
+
+/// Whether the list has the statement.
+fn has(statements: &[SharedStatement], statement: &Statement) -> bool {
+    statements.iter().any(|one| one.statement() == statement)
+}
+
+/// The statements of the lines, each once.
+fn statements_of(alloc: Global, lines: &[Line<'_>]) -> Result<Vec<SharedStatement>, NoMemory> {
+    let mut statements = Vec::new(alloc);
+    for line in lines {
+        if let Ok(statement) = read_statement(line.text()) {
+            if !has(statements.as_slice(), &statement) {
+                statements.push(SharedStatement::of(alloc, statement)?)?;
+            }
+        }
+    }
+    Ok(statements)
+}
+
+impl Packing {
+    /// From this server on, by statements of these lines, which write these rows.
+    pub fn new(
+        alloc: Global,
+        base: &Server,
+        lines: &[Line<'_>],
+        written: Vec<Key>,
+    ) -> Result<Packing, NoMemory> {
+        let branches = base.branches(alloc)?;
+        Ok(Packing {
+            base: Arc::new(alloc, base.copy()?)?,
+            free: free_session(branches.as_slice()),
+            written,
+            statements: statements_of(alloc, lines)?,
+            alloc,
+        })
+    }
+
+    /// The rows that a line writes.
+    pub fn written(&self) -> &[Key] {
+        self.written.as_slice()
+    }
+
+    /// Adds a statement of the session that does what is wanted, where a line has one.
+    fn add(
+        &self,
+        since: &mut Vec<Done>,
+        session: SessionNo,
+        wanted: &Wanted<'_>,
+    ) -> Result<(), NoMemory> {
+        for one in &self.statements {
+            if wanted.is_done_by(one.statement()) {
+                let statement = one.try_clone()?;
+                since.push(Done { session, statement })?;
+                return Ok(());
+            }
+        }
+        Ok(())
+    }
+
+    /// Adds what gives all rows the values that they have.
+    fn add_rows(
+        &self,
+        since: &mut Vec<Done>,
+        session: SessionNo,
+        server: &Server,
+    ) -> Result<(), NoMemory> {
+        for key in &self.written {
+            let value = server.value_of(key);
+            if value != self.base.value_of(key) {
+                self.add(since, session, &Wanted::value(key, &value))?;
+            }
+        }
+        Ok(())
+    }
+
+    /// Adds what makes the branch as it is.
+    fn add_branch(
+        &self,
+        since: &mut Vec<Done>,
+        session: SessionNo,
+        server: &Server,
+        branch: &BranchEntry,
+    ) -> Result<(), NoMemory> {
+        let xid = &branch.xid;
+        self.add(since, session, &Wanted::Start(xid))?;
+        for row in &server.rows_of(self.alloc, xid)? {
+            self.add(since, session, &Wanted::hold(row))?;
+        }
+        if branch.phase != Phase::Active {
+            self.add(since, session, &Wanted::End(xid))?;
+        }
+        if branch.phase == Phase::Prepared {
+            self.add(since, session, &Wanted::Prepare(xid))?;
+        }
+        Ok(())
+    }
+
+    /// Statements that are meant to lead to the server, those of prepared branches before those that a session has open.
+    fn since(&self, free: SessionNo, server: &Server) -> Result<Vec<Done>, NoMemory> {
+        let mut since = Vec::new(self.alloc);
+        self.add_rows(&mut since, free, server)?;
+        let branches = server.branches(self.alloc)?;
+        for branch in &branches {
+            if branch.owner.is_none() {
+                self.add_branch(&mut since, free, server, branch)?;
+            }
+        }
+        for branch in &branches {
+            if let Some(owner) = branch.owner {
+                self.add_branch(&mut since, owner, server, branch)?;
+            }
+        }
+        Ok(since)
+    }
+
+    /// The server, kept as few statements, where these are found.
+    fn packed(&self, own: &Server) -> Result<Option<KeptServer>, NoMemory>
+        ensures { IfOk result (λ found. IfSome found (λ packed. packed ≡ own.now)) }
+    {
+        let Some(free) = self.free else {
+            return Ok(None);
+        };
+        let since = self.since(free, own)?;
+        if since.len() > MOST {
+            return Ok(None);
+        }
+        let packed = KeptServer::since(&self.base, since)?;
+        if packed.is_like(own)? {
+            Ok(Some(packed))
+        } else {
+            Ok(None)
+        }
+    }
+
+    /// Keeps a server as few statements, where it is kept as itself and these are found.
+    pub fn pack(&self, server: &mut KeptServer) -> Result<(), NoMemory>
+        ensures { OnOk result (server.new ≡ server.old) }
+    {
+        let found = match server.own() {
+            None => None,
+            Some(own) => self.packed(own)?,
+        };
+        if let Some(packed) = found {
+            *server = packed;
+        }
+        Ok(())
+    }
+}
