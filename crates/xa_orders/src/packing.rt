@@ -12,7 +12,7 @@ use xa_server::{BranchEntry, Phase, Server};
 use xa_statement::read_statement;
 use xa_xid::{Key, NoMemory, SessionNo, Statement};
 
-/// How many statements a server is kept as at most: to carry more out again would take longer than to copy the server.
+/// How many statements a server is kept as at most: to carry more out again takes long.
 const MOST: usize = 64;
 
 /// Keeps servers as statements that lead to them from another one, the one that all share.

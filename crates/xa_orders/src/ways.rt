@@ -22,7 +22,7 @@ fn is_at(known: &[Way], place: usize, one: &Way) -> Result<bool, NoMemory>
 {
     match known.get(place) {
         None => Ok(false),
-        Some(other) => other.is_same(one),
+        Some(other) => Ok(other.is_same(one)?),
     }
 }
 
@@ -50,7 +50,7 @@ fn is_known(
     Ok(false)
 }
 
-/// Keeps the way that is as many places before the end in less memory.
+/// Keeps the last way that has `WHOLE` others behind it in less memory.
 fn pack_before(known: &mut Vec<Way>, packing: &Packing) -> Result<(), NoMemory>
     ensures { OnOk result (known.new.items ≡ known.old.items) }
 {
@@ -69,7 +69,8 @@ fn add(known: &mut Vec<Way>, keeper: &mut Keeper, one: Way) -> Result<(), NoMemo
     ensures { OnOk result (AddsUnlessThere known.old.items one known.new.items) }
 {
     let fingerprint = keeper.mark_of(&one);
-    if is_known(known.as_slice(), &keeper.index, fingerprint, &one)? {
+    let is_there = is_known(known.as_slice(), &keeper.index, fingerprint, &one)?;
+    if is_there {
         return Ok(());
     }
     keeper.index.push(fingerprint)?;

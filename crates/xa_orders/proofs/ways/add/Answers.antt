@@ -3,6 +3,6 @@ use Rattle.xa_orders.specs.Orders.{Any}
 use Rattle.xa_orders.specs.Found.{config_of}
 use Rattle.xa_orders.proofs.ways.add.Goals as goal
 
-pub returns-then-is_known : goal.returns-then-is_known
-returns-then-is_known c =
-    inl (subst (Any (λ way. config_of way ≡ config_of c.args.one)) c.as_slice.ensures.value (c.is_known.ensures c.if-is_known.true), refl)
+pub returns-then-is_there : goal.returns-then-is_there
+returns-then-is_there c =
+    inl (subst (Any (λ way. config_of way ≡ config_of c.args.one)) c.as_slice.ensures.value (c.in_ok-is_there.ensures c.if-is_there.true), refl)
