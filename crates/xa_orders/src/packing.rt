@@ -8,7 +8,7 @@ use crate::shared_statement::SharedStatement;
 use crate::wanted::Wanted;
 use std::alloc::Global;
 use std::sync::Arc;
-use xa_server::{BranchEntry, Phase, Server};
+use xa_server::{BranchEntry, HeldRow, Phase, Server};
 use xa_statement::read_statement;
 use xa_xid::{Key, NoMemory, SessionNo, Statement};
 
@@ -40,6 +40,12 @@ fn free_session(branches: &[BranchEntry]) -> Option<SessionNo> {
         }
     }
     None
+}
+
+/// Whether the statement has a branch hold one of the rows so.
+fn holds_one(rows: &[HeldRow], statement: &Statement) -> bool {
+    rows.iter()
+        .any(|row| Wanted::hold(row).is_done_by(statement))
 }
 
 /// Whether the list has the statement.
@@ -116,6 +122,22 @@ impl Packing {
         Ok(())
     }
 
+    /// Adds what has a branch hold these rows, in the order of the lines, which is mostly that in which it came to hold them.
+    fn add_holds(
+        &self,
+        since: &mut Vec<Done>,
+        session: SessionNo,
+        rows: &[HeldRow],
+    ) -> Result<(), NoMemory> {
+        for one in &self.statements {
+            if holds_one(rows, one.statement()) {
+                let statement = one.try_clone()?;
+                since.push(Done { session, statement })?;
+            }
+        }
+        Ok(())
+    }
+
     /// Adds what makes the branch as it is.
     fn add_branch(
         &self,
@@ -126,9 +148,8 @@ impl Packing {
     ) -> Result<(), NoMemory> {
         let xid = &branch.xid;
         self.add(since, session, &Wanted::Start(xid))?;
-        for row in &server.rows_of(self.alloc, xid)? {
-            self.add(since, session, &Wanted::hold(row))?;
-        }
+        let rows = server.rows_of(self.alloc, xid)?;
+        self.add_holds(since, session, rows.as_slice())?;
         if branch.phase != Phase::Active {
             self.add(since, session, &Wanted::End(xid))?;
         }
