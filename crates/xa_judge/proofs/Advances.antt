@@ -66,8 +66,8 @@ reached_of base events trunk list one all has =
     let place = mapped_place config_of list one has in
     let reach : Reaches base events trunk place.1 = all_at (Reaches base events trunk) list place.0 place.1 all place.3 in
     record {
-      moves = trunk ++ place.1.path.items;
-      runs = subst (λ c. LeadsThrough (opening_config base) events (trunk ++ place.1.path.items) c) place.4 reach;
+      moves = trunk ++ place.1.path;
+      runs = subst (λ c. LeadsThrough (opening_config base) events (trunk ++ place.1.path) c) place.4 reach;
     }
 
 answers_to : (old closed ready : List Configuration) (answers : List Answer) (session : ℕ) → Grows old closed → IsClosedBelow (length closed) (Some session) closed

@@ -49,21 +49,21 @@ grows_more old mid new first second = record {
 -- what an effect leads to is reached
 pub reaches_effect : (base : State) (events : List Event) (trunk : List Move) (old new : Configuration) (session : ℕ) (act : Act)
     → Reaches base events trunk old → IsSession session
-    → effect_of (config_of old) session act ≡ Some (config_of new) → new.path.items ≡ old.path.items ++ Effect session act ∷ [] → Reaches base events trunk new
+    → effect_of (config_of old) session act ≡ Some (config_of new) → new.path ≡ old.path ++ Effect session act ∷ [] → Reaches base events trunk new
 unfolding Reaches
 reaches_effect base events trunk old new session act reach is at path =
-    let more = runs_effect (opening_config base) (config_of old) (config_of new) events (trunk ++ old.path.items) session act reach is at in
+    let more = runs_effect (opening_config base) (config_of old) (config_of new) events (trunk ++ old.path) session act reach is at in
     subst (λ l. LeadsThrough (opening_config base) events l (config_of new))
-    (append_assoc trunk old.path.items (Effect session act ∷ []) ∙ ap (λ l. trunk ++ l) (sym path)) more
+    (append_assoc trunk old.path (Effect session act ∷ []) ∙ ap (λ l. trunk ++ l) (sym path)) more
 
 -- and what an event leads to, by one event more
 pub reaches_event : (base : State) (events : List Event) (trunk : List Move) (old new : Configuration) (event : Event) → Reaches base events trunk old
-    → observed (config_of old) event ≡ Some (config_of new) → new.path.items ≡ old.path.items ++ Seeing ∷ [] → Reaches base (events ++ event ∷ []) trunk new
+    → observed (config_of old) event ≡ Some (config_of new) → new.path ≡ old.path ++ Seeing ∷ [] → Reaches base (events ++ event ∷ []) trunk new
 unfolding Reaches
 reaches_event base events trunk old new event reach at path =
-    let more = runs_event (opening_config base) (config_of old) (config_of new) events (trunk ++ old.path.items) event reach at in
+    let more = runs_event (opening_config base) (config_of old) (config_of new) events (trunk ++ old.path) event reach at in
     subst (λ l. LeadsThrough (opening_config base) (events ++ event ∷ []) l (config_of new))
-    (append_assoc trunk old.path.items (Seeing ∷ []) ∙ ap (λ l. trunk ++ l) (sym path)) more
+    (append_assoc trunk old.path (Seeing ∷ []) ∙ ap (λ l. trunk ++ l) (sym path)) more
 
 pub all_added : (P : Configuration → Type 0) (old new : List Configuration) (one : Configuration) → AddsUnlessThere old one new → All P old → P one → All P new
 all_added P old new one (inl was) all p = subst (λ l. All P l) (sym was.1) all
@@ -78,7 +78,7 @@ all_at P list place one all found = at list place all found
 -- the list with what an effect of one of it leads to
 pub grows_added : (old new : List Configuration) (place : ℕ) (one next : Configuration) (session : ℕ) (act : Act) → slice_get old place ≡ Some one
     → IsSession session
-    → effect_of (config_of one) session act ≡ Some (config_of next) → next.path.items ≡ one.path.items ++ Effect session act ∷ [] → AddsUnlessThere old next new
+    → effect_of (config_of one) session act ≡ Some (config_of next) → next.path ≡ one.path ++ Effect session act ∷ [] → AddsUnlessThere old next new
     → Grows old new
 grows_added old new place one next session act found is at path added = record {
   more = parts.0;

@@ -1,6 +1,7 @@
 pub mod Places
 pub mod Waits
 pub mod Growth
+pub mod Paths
 pub mod Settling
 pub mod Loops
 pub mod Spreading

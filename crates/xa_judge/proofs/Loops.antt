@@ -176,13 +176,13 @@ closed_more place returning old new within before grows here k one below found =
 -- what one act leads to is added
 pub effect_added : (old new : List Configuration) (place : ℕ) (one next : Configuration) (found : Option Configuration) (session : ℕ) (act : Act)
     → slice_get old place ≡ Some one → IsSession session
-    → option_map config_of found ≡ effect_of (config_of one) session act → IfSome found (λ n. n.path.items ≡ one.path.items ++ Effect session act ∷ [])
+    → option_map config_of found ≡ effect_of (config_of one) session act → IfSome found (λ n. n.path ≡ one.path ++ Effect session act ∷ [])
     → found ≡ Some next → AddsUnlessThere old next new
     → Grows old new × ((other : Configuration) (config : Config) → slice_get old place ≡ Some other → effect_of (config_of other) session act ≡ Some config
     → Has new config)
 effect_added old new place one next found session act at is effect path some added = (
   grows_added old new place one next session act at is led
-      (subst (λ o. IfSome o (λ n. n.path.items ≡ one.path.items ++ Effect session act ∷ [])) some path) added,
+      (subst (λ o. IfSome o (λ n. n.path ≡ one.path ++ Effect session act ∷ [])) some path) added,
   λ other config there leads.
       let same : one ≡ other = same_Some one other (sym at ∙ there) in
       subst (λ d. Has new d) (same_Some (config_of next) config (sym led ∙ ap (λ o. effect_of (config_of o) session act) same ∙ leads))

@@ -47,7 +47,7 @@ pub explained_by : (base : State) (seen : List Event) (trunk : List Move) (list 
 unfolding Reaches
 explained_by base seen trunk list some all =
     let first = get_within list 0 some in
-    (trunk ++ first.0.path.items, config_of first.0, all_at (Reaches base seen trunk) list 0 first.0 all first.1)
+    (trunk ++ first.0.path, config_of first.0, all_at (Reaches base seen trunk) list 0 first.0 all first.1)
 
 pub legal : (base : State) (events : List Event) (trunk moves : List Move) (list : List Configuration)
     → All (Reaches base (take (length events) events) trunk) list → IsPathOf trunk list moves
@@ -126,7 +126,7 @@ pub opens_reached : (base : State) (list : List Configuration) → IsOpening bas
 unfolding Reaches
 opens_reached base list is = subst (λ l. All (Reaches base [] []) l) (sym is.1) (All-cons (Reaches base [] []) is.0 [] one (All-nil (Reaches base [] [])))
   where
-    one : LeadsThrough (opening_config base) [] ([] ++ is.0.path.items) (config_of is.0)
+    one : LeadsThrough (opening_config base) [] ([] ++ is.0.path) (config_of is.0)
     one = subst (λ m. LeadsThrough (opening_config base) [] m (config_of is.0)) (sym is.3) is.2
 
 pub opens_complete : (base : State) (list : List Configuration) → IsOpening base list → IsComplete base [] list
@@ -147,17 +147,17 @@ some_shortened trunk longer old new is some = omega (arith, length_map config_of
 
 -- the only configuration without its path, which is the trunk's end now
 pub shortened : (trunk longer : List Move) (old rest new : List Configuration) (only next : Configuration) → length rest ≡ 0 → old ≡ rest ++ only ∷ []
-    → new ≡ rest ++ next ∷ [] → config_of next ≡ config_of only → next.path.items ≡ []
-    → longer ≡ trunk ++ only.path.items → IsShortened trunk longer old new
+    → new ≡ rest ++ next ∷ [] → config_of next ≡ config_of only → next.path ≡ []
+    → longer ≡ trunk ++ only.path → IsShortened trunk longer old new
 unfolding Reaches
 shortened trunk longer old [] new only next none was now same path parts = record {
   same = ap configs now ∙ ap (λ c. c ∷ []) same ∙ sym (ap configs was);
   reach = λ base events all.
-      let reach : LeadsThrough (opening_config base) events (trunk ++ only.path.items) (config_of only) =
+      let reach : LeadsThrough (opening_config base) events (trunk ++ only.path) (config_of only) =
       All-head (Reaches base events trunk) only [] (subst (λ l. All (Reaches base events trunk) l) was all) in
-      let end : trunk ++ only.path.items ≡ longer ++ next.path.items = sym parts ∙ sym (append-nil longer) ∙ ap (λ l. longer ++ l) (sym path) in
-      let moved : LeadsThrough (opening_config base) events (longer ++ next.path.items) (config_of next) =
-      subst (λ d. LeadsThrough (opening_config base) events (longer ++ next.path.items) d) (sym same)
+      let end : trunk ++ only.path ≡ longer ++ next.path = sym parts ∙ sym (append-nil longer) ∙ ap (λ l. longer ++ l) (sym path) in
+      let moved : LeadsThrough (opening_config base) events (longer ++ next.path) (config_of next) =
+      subst (λ d. LeadsThrough (opening_config base) events (longer ++ next.path) d) (sym same)
       (subst (λ m. LeadsThrough (opening_config base) events m (config_of only)) end reach) in
       subst (λ l. All (Reaches base events longer) l) (sym now) (All-cons (Reaches base events longer) next [] moved (All-nil (Reaches base events longer)));
 }

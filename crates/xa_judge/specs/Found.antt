@@ -80,7 +80,7 @@ is_over (Some returning) config = call_is_answered config returning
 
 -- the trunk and its path lead to it
 unfoldable pub Reaches : State → List Event → List Move → Configuration → Type 0
-Reaches base events trunk one = LeadsThrough (opening_config base) events (trunk ++ one.path.items) (config_of one)
+Reaches base events trunk one = LeadsThrough (opening_config base) events (trunk ++ one.path) (config_of one)
 
 -- the list has a configuration that stands so
 abbrev pub Has : List Configuration → Config → Type 0
@@ -106,7 +106,7 @@ ReachesPast event old new =
 abbrev pub IsSettledFrom : ℕ → Configuration → Configuration → Type 0
 IsSettledFrom session old new =
     (new ≡ old) ⊎ (IsSession session × (effect_of (config_of old) session Statement ≡ Some (config_of new))
-    × (new.path.items ≡ old.path.items ++ Effect session Statement ∷ []))
+    × (new.path ≡ old.path ++ Effect session Statement ∷ []))
 
 -- the list is as it was, and things stood so in one of it; or it has this one more
 abbrev pub AddsUnlessThere : List Configuration → Configuration → List Configuration → Type 0
@@ -122,7 +122,7 @@ pub record IsEffectAt (list : List Configuration) (place session : ℕ) (act : A
 abbrev pub IsSeenAdded : Event → Configuration → List Configuration → List Configuration → Type 0
 IsSeenAdded event one old new =
     ((observed (config_of one) event ≡ None) × (new ≡ old))
-    ⊎ ((next : Configuration) × (observed (config_of one) event ≡ Some (config_of next)) × (next.path.items ≡ one.path.items ++ Seeing ∷ [])
+    ⊎ ((next : Configuration) × (observed (config_of one) event ≡ Some (config_of next)) × (next.path ≡ one.path ++ Seeing ∷ [])
     × AddsUnlessThere old next new)
 
 -- the list has the client's answer more, or is as it was where it has none
@@ -138,11 +138,11 @@ pub record IsAnsweredIn (list : List Configuration) (session : ℕ) (answer : An
 
 -- the one configuration before all events
 abbrev pub IsOpening : State → List Configuration → Type 0
-IsOpening base list = (one : Configuration) × (list ≡ one ∷ []) × (config_of one ≡ opening_config base) × (one.path.items ≡ [])
+IsOpening base list = (one : Configuration) × (list ≡ one ∷ []) × (config_of one ≡ opening_config base) × (one.path ≡ [])
 
 -- the moves are the trunk and the path of the first configuration
 abbrev pub IsPathOf : List Move → List Configuration → List Move → Type 0
-IsPathOf trunk list moves = (one : Configuration) × (slice_get list 0 ≡ Some one) × (moves ≡ trunk ++ one.path.items)
+IsPathOf trunk list moves = (one : Configuration) × (slice_get list 0 ≡ Some one) × (moves ≡ trunk ++ one.path)
 
 -- the same configurations are reached, with another trunk
 pub record IsShortened (trunk longer : List Move) (old new : List Configuration) : Type 0 where

@@ -1,6 +1,7 @@
 -- Servers that are kept by what they carried out.
 --     state_after     the state after a request that was carried out
 --     state_since     the state after all of them
+--     state_past      the state after blocks of them
 use Rattle.std.specs.Prelude.{List, fold}
 use Rattle.xa_server.specs.State.{State}
 use Rattle.xa_judge.specs.declared.done.Done.{Done}
@@ -13,3 +14,7 @@ state_after state done = next_state state done.session done.request
 -- the state after all that was carried out, in order
 abbrev pub state_since : State → List Done → State
 state_since state since = fold state_after state since
+
+-- the state after blocks of what was carried out, in order
+abbrev pub state_past : State → List (List Done) → State
+state_past state blocks = fold state_since state blocks

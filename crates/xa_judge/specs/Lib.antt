@@ -5,3 +5,4 @@ pub mod Found
 pub mod Advances
 pub mod Marks
 pub mod Following
+pub mod Path

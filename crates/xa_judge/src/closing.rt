@@ -103,7 +103,7 @@ pub fn observe_all(
     let count = known.len();
     let mut list = Vec::new(alloc);
     while let Some(one) = known.pop() {
-        let one = fit(one, count)?;
+        let one = fit(one, count, index.rows())?;
         add_seen(&mut list, index, one, event)?;
     }
     Ok(list)

@@ -9,13 +9,11 @@ ghost use Rattle.xa_judge.specs.Found.{config_of, moved_to, called_for, call_is_
 
 use crate::client_state::ClientState;
 use crate::kept_server::KeptServer;
-use crate::moves::{Act, Move};
-use crate::request::Request;
-use crate::shared_answer::SharedAnswer;
-use crate::shared_request::SharedRequest;
+use crate::moves::Move;
+use crate::path::Path;
 use std::alloc::Global;
 use xa_server::Server;
-use xa_xid::{NoMemory, SessionNo, Statement};
+use xa_xid::{NoMemory, SessionNo};
 
 /// One place for each session number; place 0 stays idle.
 const PLACES: usize = 17;
@@ -28,7 +26,7 @@ pub struct Configuration {
     /// What each session is about, at the place of its number.
     pub clients: Vec<ClientState>,
     /// The moves that led here, from where the trunk ends.
-    pub path: Vec<Move>,
+    pub path: Path,
 }
 
 /// What each session is about before all events.
@@ -55,31 +53,24 @@ fn is_same_list(left: &[ClientState], right: &[ClientState]) -> bool
     }
 }
 
-/// A session's DISCONNECT, as a request.
-fn leaving(alloc: Global) -> Result<SharedRequest, NoMemory>
-    ensures { IfOk result (λ request. request ≡ Request.Statement Disconnect) }
-{
-    SharedRequest::of(alloc, Request::Statement(Statement::Disconnect))
-}
-
 impl Configuration {
     /// How things stand before all events.
     #[tactic(auto, unfolding(crate::specs::Explained::opening_config))]
     pub fn opening(alloc: Global, base: &Server) -> Result<Configuration, NoMemory>
         ensures config { IfOk result (λ first. config_of first ≡ opening_config base.now) }
-        ensures path { IfOk result (λ first. first.path.items ≡ []) }
+        ensures path { IfOk result (λ first. first.path ≡ []) }
     {
         Ok(Configuration {
             server: KeptServer::of(alloc, base.copy()?)?,
             clients: all_idle(alloc)?,
-            path: Vec::new(alloc),
+            path: Path::new(alloc),
         })
     }
 
     /// The same, with no path.
     pub fn without_path(mut self) -> Configuration
         ensures config { config_of result ≡ config_of self }
-        ensures path { result.path.items ≡ [] }
+        ensures path { result.path ≡ [] }
     {
         self.path.clear();
         self
@@ -88,12 +79,12 @@ impl Configuration {
     /// A copy, with a server of its own.
     pub fn copy(&self) -> Result<Configuration, NoMemory>
         ensures config { IfOk result (λ copy. config_of copy ≡ config_of self.now) }
-        ensures path { IfOk result (λ copy. copy.path.items ≡ self.now.path.items) }
+        ensures path { IfOk result (λ copy. copy.path ≡ self.now.path) }
     {
         Ok(Configuration {
             server: self.server.apart()?,
             clients: self.clients.clone()?,
-            path: self.path.clone()?,
+            path: self.path.copy()?,
         })
     }
 
@@ -131,21 +122,6 @@ impl Configuration {
         self.clients.get(session.get() as usize)
     }
 
-    /// What the session has called for, where that has taken no effect yet.
-    fn called_for(&self, session: SessionNo) -> Result<Option<SharedRequest>, NoMemory>
-        ensures value { IfOk result (λ request. request ≡ called_for (slice_get self.now.clients.items session)) }
-        ensures session { IsSession session }
-    {
-        match self.client(session) {
-            None => Ok(None),
-            Some(ClientState::Idle) => Ok(None),
-            Some(ClientState::Called(request)) => Ok(Some(request.try_clone()?)),
-            Some(ClientState::Answered(_)) => Ok(None),
-            Some(ClientState::Gone(_)) => Ok(None),
-            Some(ClientState::Left) => Ok(None),
-        }
-    }
-
     /// The session is about this from now on, by this move.
     pub fn moved(
         mut self,
@@ -155,89 +131,11 @@ impl Configuration {
     ) -> Result<Configuration, NoMemory>
         requires { session < vec_len self.clients }
         ensures config { IfOk result (λ new. config_of new ≡ moved_to self.server self.clients.items session client) }
-        ensures path { IfOk result (λ new. new.path.items ≡ self.path.items ++ by ∷ []) }
+        ensures path { IfOk result (λ new. new.path ≡ self.path ++ by ∷ []) }
     {
         self.clients[session.get() as usize] = client;
         self.path.push(by)?;
         Ok(self)
-    }
-
-    /// What the session has called for takes effect, and it is answered.
-    fn answered(
-        self,
-        session: SessionNo,
-        request: &SharedRequest,
-    ) -> Result<Configuration, NoMemory>
-        requires { session < vec_len self.clients }
-        ensures config { IfOk result
-            (λ new. config_of new ≡ moved_to (next_state self.server session request.now) self.clients.items session
-            (ClientState.Answered (answer_to self.server session request.now))) }
-        ensures path { IfOk result (λ new. new.path.items ≡ self.path.items ++ Move.Effect session Act.Statement ∷ []) }
-    {
-        let Configuration {
-            server,
-            clients,
-            path,
-        } = self;
-        let alloc = server.alloc();
-        let (server, answer) = server.carried_out(session, request)?;
-        let answered = ClientState::Answered(SharedAnswer::of(alloc, answer)?);
-        Configuration {
-            server,
-            clients,
-            path,
-        }
-        .moved(session, answered, Move::Effect(session, Act::Statement))
-    }
-
-    /// What the session had called for takes effect, and nobody hears the answer.
-    fn unheard(self, session: SessionNo, request: &SharedRequest) -> Result<Configuration, NoMemory>
-        requires { session < vec_len self.clients }
-        ensures config { IfOk result
-            (λ new. config_of new ≡ moved_to (next_state self.server session request.now) self.clients.items session (ClientState.Gone None)) }
-        ensures path { IfOk result (λ new. new.path.items ≡ self.path.items ++ Move.Effect session Act.Statement ∷ []) }
-    {
-        let Configuration {
-            server,
-            clients,
-            path,
-        } = self;
-        let (server, _answer) = server.carried_out(session, request)?;
-        Configuration {
-            server,
-            clients,
-            path,
-        }
-        .moved(
-            session,
-            ClientState::Gone(None),
-            Move::Effect(session, Act::Statement),
-        )
-    }
-
-    /// The session's DISCONNECT takes effect.
-    fn left(self, session: SessionNo) -> Result<Configuration, NoMemory>
-        requires { session < vec_len self.clients }
-        ensures config { IfOk result (λ new. config_of new ≡ moved_to (after self.server session Disconnect) self.clients.items session ClientState.Left) }
-        ensures path { IfOk result (λ new. new.path.items ≡ self.path.items ++ Move.Effect session Act.Disconnect ∷ []) }
-    {
-        let Configuration {
-            server,
-            clients,
-            path,
-        } = self;
-        let request = leaving(server.alloc())?;
-        let (server, _answer) = server.carried_out(session, &request)?;
-        Configuration {
-            server,
-            clients,
-            path,
-        }
-        .moved(
-            session,
-            ClientState::Left,
-            Move::Effect(session, Act::Disconnect),
-        )
     }
 
     /// Whether the session's call was answered.
@@ -276,159 +174,6 @@ impl Configuration {
             Some(ClientState::Gone(None)) => false,
             Some(ClientState::Gone(Some(_))) => true,
             Some(ClientState::Left) => false,
-        }
-    }
-
-    /// How things stand once what the session has called for has taken effect; as they do, where it has called for nothing.
-    #[tactic(auto, unfolding(crate::specs::Found::after_settling))]
-    pub fn settled(self, session: SessionNo) -> Result<Configuration, NoMemory>
-        ensures config { IfOk result (λ new. config_of new ≡ after_settling (config_of self) session) }
-        ensures reach { IfOk result (IsSettledFrom session self) }
-    {
-        match self.called_for(session)? {
-            None => Ok(self),
-            Some(request) => {
-                let new = self.answered(session, &request)?;
-                Ok(new)
-            }
-        }
-    }
-
-    /// How things stand once what the session called for has taken effect, where that can be.
-    #[tactic(auto, unfolding(crate::specs::Explained::effect_of, crate::specs::Explained::carried_out))]
-    fn carried_out(self, session: SessionNo) -> Result<Option<Configuration>, NoMemory>
-        ensures config { IfOk result (λ found. option_map config_of found ≡ effect_of (config_of self) session Act.Statement) }
-        ensures path { IfOk result (λ found. IfSome found (λ new. new.path.items ≡ self.path.items ++ Move.Effect session Act.Statement ∷ [])) }
-        ensures session { IsSession session }
-    {
-        match self.client(session) {
-            None => Ok(None),
-            Some(ClientState::Idle) => Ok(None),
-            Some(ClientState::Called(request)) => {
-                let request = request.try_clone()?;
-                Ok(Some(self.answered(session, &request)?))
-            }
-            Some(ClientState::Answered(_)) => Ok(None),
-            Some(ClientState::Gone(None)) => Ok(None),
-            Some(ClientState::Gone(Some(request))) => {
-                let request = request.try_clone()?;
-                Ok(Some(self.unheard(session, &request)?))
-            }
-            Some(ClientState::Left) => Ok(None),
-        }
-    }
-
-    /// How things stand once the session's DISCONNECT has taken effect, where that can be.
-    #[tactic(auto, unfolding(crate::specs::Explained::effect_of, crate::specs::Explained::disconnected))]
-    fn disconnected(self, session: SessionNo) -> Result<Option<Configuration>, NoMemory>
-        ensures config { IfOk result (λ found. option_map config_of found ≡ effect_of (config_of self) session Act.Disconnect) }
-        ensures path { IfOk result (λ found. IfSome found (λ new. new.path.items ≡ self.path.items ++ Move.Effect session Act.Disconnect ∷ [])) }
-        ensures session { IsSession session }
-    {
-        match self.client(session) {
-            None => Ok(None),
-            Some(ClientState::Idle) => Ok(None),
-            Some(ClientState::Called(_)) => Ok(None),
-            Some(ClientState::Answered(_)) => Ok(None),
-            Some(ClientState::Gone(_)) => Ok(Some(self.left(session)?)),
-            Some(ClientState::Left) => Ok(None),
-        }
-    }
-
-    /// How things stand once the session's act has taken effect, where that can be.
-    pub fn once_effected(
-        self,
-        session: SessionNo,
-        act: Act,
-    ) -> Result<Option<Configuration>, NoMemory>
-        ensures config { IfOk result (λ found. option_map config_of found ≡ effect_of (config_of self) session act) }
-        ensures path { IfOk result (λ found. IfSome found (λ new. new.path.items ≡ self.path.items ++ Move.Effect session act ∷ [])) }
-        ensures session { IsSession session }
-    {
-        match act {
-            Act::Statement => self.carried_out(session),
-            Act::Disconnect => self.disconnected(session),
-        }
-    }
-
-    /// Whether the session's act can take effect.
-    #[tactic(auto, unfolding(crate::specs::Explained::effect_of, crate::specs::Explained::carried_out, crate::specs::Explained::disconnected))]
-    pub fn can_take_effect(&self, session: SessionNo, act: Act) -> bool
-        ensures no { result ≡ false → effect_of (config_of self.now) session act ≡ None }
-        ensures session { IsSession session }
-    {
-        match self.client(session) {
-            None => false,
-            Some(ClientState::Idle) => false,
-            Some(ClientState::Called(_)) => matches!(act, Act::Statement),
-            Some(ClientState::Answered(_)) => false,
-            Some(ClientState::Gone(None)) => matches!(act, Act::Disconnect),
-            Some(ClientState::Gone(Some(_))) => true,
-            Some(ClientState::Left) => false,
-        }
-    }
-
-    /// How things stand once the session's act has taken effect in a copy, where that can be.
-    pub fn effected(&self, session: SessionNo, act: Act) -> Result<Option<Configuration>, NoMemory>
-        ensures config { IfOk result (λ found. option_map config_of found ≡ effect_of (config_of self.now) session act) }
-        ensures path { IfOk result (λ found. IfSome found (λ new. new.path.items ≡ self.now.path.items ++ Move.Effect session act ∷ [])) }
-        ensures session { IsSession session }
-    {
-        if !self.can_take_effect(session, act) {
-            return Ok(None);
-        }
-        self.copy()?.once_effected(session, act)
-    }
-
-    /// The server after the session's act, kept over the same one, where that can take effect.
-    #[tactic(auto, unfolding(crate::specs::Explained::effect_of, crate::specs::Explained::carried_out, crate::specs::Explained::disconnected))]
-    fn server_after(&self, session: SessionNo, act: Act) -> Result<Option<KeptServer>, NoMemory>
-        ensures { IfOk result (λ found. found ≡ option_map (λ config. config.state) (effect_of (config_of self.now) session act)) }
-    {
-        match act {
-            Act::Statement => match self.client(session) {
-                Some(ClientState::Called(request)) => {
-                    Ok(Some(self.server.after(session, request)?))
-                }
-                Some(ClientState::Gone(Some(request))) => {
-                    Ok(Some(self.server.after(session, request)?))
-                }
-                _ => Ok(None),
-            },
-            Act::Disconnect => match self.client(session) {
-                Some(ClientState::Gone(_)) => {
-                    let request = leaving(self.server.alloc())?;
-                    Ok(Some(self.server.after(session, &request)?))
-                }
-                _ => Ok(None),
-            },
-        }
-    }
-
-    /// The same, with a server that is kept over that of the configuration before it, from which the session's act leads here.
-    pub fn over(
-        self,
-        before: &Configuration,
-        session: SessionNo,
-        act: Act,
-    ) -> Result<Configuration, NoMemory>
-        requires { effect_of (config_of before.now) session act ≡ Some (config_of self) }
-        ensures { IfOk result (λ new. new ≡ self) }
-    {
-        match before.server_after(session, act)? {
-            None => Ok(self),
-            Some(server) => {
-                let Configuration {
-                    server: _,
-                    clients,
-                    path,
-                } = self;
-                Ok(Configuration {
-                    server,
-                    clients,
-                    path,
-                })
-            }
         }
     }
 }

@@ -1,5 +1,5 @@
 //! What a server carried out.
-ghost use Rattle.std.specs.Prelude.{◌≡◌};
+ghost use Rattle.std.specs.Prelude.{◌≡◌, true};
 
 use crate::shared_request::SharedRequest;
 use std::alloc::AllocError;
@@ -22,5 +22,14 @@ impl Clone for Done {
             session: self.session,
             request: self.request.try_clone()?,
         })
+    }
+}
+
+impl Done {
+    /// Whether both are known to be the same.
+    pub fn is_same(&self, other: &Done) -> bool
+        ensures { result ≡ true → self.now ≡ other.now }
+    {
+        self.session == other.session && self.request.is_same(&other.request)
     }
 }

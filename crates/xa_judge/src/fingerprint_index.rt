@@ -66,6 +66,11 @@ impl FingerprintIndex {
         Ok(())
     }
 
+    /// How many rows any event called to write.
+    pub fn rows(&self) -> usize {
+        self.written.len()
+    }
+
     /// The fingerprint of a configuration.
     fn mark_of(&self, one: &Configuration) -> Result<u64, NoMemory>
         ensures { IfOk result (λ number. number ≡ mark self.now.written.items (config_of one.now)) }

@@ -4,8 +4,10 @@ ghost use Rattle.xa_judge.specs.Found.{IsOpening, IsShortened, IsPathOf};
 ghost use Rattle.xa_judge.specs.Verdicts.{IsVerdict};
 
 use crate::advance::{Advance, see_event};
+use crate::blocks::Blocks;
 use crate::configuration::Configuration;
 use crate::depth::moves_through;
+use crate::done_blocks::DoneBlocks;
 use crate::event::Event;
 use crate::fingerprint_index::FingerprintIndex;
 use crate::following::follows;
@@ -19,6 +21,9 @@ use xa_xid::NoMemory;
 /// So many configurations are kept of each record at first. Most need no more, and one that does is known soon.
 const NARROW: usize = 8;
 
+/// After so many events each, what configurations have in common is looked for.
+const APART: usize = 64;
+
 /// Where only one configuration is left, moves its path to the trunk's end.
 fn shorten(trunk: &mut Vec<Move>, known: &mut Vec<Configuration>) -> Result<(), NoMemory>
     ensures { OnOk result (IsShortened trunk.old.items trunk.new.items known.old.items known.new.items) }
@@ -29,7 +34,7 @@ fn shorten(trunk: &mut Vec<Move>, known: &mut Vec<Configuration>) -> Result<(), 
     match known.pop() {
         None => Ok(()),
         Some(only) => {
-            trunk.extend_from_slice(only.path.as_slice())?;
+            only.path.add_to(trunk)?;
             known.push(only.without_path())?;
             Ok(())
         }
@@ -41,8 +46,37 @@ fn path_of(mut trunk: Vec<Move>, known: &[Configuration]) -> Result<Vec<Move>, N
     requires { 0 < length known.now }
     ensures { IfOk result (λ moves. IsPathOf trunk.items known.now moves.items) }
 {
-    trunk.extend_from_slice(known[0].path.as_slice())?;
+    known[0].path.add_to(&mut trunk)?;
     Ok(trunk)
+}
+
+/// Has the configurations share what led to several of them.
+fn fold_all(alloc: Global, known: &mut Vec<Configuration>) -> Result<(), NoMemory>
+    ensures { OnOk result (known.new.items ≡ known.old.items) }
+{
+    let mut moves = Blocks::new(alloc);
+    let mut requests = DoneBlocks::new(alloc);
+    for place in 0..known.len() {
+        known[place].path.fold(alloc, &mut moves)?;
+        known[place].server.fold(&mut requests)?;
+    }
+    Ok(())
+}
+
+/// Has the configurations share what can be of what led to them, once the event at this place is seen.
+fn share(
+    alloc: Global,
+    place: usize,
+    trunk: &mut Vec<Move>,
+    known: &mut Vec<Configuration>,
+) -> Result<(), NoMemory>
+    ensures { OnOk result (IsShortened trunk.old.items trunk.new.items known.old.items known.new.items) }
+{
+    shorten(trunk, known)?;
+    if place % APART == APART - 1 {
+        fold_all(alloc, known)?;
+    }
+    Ok(())
 }
 
 /// The one configuration before all events.
@@ -74,7 +108,7 @@ fn judge_in_breadth<P: Progress>(
             Advance::Impossible(answers) => return Ok(Verdict::Illegal(place, answers)),
             Advance::TooMany => return Ok(Verdict::Undecided(place)),
         };
-        shorten(&mut trunk, &mut known)?;
+        share(alloc, place, &mut trunk, &mut known)?;
     }
     Ok(Verdict::Legal(path_of(trunk, known.as_slice())?))
 }

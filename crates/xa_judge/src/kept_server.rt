@@ -1,14 +1,17 @@
 //! Servers that are kept by what they carried out.
 ghost use Rattle.std.specs.Prelude.{◌≡◌, true, IfOk, OnOk, IfSome};
 ghost use Rattle.xa_judge.specs.Explained.{answer_to, next_state};
-ghost use Rattle.xa_judge.specs.Kept.{state_since};
+ghost use Rattle.xa_judge.specs.Kept.{state_since, state_past};
 
 use crate::answer::Answer;
 use crate::done::Done;
+use crate::done_block::DoneBlock;
+use crate::done_blocks::DoneBlocks;
 use crate::request::Request;
 use crate::shared_request::SharedRequest;
 use std::alloc::Global;
 use std::marker::Model;
+use std::mem;
 use std::sync::Arc;
 use xa_server::Server;
 use xa_xid::{NoMemory, SessionNo};
@@ -16,10 +19,12 @@ use xa_xid::{NoMemory, SessionNo};
 /// What carried out so many requests since isn't kept so for long.
 const MUCH: usize = 128;
 
-/// A server, kept as one that several share and what it carried out since. A contract sees its state.
+/// A server, kept as one that several share and what it carried out since, the older part in blocks that several share too. A
+/// contract sees its state.
 #[derive(Drop)]
 pub struct KeptServer {
     base: Arc<Server>,
+    before: Vec<DoneBlock>,
     since: Vec<Done>,
     alloc: Global,
 }
@@ -27,13 +32,13 @@ pub struct KeptServer {
 impl Model for KeptServer {
     ghost use Rattle.xa_server.specs.State.{State};
     ghost use Rattle.xa_server.specs.Coding.{coded_state};
-    ghost use Rattle.xa_judge.specs.Kept.{state_since};
+    ghost use Rattle.xa_judge.specs.Kept.{state_since, state_past};
 
     ghost Value = { State };
 
     ghost coded = { coded_state };
 
-    ghost view = { λ kept. state_since kept.base.value kept.since.items };
+    ghost view = { λ kept. state_since (state_past kept.base.value kept.before.items) kept.since.items };
 }
 
 /// Has a server carry out what another one did that was as it is.
@@ -46,6 +51,16 @@ fn carry_out_all(server: &mut Server, since: &[Done]) -> Result<(), NoMemory>
     Ok(())
 }
 
+/// Has a server carry out what is in the blocks.
+fn carry_out_blocks(server: &mut Server, before: &[DoneBlock]) -> Result<(), NoMemory>
+    ensures { OnOk result (server.new ≡ state_past server.old before.now) }
+{
+    for block in before {
+        carry_out_all(server, block.requests())?;
+    }
+    Ok(())
+}
+
 impl KeptServer {
     /// A server, kept as itself.
     pub fn of(alloc: Global, server: Server) -> Result<KeptServer, NoMemory>
@@ -53,6 +68,7 @@ impl KeptServer {
     {
         Ok(KeptServer {
             base: Arc::new(alloc, server)?,
+            before: Vec::new(alloc),
             since: Vec::new(alloc),
             alloc,
         })
@@ -60,7 +76,11 @@ impl KeptServer {
 
     /// Whether it carried out so much that it takes long to make it again.
     pub fn did_much(&self) -> bool {
-        self.since.len() >= MUCH
+        let mut count = self.since.len();
+        for block in self.before.iter() {
+            count = count.saturating_add(block.requests().len());
+        }
+        count >= MUCH
     }
 
     /// Where its memory comes from.
@@ -74,16 +94,30 @@ impl KeptServer {
     {
         Ok(KeptServer {
             base: Arc::try_clone(&self.base)?,
+            before: self.before.clone()?,
             since: self.since.clone()?,
             alloc: self.alloc,
         })
+    }
+
+    /// Puts what it carried out since into a block, one that is there where it can be.
+    pub fn fold(&mut self, shared: &mut DoneBlocks) -> Result<(), NoMemory>
+        ensures { OnOk result (self.new ≡ self.old) }
+    {
+        if self.since.is_empty() {
+            return Ok(());
+        }
+        let requests = mem::replace(&mut self.since, Vec::new(self.alloc));
+        let block = shared.with(requests)?;
+        self.before.push(block)?;
+        Ok(())
     }
 
     /// The server, where it is kept as itself.
     pub fn own(&self) -> Option<&Server>
         ensures { IfSome result (λ server. server.now ≡ self.now) }
     {
-        if self.since.is_empty() {
+        if self.before.is_empty() && self.since.is_empty() {
             Some(&self.base)
         } else {
             None
@@ -95,6 +129,7 @@ impl KeptServer {
         ensures { IfOk result (λ server. server ≡ self.now) }
     {
         let mut server = self.base.copy()?;
+        carry_out_blocks(&mut server, self.before.as_slice())?;
         carry_out_all(&mut server, self.since.as_slice())?;
         Ok(server)
     }
@@ -105,6 +140,7 @@ impl KeptServer {
     {
         let KeptServer {
             base,
+            before,
             since,
             alloc: _,
         } = self;
@@ -112,6 +148,7 @@ impl KeptServer {
             Ok(server) => server,
             Err(shared) => shared.copy()?,
         };
+        carry_out_blocks(&mut server, before.as_slice())?;
         carry_out_all(&mut server, since.as_slice())?;
         Ok(server)
     }
@@ -127,7 +164,7 @@ impl KeptServer {
     pub fn whole(self) -> Result<KeptServer, NoMemory>
         ensures { IfOk result (λ whole. whole ≡ self) }
     {
-        if self.since.is_empty() {
+        if self.own().is_some() {
             return Ok(self);
         }
         self.apart()
@@ -177,16 +214,27 @@ impl KeptServer {
         ensures server { IfOk result (λ pair. pair.0 ≡ next_state self session request.now) }
         ensures answer { IfOk result (λ pair. pair.1 ≡ answer_to self session request.now) }
     {
-        if !self.since.is_empty() {
+        if !self.before.is_empty() || !self.since.is_empty() {
             return self.answered(session, request);
         }
-        let KeptServer { base, since, alloc } = self;
+        let KeptServer {
+            base,
+            before,
+            since,
+            alloc,
+        } = self;
         match Arc::try_unwrap(base) {
             Ok(mut server) => {
                 let answer = request.request().carry_out(&mut server, session)?;
                 Ok((KeptServer::of(alloc, server)?, answer))
             }
-            Err(base) => KeptServer { base, since, alloc }.answered(session, request),
+            Err(base) => KeptServer {
+                base,
+                before,
+                since,
+                alloc,
+            }
+            .answered(session, request),
         }
     }
 

@@ -7,12 +7,13 @@ ghost use Rattle.xa_judge.specs.Found.{config_of, call_is_answered, Has, Grows, 
 use crate::configuration::Configuration;
 use crate::fingerprint_index::FingerprintIndex;
 use crate::moves::Act;
+use crate::room::has_room;
 use xa_xid::{NoMemory, SessionNo};
 
 /// Lists that are shorter are looked through place by place: a fingerprint costs more than a few comparisons.
 const LONG: usize = 16;
 
-/// In lists that are shorter each configuration has a server of its own.
+/// In lists that are shorter each configuration has a server of its own, where there is room.
 const WIDE: usize = 256;
 
 /// Whether things are known to stand so in a configuration of the list.
@@ -93,11 +94,11 @@ pub fn add(
     index.note(known.len())
 }
 
-/// The same, as a list of `count` is to keep it.
-pub fn fit(one: Configuration, count: usize) -> Result<Configuration, NoMemory>
+/// The same, as a list of `count` is to keep it, where so many rows were written.
+pub fn fit(one: Configuration, count: usize, rows: usize) -> Result<Configuration, NoMemory>
     ensures { IfOk result (λ same. same ≡ one) }
 {
-    if count < WIDE || one.server.did_much() {
+    if has_room(count, rows) && (count < WIDE || one.server.did_much()) {
         one.whole()
     } else {
         Ok(one)
@@ -107,6 +108,7 @@ pub fn fit(one: Configuration, count: usize) -> Result<Configuration, NoMemory>
 /// The configuration to which the session's act leads from the one at this place, as a list of these keeps it.
 fn fitting(
     known: &[Configuration],
+    rows: usize,
     place: usize,
     session: SessionNo,
     act: Act,
@@ -116,7 +118,7 @@ fn fitting(
     requires leads { IsEffectAt known.now place session act next }
     ensures { IfOk result (λ new. new ≡ next) }
 {
-    if known.len() < WIDE {
+    if known.len() < WIDE && has_room(known.len(), rows) {
         return Ok(next);
     }
     next.over(&known[place], session, act)
@@ -138,7 +140,7 @@ fn add_next(
     if is_known(known.as_slice(), index, &next)? {
         return Ok(());
     }
-    let new = fitting(known.as_slice(), place, session, act, next)?;
+    let new = fitting(known.as_slice(), index.rows(), place, session, act, next)?;
     known.push(new)?;
     index.note(known.len())
 }

@@ -1,15 +1,20 @@
 //! Whether any order explains what clients of a server saw, with a verdict that is proved either way.
 #![tactic(auto)]
 
+mod acting;
 mod advance;
 mod aim;
 mod answer;
 mod bearing;
+mod block;
+mod blocks;
 mod client_state;
 mod closing;
 mod configuration;
 mod depth;
 mod done;
+mod done_block;
+mod done_blocks;
 mod effect;
 mod error_numbers;
 mod event;
@@ -24,9 +29,11 @@ mod known;
 pub mod laws;
 mod mending;
 mod moves;
+mod path;
 mod progress;
 mod repairs;
 mod request;
+mod room;
 mod same;
 mod seeing;
 mod shared_answer;

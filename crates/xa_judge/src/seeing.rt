@@ -28,7 +28,7 @@ impl Configuration {
         request: &Request,
     ) -> Result<Option<Configuration>, NoMemory>
         ensures config { IfOk result (λ found. option_map config_of found ≡ observed (config_of self) (Event.Call session request.now)) }
-        ensures path { IfOk result (λ found. IfSome found (λ new. new.path.items ≡ self.path.items ++ Move.Event ∷ [])) }
+        ensures path { IfOk result (λ found. IfSome found (λ new. new.path ≡ self.path ++ Move.Event ∷ [])) }
     {
         match self.client(session) {
             None => Ok(None),
@@ -53,7 +53,7 @@ impl Configuration {
     #[tactic(auto, unfolding(crate::specs::Explained::observed, crate::specs::Explained::returned))]
     fn returned(self, session: SessionNo, seen: &Seen) -> Result<Option<Configuration>, NoMemory>
         ensures config { IfOk result (λ found. option_map config_of found ≡ observed (config_of self) (Event.Return session seen.now)) }
-        ensures path { IfOk result (λ found. IfSome found (λ new. new.path.items ≡ self.path.items ++ Move.Event ∷ [])) }
+        ensures path { IfOk result (λ found. IfSome found (λ new. new.path ≡ self.path ++ Move.Event ∷ [])) }
     {
         match self.client(session) {
             None => Ok(None),
@@ -75,7 +75,7 @@ impl Configuration {
     #[tactic(auto, unfolding(crate::specs::Explained::observed, crate::specs::Explained::lost))]
     fn lost(self, session: SessionNo) -> Result<Option<Configuration>, NoMemory>
         ensures config { IfOk result (λ found. option_map config_of found ≡ observed (config_of self) (Event.Lost session)) }
-        ensures path { IfOk result (λ found. IfSome found (λ new. new.path.items ≡ self.path.items ++ Move.Event ∷ [])) }
+        ensures path { IfOk result (λ found. IfSome found (λ new. new.path ≡ self.path ++ Move.Event ∷ [])) }
     {
         let client = match self.client(session) {
             None => return Ok(None),
@@ -92,7 +92,7 @@ impl Configuration {
     #[tactic(auto, unfolding(crate::specs::Explained::observed, crate::specs::Explained::answered_unknown))]
     fn answered_unknown(self, session: SessionNo) -> Result<Option<Configuration>, NoMemory>
         ensures config { IfOk result (λ found. option_map config_of found ≡ observed (config_of self) (Event.Unknown session)) }
-        ensures path { IfOk result (λ found. IfSome found (λ new. new.path.items ≡ self.path.items ++ Move.Event ∷ [])) }
+        ensures path { IfOk result (λ found. IfSome found (λ new. new.path ≡ self.path ++ Move.Event ∷ [])) }
     {
         match self.client(session) {
             None => return Ok(None),
@@ -108,7 +108,7 @@ impl Configuration {
     /// How things stand once the event is seen, where it can be.
     pub fn observed(self, event: &Event) -> Result<Option<Configuration>, NoMemory>
         ensures config { IfOk result (λ found. option_map config_of found ≡ observed (config_of self) event.now) }
-        ensures path { IfOk result (λ found. IfSome found (λ new. new.path.items ≡ self.path.items ++ Move.Event ∷ [])) }
+        ensures path { IfOk result (λ found. IfSome found (λ new. new.path ≡ self.path ++ Move.Event ∷ [])) }
     {
         match event {
             Event::Call(session, request) => self.called(*session, request),

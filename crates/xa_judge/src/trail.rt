@@ -5,14 +5,33 @@ use crate::event::Event;
 use crate::following::Following;
 use crate::foresight::{can_be_seen, suits};
 use crate::moves::Move;
+use crate::request::Request;
+use crate::room::has_room;
 use std::alloc::Global;
 use std::mem;
-use xa_xid::NoMemory;
+use xa_xid::{NoMemory, Statement};
 
-/// At most so many copies of how things stood are kept.
+/// At most so many copies of how things stood are kept, and fewer where there is less room.
 const KEPT: usize = 16;
 /// Copies are so many events apart at least.
 const APART: usize = 16;
+
+/// For how many copies there is room, where each call of PUT writes a row of its own.
+fn copies(events: &[Event]) -> usize {
+    let mut rows: usize = 0;
+    for event in events {
+        if let Event::Call(_, Request::Statement(Statement::Put(_, _))) = event {
+            rows = rows.saturating_add(1);
+        }
+    }
+    let mut most = 1;
+    for count in 1..KEPT + 1 {
+        if has_room(count, rows) {
+            most = count;
+        }
+    }
+    most
+}
 
 /// What comes of taking the next event.
 #[derive(Drop)]
@@ -34,6 +53,8 @@ pub struct Trail<'a> {
     plan: Vec<Vec<Effect>>,
     /// How things stood before some of the events, ascending by their places.
     kept: Vec<Following>,
+    /// At most so many copies are kept.
+    most: usize,
     /// How many steps may still be taken.
     left: u64,
     /// Where memory comes from.
@@ -51,6 +72,7 @@ impl<'a> Trail<'a> {
             events,
             plan,
             kept: Vec::new(alloc),
+            most: copies(events),
             left,
             alloc,
         })
@@ -167,7 +189,7 @@ impl<'a> Trail<'a> {
         {
             return Ok(());
         }
-        if self.kept.len() >= KEPT {
+        if self.kept.len() >= self.most {
             self.thin_out()?;
         }
         self.kept.push(here.copy()?)?;

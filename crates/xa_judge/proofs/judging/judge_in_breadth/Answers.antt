@@ -46,17 +46,17 @@ loop-place-preserved g c =
     let known = c.loop-place.known.items in
     let next = c.in-Known.next.items in
     let trunk = c.loop-place.trunk.items in
-    let longer = c.shorten.new.trunk.items in
-    let new = c.shorten.new.known.items in
+    let longer = c.share.new.trunk.items in
+    let new = c.share.new.known.items in
     let within : place < length events = omega (arith, c.loop-place-test.true) in
     let leads = subst (λ a. IsAdvance known event c.args.limit a) c.in-Known.is c.in_ok-next.ensures in
     record {
-      some = some_shortened trunk longer next new c.in_ok-shorten.ensures (omega (arith, leads.0, c.in-Known.next.ok.0));
+      some = some_shortened trunk longer next new c.in_ok-share.ensures (omega (arith, leads.0, c.in-Known.next.ok.0));
       reach =
-          c.in_ok-shorten.ensures.reach base (take (place + 1) events)
+          c.in_ok-share.ensures.reach base (take (place + 1) events)
           (reach_more base events place event trunk known next within c.index-events-place.is c.loop-place.invariant.reach leads.2);
       complete = λ more moves end runs.
-          continues_shortened trunk longer next new more end c.in_ok-shorten.ensures
+          continues_shortened trunk longer next new more end c.in_ok-share.ensures
           (complete_more base events place event known next within c.index-events-place.is c.loop-place.invariant.complete leads.1 more moves end runs);
     }
 

@@ -7,6 +7,5 @@ pub returns : goal.returns
 returns c = (
   c.index-known-0.result,
   slice_get_read c.args.known.now (length c.args.known.now) 0 c.index-known-0.result refl c.requires c.index-known-0.is,
-  c.in_ok-extend_from_slice.ensures.items
-      ∙ ap (λ l. c.args.trunk.items ++ l) (c.as_slice.ensures.value ∙ ap (λ (one : Configuration). one.path.items) (sym c.index-known-0.is)),
+  c.in_ok-add_to.ensures ∙ ap (λ (one : Configuration). c.args.trunk.items ++ one.path) (sym c.index-known-0.is),
 )

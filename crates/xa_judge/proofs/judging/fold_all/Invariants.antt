@@ -1,0 +1,6 @@
+use Rattle.std.proofs.Common.{◌≡◌}
+use Rattle.xa_judge.proofs.judging.fold_all.Given as goal
+
+-- each stands as it did
+abbrev pub invariant-loop-place : goal.invariant-loop-place
+invariant-loop-place l = l.known.items ≡ l.initial.known.items

@@ -1,0 +1,272 @@
+//! Acts of sessions take effect.
+ghost use Rattle.std.specs.Prelude.{◌≡◌, ◌<◌, ◌∷◌, ◌++◌, [], false, Some, None, slice_get, vec_len, IfOk, IfSome};
+ghost use Rattle.std.specs.Option.{option_map};
+ghost use Rattle.xa_xid.specs.declared.statement.Statement.TheVariants.{Disconnect};
+ghost use Rattle.xa_server.specs.Step.{after};
+ghost use Rattle.xa_judge.specs.Explained.{answer_to, next_state, effect_of, IsSession};
+ghost use Rattle.xa_judge.specs.Found.{config_of, moved_to, called_for, after_settling, IsSettledFrom};
+
+use crate::client_state::ClientState;
+use crate::configuration::Configuration;
+use crate::kept_server::KeptServer;
+use crate::moves::{Act, Move};
+use crate::request::Request;
+use crate::shared_answer::SharedAnswer;
+use crate::shared_request::SharedRequest;
+use std::alloc::Global;
+use xa_xid::{NoMemory, SessionNo, Statement};
+
+/// A session's DISCONNECT, as a request.
+fn leaving(alloc: Global) -> Result<SharedRequest, NoMemory>
+    ensures { IfOk result (λ request. request ≡ Request.Statement Disconnect) }
+{
+    SharedRequest::of(alloc, Request::Statement(Statement::Disconnect))
+}
+
+impl Configuration {
+    /// What the session has called for, where that has taken no effect yet.
+    fn called_for(&self, session: SessionNo) -> Result<Option<SharedRequest>, NoMemory>
+        ensures value { IfOk result (λ request. request ≡ called_for (slice_get self.now.clients.items session)) }
+        ensures session { IsSession session }
+    {
+        match self.client(session) {
+            None => Ok(None),
+            Some(ClientState::Idle) => Ok(None),
+            Some(ClientState::Called(request)) => Ok(Some(request.try_clone()?)),
+            Some(ClientState::Answered(_)) => Ok(None),
+            Some(ClientState::Gone(_)) => Ok(None),
+            Some(ClientState::Left) => Ok(None),
+        }
+    }
+
+    /// What the session has called for takes effect, and it is answered.
+    fn answered(
+        self,
+        session: SessionNo,
+        request: &SharedRequest,
+    ) -> Result<Configuration, NoMemory>
+        requires { session < vec_len self.clients }
+        ensures config { IfOk result
+            (λ new. config_of new ≡ moved_to (next_state self.server session request.now) self.clients.items session
+            (ClientState.Answered (answer_to self.server session request.now))) }
+        ensures path { IfOk result (λ new. new.path ≡ self.path ++ Move.Effect session Act.Statement ∷ []) }
+    {
+        let Configuration {
+            server,
+            clients,
+            path,
+        } = self;
+        let alloc = server.alloc();
+        let (server, answer) = server.carried_out(session, request)?;
+        let answered = ClientState::Answered(SharedAnswer::of(alloc, answer)?);
+        Configuration {
+            server,
+            clients,
+            path,
+        }
+        .moved(session, answered, Move::Effect(session, Act::Statement))
+    }
+
+    /// What the session had called for takes effect, and nobody hears the answer.
+    fn unheard(self, session: SessionNo, request: &SharedRequest) -> Result<Configuration, NoMemory>
+        requires { session < vec_len self.clients }
+        ensures config { IfOk result
+            (λ new. config_of new ≡ moved_to (next_state self.server session request.now) self.clients.items session (ClientState.Gone None)) }
+        ensures path { IfOk result (λ new. new.path ≡ self.path ++ Move.Effect session Act.Statement ∷ []) }
+    {
+        let Configuration {
+            server,
+            clients,
+            path,
+        } = self;
+        let (server, _answer) = server.carried_out(session, request)?;
+        Configuration {
+            server,
+            clients,
+            path,
+        }
+        .moved(
+            session,
+            ClientState::Gone(None),
+            Move::Effect(session, Act::Statement),
+        )
+    }
+
+    /// The session's DISCONNECT takes effect.
+    fn left(self, session: SessionNo) -> Result<Configuration, NoMemory>
+        requires { session < vec_len self.clients }
+        ensures config { IfOk result (λ new. config_of new ≡ moved_to (after self.server session Disconnect) self.clients.items session ClientState.Left) }
+        ensures path { IfOk result (λ new. new.path ≡ self.path ++ Move.Effect session Act.Disconnect ∷ []) }
+    {
+        let Configuration {
+            server,
+            clients,
+            path,
+        } = self;
+        let request = leaving(server.alloc())?;
+        let (server, _answer) = server.carried_out(session, &request)?;
+        Configuration {
+            server,
+            clients,
+            path,
+        }
+        .moved(
+            session,
+            ClientState::Left,
+            Move::Effect(session, Act::Disconnect),
+        )
+    }
+
+    /// How things stand once what the session has called for has taken effect; as they do, where it has called for nothing.
+    #[tactic(auto, unfolding(crate::specs::Found::after_settling))]
+    pub fn settled(self, session: SessionNo) -> Result<Configuration, NoMemory>
+        ensures config { IfOk result (λ new. config_of new ≡ after_settling (config_of self) session) }
+        ensures reach { IfOk result (IsSettledFrom session self) }
+    {
+        match self.called_for(session)? {
+            None => Ok(self),
+            Some(request) => {
+                let new = self.answered(session, &request)?;
+                Ok(new)
+            }
+        }
+    }
+
+    /// How things stand once what the session called for has taken effect, where that can be.
+    #[tactic(auto, unfolding(crate::specs::Explained::effect_of, crate::specs::Explained::carried_out))]
+    fn carried_out(self, session: SessionNo) -> Result<Option<Configuration>, NoMemory>
+        ensures config { IfOk result (λ found. option_map config_of found ≡ effect_of (config_of self) session Act.Statement) }
+        ensures path { IfOk result (λ found. IfSome found (λ new. new.path ≡ self.path ++ Move.Effect session Act.Statement ∷ [])) }
+        ensures session { IsSession session }
+    {
+        match self.client(session) {
+            None => Ok(None),
+            Some(ClientState::Idle) => Ok(None),
+            Some(ClientState::Called(request)) => {
+                let request = request.try_clone()?;
+                Ok(Some(self.answered(session, &request)?))
+            }
+            Some(ClientState::Answered(_)) => Ok(None),
+            Some(ClientState::Gone(None)) => Ok(None),
+            Some(ClientState::Gone(Some(request))) => {
+                let request = request.try_clone()?;
+                Ok(Some(self.unheard(session, &request)?))
+            }
+            Some(ClientState::Left) => Ok(None),
+        }
+    }
+
+    /// How things stand once the session's DISCONNECT has taken effect, where that can be.
+    #[tactic(auto, unfolding(crate::specs::Explained::effect_of, crate::specs::Explained::disconnected))]
+    fn disconnected(self, session: SessionNo) -> Result<Option<Configuration>, NoMemory>
+        ensures config { IfOk result (λ found. option_map config_of found ≡ effect_of (config_of self) session Act.Disconnect) }
+        ensures path { IfOk result (λ found. IfSome found (λ new. new.path ≡ self.path ++ Move.Effect session Act.Disconnect ∷ [])) }
+        ensures session { IsSession session }
+    {
+        match self.client(session) {
+            None => Ok(None),
+            Some(ClientState::Idle) => Ok(None),
+            Some(ClientState::Called(_)) => Ok(None),
+            Some(ClientState::Answered(_)) => Ok(None),
+            Some(ClientState::Gone(_)) => Ok(Some(self.left(session)?)),
+            Some(ClientState::Left) => Ok(None),
+        }
+    }
+
+    /// How things stand once the session's act has taken effect, where that can be.
+    pub fn once_effected(
+        self,
+        session: SessionNo,
+        act: Act,
+    ) -> Result<Option<Configuration>, NoMemory>
+        ensures config { IfOk result (λ found. option_map config_of found ≡ effect_of (config_of self) session act) }
+        ensures path { IfOk result (λ found. IfSome found (λ new. new.path ≡ self.path ++ Move.Effect session act ∷ [])) }
+        ensures session { IsSession session }
+    {
+        match act {
+            Act::Statement => self.carried_out(session),
+            Act::Disconnect => self.disconnected(session),
+        }
+    }
+
+    /// Whether the session's act can take effect.
+    #[tactic(auto, unfolding(crate::specs::Explained::effect_of, crate::specs::Explained::carried_out, crate::specs::Explained::disconnected))]
+    pub fn can_take_effect(&self, session: SessionNo, act: Act) -> bool
+        ensures no { result ≡ false → effect_of (config_of self.now) session act ≡ None }
+        ensures session { IsSession session }
+    {
+        match self.client(session) {
+            None => false,
+            Some(ClientState::Idle) => false,
+            Some(ClientState::Called(_)) => matches!(act, Act::Statement),
+            Some(ClientState::Answered(_)) => false,
+            Some(ClientState::Gone(None)) => matches!(act, Act::Disconnect),
+            Some(ClientState::Gone(Some(_))) => true,
+            Some(ClientState::Left) => false,
+        }
+    }
+
+    /// How things stand once the session's act has taken effect in a copy, where that can be.
+    pub fn effected(&self, session: SessionNo, act: Act) -> Result<Option<Configuration>, NoMemory>
+        ensures config { IfOk result (λ found. option_map config_of found ≡ effect_of (config_of self.now) session act) }
+        ensures path { IfOk result (λ found. IfSome found (λ new. new.path ≡ self.now.path ++ Move.Effect session act ∷ [])) }
+        ensures session { IsSession session }
+    {
+        if !self.can_take_effect(session, act) {
+            return Ok(None);
+        }
+        self.copy()?.once_effected(session, act)
+    }
+
+    /// The server after the session's act, kept over the same one, where that can take effect.
+    #[tactic(auto, unfolding(crate::specs::Explained::effect_of, crate::specs::Explained::carried_out, crate::specs::Explained::disconnected))]
+    fn server_after(&self, session: SessionNo, act: Act) -> Result<Option<KeptServer>, NoMemory>
+        ensures { IfOk result (λ found. found ≡ option_map (λ config. config.state) (effect_of (config_of self.now) session act)) }
+    {
+        match act {
+            Act::Statement => match self.client(session) {
+                Some(ClientState::Called(request)) => {
+                    Ok(Some(self.server.after(session, request)?))
+                }
+                Some(ClientState::Gone(Some(request))) => {
+                    Ok(Some(self.server.after(session, request)?))
+                }
+                _ => Ok(None),
+            },
+            Act::Disconnect => match self.client(session) {
+                Some(ClientState::Gone(_)) => {
+                    let request = leaving(self.server.alloc())?;
+                    Ok(Some(self.server.after(session, &request)?))
+                }
+                _ => Ok(None),
+            },
+        }
+    }
+
+    /// The same, with a server that is kept over that of the configuration before it, from which the session's act leads here.
+    pub fn over(
+        self,
+        before: &Configuration,
+        session: SessionNo,
+        act: Act,
+    ) -> Result<Configuration, NoMemory>
+        requires { effect_of (config_of before.now) session act ≡ Some (config_of self) }
+        ensures { IfOk result (λ new. new ≡ self) }
+    {
+        match before.server_after(session, act)? {
+            None => Ok(self),
+            Some(server) => {
+                let Configuration {
+                    server: _,
+                    clients,
+                    path,
+                } = self;
+                Ok(Configuration {
+                    server,
+                    clients,
+                    path,
+                })
+            }
+        }
+    }
+}

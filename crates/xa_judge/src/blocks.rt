@@ -1,0 +1,60 @@
+//! Blocks that paths can share.
+ghost use Rattle.std.specs.Prelude.{◌≡◌, IfOk, IfSome};
+
+use crate::block::Block;
+use std::alloc::Global;
+use xa_xid::NoMemory;
+
+/// So many blocks are kept at most. Where configurations went on side by side, few are different.
+const MOST: usize = 64;
+
+/// Blocks that paths can share.
+#[derive(Drop)]
+pub struct Blocks {
+    kept: Vec<Block>,
+    alloc: Global,
+}
+
+/// One of the blocks, where it has these codes.
+fn block_of(kept: &[Block], codes: &[u8]) -> Result<Option<Block>, NoMemory>
+    ensures { IfOk result (λ found. IfSome found (λ block. block ≡ codes.now)) }
+{
+    for block in kept {
+        if block.codes() == codes {
+            return Ok(Some(block.clone()?));
+        }
+    }
+    Ok(None)
+}
+
+impl Blocks {
+    /// None yet.
+    pub fn new(alloc: Global) -> Blocks {
+        Blocks {
+            kept: Vec::new(alloc),
+            alloc,
+        }
+    }
+
+    /// A new block, from now on to be shared.
+    fn add(&mut self, codes: Vec<u8>) -> Result<Block, NoMemory>
+        ensures { IfOk result (λ block. block ≡ codes.items) }
+    {
+        if self.kept.len() >= MOST {
+            self.kept.clear();
+        }
+        let block = Block::of(self.alloc, codes)?;
+        self.kept.push(block.clone()?)?;
+        Ok(block)
+    }
+
+    /// A block with these codes, one that is there where it can be.
+    pub fn with(&mut self, codes: Vec<u8>) -> Result<Block, NoMemory>
+        ensures { IfOk result (λ block. block ≡ codes.items) }
+    {
+        match block_of(self.kept.as_slice(), codes.as_slice())? {
+            Some(block) => Ok(block),
+            None => self.add(codes),
+        }
+    }
+}

@@ -1,0 +1,74 @@
+//! Blocks of requests that servers can share.
+ghost use Rattle.std.specs.Prelude.{◌≡◌, true, IfOk, IfSome};
+
+use crate::done::Done;
+use crate::done_block::DoneBlock;
+use std::alloc::Global;
+use xa_xid::NoMemory;
+
+/// So many blocks are kept at most. Where configurations went on side by side, few are different.
+const MOST: usize = 64;
+
+/// Blocks of requests that servers can share.
+#[derive(Drop)]
+pub struct DoneBlocks {
+    kept: Vec<DoneBlock>,
+    alloc: Global,
+}
+
+/// Whether two lists are known to be the same.
+fn is_same_work(left: &[Done], right: &[Done]) -> bool
+    ensures { result ≡ true → left.now ≡ right.now }
+{
+    match left {
+        [] => right.is_empty(),
+        [one, rest @ ..] => match right {
+            [] => false,
+            [other, others @ ..] => one.is_same(other) && is_same_work(rest, others),
+        },
+    }
+}
+
+/// One of the blocks, where it has these requests.
+fn block_of(kept: &[DoneBlock], requests: &[Done]) -> Result<Option<DoneBlock>, NoMemory>
+    ensures { IfOk result (λ found. IfSome found (λ block. block ≡ requests.now)) }
+{
+    for block in kept {
+        if is_same_work(block.requests(), requests) {
+            return Ok(Some(block.clone()?));
+        }
+    }
+    Ok(None)
+}
+
+impl DoneBlocks {
+    /// None yet.
+    pub fn new(alloc: Global) -> DoneBlocks {
+        DoneBlocks {
+            kept: Vec::new(alloc),
+            alloc,
+        }
+    }
+
+    /// A new block, from now on to be shared.
+    fn add(&mut self, requests: Vec<Done>) -> Result<DoneBlock, NoMemory>
+        ensures { IfOk result (λ block. block ≡ requests.items) }
+    {
+        if self.kept.len() >= MOST {
+            self.kept.clear();
+        }
+        let block = DoneBlock::of(self.alloc, requests)?;
+        self.kept.push(block.clone()?)?;
+        Ok(block)
+    }
+
+    /// A block of these requests, one that is there where it can be.
+    pub fn with(&mut self, requests: Vec<Done>) -> Result<DoneBlock, NoMemory>
+        ensures { IfOk result (λ block. block ≡ requests.items) }
+    {
+        match block_of(self.kept.as_slice(), requests.as_slice())? {
+            Some(block) => Ok(block),
+            None => self.add(requests),
+        }
+    }
+}

@@ -1,0 +1,147 @@
+//! The moves that led to a configuration.
+ghost use Rattle.std.specs.Prelude.{◌≡◌, ◌∷◌, ◌++◌, [], map, IfOk, OnOk};
+ghost use Rattle.xa_judge.specs.Path.{move_of, moves_of};
+
+use crate::block::Block;
+use crate::blocks::Blocks;
+use crate::moves::{Act, Move};
+use std::alloc::Global;
+use std::marker::Model;
+use std::mem;
+use xa_xid::{NoMemory, SessionNo};
+
+/// The code of a session's DISCONNECT is so much greater than that of its statement.
+const DISCONNECT: u8 = 16;
+
+/// The moves that led to a configuration, the older ones in blocks that others can share. A contract sees the list of them.
+#[derive(Drop)]
+pub struct Path {
+    /// The codes of the older ones.
+    blocks: Vec<Block>,
+    /// The codes of those behind.
+    tail: Vec<u8>,
+}
+
+impl Model for Path {
+    ghost use Rattle.std.specs.Prelude.{List};
+    ghost use Rattle.xa_judge.specs.declared.moves.Move.{Move as MoveSeen};
+    ghost use Rattle.xa_judge.specs.Path.{moves_of};
+
+    ghost Value = { List MoveSeen };
+
+    ghost view = { λ path. moves_of path.blocks.items path.tail.items };
+}
+
+/// The code of an effect.
+#[tactic(auto, unfolding(crate::specs::Path::move_of))]
+fn effect_code(session: SessionNo, act: Act) -> u8
+    ensures { move_of result ≡ Move.Effect session act }
+{
+    let number = session.get() as u8;
+    match act {
+        Act::Statement => number,
+        Act::Disconnect => number + DISCONNECT,
+    }
+}
+
+/// A move's code.
+#[tactic(auto, unfolding(crate::specs::Path::move_of))]
+fn code_of(by: Move) -> u8
+    ensures { move_of result ≡ by }
+{
+    match by {
+        Move::Event => 0,
+        Move::Effect(session, act) => effect_code(session, act),
+    }
+}
+
+/// The move of a code.
+#[tactic(auto, unfolding(crate::specs::Path::move_of))]
+fn move_at(code: u8) -> Move
+    ensures { result ≡ move_of code }
+{
+    match SessionNo::of(code as u64) {
+        Some(session) => Move::Effect(session, Act::Statement),
+        None => match SessionNo::of(code.saturating_sub(DISCONNECT) as u64) {
+            Some(session) => Move::Effect(session, Act::Disconnect),
+            None => Move::Event,
+        },
+    }
+}
+
+/// Adds the moves of these codes.
+fn add_moves(moves: &mut Vec<Move>, codes: &[u8]) -> Result<(), NoMemory>
+    ensures { OnOk result (moves.new.items ≡ moves.old.items ++ map move_of codes.now) }
+{
+    for code in codes {
+        moves.push(move_at(*code))?;
+    }
+    Ok(())
+}
+
+/// Adds the moves of these blocks.
+fn add_blocks(moves: &mut Vec<Move>, blocks: &[Block]) -> Result<(), NoMemory>
+    ensures { OnOk result (moves.new.items ≡ moves.old.items ++ moves_of blocks.now []) }
+{
+    for block in blocks {
+        add_moves(moves, block.codes())?;
+    }
+    Ok(())
+}
+
+impl Path {
+    /// No moves.
+    pub fn new(alloc: Global) -> Path
+        ensures { result ≡ [] }
+    {
+        Path {
+            blocks: Vec::new(alloc),
+            tail: Vec::new(alloc),
+        }
+    }
+
+    /// A copy, which shares the blocks.
+    pub fn copy(&self) -> Result<Path, NoMemory>
+        ensures { IfOk result (λ copy. copy ≡ self.now) }
+    {
+        Ok(Path {
+            blocks: self.blocks.clone()?,
+            tail: self.tail.clone()?,
+        })
+    }
+
+    /// With a move more.
+    pub fn push(&mut self, by: Move) -> Result<(), NoMemory>
+        ensures { OnOk result (self.new ≡ self.old ++ by ∷ []) }
+    {
+        self.tail.push(code_of(by))?;
+        Ok(())
+    }
+
+    /// Forgets the moves.
+    pub fn clear(&mut self)
+        ensures { self.new ≡ [] }
+    {
+        self.blocks.clear();
+        self.tail.clear();
+    }
+
+    /// Puts the moves behind into a block, one that is there where it can be.
+    pub fn fold(&mut self, alloc: Global, shared: &mut Blocks) -> Result<(), NoMemory>
+        ensures { OnOk result (self.new ≡ self.old) }
+    {
+        let codes = mem::replace(&mut self.tail, Vec::new(alloc));
+        let block = shared.with(codes)?;
+        self.blocks.push(block)?;
+        Ok(())
+    }
+
+    /// Adds its moves to others.
+    pub fn add_to(&self, moves: &mut Vec<Move>) -> Result<(), NoMemory>
+        ensures { OnOk result (moves.new.items ≡ moves.old.items ++ self.now) }
+    {
+        add_blocks(moves, self.blocks.as_slice())?;
+        add_moves(moves, self.tail.as_slice())?;
+        Ok(())
+    }
+}
