@@ -1,117 +1,101 @@
-//! What sessions are given to do, whoever answers them.
-use crate::together::Share;
-use std::fmt;
-use std::sync::Wait;
+//! What a thread's session is given, in texts of four to five bytes, as programs of other makers are timed with.
+ghost use Rattle.std.specs.Prelude.{◌<◌};
+
 use xa_xid::{Bytes, Key, Statement, Xid};
 
-/// Whoever answers the statements of one session.
-pub trait Answers {
-    /// Whether the statement was carried out.
-    fn is_done<R: Wait>(&mut self, rt: &R, statement: &Statement) -> bool;
+/// How many different branches, or rows, each thread has.
+pub const KINDS: u64 = 100;
 
-    /// The session's number.
-    fn number(&self) -> u8;
-}
-
-/// What a session does.
+/// What sessions do.
 #[derive(Clone, Copy)]
 pub enum Load {
-    /// So many branches: `XA START`, `PUT`, `XA END`, `XA PREPARE`, `XA COMMIT`.
-    Branches(u64),
-    /// So many rounds of one `PUT` and nineteen `GET` outside branches.
-    Rows(u64),
+    /// They start, write in, end, prepare and commit one branch after another; a cycle is one of these.
+    Cycles,
+    /// They read rows outside branches, but so many of a hundred statements write.
+    Mix(u64),
 }
 
-impl fmt::Display for Load {
-    fn fmt<W: fmt::Write>(&self, f: &mut fmt::Formatter<W>) -> fmt::Result {
-        match self {
-            Load::Branches(count) => write!(f, "{count} branches"),
-            Load::Rows(count) => write!(f, "{count} rounds of a PUT and 19 GET"),
-        }
-    }
-}
-
-/// A session and what it does.
-#[derive(Drop)]
-pub struct Loaded<A: Answers> {
-    /// The session.
-    pub session: A,
-    /// What it does.
-    pub load: Load,
-}
-
-/// A text of one byte.
-fn text(byte: u8) -> Bytes {
+/// A letter, a thread's number, and which of its branches or rows it is.
+fn text(letter: u8, thread: u64, kind: u64) -> Bytes {
     let mut text = Bytes::new();
-    text.push(byte);
+    let _ = text.try_push(letter);
+    push_number(&mut text, thread);
+    let _ = text.try_push(b'_');
+    push_number(&mut text, kind);
     text
 }
 
-/// The identifier of a session's branches, which no other session's has.
-fn xid(session: u8) -> Xid {
+/// Appends a number below 100 in decimal digits.
+fn push_number(text: &mut Bytes, number: u64) {
+    if 10 <= number {
+        let _ = text.try_push(b'0' + (number / 10 % 10) as u8);
+    }
+    let _ = text.try_push(b'0' + (number % 10) as u8);
+}
+
+/// Writes one of the thread's rows.
+pub fn put(thread: u64, kind: u64) -> Option<Statement> {
+    let mut value = Bytes::new();
+    let _ = value.try_push(b'v');
+    push_number(&mut value, kind);
+    Some(Statement::Put(Key::of(text(b'k', thread, kind))?, value))
+}
+
+/// Reads one of the thread's rows.
+fn get(thread: u64, kind: u64) -> Option<Statement> {
+    Some(Statement::Get(Key::of(text(b'k', thread, kind))?))
+}
+
+/// The identifier of one of the thread's branches.
+fn xid(thread: u64, kind: u64) -> Xid {
+    let mut bqual = Bytes::new();
+    let _ = bqual.try_push(b'b');
     Xid {
         format_id: 1,
-        gtrid: text(session),
-        bqual: Bytes::new(),
+        gtrid: text(b'g', thread, kind),
+        bqual,
     }
 }
 
-impl<A: Answers> Loaded<A> {
-    /// Starts a branch, writes the session's row in it, and commits it in two phases.
-    fn branch<R: Wait>(&mut self, rt: &R) -> bool {
-        let number = self.session.number();
-        let Some(key) = Key::of(text(number)) else {
-            return false;
-        };
-        let commit = Statement::Commit {
-            xid: xid(number),
+/// A step of one of the thread's cycles.
+fn cycle(thread: u64, kind: u64, step: u64) -> Option<Statement> {
+    match step {
+        0 => Some(Statement::Start(xid(thread, kind))),
+        1 => put(thread, kind),
+        2 => Some(Statement::End(xid(thread, kind))),
+        3 => Some(Statement::Prepare(xid(thread, kind))),
+        _ => Some(Statement::Commit {
+            xid: xid(thread, kind),
             one_phase: false,
-        };
-        self.session.is_done(rt, &Statement::Start(xid(number)))
-            && self.session.is_done(rt, &Statement::Put(key, text(number)))
-            && self.session.is_done(rt, &Statement::End(xid(number)))
-            && self.session.is_done(rt, &Statement::Prepare(xid(number)))
-            && self.session.is_done(rt, &commit)
-    }
-
-    /// Writes the session's row once and reads it nineteen times.
-    fn rows<R: Wait>(&mut self, rt: &R) -> bool {
-        let number = self.session.number();
-        let Some(key) = Key::of(text(number)) else {
-            return false;
-        };
-        let put = Statement::Put(key.copy(), text(number));
-        if !self.session.is_done(rt, &put) {
-            return false;
-        }
-        let get = Statement::Get(key);
-        for _ in 0..19 {
-            if !self.session.is_done(rt, &get) {
-                return false;
-            }
-        }
-        true
+        }),
     }
 }
 
-impl<A: Answers + Drop> Share for Loaded<A> {
-    fn work<R: Wait>(mut self, rt: &R) -> bool {
-        match self.load {
-            Load::Branches(count) => {
-                for _ in 0..count {
-                    if !self.branch(rt) {
-                        return false;
-                    }
-                }
-            }
-            Load::Rows(count) => {
-                for _ in 0..count {
-                    if !self.rows(rt) {
-                        return false;
-                    }
-                }
-            }
+impl Load {
+    /// How many statements are counted as one.
+    pub fn size(self) -> u64
+        ensures { 0 < result }
+    {
+        match self {
+            Load::Cycles => 5,
+            Load::Mix(_) => 1,
         }
-        true
+    }
+
+    /// How many different statements a thread gives.
+    pub fn kinds(self) -> u64 {
+        match self {
+            Load::Cycles => 5 * KINDS,
+            Load::Mix(_) => 2 * KINDS,
+        }
+    }
+
+    /// The thread's statement at a place: the cycles one after another, or all that write and then all that read.
+    pub fn statement(self, thread: u64, place: u64) -> Option<Statement> {
+        match self {
+            Load::Cycles => cycle(thread, place / 5, place % 5),
+            Load::Mix(_) if place < KINDS => put(thread, place),
+            Load::Mix(_) => get(thread, place.saturating_sub(KINDS)),
+        }
     }
 }

@@ -1,5 +1,5 @@
 //! A session of one server that all threads share behind a lock.
-use crate::loads::Answers;
+use crate::answers::Answers;
 use std::alloc::Global;
 use std::sync::{Arc, Mutex, Wait};
 use xa_server::Server;

@@ -1,5 +1,5 @@
 //! A session over a log.
-use crate::loads::Answers;
+use crate::answers::Answers;
 use decision_log::DecisionLog;
 use std::sync::Wait;
 use xa_session::Session;

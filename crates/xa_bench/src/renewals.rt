@@ -4,12 +4,13 @@ ghost use Rattle.std.specs.List.{All};
 ghost use Rattle.xa_store.specs.Passes.{identity_of, log_of};
 ghost use Rattle.xa_store.specs.Renewal.{AreGathered};
 
-use crate::commits::{key, put, xid};
-use anyhow::{Result, bail};
+use crate::texts::{key, put, xid};
+use anyhow::{Context, Result, bail};
 use std::alloc::Global;
 use std::sync::Wait;
 use std::time::{Clock, Instant};
-use xa_store::{Pass, Store};
+use xa_session::Session;
+use xa_store::{Log, Pass, Store};
 use xa_xid::{Bytes, Statement};
 
 /// How many entries a history is given before it is renewed, at most.
@@ -29,17 +30,21 @@ enum Work {
 
 impl Work {
     /// The statement of a number.
-    fn statement(self, number: u32) -> Result<Statement> {
-        let branch = number / 4;
-        Ok(match self {
-            Work::Rows => put(number)?,
-            Work::Branches => match number % 4 {
-                0 => Statement::Start(xid(branch)?),
-                1 => Statement::Put(key(BRANCH_KEYS.saturating_add(branch))?, Bytes::new()),
-                2 => Statement::End(xid(branch)?),
-                _ => Statement::Prepare(xid(branch)?),
-            },
-        })
+    fn statement(self, number: u32) -> Option<Statement> {
+        match self {
+            Work::Rows => put(number),
+            Work::Branches => branch_statement(number / 4, number % 4),
+        }
+    }
+}
+
+/// A step of a branch.
+fn branch_statement(branch: u32, step: u32) -> Option<Statement> {
+    match step {
+        0 => Some(Statement::Start(xid(branch))),
+        1 => { Some(Statement::Put(key(BRANCH_KEYS.saturating_add(branch))?, Bytes::new())) }
+        2 => Some(Statement::End(xid(branch))),
+        _ => Some(Statement::Prepare(xid(branch))),
     }
 }
 
@@ -59,15 +64,41 @@ struct Left {
     ghost gathered: { AreGathered (identity_of store.log) passes.items },
 }
 
-/// A store without rows.
-fn opened(alloc: Global) -> Result<Kept> {
-    let Ok((store, mut passes)) = Store::open(alloc, 1024, 1) else {
-        bail!("no store");
-    };
+/// A store and the last of its passes.
+fn with_last(store: Store, mut passes: Vec<Pass>) -> Result<Kept>
+    requires { All (λ pass. log_of pass ≡ identity_of store.log) passes.items }
+{
     let Some(pass) = passes.pop() else {
         bail!("no pass");
     };
     Ok(Kept { store, pass })
+}
+
+/// A store without rows.
+fn opened(alloc: Global) -> Result<Kept> {
+    let Ok((store, passes)) = Store::open(alloc, 1024, 1) else {
+        bail!("no store");
+    };
+    with_last(store, passes)
+}
+
+/// Has a session give the statements of these numbers. It stays a session of its store.
+fn give<R: Wait>(
+    rt: &R,
+    session: &mut Session<'_, Log>,
+    work: Work,
+    from: u32,
+    to: u32,
+) -> Result<()>
+    ensures { log_of session.new.pass ≡ log_of session.old.pass }
+{
+    for number in from..to {
+        let statement = work.statement(number).context("a key")?;
+        if session.execute(rt, &statement).is_err() {
+            bail!("not answered");
+        }
+    }
+    Ok(())
 }
 
 /// Has the session give the statements of these numbers, and leave.
@@ -85,12 +116,7 @@ fn executed<R: Wait + Alloc<A = Global>>(
     let Ok(mut session) = store.connect(pass) else {
         bail!("not connected");
     };
-    for number in from..to {
-        let statement = work.statement(number)?;
-        if session.execute(rt, &statement).is_err() {
-            bail!("not answered");
-        }
-    }
+    give(rt, &mut session, work, from, to)?;
     let sessions = vec![in rt.alloc(); session]?;
     let Ok((_, passes)) = store.close(rt.alloc(), sessions) else {
         bail!("not closed");
@@ -111,25 +137,13 @@ fn worked<R: Wait + Alloc<A = Global>>(
     Ok(Left { store, passes })
 }
 
-/// The last of the passes of a store.
-fn last_of(store: &Store, mut passes: Vec<Pass>) -> Result<Pass>
-    requires { All (λ pass. log_of pass ≡ identity_of store.now.log) passes.items }
-    ensures { IfOk result (λ pass. log_of pass ≡ identity_of store.now.log) }
-{
-    match passes.pop() {
-        Some(pass) => Ok(pass),
-        None => bail!("no pass"),
-    }
-}
-
 /// The store with an empty history.
 fn renewed(alloc: Global, left: Left) -> Result<Kept> {
     let Left { store, passes } = left;
     let Ok((store, passes)) = store.renew(alloc, passes) else {
         bail!("not renewed");
     };
-    let pass = last_of(&store, passes)?;
-    Ok(Kept { store, pass })
+    with_last(store, passes)
 }
 
 /// The store once the statements of the numbers below `count` were given, as many a history as it may have.
@@ -147,24 +161,29 @@ fn filled<R: Wait + Alloc<A = Global>>(
     Ok(kept)
 }
 
-/// The nanoseconds that a renewal takes in a store of so many rows and prepared branches, once its history has so many entries: the
-/// least of some tries.
-pub fn nanoseconds_a_renewal<R: Clock + Wait + Alloc<A = Global>>(
+/// The nanoseconds that a renewal of the store takes, whose history is empty, and the store renewed.
+fn timed<R: Clock + Wait + Alloc<A = Global>>(rt: &R, kept: Kept) -> Result<(Kept, u64)> {
+    let left = worked(rt, kept, Work::Rows, 0, 0)?;
+    let begun = Instant::now(rt)?;
+    let kept = renewed(rt.alloc(), left)?;
+    let taken = begun.elapsed(rt)?.as_nanos();
+    Ok((kept, u64::try_from(taken).unwrap_or(u64::MAX)))
+}
+
+/// The nanoseconds that a renewal takes in a store of so many rows and prepared branches: the least of some tries.
+pub fn nanoseconds<R: Clock + Wait + Alloc<A = Global>>(
     rt: &R,
     rows: u32,
     prepared: u32,
-    entries: u32,
     tries: u32,
 ) -> Result<u64> {
     let rowed = filled(rt, opened(rt.alloc())?, Work::Rows, rows)?;
     let mut kept = filled(rt, rowed, Work::Branches, prepared.saturating_mul(4))?;
     let mut least = u64::MAX;
     for _ in 0..tries {
-        let ended = worked(rt, kept, Work::Rows, 0, entries.min(ENTRIES))?;
-        let begun = Instant::now(rt)?;
-        kept = renewed(rt.alloc(), ended)?;
-        let taken = begun.elapsed(rt)?.as_nanos();
-        least = least.min(u64::try_from(taken).unwrap_or(u64::MAX));
+        let (next, taken) = timed(rt, kept)?;
+        kept = next;
+        least = least.min(taken);
     }
     let Kept { store: _, pass: _ } = kept;
     Ok(least)

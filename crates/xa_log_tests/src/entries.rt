@@ -1,148 +1,157 @@
 //! Entries as words and back, by example.
-ghost use Rattle.std.specs.Prelude.{◌≡◌, ◌≤◌, length};
 
+use xa_statement::read_statement;
 use xa_words::{Entry, WORDS, decode, encode, laws};
 use xa_xid::{Bytes, Key, SessionNo, Statement, Xid};
 
-fn session(number: u64) -> SessionNo
-    requires { (1 ≤ number) × (number ≤ 16) }
-{
-    SessionNo::of(number).unwrap()
+/// A statement of a session, and the words of its entry that aren't 0.
+#[derive(Clone, Copy)]
+struct Laid {
+    session: u64,
+    text: &'static str,
+    head: [u64; 5],
+    /// The first word of the first text.
+    first: u64,
+    /// The first word of the second text.
+    second: u64,
 }
 
-fn text(bytes: &[u8]) -> Bytes
-    requires { length bytes.now ≤ 64 }
-    ensures { result.items ≡ bytes.now }
-{
-    let mut text = Bytes::new();
-    text.try_extend_from_slice(bytes).unwrap();
-    text
-}
+const LAID: [Laid; 4] = [
+    Laid {
+        session: 1,
+        text: "XA START 'abc','def',7",
+        head: [1, 1, 3, 3, 7],
+        first: 0x6162_6300_0000_0000,
+        second: 0x6465_6600_0000_0000,
+    },
+    Laid {
+        session: 3,
+        text: "PUT 'k','v'",
+        head: [3, 8, 1, 1, 0],
+        first: 0x6b00_0000_0000_0000,
+        second: 0x7600_0000_0000_0000,
+    },
+    Laid {
+        session: 3,
+        text: "GET 'k'",
+        head: [3, 7, 1, 0, 0],
+        first: 0x6b00_0000_0000_0000,
+        second: 0,
+    },
+    Laid {
+        session: 2,
+        text: "DISCONNECT",
+        head: [2, 10, 0, 0, 0],
+        first: 0,
+        second: 0,
+    },
+];
 
-fn xid(format_id: u64, gtrid: &[u8], bqual: &[u8]) -> Xid
-    requires first { length gtrid.now ≤ 64 }
-    requires second { length bqual.now ≤ 64 }
-{
-    Xid {
-        format_id,
-        gtrid: text(gtrid),
-        bqual: text(bqual),
+impl Laid {
+    /// Its words.
+    fn words(&self) -> [u64; WORDS] {
+        let mut words = [0; WORDS];
+        words[..5].copy_from_slice(&self.head);
+        words[5] = self.first;
+        words[13] = self.second;
+        words
+    }
+
+    /// Its entry.
+    fn entry(&self) -> Option<Entry> {
+        let statement = read_statement(self.text.as_bytes()).ok()?;
+        Entry::of(SessionNo::of(self.session)?, &statement)
     }
 }
 
-/// The words from the first five, the first word of the first text and that of the second.
-fn laid(head: [u64; 5], first: u64, second: u64) -> [u64; WORDS] {
-    let mut words = [0; WORDS];
-    words[..5].copy_from_slice(&head);
-    words[5] = first;
-    words[13] = second;
-    words
-}
-
-fn is_read(words: &[u64; WORDS], entry: &Entry) -> bool {
-    decode(words).is_some_and(|read| read == *entry)
+/// Whether an entry is these words, and these words are it.
+fn is_there_and_back(entry: &Entry, words: &[u64; WORDS]) -> bool {
+    match decode(words) {
+        Some(read) => encode(entry) == *words && read == *entry,
+        None => false,
+    }
 }
 
 #[test]
-fn start_is_words_and_back(rt: HostRuntime) {
-    let statement = Statement::Start(xid(7, b"abc", b"def"));
-    let words = laid(
-        [1, 1, 3, 3, 7],
-        0x6162_6300_0000_0000,
-        0x6465_6600_0000_0000,
-    );
-    let entry = Entry::of(session(1), &statement).unwrap();
-    assert_eq!(rt; encode(&entry), words);
-    assert!(rt; is_read(&words, &entry));
+fn entries_are_words_and_back(rt: HostRuntime) {
+    for laid in LAID {
+        let is_so = match laid.entry() {
+            Some(entry) => is_there_and_back(&entry, &laid.words()),
+            None => false,
+        };
+        assert!(rt; is_so, "{}", laid.text);
+    }
 }
 
-#[test]
-fn put_is_words_and_back(rt: HostRuntime) {
-    let Some(key) = Key::of(text(b"k")) else {
-        return;
-    };
-    let statement = Statement::Put(key, text(b"v"));
-    let words = laid(
-        [3, 8, 1, 1, 0],
-        0x6b00_0000_0000_0000,
-        0x7600_0000_0000_0000,
-    );
-    let entry = Entry::of(session(3), &statement).unwrap();
-    assert_eq!(rt; encode(&entry), words);
-    assert!(rt; is_read(&words, &entry));
-}
+/// A row of `LAID`, the index of one of its words, and a word there with which they are no entry.
+const WRONG: [(usize, usize, u64); 17] = [
+    (0, 0, 0),
+    (0, 0, 17),
+    (0, 1, 0),
+    (0, 1, 11),
+    (0, 2, 2),
+    (0, 2, 65),
+    (0, 13, 0x6465_6600_0000_0001),
+    (0, 20, 1),
+    (1, 2, 0),
+    (1, 3, 65),
+    (1, 4, 1),
+    (2, 2, 0),
+    (2, 3, 1),
+    (2, 4, 1),
+    (3, 2, 1),
+    (3, 4, 1),
+    (3, 12, 1),
+];
 
-#[test]
-fn disconnect_is_words_and_back(rt: HostRuntime) {
-    let words = laid([2, 10, 0, 0, 0], 0, 0);
-    let entry = Entry::of(session(2), &Statement::Disconnect).unwrap();
-    assert_eq!(rt; encode(&entry), words);
-    assert!(rt; is_read(&words, &entry));
+/// The words of a row with another one at an index.
+fn changed(row: usize, index: usize, word: u64) -> Option<[u64; WORDS]> {
+    let mut words = LAID.get(row)?.words();
+    *words.get_mut(index)? = word;
+    Some(words)
 }
 
 #[test]
 fn other_words_are_no_entry(rt: HostRuntime) {
-    let start = laid(
-        [1, 1, 3, 3, 7],
-        0x6162_6300_0000_0000,
-        0x6465_6600_0000_0000,
-    );
-    let put = laid(
-        [3, 8, 1, 1, 0],
-        0x6b00_0000_0000_0000,
-        0x7600_0000_0000_0000,
-    );
-    let get = laid([3, 7, 1, 0, 0], 0x6b00_0000_0000_0000, 0);
-    let disconnect = laid([2, 10, 0, 0, 0], 0, 0);
-    for (words, index, wrong) in [
-        (start, 0, 0),
-        (start, 0, 17),
-        (start, 1, 0),
-        (start, 1, 11),
-        (start, 2, 2),
-        (start, 2, 65),
-        (start, 13, 0x6465_6600_0000_0001),
-        (start, 20, 1),
-        (put, 2, 0),
-        (put, 3, 65),
-        (put, 4, 1),
-        (get, 2, 0),
-        (get, 3, 1),
-        (get, 4, 1),
-        (disconnect, 2, 1),
-        (disconnect, 4, 1),
-        (disconnect, 12, 1),
-    ] {
-        assert!(rt; decode(&words).is_some());
-        let mut changed = words;
-        if index < WORDS {
-            changed[index] = wrong;
-        }
-        assert!(rt; decode(&changed).is_none(), "{index} as {wrong}");
+    for (row, index, word) in WRONG {
+        let is_none = match changed(row, index, word) {
+            Some(words) => decode(&words).is_none(),
+            None => false,
+        };
+        assert!(rt; is_none, "row {row}: {index} as {word}");
     }
 }
 
-const PATTERN: &[u8; 64] =
+const PATTERN: &[u8] =
     b"\xff0123456789abcdefghijklmnopqrstuvwxyzABCDEFGHIJKLMNOPQRSTUVWXYZ\xfe";
 
-fn of_kind(kind: u64, first: &[u8], second: &[u8]) -> Option<Statement>
-    requires first { length first.now ≤ 64 }
-    requires second { length second.now ≤ 64 }
-{
-    let branch = xid(u64::MAX, first, second);
+/// The first bytes of the pattern.
+fn text(size: usize) -> Bytes {
+    let mut text = Bytes::new();
+    let _ = text.try_extend_from_slice(PATTERN.get(..size).unwrap_or(PATTERN));
+    text
+}
+
+/// The identifier of texts of these sizes.
+fn xid(first: usize, second: usize) -> Xid {
+    Xid {
+        format_id: u64::MAX,
+        gtrid: text(first),
+        bqual: text(second),
+    }
+}
+
+/// The statement of a kind with texts of these sizes.
+fn of_kind(kind: u64, first: usize, second: usize) -> Option<Statement> {
     match kind {
-        1 => Some(Statement::Start(branch)),
-        2 => Some(Statement::End(branch)),
-        3 => Some(Statement::Prepare(branch)),
-        4 => Some(Statement::Commit {
-            xid: branch,
-            one_phase: false,
+        1 => Some(Statement::Start(xid(first, second))),
+        2 => Some(Statement::End(xid(first, second))),
+        3 => Some(Statement::Prepare(xid(first, second))),
+        4 | 5 => Some(Statement::Commit {
+            xid: xid(first, second),
+            one_phase: kind == 5,
         }),
-        5 => Some(Statement::Commit {
-            xid: branch,
-            one_phase: true,
-        }),
-        6 => Some(Statement::Rollback(branch)),
+        6 => Some(Statement::Rollback(xid(first, second))),
         7 => Some(Statement::Get(Key::of(text(first))?)),
         8 => Some(Statement::Put(Key::of(text(first))?, text(second))),
         9 => Some(Statement::Del(Key::of(text(first))?)),
@@ -150,40 +159,60 @@ fn of_kind(kind: u64, first: &[u8], second: &[u8]) -> Option<Statement>
     }
 }
 
-#[test]
-fn every_kind_and_size_is_there_and_back(rt: HostRuntime) {
+/// Whether an entry of session 16 is words of this kind and back, and is a statement and its own copy.
+fn is_kept(kind: u64, statement: &Statement, entry: &Entry) -> bool {
+    let words = encode(entry);
+    words[1] == kind
+        && is_there_and_back(entry, &words)
+        && *entry.statement() == *statement
+        && entry.copy() == *entry
+        && entry.session().get() == 16
+}
+
+/// Whether there is a statement of a kind with texts of these sizes, and its entry is kept.
+fn keeps(kind: u64, first: usize, second: usize) -> bool {
+    match of_kind(kind, first, second) {
+        Some(statement) => match entry_of(&statement) {
+            Some(entry) => is_kept(kind, &statement, &entry),
+            None => false,
+        },
+        None => false,
+    }
+}
+
+/// The entry of a statement of session 16.
+fn entry_of(statement: &Statement) -> Option<Entry> {
+    Entry::of(SessionNo::of(16)?, statement)
+}
+
+/// How many entries of a kind are kept, of all sizes of their texts.
+fn kept_of(kind: u64) -> u64 {
     let sizes: [usize; 7] = [0, 1, 7, 8, 9, 63, 64];
-    let mut seen = 0_u64;
-    for kind in 1..11 {
-        for first in sizes {
-            for second in sizes {
-                if first <= 64 && second <= 64 {
-                    let Some(statement) = of_kind(kind, &PATTERN[..first], &PATTERN[..second])
-                    else {
-                        continue;
-                    };
-                    let Some(entry) = Entry::of(session(16), &statement) else {
-                        continue;
-                    };
-                    let words = encode(&entry);
-                    assert_eq!(rt; words[1], kind);
-                    assert!(rt; is_read(&words, &entry));
-                    assert!(rt; *entry.statement() == statement);
-                    assert!(rt; entry.copy() == entry);
-                    assert_eq!(rt; entry.session().get(), 16);
-                    seen = u64::wrapping_add(seen, 1);
-                }
+    let mut count = 0_u64;
+    for first in sizes {
+        for second in sizes {
+            if keeps(kind, first, second) {
+                count = count.wrapping_add(1);
             }
         }
     }
-    assert_eq!(rt; seen, 6 * 49 + 3 * 42 + 49);
+    count
+}
+
+#[test]
+fn every_kind_and_size_is_there_and_back(rt: HostRuntime) {
+    for kind in 1..11 {
+        let kept = kept_of(kind);
+        let wanted = if 7 <= kind && kind <= 9 { 42 } else { 49 };
+        assert!(rt; kept == wanted, "{kept} of kind {kind}");
+    }
 }
 
 #[test]
 fn recover_and_unsupported_are_no_entries(rt: HostRuntime) {
     laws::one_entry_of_its_words();
     laws::words_fit();
-    assert!(rt; Entry::of(session(1), &Statement::Unsupported).is_none());
-    assert!(rt; Entry::of(session(1), &Statement::Recover { convert: true }).is_none());
-    assert!(rt; Entry::of(session(1), &Statement::Recover { convert: false }).is_none());
+    assert!(rt; entry_of(&Statement::Unsupported).is_none());
+    assert!(rt; entry_of(&Statement::Recover { convert: true }).is_none());
+    assert!(rt; entry_of(&Statement::Recover { convert: false }).is_none());
 }

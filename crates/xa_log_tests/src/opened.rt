@@ -2,6 +2,7 @@
 
 use chain_log::ChainLog;
 use decision_log::{AddFault, OpenFault, TurnLog, laws};
+use std::alloc::Global;
 use xa_session::Fault;
 
 /// A capacity, a count of sessions, and why no log is opened for these.
@@ -15,23 +16,27 @@ const REFUSED: [(u64, u64, OpenFault); 4] = [
 /// The least capacity and count of sessions for which a log is opened, and the greatest.
 const OPENED: [(u64, u64); 2] = [(1, 1), (1024, 16)];
 
+/// How many passes a log with a turn is opened with.
+fn turns(alloc: Global, capacity: u64, sessions: u64) -> Result<u64, OpenFault> {
+    let (_, passes) = TurnLog::open(alloc, capacity, sessions)?;
+    Ok(passes.len() as u64)
+}
+
+/// How many passes a chain is opened with.
+fn links(alloc: Global, capacity: u64, sessions: u64) -> Result<u64, OpenFault> {
+    let (_, passes) = ChainLog::open(alloc, capacity, sessions)?;
+    Ok(passes.len() as u64)
+}
+
 #[test]
 fn logs_are_opened_for_their_sizes_alone(rt: HostRuntime) {
     for (capacity, sessions, fault) in REFUSED {
-        let found = TurnLog::open(rt.alloc(), capacity, sessions).err();
-        assert_eq!(rt; found, Some(fault));
-        let found = ChainLog::open(rt.alloc(), capacity, sessions).err();
-        assert_eq!(rt; found, Some(fault));
+        assert!(rt; turns(rt.alloc(), capacity, sessions) == Err(fault));
+        assert!(rt; links(rt.alloc(), capacity, sessions) == Err(fault));
     }
     for (capacity, sessions) in OPENED {
-        let (Ok((_, turns)), Ok((_, links))) = (
-            TurnLog::open(rt.alloc(), capacity, sessions),
-            ChainLog::open(rt.alloc(), capacity, sessions),
-        ) else {
-            panic!(rt; "not opened for {capacity} and {sessions}")
-        };
-        assert_eq!(rt; turns.len() as u64, sessions);
-        assert_eq!(rt; links.len() as u64, sessions);
+        assert!(rt; turns(rt.alloc(), capacity, sessions) == Ok(sessions));
+        assert!(rt; links(rt.alloc(), capacity, sessions) == Ok(sessions));
     }
 }
 
@@ -48,14 +53,23 @@ fn laws_of_logs_are_called(rt: HostRuntime) {
 
 #[test]
 fn faults_have_their_numbers(rt: HostRuntime) {
-    assert_eq!(rt; OpenFault::CapacityOutOfRange.number(), 1);
-    assert_eq!(rt; OpenFault::SessionsOutOfRange.number(), 2);
-    assert_eq!(rt; OpenFault::NoMemory.number(), 3);
-    assert_eq!(rt; AddFault::Overtaken { front: 9 }.number(), 1);
-    assert_eq!(rt; AddFault::Full.number(), 2);
-    assert_eq!(rt; AddFault::Busy.number(), 3);
-    assert_eq!(rt; Fault::Overtaken { front: 9 }.number(), 1);
-    assert_eq!(rt; Fault::Full.number(), 2);
-    assert_eq!(rt; Fault::NoMemory.number(), 3);
-    assert_eq!(rt; Fault::Busy.number(), 4);
+    let opening = [
+        OpenFault::CapacityOutOfRange.number(),
+        OpenFault::SessionsOutOfRange.number(),
+        OpenFault::NoMemory.number(),
+    ];
+    assert!(rt; opening == [1, 2, 3]);
+    let adding = [
+        AddFault::Overtaken { front: 9 }.number(),
+        AddFault::Full.number(),
+        AddFault::Busy.number(),
+    ];
+    assert!(rt; adding == [1, 2, 3]);
+    let answering = [
+        Fault::Overtaken { front: 9 }.number(),
+        Fault::Full.number(),
+        Fault::NoMemory.number(),
+        Fault::Busy.number(),
+    ];
+    assert!(rt; answering == [1, 2, 3, 4]);
 }
