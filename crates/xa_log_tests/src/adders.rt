@@ -2,10 +2,8 @@
 ghost use Rattle.std.specs.Prelude.{◌≡◌, IfSome};
 
 use decision_log::{AddFault, DecisionLog};
-use std::snapshot::Snapshot;
-use std::sync::Wait;
 use std::thread;
-use std::thread::{Promise, Threads};
+use std::thread::Threads;
 use xa_words::Entry;
 use xa_xid::{Bytes, Key, SessionNo, Statement};
 
@@ -79,19 +77,11 @@ fn has_each<L: DecisionLog>(log: &L, pass: &mut L::Pass, session: SessionNo) -> 
     step == EACH
 }
 
-/// What a thread that adds promises of the pass it gives back: that it is of the same log.
-#[derive(Drop)]
-struct StaysHome<L: DecisionLog>(Snapshot<L::Pass>);
-
-impl<L: DecisionLog> Promise<(L::Pass, bool)> for StaysHome<L> {
-    ghost kept_by = { λ promise ended. L.belongs_to ended.0 ≡ L.belongs_to promise.0.value };
-}
-
 /// Two threads, each its own, add `EACH` entries each to a log with room for them; then the passes meet, and the second has seen each
-/// one's in its order. Not so, too, where a thread can't be started.
+/// one's in its order.
 ///
 /// Takes what starting threads takes. Waits for its threads.
-pub fn two_threads_add<L: DecisionLog + Sync, R: Threads + Wait + Sync>(
+pub fn two_threads_add<L: DecisionLog + Sync, R: Threads>(
     rt: &R,
     log: &L,
     first: L::Pass,
@@ -102,29 +92,13 @@ where
     requires first { L.belongs_to first ≡ L.identity log.now }
     requires second { L.belongs_to second ≡ L.identity log.now }
 {
-    thread::scope(
-        thread::scope_env(),
+    let (first, second) = thread::join(
         rt,
-        |scope|
-            requires first { L.belongs_to first ≡ L.identity log.now }
-            requires second { L.belongs_to second ≡ L.identity log.now }
-        {
-            let first = scope.spawn_with(
-                StaysHome::<L>(Snapshot::of(&first)),
-                move || add_each(log, first),
-            );
-            let second = scope.spawn_with(
-                StaysHome::<L>(Snapshot::of(&second)),
-                move || add_each(log, second),
-            );
-            let (Ok(first), Ok(second)) = (first, second) else {
-                return false;
-            };
-            let (mut first, first_added) = first.join(rt);
-            let (mut second, second_added) = second.join(rt);
-            first_added && second_added && saw_each(log, &mut first, &mut second)
-        },
-    )
+        move || add_each(log, first),
+        move || add_each(log, second),
+    );
+    let ((mut first, first_added), (mut second, second_added)) = (first, second);
+    first_added && second_added && saw_each(log, &mut first, &mut second)
 }
 
 /// Whether after a meeting the second pass has seen what both added, each one's in its order, and nothing else.

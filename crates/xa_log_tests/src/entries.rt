@@ -122,8 +122,7 @@ fn other_words_are_no_entry(rt: HostRuntime) {
     }
 }
 
-const PATTERN: &[u8] =
-    b"\xff0123456789abcdefghijklmnopqrstuvwxyzABCDEFGHIJKLMNOPQRSTUVWXYZ\xfe";
+const PATTERN: &[u8] = b"\xff0123456789abcdefghijklmnopqrstuvwxyzABCDEFGHIJKLMNOPQRSTUVWXYZ\xfe";
 
 /// The first bytes of the pattern.
 fn text(size: usize) -> Bytes {

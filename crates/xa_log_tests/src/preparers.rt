@@ -2,10 +2,9 @@
 ghost use Rattle.std.specs.Prelude.{◌≡◌};
 
 use decision_log::DecisionLog;
-use std::snapshot::Snapshot;
 use std::sync::Wait;
 use std::thread;
-use std::thread::{Promise, Threads};
+use std::thread::Threads;
 use xa_server::Reply;
 use xa_session::{Answer, Fault, Session};
 use xa_xid::{Bytes, Statement, Xid};
@@ -65,16 +64,8 @@ fn lists_both<L: DecisionLog>(session: &mut Session<'_, L>) -> bool {
     }
 }
 
-/// What a thread that works with a session promises of it: that it is of the same log.
-#[derive(Drop)]
-struct StaysHome<'a, L: DecisionLog>(Snapshot<Session<'a, L>>);
-
-impl<'a, L: DecisionLog> Promise<(Session<'a, L>, bool)> for StaysHome<'a, L> {
-    ghost kept_by = { λ promise ended. L.belongs_to ended.0.pass ≡ L.belongs_to promise.0.value.pass };
-}
-
 /// Two sessions in threads of their own prepare a branch each, in a log with room for six entries. After they have met, the second
-/// has seen all six, and lists both branches. Not so, too, where a thread can't be started.
+/// has seen all six, and lists both branches.
 ///
 /// May take memory, and what starting threads takes. Waits for its threads.
 pub fn two_threads_prepare<'a, L: DecisionLog + Sync, R: Threads + Wait + Sync>(
@@ -86,30 +77,15 @@ where
     L::Pass: Send + Drop,
     requires { L.belongs_to first.pass ≡ L.belongs_to second.pass }
 {
-    thread::scope(
-        thread::scope_env(),
+    let (first, second) = thread::join(
         rt,
-        |scope|
-            requires { L.belongs_to first.pass ≡ L.belongs_to second.pass }
-        {
-            let first = scope.spawn_with(
-                StaysHome(Snapshot::of(&first)),
-                move || prepare(rt, first, b'a'),
-            );
-            let second = scope.spawn_with(
-                StaysHome(Snapshot::of(&second)),
-                move || prepare(rt, second, b'b'),
-            );
-            let (Ok(first), Ok(second)) = (first, second) else {
-                return false;
-            };
-            let (mut first, first_prepared) = first.join(rt);
-            let (mut second, second_prepared) = second.join(rt);
-            if !first_prepared || !second_prepared {
-                return false;
-            }
-            first.meet(&mut second);
-            second.seen() >= first.seen() && lists_both(&mut second)
-        },
-    )
+        move || prepare(rt, first, b'a'),
+        move || prepare(rt, second, b'b'),
+    );
+    let ((mut first, first_prepared), (mut second, second_prepared)) = (first, second);
+    if !first_prepared || !second_prepared {
+        return false;
+    }
+    first.meet(&mut second);
+    second.seen() >= first.seen() && lists_both(&mut second)
 }

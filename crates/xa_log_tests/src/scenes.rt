@@ -3,7 +3,7 @@ ghost use Rattle.std.specs.Prelude.{◌≡◌, All};
 
 use crate::adders::two_threads_add;
 use crate::preparers::two_threads_prepare;
-use crate::sessions::{connected, disconnects, keeps_its_replica, sees, stays_open};
+use crate::sessions::{connected, disconnects, keeps_its_replica, play, stays_open};
 use crate::trying::tries;
 use decision_log::DecisionLog;
 use std::alloc::Global;
@@ -11,7 +11,6 @@ use std::process::Abort;
 use std::sync::Wait;
 use std::thread::Threads;
 use xa_server::Server;
-use xa_test_support::first_difference;
 
 /// What a log's first two passes show, or sessions over them.
 #[derive(Clone, Copy)]
@@ -20,10 +19,8 @@ pub(crate) enum Scene {
     Tries(&'static [u8]),
     /// Two threads add.
     Adds,
-    /// A script of sessions.
-    Plays(&'static [u8]),
-    /// What one session writes another one sees.
-    Sees,
+    /// A script of sessions, and the history that it leaves.
+    Plays(&'static [u8], &'static [u8]),
     /// A replica is kept between statements.
     Keeps,
     /// A session that owns a branch can't disconnect in a full log.
@@ -69,44 +66,47 @@ const OUTDATED: &[u8] = b"1 PUT 'k','v' = OK 1
 2 LOOK = 3
 ";
 
-/// Nothing enters a full log, and what doesn't enter is still answered.
-pub(crate) const FULL: &[u8] = b"1 XA START 'a' = 0 OK
-1 PUT 'k','v' = 1 OK
-1 XA END 'a' = 2 OK
-1 XA PREPARE 'a' = 3 OK
-2 XA COMMIT 'a' = FULL
-2 GET 'k' = 4 NONE
-2 XA RECOVER = 4 ROWS 1|1 1 0 a
-";
-
 /// A branch reads a row twice, of which only the first enters, and then writes the row that it shares.
-const SHARED: &[u8] = b"1 XA START 'a' = 0 OK
+const SHARED: Scene = Scene::Plays(
+    b"1 XA START 'a' = 0 OK
 1 GET 'k' = 1 NONE
 1 GET 'k' = 2 NONE
 1 PUT 'k','v' = 2 OK
 1 GET 'k' = 3 VALUE 0x76
-";
+",
+    b"1 XA START 'a'
+1 GET 'k'
+1 PUT 'k','v'
+",
+);
 
 /// A prepared branch keeps the row that it shares.
-const PREPARED: &[u8] = b"1 XA START 'a' = 0 OK
+const PREPARED: Scene = Scene::Plays(
+    b"1 XA START 'a' = 0 OK
 1 GET 'k' = 1 NONE
 1 XA END 'a' = 2 OK
 1 XA PREPARE 'a' = 3 OK
 2 XA START 'b' = 4 OK
 2 GET 'k' = 5 NONE
 2 PUT 'k','x' = 6 ERROR 3572 (HY000): row locked by another branch
-";
+",
+    b"1 XA START 'a'
+1 GET 'k'
+1 XA END 'a'
+1 XA PREPARE 'a'
+2 XA START 'b'
+2 GET 'k'
+",
+);
 
 /// Each scene, with how many entries the log has room for.
-pub(crate) const SCENES: [(u64, Scene); 12] = [
+pub(crate) const SCENES: [(u64, Scene); 10] = [
     (2, Scene::Tries(IN_TURN)),
     (3, Scene::Tries(MEETS)),
     (8, Scene::Tries(OUTDATED)),
     (16, Scene::Adds),
-    (4, Scene::Plays(FULL)),
-    (8, Scene::Plays(SHARED)),
-    (8, Scene::Plays(PREPARED)),
-    (8, Scene::Sees),
+    (8, SHARED),
+    (8, PREPARED),
     (8, Scene::Keeps),
     (2, Scene::StaysOpen),
     (8, Scene::Disconnects),
@@ -154,11 +154,9 @@ impl Scene {
         let mut first = connected(rt, log, first, &base);
         let mut second = connected(rt, log, second, &base);
         match self {
-            Scene::Plays(script) => {
-                let found = first_difference(rt, alloc, &mut first, &mut second, script);
-                assert_eq!(rt; found, None);
+            Scene::Plays(script, history) => {
+                play(rt, alloc, &mut first, &mut second, script, history)
             }
-            Scene::Sees => sees(rt, alloc, &mut first, &mut second),
             Scene::Keeps => keeps_its_replica(rt, alloc, &mut first, &mut second),
             Scene::StaysOpen => stays_open(rt, alloc, log, &base, first, second),
             Scene::Disconnects => disconnects(rt, first, second),

@@ -13,7 +13,7 @@ use xa_statement::read_statement;
 use xa_test_support::{first_difference, has_history};
 use xa_xid::{Bytes, Key, Statement};
 
-/// A session of a pass.
+/// A session of a pass, connected again where there was no memory.
 pub(crate) fn connected<'a, L: DecisionLog>(
     rt: &impl Abort,
     log: &'a L,
@@ -25,23 +25,32 @@ where
     requires { L.belongs_to pass ≡ L.identity log.now }
     ensures { L.belongs_to result.pass ≡ L.identity log.now }
 {
-    let Ok(session) = Session::connect(log, pass, base) else {
-        panic!(rt; "not connected")
-    };
-    session
+    match Session::connect(log, pass, base) {
+        Ok(session) => session,
+        Err((pass, _)) => {
+            let Ok(session) = Session::connect(log, pass, base) else {
+                panic!(rt; "refused twice")
+            };
+            session
+        }
+    }
 }
 
-/// A session reads what another wrote, with no meeting between them.
-pub(crate) fn sees<L: DecisionLog, R: Abort + Wait>(
+/// Two sessions play a script, which leaves this history.
+pub(crate) fn play<L: DecisionLog, R: Abort + Wait>(
     rt: &R,
     alloc: Global,
     first: &mut Session<'_, L>,
     second: &mut Session<'_, L>,
-) {
-    let script = b"1 PUT 'k','v' = 0 OK\n2 GET 'k' = 1 VALUE 0x76\n";
-    assert_eq!(rt; first_difference(rt, alloc, first, second, script), None);
-    assert!(rt; first.seen() == 1 && second.look() == 1);
-    assert!(rt; has_history(second, b"1 PUT 'k','v'\n"));
+    script: &[u8],
+    history: &[u8],
+)
+    ensures first { L.belongs_to first.new.pass ≡ L.belongs_to first.old.pass }
+    ensures second { L.belongs_to second.new.pass ≡ L.belongs_to second.old.pass }
+{
+    let found = first_difference(rt, alloc, first, second, script);
+    assert_eq!(rt; found, None);
+    assert!(rt; has_history(first, history) && has_history(second, history));
 }
 
 /// Tries once, in a session whose replica has replayed all that is seen. The statement isn't `XA RECOVER`, so memory is wanted only
@@ -67,6 +76,21 @@ fn key(rt: &impl Abort, letter: u8) -> Key {
     key
 }
 
+/// Whether a session, asked again for a row that isn't there, answers so at this place.
+fn answers_again<L: DecisionLog>(rt: &impl Abort, session: &mut Session<'_, L>, wanted: u64) -> bool
+    requires { session.old.replica.replayed ≡ length (L.known session.old.pass).seen }
+{
+    match ask_again(session, &Statement::Get(key(rt, b'k'))) {
+        Ok(
+            Answer {
+                place,
+                reply: Reply::Value(None),
+            },
+        ) => place == wanted,
+        _ => false,
+    }
+}
+
 /// A session has replayed each of its entries once it is answered. Another one reads the row, and has replayed all of them; asked again, it
 /// answers the same with nothing to replay.
 pub(crate) fn keeps_its_replica<L: DecisionLog, R: Abort + Wait>(
@@ -81,24 +105,53 @@ pub(crate) fn keeps_its_replica<L: DecisionLog, R: Abort + Wait>(
 1 XA PREPARE 'a' = 3 OK
 2 GET 'k' = 4 NONE
 ";
-    assert_eq!(rt; first_difference(rt, alloc, first, second, script), None);
-    assert_eq!(rt; first.folded(), 4);
+    let history = b"1 XA START 'a'
+1 PUT 'k','v'
+1 XA END 'a'
+1 XA PREPARE 'a'
+";
+    play(rt, alloc, first, second, script, history);
+    assert!(rt; first.folded() == 4 && second.look() == 4);
     assert!(rt; second.folded() == 4 && second.seen() == 4);
-    let get = Statement::Get(key(rt, b'k'));
-    let is_same = match ask_again(second, &get) {
-        Ok(
-            Answer {
-                place,
-                reply: Reply::Value(None),
-            },
-        ) => place == 4,
-        _ => false,
-    };
-    assert!(rt; is_same && second.folded() == 4);
+    assert!(rt; answers_again(rt, second, 4) && second.folded() == 4);
 }
 
-/// In a full log a session that owns a branch can't disconnect, since that would enter, and keeps what it had; a free session can. Their
-/// passes are good for sessions of the same numbers, which have seen what they had seen.
+/// The pass of a session that owns a branch, which can't disconnect in a full log, since that would enter.
+fn kept_open<L: DecisionLog, R: Abort + Wait>(rt: &R, session: Session<'_, L>) -> L::Pass
+where
+    L::Pass: Drop,
+    ensures { L.belongs_to result ≡ L.belongs_to session.entry.pass }
+{
+    let Err((session, Fault::Full)) = session.disconnect(rt) else {
+        panic!(rt; "disconnected in a full log")
+    };
+    session.leave()
+}
+
+/// The pass of a session that disconnects.
+fn disconnected<L: DecisionLog, R: Abort + Wait>(rt: &R, session: Session<'_, L>) -> L::Pass
+where
+    L::Pass: Drop,
+    ensures { L.belongs_to result ≡ L.belongs_to session.entry.pass }
+{
+    let Ok(pass) = session.disconnect(rt) else {
+        panic!(rt; "didn't disconnect")
+    };
+    pass
+}
+
+/// A pass makes a session of this number once more, which has seen two entries.
+fn comes_back<L: DecisionLog>(rt: &impl Abort, log: &L, pass: L::Pass, base: &Server, number: u64)
+where
+    L::Pass: Drop,
+    requires { L.belongs_to pass ≡ L.identity log.now }
+{
+    let session = connected(rt, log, pass, base);
+    assert!(rt; session.number().get() == number && session.seen() == 2);
+}
+
+/// In a full log a session that owns a branch can't disconnect, and keeps what it had; a free session can. Their passes are good for sessions
+/// of the same numbers, which have seen what they had seen.
 pub(crate) fn stays_open<'a, L: DecisionLog, R: Abort + Wait>(
     rt: &R,
     alloc: Global,
@@ -118,20 +171,10 @@ where
 1 GET 'k' = 2 VALUE 0x76
 1 GET 'm' = FULL
 ";
-    assert_eq!(rt;
-        first_difference(rt, alloc, &mut first, &mut second, script),
-        None
-    );
-    let Err((first, Fault::Full)) = first.disconnect(rt) else {
-        panic!(rt; "disconnected in a full log")
-    };
-    let Ok(second) = second.disconnect(rt) else {
-        panic!(rt; "a free session didn't disconnect")
-    };
-    let first = connected(rt, log, first.leave(), base);
-    let second = connected(rt, log, second, base);
-    assert!(rt; first.number().get() == 1 && first.seen() == 2);
-    assert!(rt; second.number().get() == 2 && second.seen() == 2);
+    let history = b"1 XA START 'a'\n1 PUT 'k','v'\n";
+    play(rt, alloc, &mut first, &mut second, script, history);
+    comes_back(rt, log, kept_open(rt, first), base, 1);
+    comes_back(rt, log, disconnected(rt, second), base, 2);
 }
 
 /// Whether a session starts the branch `a` at this place.
@@ -164,7 +207,6 @@ where
     L::Pass: Drop,
 {
     assert!(rt; starts_at(rt, &mut first, 0));
-    assert!(rt; first.disconnect(rt).is_ok());
+    let _ = disconnected(rt, first);
     assert!(rt; starts_at(rt, &mut second, 2));
-    let _ = second.leave();
 }

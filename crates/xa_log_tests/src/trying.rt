@@ -6,7 +6,7 @@ use std::alloc::Global;
 use std::process::Abort;
 use xa_lines::{ScriptLine, push_number, read_line, split_line};
 use xa_statement::read_statement;
-use xa_test_support::{is_answer, split_case};
+use xa_test_support::{given_in, is_answer, split_case};
 use xa_words::Entry;
 use xa_xid::{NoMemory, SessionNo, Statement};
 
@@ -80,23 +80,76 @@ fn text_of(alloc: Global, told: (&[u8], u64)) -> Result<Vec<u8>, NoMemory> {
     Ok(text)
 }
 
+/// Whether an entry is a line's.
+fn is_of(entry: &Entry, line: &[u8]) -> bool {
+    match given_in(line) {
+        Some((number, statement)) => entry.session() == number && *entry.statement() == statement,
+        None => false,
+    }
+}
+
 /// Whether the entry that a pass has seen at a place is this line's.
-fn has_entry<L: DecisionLog>(
-    rt: &impl Abort,
-    log: &L,
-    pass: &mut L::Pass,
-    at: u64,
-    line: &[u8],
-) -> bool
+fn has_entry<L: DecisionLog>(log: &L, pass: &mut L::Pass, at: u64, line: &[u8]) -> bool
     requires { L.belongs_to pass.old ≡ L.identity log.now }
     ensures { L.belongs_to pass.new ≡ L.belongs_to pass.old }
 {
     if at >= log.length(pass) {
         return false;
     }
-    let (number, text) = said_by(rt, line);
-    let entry = log.entry(pass, at);
-    entry.session() == number && *entry.statement() == said(rt, text)
+    is_of(&log.entry(pass, at), line)
+}
+
+/// Whether a number behind a word is the answer that is wanted.
+fn is_told(alloc: Global, told: (&[u8], u64), wanted: &[u8]) -> bool {
+    match text_of(alloc, told) {
+        Ok(text) => is_answer(text.as_slice(), wanted),
+        Err(_) => false,
+    }
+}
+
+/// Whether the pass that a line names is told what stands behind `= `.
+fn is_answered<L: DecisionLog>(
+    rt: &impl Abort,
+    alloc: Global,
+    log: &L,
+    first: &mut L::Pass,
+    second: &mut L::Pass,
+    line: &[u8],
+) -> bool
+    requires first { L.belongs_to first.old ≡ L.identity log.now }
+    requires second { L.belongs_to second.old ≡ L.identity log.now }
+    ensures first { L.belongs_to first.new ≡ L.belongs_to first.old }
+    ensures second { L.belongs_to second.new ≡ L.belongs_to second.old }
+{
+    let (given, wanted) = split_case(line);
+    let (number, text) = said_by(rt, given);
+    let found = if number == log.number(first) {
+        told(rt, log, first, second, text)
+    } else {
+        told(rt, log, second, first, text)
+    };
+    is_told(alloc, found, wanted)
+}
+
+/// Whether a line is so.
+fn is_so<L: DecisionLog>(
+    rt: &impl Abort,
+    alloc: Global,
+    log: &L,
+    first: &mut L::Pass,
+    second: &mut L::Pass,
+    line: &[u8],
+) -> bool
+    requires first { L.belongs_to first.old ≡ L.identity log.now }
+    requires second { L.belongs_to second.old ≡ L.identity log.now }
+    ensures first { L.belongs_to first.new ≡ L.belongs_to first.old }
+    ensures second { L.belongs_to second.new ≡ L.belongs_to second.old }
+{
+    match line {
+        [b'1', b'@', digit, entry @ ..] => has_entry(log, first, u64::from(*digit & 15), entry),
+        [_, b'@', digit, entry @ ..] => has_entry(log, second, u64::from(*digit & 15), entry),
+        _ => is_answered(rt, alloc, log, first, second, line),
+    }
 }
 
 /// Plays a script of the first two passes of a log. A line has a pass's number, and behind `= ` what it is told: of a statement, which it
@@ -121,27 +174,7 @@ pub fn tries<L: DecisionLog>(
     let mut rest = script;
     while !rest.is_empty() {
         let (line, lines) = split_line(rest);
-        if let [pass, b'@', digit, entry @ ..] = line {
-            let at = u64::from(*digit & 15);
-            let is_there = if *pass == b'1' {
-                has_entry(rt, log, first, at, entry)
-            } else {
-                has_entry(rt, log, second, at, entry)
-            };
-            assert!(rt; is_there, "{line:?}");
-        } else {
-            let (given, wanted) = split_case(line);
-            let (number, text) = said_by(rt, given);
-            let found = if number == log.number(first) {
-                told(rt, log, first, second, text)
-            } else {
-                told(rt, log, second, first, text)
-            };
-            let Ok(text) = text_of(alloc, found) else {
-                panic!(rt; "out of memory")
-            };
-            assert!(rt; is_answer(text.as_slice(), wanted), "{line:?}: {text:?}");
-        }
+        assert!(rt; is_so(rt, alloc, log, first, second, line), "{line:?}");
         rest = lines;
     }
 }
