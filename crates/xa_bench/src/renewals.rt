@@ -64,13 +64,22 @@ struct Left {
     ghost gathered: { AreGathered (identity_of store.log) passes.items },
 }
 
+/// The last of the passes of a store.
+fn last_of(store: &Store, mut passes: Vec<Pass>) -> Result<Pass>
+    requires { All (λ pass. log_of pass ≡ identity_of store.now.log) passes.items }
+    ensures { IfOk result (λ pass. log_of pass ≡ identity_of store.now.log) }
+{
+    match passes.pop() {
+        Some(pass) => Ok(pass),
+        None => bail!("no pass"),
+    }
+}
+
 /// A store and the last of its passes.
-fn with_last(store: Store, mut passes: Vec<Pass>) -> Result<Kept>
+fn with_last(store: Store, passes: Vec<Pass>) -> Result<Kept>
     requires { All (λ pass. log_of pass ≡ identity_of store.log) passes.items }
 {
-    let Some(pass) = passes.pop() else {
-        bail!("no pass");
-    };
+    let pass = last_of(&store, passes)?;
     Ok(Kept { store, pass })
 }
 
