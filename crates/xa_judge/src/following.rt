@@ -48,7 +48,7 @@ impl Following {
     {
         match events.get(self.seen) {
             None => Ok(None),
-            Some(event) => match self.one.observed(event)? {
+            Some(event) => match self.one.observed(event, &None)? {
                 None => Ok(None),
                 Some(next) => Ok(Some(Following {
                     one: next.without_path(),
