@@ -6,6 +6,7 @@ ghost use Rattle.xa_server.specs.Step.{after};
 ghost use Rattle.xa_judge.specs.Explained.{answer_to, next_state, effect_of, IsSession};
 ghost use Rattle.xa_judge.specs.Found.{config_of, moved_to, called_for, after_settling, IsSettledFrom};
 
+use crate::answer::Answer;
 use crate::client_state::ClientState;
 use crate::configuration::Configuration;
 use crate::kept_server::KeptServer;
@@ -21,6 +22,34 @@ fn leaving(alloc: Global) -> Result<SharedRequest, NoMemory>
     ensures { IfOk result (λ request. request ≡ Request.Statement Disconnect) }
 {
     SharedRequest::of(alloc, Request::Statement(Statement::Disconnect))
+}
+
+/// The answer that a client has, where it is the same.
+fn same_among(clients: &[ClientState], answer: &Answer) -> Result<Option<SharedAnswer>, NoMemory>
+    ensures { IfOk result (λ found. IfSome found (λ same. same ≡ answer.now)) }
+{
+    for client in clients {
+        if let ClientState::Answered(other) = client
+            && other.answer().is_same(answer)
+        {
+            return Ok(Some(other.try_clone()?));
+        }
+    }
+    Ok(None)
+}
+
+/// The answer, to be shared: one that a client has already, where that is the same.
+fn shared_among(
+    alloc: Global,
+    clients: &[ClientState],
+    answer: Answer,
+) -> Result<SharedAnswer, NoMemory>
+    ensures { IfOk result (λ shared. shared ≡ answer) }
+{
+    match same_among(clients, &answer)? {
+        Some(same) => Ok(same),
+        None => SharedAnswer::of(alloc, answer),
+    }
 }
 
 impl Configuration {
@@ -58,7 +87,8 @@ impl Configuration {
         } = self;
         let alloc = server.alloc();
         let (server, answer) = server.carried_out(session, request)?;
-        let answered = ClientState::Answered(SharedAnswer::of(alloc, answer)?);
+        let shared = shared_among(alloc, clients.as_slice(), answer)?;
+        let answered = ClientState::Answered(shared);
         Configuration {
             server,
             clients,

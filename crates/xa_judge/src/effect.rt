@@ -1,7 +1,6 @@
 //! What takes effect.
 
-use crate::event::Event;
-use crate::moves::{Act, Move};
+use crate::moves::Act;
 use std::alloc::Global;
 use xa_xid::{NoMemory, SessionNo};
 
@@ -14,15 +13,22 @@ pub struct Effect {
     pub act: Act,
 }
 
+impl Effect {
+    /// What the session has called for.
+    pub fn of(session: SessionNo) -> Effect {
+        Effect {
+            session,
+            act: Act::Statement,
+        }
+    }
+}
+
 /// Whatever can take effect, of any session.
 pub fn all_effects(alloc: Global) -> Result<Vec<Effect>, NoMemory> {
     let mut all = Vec::new(alloc);
     for number in 1..17 {
         if let Some(session) = SessionNo::of(number) {
-            all.push(Effect {
-                session,
-                act: Act::Statement,
-            })?;
+            all.push(Effect::of(session))?;
             all.push(Effect {
                 session,
                 act: Act::Disconnect,
@@ -30,30 +36,4 @@ pub fn all_effects(alloc: Global) -> Result<Vec<Effect>, NoMemory> {
         }
     }
     Ok(all)
-}
-
-impl Effect {
-    /// What a return needs: that what its session called for takes effect.
-    pub fn needed_by(event: &Event) -> Option<Effect> {
-        match event {
-            Event::Return(session, _) => Some(Effect {
-                session: *session,
-                act: Act::Statement,
-            }),
-            _ => None,
-        }
-    }
-
-    /// The same once more.
-    pub fn again(&self) -> Effect {
-        Effect {
-            session: self.session,
-            act: self.act,
-        }
-    }
-
-    /// The move by which it takes effect.
-    pub fn by(&self) -> Move {
-        Move::Effect(self.session, self.act)
-    }
 }

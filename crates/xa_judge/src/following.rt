@@ -32,14 +32,6 @@ impl Following {
         })
     }
 
-    /// The same.
-    pub fn copy(&self) -> Result<Following, NoMemory> {
-        Ok(Following {
-            one: self.one.copy()?,
-            seen: self.seen,
-        })
-    }
-
     /// After the next event, where it can be seen.
     pub fn after_event(self, events: &[Event]) -> Result<Option<Following>, NoMemory>
         ensures { IfOk result

@@ -1,88 +1,136 @@
-//! What other events say of an effect.
+//! What later events say of the calls that are open.
 
 use crate::client_state::ClientState;
+use crate::configuration::Configuration;
 use crate::effect::Effect;
 use crate::event::{Event, Seen};
-use crate::following::Following;
-use crate::moves::Act;
+use crate::kept_server::KeptServer;
 use crate::request::Request;
+use std::alloc::Global;
 use xa_xid::{NoMemory, SessionNo};
 
-/// So many events are looked through for the return of a call.
-const AHEAD: usize = 4096;
+/// One place for each session's number, and one more.
+const SESSIONS: usize = 17;
 
-/// What the session's open call returns, where that is near.
-fn answer_ahead<'a>(events: &'a [Event], from: usize, session: SessionNo) -> Option<&'a Seen> {
-    for place in from..events.len().min(from.saturating_add(AHEAD)) {
-        match events.get(place) {
-            Some(Event::Return(other, seen)) => {
-                if *other == session {
-                    return Some(seen);
-                }
-            }
-            Some(Event::Call(other, _)) => {
-                if *other == session {
-                    return None;
-                }
-            }
-            _ => {}
-        }
-    }
-    None
+/// How an effect fits.
+#[derive(Clone, Copy, Debug, PartialEq, Eq)]
+pub enum Fit {
+    /// It can't be, or is answered otherwise than its call returns.
+    Not,
+    /// It fits, and changes nothing but what its session is about, now as at any time before its call returns.
+    Quiet,
+    /// It fits.
+    Loud,
 }
 
-/// What the session called for last before this place, where that is near.
-pub fn asked_before<'a>(
+/// What is known, before an event, of what open calls return.
+#[derive(Drop)]
+pub struct Foresight<'a> {
     events: &'a [Event],
-    before: usize,
-    session: SessionNo,
-) -> Option<&'a Request> {
-    for back in 0..before.min(AHEAD) {
-        if let Some(Event::Call(other, request)) = events.get(before - 1 - back)
-            && *other == session
-        {
-            return Some(request);
+    /// At each session's number, what its last call returns, where that is known.
+    returns: Vec<Option<&'a Seen>>,
+}
+
+/// The session of which the event is.
+fn session_of(event: &Event) -> SessionNo {
+    match event {
+        Event::Call(session, _) => *session,
+        Event::Return(session, _) => *session,
+        Event::Lost(session) => *session,
+        Event::Unknown(session) => *session,
+    }
+}
+
+/// What the session's open call returns, from this place on, where that is known.
+fn answer_ahead<'a>(events: &'a [Event], from: usize, session: SessionNo) -> Option<&'a Seen> {
+    for place in from..events.len() {
+        let event = events.get(place)?;
+        if session_of(event) == session {
+            return match event {
+                Event::Return(_, seen) => Some(seen),
+                _ => None,
+            };
         }
     }
     None
 }
 
-/// Whether it may matter whether the effect, before the event at this place, comes before or after the request.
-pub fn bears(events: &[Event], place: usize, effect: &Effect, request: &Request) -> bool {
-    match effect.act {
-        Act::Disconnect => true,
-        Act::Statement => match asked_before(events, place, effect.session) {
-            None => true,
-            Some(asked) => asked.bears_on(request),
+/// Whether the request is known to change nothing.
+fn is_quiet(server: &KeptServer, session: SessionNo, request: &Request) -> Result<bool, NoMemory> {
+    match request {
+        Request::Unread => Ok(true),
+        Request::Statement(statement) => match server.own() {
+            None => Ok(false),
+            Some(own) => {
+                let (_reply, enters) = own.reply(session, statement)?;
+                Ok(!enters)
+            }
         },
     }
 }
 
-/// Whether the effect can be, and what it answers is what its call returns, where that is known.
-pub fn suits(here: &Following, events: &[Event], effect: &Effect) -> Result<bool, NoMemory> {
-    if !here.one.can_take_effect(effect.session, effect.act) {
-        return Ok(false);
+/// How what the session has called for fits, where its call returns this.
+fn request_fit(
+    server: &KeptServer,
+    session: SessionNo,
+    request: &Request,
+    seen: &Seen,
+) -> Result<Fit, NoMemory> {
+    let answer = server.answer(session, request)?;
+    if !seen.shows(&answer) {
+        return Ok(Fit::Not);
     }
-    match here.one.client(effect.session) {
-        Some(ClientState::Called(request)) => {
-            match answer_ahead(events, here.seen, effect.session) {
-                None => Ok(true),
-                Some(seen) => Ok(seen.shows(
-                    &here.one.server.answer(effect.session, request.request())?,
-                )),
+    if is_quiet(server, session, request)? {
+        Ok(Fit::Quiet)
+    } else {
+        Ok(Fit::Loud)
+    }
+}
+
+impl<'a> Foresight<'a> {
+    /// Before all events.
+    pub fn new(alloc: Global, events: &'a [Event]) -> Result<Foresight<'a>, NoMemory> {
+        let mut returns = Vec::new(alloc);
+        for _ in 0..SESSIONS {
+            returns.push(None)?;
+        }
+        Ok(Foresight { events, returns })
+    }
+
+    /// Behind the event at this place.
+    pub fn follow(&mut self, place: usize) {
+        if let Some(Event::Call(session, _)) = self.events.get(place)
+            && let Some(entry) = self.returns.get_mut(session.get() as usize)
+        {
+            *entry = answer_ahead(self.events, place.saturating_add(1), *session);
+        }
+    }
+
+    /// How the effect fits. One whose answer isn't known fits where it can be.
+    pub fn fit(&self, one: &Configuration, effect: &Effect) -> Result<Fit, NoMemory> {
+        if !one.can_take_effect(effect.session, effect.act) {
+            return Ok(Fit::Not);
+        }
+        let Some(ClientState::Called(request)) = one.client(effect.session) else {
+            return Ok(Fit::Loud);
+        };
+        match self.returns.get(effect.session.get() as usize) {
+            Some(Some(seen)) => request_fit(&one.server, effect.session, request.request(), seen),
+            _ => Ok(Fit::Loud),
+        }
+    }
+
+    /// How many sessions' calls could take effect, but for what they return.
+    pub fn stuck_count(&self, one: &Configuration) -> Result<usize, NoMemory> {
+        let mut count: usize = 0;
+        for number in 1..SESSIONS as u64 {
+            if let Some(session) = SessionNo::of(number) {
+                let effect = Effect::of(session);
+                if one.can_take_effect(session, effect.act) && self.fit(one, &effect)? == Fit::Not {
+                    count = count.saturating_add(1);
+                }
             }
         }
-        _ => Ok(true),
-    }
-}
-
-/// Whether the event can be seen here; an event that is no return is taken to be one that can.
-pub fn can_be_seen(here: &Following, event: &Event) -> bool {
-    match event {
-        Event::Return(session, seen) => match here.one.client(*session) {
-            Some(ClientState::Answered(answer)) => seen.shows(answer.answer()),
-            _ => false,
-        },
-        _ => true,
+        Ok(count)
     }
 }

@@ -1,18 +1,15 @@
 //! Judges a record.
-ghost use Rattle.std.specs.Prelude.{◌≡◌, ◌<◌, ◌++◌, length, vec_len, IfOk, IfSome, OnOk};
-ghost use Rattle.xa_judge.specs.Found.{IsOpening, IsShortened, IsPathOf};
+ghost use Rattle.std.specs.Prelude.{IfOk, IfSome};
 ghost use Rattle.xa_judge.specs.Verdicts.{IsVerdict};
 
 use crate::advance::{Advance, see_event};
-use crate::blocks::Blocks;
-use crate::configuration::Configuration;
-use crate::depth::moves_through;
-use crate::done_blocks::DoneBlocks;
 use crate::event::Event;
 use crate::fingerprint_index::FingerprintIndex;
 use crate::following::follows;
-use crate::moves::Move;
+use crate::known::opening;
 use crate::progress::{Progress, Silent};
+use crate::searching::moves_through;
+use crate::trunk::{path_of, share};
 use crate::verdict::Verdict;
 use std::alloc::Global;
 use xa_server::Server;
@@ -20,73 +17,6 @@ use xa_xid::NoMemory;
 
 /// So many configurations are kept of each record at first. Most need no more, and one that does is known soon.
 const NARROW: usize = 8;
-
-/// After so many events each, what configurations have in common is looked for.
-const APART: usize = 64;
-
-/// Where only one configuration is left, moves its path to the trunk's end.
-fn shorten(trunk: &mut Vec<Move>, known: &mut Vec<Configuration>) -> Result<(), NoMemory>
-    ensures { OnOk result (IsShortened trunk.old.items trunk.new.items known.old.items known.new.items) }
-{
-    if known.len() != 1 {
-        return Ok(());
-    }
-    match known.pop() {
-        None => Ok(()),
-        Some(only) => {
-            only.path.add_to(trunk)?;
-            known.push(only.without_path())?;
-            Ok(())
-        }
-    }
-}
-
-/// The trunk, and the path of the first configuration.
-fn path_of(mut trunk: Vec<Move>, known: &[Configuration]) -> Result<Vec<Move>, NoMemory>
-    requires { 0 < length known.now }
-    ensures { IfOk result (λ moves. IsPathOf trunk.items known.now moves.items) }
-{
-    known[0].path.add_to(&mut trunk)?;
-    Ok(trunk)
-}
-
-/// Has the configurations share what led to several of them.
-fn fold_all(alloc: Global, known: &mut Vec<Configuration>) -> Result<(), NoMemory>
-    ensures { OnOk result (known.new.items ≡ known.old.items) }
-{
-    let mut moves = Blocks::new(alloc);
-    let mut requests = DoneBlocks::new(alloc);
-    for place in 0..known.len() {
-        known[place].path.fold(alloc, &mut moves)?;
-        known[place].server.fold(&mut requests)?;
-    }
-    Ok(())
-}
-
-/// Has the configurations share what can be of what led to them, once the event at this place is seen.
-fn share(
-    alloc: Global,
-    place: usize,
-    trunk: &mut Vec<Move>,
-    known: &mut Vec<Configuration>,
-) -> Result<(), NoMemory>
-    ensures { OnOk result (IsShortened trunk.old.items trunk.new.items known.old.items known.new.items) }
-{
-    shorten(trunk, known)?;
-    if place % APART == APART - 1 {
-        fold_all(alloc, known)?;
-    }
-    Ok(())
-}
-
-/// The one configuration before all events.
-fn opening(alloc: Global, base: &Server) -> Result<Vec<Configuration>, NoMemory>
-    ensures { IfOk result (λ known. IsOpening base.now known.items) }
-{
-    let mut known = Vec::new(alloc);
-    known.push(Configuration::opening(alloc, base)?)?;
-    Ok(known)
-}
 
 /// Whether any order explains the events, by all configurations in which they can end.
 fn judge_in_breadth<P: Progress>(
@@ -131,7 +61,7 @@ fn judge_narrow<P: Progress>(
 }
 
 /// The verdict where a search for one order finds moves that lead through all of the events.
-fn judge_in_depth<P: Progress>(
+fn judge_by_search<P: Progress>(
     alloc: Global,
     base: &Server,
     events: &[Event],
@@ -167,7 +97,7 @@ pub fn judge_telling<P: Progress>(
     if let Some(verdict) = judge_narrow(alloc, base, events, limit, progress)? {
         return Ok(verdict);
     }
-    if let Some(verdict) = judge_in_depth(alloc, base, events, limit, progress)? {
+    if let Some(verdict) = judge_by_search(alloc, base, events, limit, progress)? {
         return Ok(verdict);
     }
     judge_in_breadth(alloc, base, events, limit, progress)

@@ -2,12 +2,14 @@
 ghost use Rattle.std.specs.Prelude.{◌≡◌, ◌∷◌, ◌++◌, ◌≢◌, ◌<◌, ℕ, true, Some, slice_get, length, vec_len, IfOk, OnOk};
 ghost use Rattle.xa_judge.specs.declared.configuration.Configuration.{Configuration as Found};
 ghost use Rattle.xa_judge.specs.Explained.{Config, IsSession, effect_of};
-ghost use Rattle.xa_judge.specs.Found.{config_of, call_is_answered, Has, Grows, AddsUnlessThere, IsEffectAt, IsExpandedBelow};
+ghost use Rattle.xa_judge.specs.Found.{config_of, call_is_answered, IsOpening, Has, Grows, AddsUnlessThere, IsEffectAt, IsExpandedBelow};
 
 use crate::configuration::Configuration;
 use crate::fingerprint_index::FingerprintIndex;
 use crate::moves::Act;
 use crate::room::has_room;
+use std::alloc::Global;
+use xa_server::Server;
 use xa_xid::{NoMemory, SessionNo};
 
 /// Lists that are shorter are looked through place by place: a fingerprint costs more than a few comparisons.
@@ -15,6 +17,15 @@ const LONG: usize = 16;
 
 /// In lists that are shorter each configuration has a server of its own, where there is room.
 const WIDE: usize = 256;
+
+/// The one configuration before all events.
+pub fn opening(alloc: Global, base: &Server) -> Result<Vec<Configuration>, NoMemory>
+    ensures { IfOk result (λ known. IsOpening base.now known.items) }
+{
+    let mut known = Vec::new(alloc);
+    known.push(Configuration::opening(alloc, base)?)?;
+    Ok(known)
+}
 
 /// Whether things are known to stand so in a configuration of the list.
 fn is_among(known: &[Configuration], one: &Configuration) -> Result<bool, NoMemory>

@@ -1,6 +1,6 @@
 use Rattle.std.proofs.Common.{arith}
 use Rattle.xa_judge.proofs.Verdicts.{shortened}
-use Rattle.xa_judge.proofs.judging.shorten.Goals as goal
+use Rattle.xa_judge.proofs.trunk.shorten.Goals as goal
 
 pub returns-in_ok-push-in-Some : goal.returns-in_ok-push-in-Some
 returns-in_ok-push-in-Some c =

@@ -1,5 +1,5 @@
 use Rattle.std.proofs.Common.{ap, ◌∙◌, ◌++◌, ◌∷◌, []}
-use Rattle.xa_judge.proofs.judging.opening.Goals as goal
+use Rattle.xa_judge.proofs.known.opening.Goals as goal
 
 pub returns : goal.returns
 returns c = (

@@ -1,5 +1,5 @@
 use Rattle.std.proofs.Common.{◌≡◌}
-use Rattle.xa_judge.proofs.judging.fold_all.Given as goal
+use Rattle.xa_judge.proofs.trunk.fold_all.Given as goal
 
 -- each stands as it did
 abbrev pub invariant-loop-place : goal.invariant-loop-place

@@ -1,6 +1,6 @@
 use Rattle.std.proofs.Common.{subst}
 use Rattle.xa_judge.specs.Following.{Leads}
-use Rattle.xa_judge.proofs.judging.judge_in_depth.Goals as goal
+use Rattle.xa_judge.proofs.judging.judge_by_search.Goals as goal
 
 pub returns-then-branch : goal.returns-then-branch
 returns-then-branch g c =

@@ -1,7 +1,7 @@
 use Rattle.std.proofs.Common.{length, refl, ap, sym, ◌++◌, ◌∙◌}
 use Rattle.std.proofs.lemmas.Option.{slice_get_read}
 use Rattle.xa_judge.specs.declared.configuration.Configuration.{Configuration}
-use Rattle.xa_judge.proofs.judging.path_of.Goals as goal
+use Rattle.xa_judge.proofs.trunk.path_of.Goals as goal
 
 pub returns : goal.returns
 returns c = (

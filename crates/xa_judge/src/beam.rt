@@ -1,0 +1,247 @@
+//! A search for one order, with some configurations at a time.
+
+use crate::best::best_of;
+use crate::closing::observe_all;
+use crate::configuration::Configuration;
+use crate::effect::{Effect, all_effects};
+use crate::event::Event;
+use crate::fingerprint_index::FingerprintIndex;
+use crate::foresight::{Fit, Foresight};
+use crate::known::add;
+use crate::room::has_room;
+use std::alloc::Global;
+use std::mem;
+use xa_xid::{NoMemory, SessionNo};
+
+/// For each configuration that is kept, so many are looked at.
+const SIGHT: usize = 8;
+
+/// Some of the configurations in which things can stand before an event, where each call that took effect was answered as it
+/// returns.
+#[derive(Drop)]
+pub struct Beam<'a> {
+    /// The events.
+    events: &'a [Event],
+    /// What is known of their returns.
+    foresight: Foresight<'a>,
+    /// The configurations, those to which fewer acts of others led in front.
+    pub known: Vec<Configuration>,
+    /// Where they stand.
+    index: FingerprintIndex,
+    /// Whatever can take effect.
+    effects: Vec<Effect>,
+    /// At most so many are kept.
+    width: usize,
+    /// So many effects may still be tried.
+    left: u64,
+    alloc: Global,
+}
+
+impl<'a> Beam<'a> {
+    /// From these configurations on, before all events; at most `width` are kept, and `left` effects tried.
+    pub fn new(
+        alloc: Global,
+        events: &'a [Event],
+        known: Vec<Configuration>,
+        width: usize,
+        left: u64,
+    ) -> Result<Beam<'a>, NoMemory> {
+        Ok(Beam {
+            events,
+            foresight: Foresight::new(alloc, events)?,
+            known,
+            index: FingerprintIndex::new(alloc),
+            effects: all_effects(alloc)?,
+            width,
+            left,
+            alloc,
+        })
+    }
+
+    /// The same once whatever is quiet has taken effect: that is never too early.
+    fn quieted(&self, one: Configuration) -> Result<Option<Configuration>, NoMemory> {
+        let mut here = one;
+        for effect in self.effects.iter() {
+            if self.foresight.fit(&here, effect)? == Fit::Quiet {
+                here = match here.once_effected(effect.session, effect.act)? {
+                    None => return Ok(None),
+                    Some(next) => next,
+                };
+            }
+        }
+        Ok(Some(here))
+    }
+
+    /// Adds a configuration, where there is one, with what is quiet, unless it is there.
+    fn add(&mut self, found: Option<Configuration>) -> Result<(), NoMemory> {
+        let Some(one) = found else {
+            return Ok(());
+        };
+        match self.quieted(one)? {
+            None => Ok(()),
+            Some(quiet) => add(&mut self.known, &mut self.index, quiet),
+        }
+    }
+
+    /// The configuration once the effect has come about, where it fits.
+    fn after(
+        &self,
+        one: &Configuration,
+        effect: &Effect,
+    ) -> Result<Option<Configuration>, NoMemory> {
+        if self.foresight.fit(one, effect)? == Fit::Not {
+            return Ok(None);
+        }
+        one.effected(effect.session, effect.act)
+    }
+
+    /// The configuration once all effects of other sessions that fit have come about, and then this one.
+    fn after_all(
+        &self,
+        one: &Configuration,
+        own: &Effect,
+    ) -> Result<Option<Configuration>, NoMemory> {
+        let mut here = one.copy()?;
+        for effect in self.effects.iter() {
+            if effect.session != own.session && self.foresight.fit(&here, effect)? != Fit::Not {
+                here = match here.once_effected(effect.session, effect.act)? {
+                    None => return Ok(None),
+                    Some(next) => next,
+                };
+            }
+        }
+        if self.foresight.fit(&here, own)? == Fit::Not {
+            return Ok(None);
+        }
+        here.once_effected(own.session, own.act)
+    }
+
+    /// Adds what the effect leads to from the configuration, alone and behind all others.
+    fn add_both(&mut self, one: &Configuration, own: &Effect) -> Result<(), NoMemory> {
+        self.left = self.left.saturating_sub(2);
+        let alone = self.after(one, own)?;
+        self.add(alone)?;
+        let behind = self.after_all(one, own)?;
+        self.add(behind)
+    }
+
+    /// Adds what the effect leads to from the configuration at this index.
+    fn add_effect(&mut self, index: usize, effect: &Effect) -> Result<(), NoMemory> {
+        let found = match self.known.get(index) {
+            None => None,
+            Some(one) => self.after(one, effect)?,
+        };
+        if found.is_some() {
+            self.left = self.left.saturating_sub(1);
+        }
+        self.add(found)
+    }
+
+    /// Adds what each effect leads to from the configuration at this index, unless the session is answered there.
+    fn add_effects(&mut self, index: usize, session: SessionNo) -> Result<(), NoMemory> {
+        if let Some(one) = self.known.get(index)
+            && one.is_answered(session)
+        {
+            return Ok(());
+        }
+        for at in 0..self.effects.len() {
+            if let Some(effect) = self.effects.get(at).copied() {
+                self.add_effect(index, &effect)?;
+            }
+        }
+        Ok(())
+    }
+
+    /// Whether more configurations may be looked at.
+    fn looks_on(&self) -> bool {
+        let count = self.known.len();
+        self.left > 0
+            && count < self.width.saturating_mul(SIGHT)
+            && has_room(count, self.index.rows())
+    }
+
+    /// Adds what fits, as few effects as can be in front.
+    fn look_on(&mut self, session: SessionNo) -> Result<(), NoMemory> {
+        for index in 0..self.width.saturating_mul(SIGHT) {
+            if index >= self.known.len() || !self.looks_on() {
+                return Ok(());
+            }
+            self.add_effects(index, session)?;
+        }
+        Ok(())
+    }
+
+    /// Adds what can come before an event of the session: in front, from each configuration, what the session has called for
+    /// alone, and behind all that fits.
+    fn prepare(&mut self, session: SessionNo) -> Result<(), NoMemory> {
+        let own = Effect::of(session);
+        let before = mem::replace(&mut self.known, Vec::new(self.alloc));
+        let mut open = Vec::new(self.alloc);
+        self.index.clear();
+        for one in before {
+            if one.can_take_effect(own.session, own.act) {
+                self.add_both(&one, &own)?;
+                open.push(one)?;
+            } else {
+                self.known.push(one)?;
+            }
+        }
+        for one in open {
+            self.known.push(one)?;
+        }
+        self.look_on(session)
+    }
+
+    /// Whether an open call of a session that is gone may be in the way of the event.
+    fn is_unheard(&self, session: SessionNo) -> bool {
+        self.known.iter().any(|one| one.has_unheard(session))
+    }
+
+    /// The session of which more has to be looked at before the event.
+    fn aim(&self, event: &Event) -> Option<SessionNo> {
+        match event {
+            Event::Return(session, _) => Some(*session),
+            Event::Unknown(session) => Some(*session),
+            Event::Call(session, _) => {
+                if self.is_unheard(*session) {
+                    Some(*session)
+                } else {
+                    None
+                }
+            }
+            Event::Lost(_) => None,
+        }
+    }
+
+    /// Keeps the best of these configurations.
+    fn keep(&mut self, known: Vec<Configuration>) -> Result<(), NoMemory> {
+        self.index.clear();
+        for one in known {
+            self.add(Some(one))?;
+        }
+        let all = mem::replace(&mut self.known, Vec::new(self.alloc));
+        self.known = best_of(self.alloc, all, &self.foresight, self.width)?;
+        Ok(())
+    }
+
+    /// Goes over the event at this place. Where no configuration is left, the search has failed.
+    pub fn see(&mut self, place: usize) -> Result<(), NoMemory> {
+        let Some(event) = self.events.get(place) else {
+            return Ok(());
+        };
+        if let Some(session) = self.aim(event) {
+            self.prepare(session)?;
+        }
+        let mut ready = mem::replace(&mut self.known, Vec::new(self.alloc));
+        // They are seen from the last one on.
+        ready.reverse();
+        let seen = observe_all(self.alloc, ready, &mut self.index, event)?;
+        self.foresight.follow(place);
+        self.keep(seen)
+    }
+
+    /// How many effects may still be tried.
+    pub fn left(&self) -> u64 {
+        self.left
+    }
+}

@@ -1,0 +1,71 @@
+//! The best of many configurations.
+
+use crate::configuration::Configuration;
+use crate::foresight::Foresight;
+use std::alloc::Global;
+use xa_xid::NoMemory;
+
+/// Stuck calls of the sessions are fewer.
+const COUNTS: usize = 17;
+
+/// How many calls are stuck in each of the configurations.
+fn stuck_counts(
+    alloc: Global,
+    known: &[Configuration],
+    foresight: &Foresight,
+) -> Result<Vec<usize>, NoMemory> {
+    let mut counts = Vec::new(alloc);
+    for one in known {
+        let count = foresight.stuck_count(one)?;
+        counts.push(count)?;
+    }
+    Ok(counts)
+}
+
+/// The greatest count that is among the `width` least ones.
+fn greatest_kept(counts: &[usize], width: usize) -> usize {
+    let mut sum: usize = 0;
+    for count in 0..COUNTS {
+        for other in counts {
+            if *other == count {
+                sum = sum.saturating_add(1);
+            }
+        }
+        if sum >= width {
+            return count;
+        }
+    }
+    COUNTS
+}
+
+/// Those `width` configurations in which the fewest calls are stuck, the earlier ones of those in which as many are.
+pub fn best_of(
+    alloc: Global,
+    known: Vec<Configuration>,
+    foresight: &Foresight,
+    width: usize,
+) -> Result<Vec<Configuration>, NoMemory> {
+    if known.len() <= width {
+        return Ok(known);
+    }
+    let counts = stuck_counts(alloc, known.as_slice(), foresight)?;
+    let greatest = greatest_kept(counts.as_slice(), width);
+    let mut best = Vec::new(alloc);
+    let mut spare = Vec::new(alloc);
+    let mut index: usize = 0;
+    for one in known {
+        let count = counts.get(index).copied().unwrap_or(COUNTS);
+        index = index.saturating_add(1);
+        if count < greatest {
+            best.push(one)?;
+        } else if count == greatest {
+            spare.push(one)?;
+        }
+    }
+    for one in spare {
+        if best.len() < width {
+            best.push(one)?;
+        }
+    }
+    Ok(best)
+}

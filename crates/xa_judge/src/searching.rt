@@ -1,0 +1,67 @@
+//! A search for one order.
+
+use crate::beam::Beam;
+use crate::event::Event;
+use crate::known::opening;
+use crate::moves::Move;
+use crate::progress::Progress;
+use crate::trunk::{path_of, share};
+use std::alloc::Global;
+use xa_server::Server;
+use xa_xid::NoMemory;
+
+/// So many configurations are kept at a time, and where none of those is left, then so many.
+const WIDTHS: [usize; 3] = [8, 32, 256];
+
+/// The search gives up after so many effects, and so many more for each event.
+const EFFECTS: u64 = 500_000;
+
+const EFFECTS_EACH: u64 = 64;
+
+/// Moves that may lead through all of the events, where some are found with so many configurations at a time and so many effects,
+/// which are taken off.
+fn moves_within<P: Progress>(
+    alloc: Global,
+    base: &Server,
+    events: &[Event],
+    width: usize,
+    left: &mut u64,
+    progress: &mut P,
+) -> Result<Option<Vec<Move>>, NoMemory> {
+    let mut beam = Beam::new(alloc, events, opening(alloc, base)?, width, *left)?;
+    let mut trunk = Vec::new(alloc);
+    for place in 0..events.len() {
+        progress.judged(place as u64, events.len() as u64, beam.known.len() as u64);
+        beam.see(place)?;
+        *left = beam.left();
+        if *left == 0 || beam.known.is_empty() {
+            return Ok(None);
+        }
+        share(alloc, place, &mut trunk, &mut beam.known)?;
+    }
+    if beam.known.is_empty() {
+        return Ok(None);
+    }
+    Ok(Some(path_of(trunk, beam.known.as_slice())?))
+}
+
+/// Moves that may lead through all of the events, where the search finds some.
+///
+/// It looks at no order in which a call is answered otherwise than it returns, and keeps the configurations in which the fewest open
+/// calls would be; first few, then more.
+pub fn moves_through<P: Progress>(
+    alloc: Global,
+    base: &Server,
+    events: &[Event],
+    progress: &mut P,
+) -> Result<Option<Vec<Move>>, NoMemory> {
+    let all = events.len() as u64;
+    let mut left = all.saturating_mul(EFFECTS_EACH).saturating_add(EFFECTS);
+    for width in WIDTHS {
+        let found = moves_within(alloc, base, events, width, &mut left, progress)?;
+        if found.is_some() {
+            return Ok(found);
+        }
+    }
+    Ok(None)
+}
