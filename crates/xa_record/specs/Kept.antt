@@ -12,9 +12,9 @@ use Rattle.std.specs.Option.{option_map}
 use Rattle.xa_record.specs.declared.line_event.LineEvent.{LineEvent}
 use Rattle.xa_record.specs.declared.line_event.LineEvent.TheVariants.{Call, Return, Unknown, Lost}
 use Rattle.xa_record.specs.declared.shown.Shown.{Shown as ShownRead}
-use Rattle.xa_record.specs.declared.shown.Shown.TheVariants.{Ok as OkRead, Value as ValueRead, Rows as ManyRead, Error as ErrorRead}
+use Rattle.xa_record.specs.declared.shown.Shown.TheVariants.{Ok as OkRead, None as NoneRead, Value as ValueRead, Rows as ManyRead, Error as ErrorRead}
 use Rattle.xa_record.specs.declared.line.RecordLine.{RecordLine}
-use Rattle.xa_record.specs.declared.line.RecordLine.TheVariants.{Nothing as NothingRead, Bad as BadRead, Happens, Rows as RowsRead, Closed as ClosedRead}
+use Rattle.xa_record.specs.declared.line.RecordLine.TheVariants.{Nothing as NothingRead, Bad as BadRead, Happens, Value as OneRead, Rows as RowsRead, Closed as ClosedRead}
 use Rattle.xa_record.specs.declared.line_event.NumberedEvent.{NumberedEvent as NumberedRead}
 use Rattle.xa_record.specs.declared.pending.Pending.{Pending}
 use Rattle.xa_record.specs.declared.notes.Notes.{Notes as NotesRead}
@@ -30,8 +30,9 @@ use Rattle.xa_record.specs.Reports.{Reason, Report, Faulty, Empty, Legal, Illega
 -- what a return shows
 abbrev pub shown_kept : ShownRead → Shown
 shown_kept OkRead = ShowsOk
-shown_kept (ValueRead value) = ShowsValue value
-shown_kept (ManyRead rows) = ShowsRows rows.items
+shown_kept NoneRead = ShowsValue None
+shown_kept (ValueRead value) = ShowsValue (Some value.value)
+shown_kept (ManyRead rows) = ShowsRows rows.value.items
 shown_kept (ErrorRead number) = ShowsError number
 
 -- what happens to a session
@@ -46,6 +47,7 @@ abbrev pub line_kept : RecordLine → LineSaid
 line_kept NothingRead = Nothing
 line_kept BadRead = Bad
 line_kept (Happens line_event) = Says (told_kept line_event)
+line_kept (OneRead session value) = Says (Returns session (ShowsValue (Some value)))
 line_kept (RowsRead session count) = Awaits session count
 line_kept (ClosedRead session) = Closed session
 
@@ -56,7 +58,7 @@ numbered_kept numbered = record { number = numbered.number; told = told_kept num
 -- rows that are still to come
 abbrev pub awaited_kept : Pending → Awaited
 awaited_kept pending =
-    record { session = pending.session; number = pending.number; missing = pending.missing; rows = pending.rows.items; faults = pending.faults.items }
+    record { session = pending.session; number = pending.number; missing = pending.missing; rows = pending.rows.value.items; faults = pending.faults.items }
 
 -- what was read so far
 abbrev pub notes_kept : NotesRead → Notes

@@ -46,8 +46,8 @@ fn seen_of(
 {
     match shown {
         Shown::Ok => Ok(Seen::Ok),
-        Shown::Value(None) => Ok(Seen::Value(None)),
-        Shown::Value(Some(value)) => Ok(Seen::Value(Some(copy_of(value)))),
+        Shown::None => Ok(Seen::Value(None)),
+        Shown::Value(value) => Ok(Seen::Value(Some(copy_of(value)))),
         Shown::Rows(rows) => Ok(Seen::Rows(ascending(rows)?)),
         Shown::Error(number) => {
             let others = others_for(alloc, allowances, kind, *number)?;

@@ -1,9 +1,9 @@
 //! What a line of a record says.
-ghost use Rattle.std.specs.Prelude.{◌≡◌};
+ghost use Rattle.std.specs.Prelude.{◌≡◌, Some};
 ghost use Rattle.xa_lines.specs.Script.{first_word, behind_word as behind_word_of, number_of_word};
 ghost use Rattle.xa_record.specs.Rows.{leading_number as leading_number_of};
 ghost use Rattle.xa_record.specs.Lines.{alone, is_silent as is_silent_line, trimmed as trimmed_text, value_said, rows_said, error_said};
-ghost use Rattle.xa_record.specs.Lines.{return_said, unknown_said, loss_said, session_said, reading_of_line, Says, Awaits, Calls, Returns, ReturnsUnknown, Leaves, Closed};
+ghost use Rattle.xa_record.specs.Lines.{return_said, unknown_said, loss_said, session_said, reading_of_line, Says, Awaits, Calls, Returns, ReturnsUnknown, Leaves, Closed, ShowsValue};
 ghost use Rattle.xa_record.specs.Kept.{shown_kept, line_kept};
 ghost use Rattle.xa_xid.specs.Literal.{literal_ahead};
 
@@ -11,7 +11,7 @@ use crate::line_event::LineEvent;
 use crate::rows::{behind_word, leading_number};
 use crate::shown::Shown;
 use xa_lines::{ScriptLine, is_comment, number_in, read_line, split_word};
-use xa_xid::{ByteClass, SessionNo, literal_of, skip_blanks};
+use xa_xid::{ByteClass, Bytes, SessionNo, literal_of, skip_blanks};
 
 /// What a line of a record says.
 #[derive(Drop)]
@@ -22,6 +22,8 @@ pub enum RecordLine<'a> {
     Bad,
     /// This happens.
     Happens(LineEvent<'a>),
+    /// A call of the session returns this value.
+    Value(SessionNo, Bytes),
     /// A call of the session returns so many rows, which stand on the next lines.
     Rows(SessionNo, u64),
     /// The client of the session found that the server had closed its connection.
@@ -61,12 +63,23 @@ fn alone(session: SessionNo, shown: Shown, rest: &[u8]) -> RecordLine<'static>
     }
 }
 
+/// The return of a value, where nothing stands behind it.
+fn value_alone(session: SessionNo, value: Bytes, rest: &[u8]) -> RecordLine<'static>
+    ensures { line_kept result ≡ alone (Says (Returns session (ShowsValue (Some value)))) rest.now }
+{
+    if rest.is_empty() {
+        RecordLine::Value(session, value)
+    } else {
+        RecordLine::Bad
+    }
+}
+
 /// What `VALUE` says, with the text behind it.
 fn value(session: SessionNo, text: &[u8]) -> RecordLine<'static>
     ensures { line_kept result ≡ value_said session (literal_ahead text.now) }
 {
     match literal_of(text) {
-        Ok((value, rest)) => alone(session, Shown::Value(Some(value)), skip_blanks(rest)),
+        Ok((value, rest)) => value_alone(session, value, skip_blanks(rest)),
         Err(_) => RecordLine::Bad,
     }
 }
@@ -112,7 +125,7 @@ fn returned(session: SessionNo, word: &[u8], text: &[u8]) -> RecordLine<'static>
     if word == b"OK".as_slice() {
         alone(session, Shown::Ok, text)
     } else if word == b"NONE".as_slice() {
-        alone(session, Shown::Value(None), text)
+        alone(session, Shown::None, text)
     } else if word == b"VALUE".as_slice() {
         value(session, text)
     } else if word == b"ROWS".as_slice() {

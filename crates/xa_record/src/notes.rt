@@ -171,12 +171,16 @@ impl<'a> Notes<'a> {
             RecordLine::Nothing => Ok(()),
             RecordLine::Bad => self.blame(number, LineFault::NotALine),
             RecordLine::Happens(line_event) => self.note(number, line_event),
+            RecordLine::Value(session, value) => {
+                let boxed = Box::new(alloc, value)?;
+                self.note(number, LineEvent::Return(session, Shown::Value(boxed)))
+            }
             RecordLine::Closed(session) => self.note_closed(number, session),
             RecordLine::Rows(session, missing) => self.wait_for(Pending {
                 session,
                 number,
                 missing,
-                rows: Vec::new(alloc),
+                rows: Box::new(alloc, Vec::new(alloc))?,
                 faults: Vec::new(alloc),
             }),
         }

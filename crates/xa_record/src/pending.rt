@@ -12,7 +12,7 @@ pub struct Pending {
     /// How many are still to come.
     pub missing: u64,
     /// Those that have come.
-    pub rows: Vec<Xid>,
+    pub rows: Box<Vec<Xid>>,
     /// What is written for the lines among them that aren't rows: behind what is written for the return's own line.
     pub faults: Vec<u8>,
 }
