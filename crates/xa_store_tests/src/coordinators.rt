@@ -6,7 +6,7 @@ ghost use Rattle.xa_store.specs.Passes.{identity_of, log_of};
 
 use crate::meddled::name;
 use crate::renewal::{Way, gone_on, left};
-use crate::stores::{both, joined, next_session, opened, pushed};
+use crate::stores::{both, joined, next_session, opened, pushed, two_passes};
 use std::alloc::Global;
 use std::process::Abort;
 use std::sync::Wait;
@@ -165,28 +165,33 @@ fn reads(
     }
 }
 
-/// A store of three sessions: the first two, and its reader.
-fn seated<'a>(
+/// Coordinators of two names over the first two sessions of two stores.
+fn two_names<'a>(
     rt: &impl Abort,
-    store: &'a Store,
-    mut passes: Vec<Pass>,
-) -> (Session<'a, Log>, Session<'a, Log>, Session<'a, Log>)
-    requires { All (λ pass. log_of pass ≡ identity_of store.now.log) passes.items }
+    alloc: Global,
+    one: &'a Store,
+    passes_0: &mut Vec<Pass>,
+    two: &'a Store,
+    passes_1: &mut Vec<Pass>,
+) -> (Coordinator<Session<'a, Log>>, Coordinator<Session<'a, Log>>)
+    requires one { All (λ pass. log_of pass ≡ identity_of one.now.log) passes_0.old.items }
+    requires two { All (λ pass. log_of pass ≡ identity_of two.now.log) passes_1.old.items }
+    ensures first { vec_len result.0.stores ≡ 2 }
+    ensures second { vec_len result.1.stores ≡ 2 }
 {
-    let reader = next_session(rt, store, &mut passes);
-    let (first, second) = both(rt, store, &mut passes);
-    (first, second, reader)
+    let (first_0, second_0) = both(rt, one, passes_0);
+    let (first_1, second_1) = both(rt, two, passes_1);
+    let first = over(rt, alloc, b'c', first_0, first_1);
+    (first, over(rt, alloc, b'd', second_0, second_1))
 }
 
 #[test]
 fn coordinators_of_two_names_leave_each_others_branches(rt: HostRuntime) {
     let alloc = rt.alloc();
-    let (one, passes_0) = opened(&rt, alloc, 32, 3);
-    let (two, passes_1) = opened(&rt, alloc, 32, 3);
-    let (first_0, second_0, mut reader) = seated(&rt, &one, passes_0);
-    let (first_1, second_1, _) = seated(&rt, &two, passes_1);
-    let mut first = over(&rt, alloc, b'c', first_0, first_1);
-    let mut second = over(&rt, alloc, b'd', second_0, second_1);
+    let (one, mut passes_0) = opened(&rt, alloc, 32, 3);
+    let (two, mut passes_1) = opened(&rt, alloc, 32, 2);
+    let mut reader = next_session(&rt, &one, &mut passes_0);
+    let (mut first, mut second) = two_names(&rt, alloc, &one, &mut passes_0, &two, &mut passes_1);
     names_stand_apart(&rt, alloc, &mut first, &mut second);
     assert!(rt; reads(&rt, alloc, &mut reader, b"GET 'k'", b"NONE"));
     assert!(rt; reads(&rt, alloc, &mut reader, b"GET 'm'", b"VALUE 0x76"));
@@ -228,16 +233,70 @@ fn renewed<R: Abort + Wait>(rt: &R, alloc: Global, store: Store, reader: Pass) -
     gone_on(rt, alloc, Way::Renew, store, passes, b"")
 }
 
-/// A store of two sessions, and their passes.
-fn two_passes(rt: &impl Abort, alloc: Global, capacity: u64) -> (Store, Pass, Pass)
-    ensures own { log_of result.1 ≡ identity_of result.0.log }
-    ensures reader { log_of result.2 ≡ identity_of result.0.log }
+/// Both of two stores vote, and the coordinator is gone with its sessions.
+fn votes_over<R: Abort + Wait>(
+    rt: &R,
+    alloc: Global,
+    one: &Store,
+    own_0: Pass,
+    two: &Store,
+    own_1: Pass,
+    decisions: &mut Decisions,
+    decides: bool,
+    is_full: bool,
+)
+    requires one { log_of own_0 ≡ identity_of one.now.log }
+    requires two { log_of own_1 ≡ identity_of two.now.log }
 {
-    let (store, mut passes) = opened(rt, alloc, capacity, 2);
-    let (Some(reader), Some(own)) = (passes.pop(), passes.pop()) else {
-        panic!(rt; "two passes")
+    let first = joined(rt, one, own_0);
+    let second = joined(rt, two, own_1);
+    let mut coordinator = over(rt, alloc, b'c', first, second);
+    votes(rt, alloc, &mut coordinator, decisions, decides, is_full);
+}
+
+/// Another coordinator of the name commits both branches, or rolls them back, and then finds nothing.
+fn ends<S: Speak, R: Abort + Wait>(
+    rt: &R,
+    alloc: Global,
+    coordinator: &mut Coordinator<S>,
+    decisions: &mut Decisions,
+    decides: bool,
+) {
+    let (committed, rolled_back) = if decides { (2, 0) } else { (0, 2) };
+    recovers(rt, alloc, coordinator, decisions, committed, rolled_back);
+    recovers(rt, alloc, coordinator, decisions, 0, 0);
+}
+
+/// Whether a reader finds the row where it was decided, and else none.
+fn finds(rt: &impl Wait, alloc: Global, reader: &mut Session<'_, Log>, decides: bool) -> bool {
+    let wanted = if decides {
+        b"VALUE 0x76".as_slice()
+    } else {
+        b"NONE"
     };
-    (store, own, reader)
+    reads(rt, alloc, reader, b"GET 'k'", wanted)
+}
+
+/// Another coordinator of the name recovers in two stores, and their readers find what was decided.
+fn ends_over<R: Abort + Wait>(
+    rt: &R,
+    alloc: Global,
+    one: &Store,
+    mut passes_0: Vec<Pass>,
+    two: &Store,
+    mut passes_1: Vec<Pass>,
+    decisions: &mut Decisions,
+    decides: bool,
+)
+    requires one { All (λ pass. log_of pass ≡ identity_of one.now.log) passes_0.items }
+    requires two { All (λ pass. log_of pass ≡ identity_of two.now.log) passes_1.items }
+{
+    let (first, mut reader_0) = both(rt, one, &mut passes_0);
+    let (second, mut reader_1) = both(rt, two, &mut passes_1);
+    let mut anew = over(rt, alloc, b'c', first, second);
+    ends(rt, alloc, &mut anew, decisions, decides);
+    assert!(rt; finds(rt, alloc, &mut reader_0, decides));
+    assert!(rt; finds(rt, alloc, &mut reader_1, decides));
 }
 
 /// Both stores vote, the coordinator is gone with its sessions, and the stores are renewed. Another one of the name recovers there: it
@@ -246,33 +305,30 @@ fn goes_on_renewed<R: Abort + Wait>(rt: &R, alloc: Global, capacity: u64, decide
     let mut decisions = Decisions::new(alloc);
     let (one, own_0, reader_0) = two_passes(rt, alloc, capacity);
     let (two, own_1, reader_1) = two_passes(rt, alloc, capacity);
-    let first = joined(rt, &one, own_0);
-    let second = joined(rt, &two, own_1);
-    let mut coordinator = over(rt, alloc, b'c', first, second);
-    votes(
+    let is_full = capacity == 4;
+    votes_over(
         rt,
         alloc,
-        &mut coordinator,
+        &one,
+        own_0,
+        &two,
+        own_1,
         &mut decisions,
         decides,
-        capacity == 4,
+        is_full,
     );
-    drop(coordinator);
-    let (one, mut passes_0) = renewed(rt, alloc, one, reader_0);
-    let (two, mut passes_1) = renewed(rt, alloc, two, reader_1);
-    let (first, mut reader_0) = both(rt, &one, &mut passes_0);
-    let (second, mut reader_1) = both(rt, &two, &mut passes_1);
-    let mut anew = over(rt, alloc, b'c', first, second);
-    let (committed, rolled_back) = if decides { (2, 0) } else { (0, 2) };
-    recovers(rt, alloc, &mut anew, &mut decisions, committed, rolled_back);
-    recovers(rt, alloc, &mut anew, &mut decisions, 0, 0);
-    let wanted = if decides {
-        b"VALUE 0x76".as_slice()
-    } else {
-        b"NONE"
-    };
-    assert!(rt; reads(rt, alloc, &mut reader_0, b"GET 'k'", wanted));
-    assert!(rt; reads(rt, alloc, &mut reader_1, b"GET 'k'", wanted));
+    let (one, passes_0) = renewed(rt, alloc, one, reader_0);
+    let (two, passes_1) = renewed(rt, alloc, two, reader_1);
+    ends_over(
+        rt,
+        alloc,
+        &one,
+        passes_0,
+        &two,
+        passes_1,
+        &mut decisions,
+        decides,
+    );
 }
 
 #[test]
@@ -283,28 +339,24 @@ fn transaction_ends_as_decided_on_renewed_stores(rt: HostRuntime) {
     }
 }
 
-#[test]
-fn numbers_are_spent(rt: HostRuntime) {
-    let alloc = rt.alloc();
-    let (store, own, reader) = two_passes(&rt, alloc, 1);
-    let coordinator = over(
-        &rt,
-        alloc,
-        b'c',
-        joined(&rt, &store, own),
-        joined(&rt, &store, reader),
-    );
+/// A coordinator begins as many transactions as there are numbers, and no more.
+fn spends<S: Speak, R: Abort + Wait>(rt: &R, alloc: Global, coordinator: &Coordinator<S>) {
     let mut decisions = Decisions::new(alloc);
     for _ in 0..1_000_000 {
         assert!(rt; coordinator.begin(&mut decisions).is_ok());
     }
-    assert!(rt;
-        matches!(
-            coordinator.begin(&mut decisions),
-            Err(BeginFault::NumbersSpent)
-        )
-    );
+    let begun = coordinator.begin(&mut decisions);
+    assert!(rt; matches!(begun, Err(BeginFault::NumbersSpent)));
     assert!(rt; !decisions.is_decided(1_000_000) && !decisions.is_decided(0));
+}
+
+#[test]
+fn numbers_are_spent(rt: HostRuntime) {
+    let alloc = rt.alloc();
+    let (store, mut passes) = opened(&rt, alloc, 1, 2);
+    let (first, second) = both(&rt, &store, &mut passes);
+    let coordinator = over(&rt, alloc, b'c', first, second);
+    spends(&rt, alloc, &coordinator);
 }
 
 #[test]
@@ -317,15 +369,20 @@ fn branches_are_named_by_coordinator_number_and_store(rt: HostRuntime) {
 
 #[test]
 fn faults_have_their_numbers(rt: HostRuntime) {
-    assert_eq!(rt; BeginFault::NumbersSpent.number(), 1);
-    assert_eq!(rt; BeginFault::NoMemory.number(), 2);
-    assert_eq!(rt; WorkFault::Session(Fault::Full).number(), 1);
-    assert_eq!(rt; WorkFault::Refused(XaError::Nota).number(), 2);
-    assert_eq!(rt; WorkFault::Lost.number(), 3);
     let fault = Fault::Full;
-    assert_eq!(rt; RecoverFault::Session { store: 0, fault }.number(), 1);
-    assert_eq!(rt; RecoverFault::StillPrepared { store: 0 }.number(), 2);
-    assert_eq!(rt; RecoverFault::NoMemory.number(), 3);
     let error = XaError::Inval;
-    assert_eq!(rt; RecoverFault::Refused { store: 0, error }.number(), 4);
+    let numbers = [
+        (BeginFault::NumbersSpent.number(), 1),
+        (BeginFault::NoMemory.number(), 2),
+        (WorkFault::Session(Fault::Full).number(), 1),
+        (WorkFault::Refused(XaError::Nota).number(), 2),
+        (WorkFault::Lost.number(), 3),
+        (RecoverFault::Session { store: 0, fault }.number(), 1),
+        (RecoverFault::StillPrepared { store: 0 }.number(), 2),
+        (RecoverFault::NoMemory.number(), 3),
+        (RecoverFault::Refused { store: 0, error }.number(), 4),
+    ];
+    for (found, wanted) in numbers {
+        assert_eq!(rt; found, wanted);
+    }
 }

@@ -61,6 +61,50 @@ fn is_carried_out<S: Speak, T: Speak, R: Abort + Wait>(
     is_so
 }
 
+/// A transaction that works in one store or in both.
+fn works<S: Speak, T: Speak, R: Abort + Wait>(
+    rt: &R,
+    alloc: Global,
+    manager: &mut Manager<Fused<S>, T>,
+    is_alone: bool,
+) {
+    let begins = b"BEGIN = TRANSACTION 1\nWORK 1 0 PUT 'k','v' = OK\n";
+    survives(rt, alloc, manager, begins);
+    if !is_alone {
+        survives(rt, alloc, manager, b"WORK 1 1 PUT 'k','v' = OK\n");
+    }
+}
+
+/// Whether its vote is told.
+fn is_ready<S: Speak, T: Speak, R: Abort + Wait>(
+    rt: &R,
+    alloc: Global,
+    manager: &mut Manager<Fused<S>, T>,
+    is_alone: bool,
+) -> bool {
+    let vote = if is_alone {
+        b"ONE PHASE\n".as_slice()
+    } else {
+        b"READY\n"
+    };
+    is_carried_out(rt, alloc, manager, b"PREPARE 1", vote)
+}
+
+/// Whether its end is told.
+fn has_ended<S: Speak, T: Speak, R: Abort + Wait>(
+    rt: &R,
+    alloc: Global,
+    manager: &mut Manager<Fused<S>, T>,
+    commits: bool,
+) -> bool {
+    let end = if commits {
+        b"COMMITTED\n".as_slice()
+    } else {
+        b"ROLLED BACK\n"
+    };
+    is_carried_out(rt, alloc, manager, b"FINISH 1", end)
+}
+
 /// What a coordinator's course leaves in the two stores once it is recovered: whether the row is there.
 fn takes<S: Speak, T: Speak, R: Abort + Wait>(
     rt: &R,
@@ -68,36 +112,19 @@ fn takes<S: Speak, T: Speak, R: Abort + Wait>(
     manager: &mut Manager<Fused<S>, T>,
     course: Course,
 ) -> (bool, bool) {
-    survives(
-        rt,
-        alloc,
-        manager,
-        b"BEGIN = TRANSACTION 1\nWORK 1 0 PUT 'k','v' = OK\n",
-    );
     let is_alone = course == Course::WorksInOne;
-    if !is_alone {
-        survives(rt, alloc, manager, b"WORK 1 1 PUT 'k','v' = OK\n");
-    }
+    works(rt, alloc, manager, is_alone);
     if course == Course::Abandons {
         is_carried_out(rt, alloc, manager, b"ABANDON 1", b"ROLLED BACK\n");
         return (false, false);
     }
-    let vote = if is_alone {
-        b"ONE PHASE\n".as_slice()
-    } else {
-        b"READY\n"
-    };
-    let is_ready = is_carried_out(rt, alloc, manager, b"PREPARE 1", vote);
+    let is_ready = is_ready(rt, alloc, manager, is_alone);
     let is_decided = is_ready && course == Course::Decides;
     if is_decided {
         calls(rt, alloc, manager, b"DECIDE 1 = DECIDED\n");
     }
-    let end = if is_decided || (is_ready && is_alone) {
-        b"COMMITTED\n".as_slice()
-    } else {
-        b"ROLLED BACK\n"
-    };
-    let has_ended = is_carried_out(rt, alloc, manager, b"FINISH 1", end);
+    let commits = is_decided || (is_ready && is_alone);
+    let has_ended = has_ended(rt, alloc, manager, commits);
     assert!(rt; manager.decisions().is_decided(1) == is_decided);
     (
         is_decided || (is_alone && is_ready && has_ended),
@@ -117,6 +144,19 @@ const GONE: [&[u8]; 2] = [
     b"AT 1 XA RECOVER = ROWS 0\nAT 1 GET 'k' = NONE\nAT 1 DEL 'k' = OK\n",
 ];
 
+/// Whether a recovery ends. Else there was no memory for it.
+fn is_recovered<S: Speak, T: Speak, R: Abort + Wait>(
+    rt: &R,
+    alloc: Global,
+    manager: &mut Manager<Fused<S>, T>,
+) -> bool {
+    let answer = told(rt, alloc, manager, b"RECOVER");
+    let text = answer.as_slice();
+    let is_so = text.starts_with(b"RECOVERED");
+    assert!(rt; is_so || text.ends_with(b": out of memory\n"), "{text:?}");
+    is_so
+}
+
 /// A second coordinator of the name ends what the first left. Where there was no memory, it recovers again.
 fn recovers<S: Speak, T: Speak, R: Abort + Wait>(
     rt: &R,
@@ -127,27 +167,13 @@ fn recovers<S: Speak, T: Speak, R: Abort + Wait>(
     let (in_first, in_second) = takes(rt, alloc, manager, course);
     let is_decided = manager.decisions().is_decided(1);
     calls(rt, alloc, manager, b"STOP = STOPPED\n");
-    let answer = told(rt, alloc, manager, b"RECOVER");
-    let text = answer.as_slice();
-    if !text.starts_with(b"RECOVERED") {
-        assert!(rt; text.ends_with(b": out of memory\n"), "{text:?}");
-        let answer = told(rt, alloc, manager, b"RECOVER");
-        let text = answer.as_slice();
-        assert!(rt; text.starts_with(b"RECOVERED"), "{text:?}");
-    }
+    let is_recovered = is_recovered(rt, alloc, manager) || is_recovered(rt, alloc, manager);
+    assert!(rt; is_recovered, "out of memory twice");
     assert!(rt; manager.decisions().is_decided(1) == is_decided);
-    survives(
-        rt,
-        alloc,
-        manager,
-        if in_first { THERE[0] } else { GONE[0] },
-    );
-    survives(
-        rt,
-        alloc,
-        manager,
-        if in_second { THERE[1] } else { GONE[1] },
-    );
+    let first = if in_first { THERE[0] } else { GONE[0] };
+    survives(rt, alloc, manager, first);
+    let second = if in_second { THERE[1] } else { GONE[1] };
+    survives(rt, alloc, manager, second);
 }
 
 /// The sessions of the coordinator, and the other clients'.
@@ -166,6 +192,16 @@ fn seat<'a>(rt: &impl Abort, seats: &mut Seats<'a>, store: &'a Store, mut passes
     pushed(rt, &mut seats.readers, reader);
 }
 
+/// A coordinator of these sessions takes a course.
+fn swept_over<R: Abort + Wait>(rt: &R, alloc: Global, seats: Seats<'_>, course: Course) {
+    let Seats { sessions, readers } = seats;
+    if sessions.len() != 2 || readers.len() != 2 {
+        panic!(rt; "two seats")
+    }
+    let mut manager = Manager::new(alloc, sessions, readers);
+    recovers(rt, alloc, &mut manager, course);
+}
+
 /// A coordinator of two stores takes a course.
 fn swept<R: Abort + Wait>(rt: &R, alloc: Global, course: Course) {
     let (one, passes_0) = opened(rt, alloc, 16, 2);
@@ -176,12 +212,7 @@ fn swept<R: Abort + Wait>(rt: &R, alloc: Global, course: Course) {
     };
     seat(rt, &mut seats, &one, passes_0);
     seat(rt, &mut seats, &two, passes_1);
-    let Seats { sessions, readers } = seats;
-    if sessions.len() != 2 || readers.len() != 2 {
-        panic!(rt; "two seats")
-    }
-    let mut manager = Manager::new(alloc, sessions, readers);
-    recovers(rt, alloc, &mut manager, course);
+    swept_over(rt, alloc, seats, course);
 }
 
 #[test]

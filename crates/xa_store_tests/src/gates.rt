@@ -84,6 +84,11 @@ impl KeepsAccount {
             shut_from,
         }
     }
+
+    /// Whether it was told once, of two runs.
+    pub(crate) fn is_told_of_two(&self) -> bool {
+        self.announced.load(Ordering::SeqCst) == 1 && self.runs.load(Ordering::SeqCst) == 2
+    }
 }
 
 impl Gate for KeepsAccount {

@@ -10,6 +10,8 @@ mod courses;
 #[cfg(test)]
 mod gates;
 #[cfg(test)]
+mod histories;
+#[cfg(test)]
 mod machine;
 #[cfg(test)]
 mod meddled;
@@ -19,6 +21,8 @@ mod races;
 mod renewal;
 #[cfg(test)]
 mod replay;
+#[cfg(test)]
+mod rounds;
 #[cfg(test)]
 mod runs;
 #[cfg(test)]

@@ -119,6 +119,24 @@ fn count_of(accounts: &[u64; 3], number: u64) -> u64 {
     count
 }
 
+/// Whether the other client of a store finds what its account says.
+fn agrees_at<S: Speak, T: Speak, R: Abort + Wait>(
+    rt: &R,
+    alloc: Global,
+    manager: &mut Manager<Fused<S>, T>,
+    get: &[u8],
+    account: u64,
+    is_decided: bool,
+) -> bool {
+    let is_there = account & COMMITTED != 0 || (is_decided && account & ROLLED_BACK == 0);
+    let wanted = if is_there {
+        b"VALUE 0x76".as_slice()
+    } else {
+        b"NONE"
+    };
+    is_told(rt, alloc, manager, get, wanted)
+}
+
 /// Whether the other client of each store finds what the account says.
 fn agrees<S: Speak, T: Speak, R: Abort + Wait>(
     rt: &R,
@@ -127,19 +145,9 @@ fn agrees<S: Speak, T: Speak, R: Abort + Wait>(
     accounts: &[u64; 3],
     is_decided: bool,
 ) -> bool {
-    let gets = [b"AT 0 GET 'k'", b"AT 1 GET 'k'", b"AT 2 GET 'k'"];
-    for (account, get) in accounts.iter().zip(gets) {
-        let is_there = account & COMMITTED != 0 || (is_decided && account & ROLLED_BACK == 0);
-        let wanted = if is_there {
-            b"VALUE 0x76".as_slice()
-        } else {
-            b"NONE"
-        };
-        if !is_told(rt, alloc, manager, get, wanted) {
-            return false;
-        }
-    }
-    true
+    agrees_at(rt, alloc, manager, b"AT 0 GET 'k'", accounts[0], is_decided)
+        && agrees_at(rt, alloc, manager, b"AT 1 GET 'k'", accounts[1], is_decided)
+        && agrees_at(rt, alloc, manager, b"AT 2 GET 'k'", accounts[2], is_decided)
 }
 
 /// No branch is prepared.
@@ -148,28 +156,28 @@ AT 1 XA RECOVER = ROWS 0
 AT 2 XA RECOVER = ROWS 0
 ";
 
-/// Recovers, and holds what is found to the account.
-fn holds<S: Speak, T: Speak, R: Abort + Wait>(
+/// Whether a recovery that ends with this text found a full log, as its plan has it, and no row where nothing was decided.
+fn is_left<S: Speak, T: Speak, R: Abort + Wait>(
     rt: &R,
     alloc: Global,
     manager: &mut Manager<Fused<S>, T>,
-    accounts: &[u64; 3],
+    text: &[u8],
     plan: Plan,
     is_decided: bool,
-) {
-    let answer = told(rt, alloc, manager, b"RECOVER");
-    let text = answer.as_slice();
-    if text.starts_with(b"UNRECOVERED") {
-        assert!(rt;
-            plan.way == Way::Fill && text.ends_with(b": log full\n"),
-            "{plan:?}"
-        );
-        assert!(rt;
-            is_decided || agrees(rt, alloc, manager, &[0; 3], false),
-            "{plan:?}"
-        );
-        return;
-    }
+) -> bool {
+    plan.way == Way::Fill
+        && text.ends_with(b": log full\n")
+        && (is_decided || agrees(rt, alloc, manager, &[0; 3], false))
+}
+
+/// Whether a recovery that ends with this text has finished the branches of the account.
+fn is_recovered(
+    rt: &impl Abort,
+    alloc: Global,
+    text: &[u8],
+    accounts: &[u64; 3],
+    is_decided: bool,
+) -> bool {
     let prepared = count_of(accounts, PREPARED);
     let others = count_of(accounts, ANOTHER);
     let (committed, rolled_back) = if is_decided {
@@ -183,12 +191,36 @@ fn holds<S: Speak, T: Speak, R: Abort + Wait>(
     ) else {
         panic!(rt; "out of memory")
     };
-    assert!(rt; text == wanted.as_bytes(), "{plan:?}");
+    text == wanted.as_bytes()
+}
+
+/// Holds what a recovery that ends with this text has left to the account.
+fn holds<S: Speak, T: Speak, R: Abort + Wait>(
+    rt: &R,
+    alloc: Global,
+    manager: &mut Manager<Fused<S>, T>,
+    text: &[u8],
+    accounts: &[u64; 3],
+    plan: Plan,
+    is_decided: bool,
+) {
+    if text.starts_with(b"UNRECOVERED") {
+        let is_left = is_left(rt, alloc, manager, text, plan, is_decided);
+        assert!(rt; is_left, "{plan:?}");
+        return;
+    }
+    let is_recovered = is_recovered(rt, alloc, text, accounts, is_decided);
+    assert!(rt; is_recovered, "{plan:?}");
     calls(rt, alloc, manager, NOTHING);
-    assert!(rt;
-        agrees(rt, alloc, manager, accounts, is_decided),
-        "{plan:?}"
-    );
+    let agrees = agrees(rt, alloc, manager, accounts, is_decided);
+    assert!(rt; agrees, "{plan:?}");
+}
+
+/// What an account says; nothing happens in its store from now on.
+fn calmed(account: &AtomicU64) -> u64 {
+    let number = account.load(Ordering::SeqCst);
+    account.store(CALM, Ordering::SeqCst);
+    number
 }
 
 /// Runs one combination.
@@ -200,19 +232,47 @@ fn combination<S: Speak, T: Speak, R: Abort + Wait>(
     plan: Plan,
 ) {
     let is_decided = drive(rt, alloc, manager, plan.decides);
-    let mut found = [0; 3];
-    for (account, number) in accounts.iter().zip(found.iter_mut()) {
-        *number = account.load(Ordering::SeqCst);
-        account.store(CALM, Ordering::SeqCst);
-    }
-    assert!(rt;
-        !is_decided || count_of(&found, WAS_PREPARED) == 3,
-        "{plan:?}"
-    );
+    let found = [
+        calmed(&accounts[0]),
+        calmed(&accounts[1]),
+        calmed(&accounts[2]),
+    ];
+    let were_prepared = count_of(&found, WAS_PREPARED) == 3;
+    assert!(rt; !is_decided || were_prepared, "{plan:?}");
     assert!(rt; manager.decisions().is_decided(1) == is_decided);
     calls(rt, alloc, manager, b"STOP = STOPPED\n");
-    holds(rt, alloc, manager, &found, plan, is_decided);
+    let answer = told(rt, alloc, manager, b"RECOVER");
+    holds(
+        rt,
+        alloc,
+        manager,
+        answer.as_slice(),
+        &found,
+        plan,
+        is_decided,
+    );
     assert!(rt; manager.decisions().is_decided(1) == is_decided);
+}
+
+/// Runs the combination of a plan over three stores, or the script of calls where there is one.
+fn run_over<R: Abort + Wait>(
+    rt: &R,
+    alloc: Global,
+    seats: Seats<'_>,
+    accounts: &Accounts,
+    plan: Plan,
+    script: &[u8],
+) {
+    let Seats { sessions, readers } = seats;
+    if sessions.len() != 3 || readers.len() != 3 {
+        panic!(rt; "three seats")
+    }
+    let mut manager = Manager::new(alloc, sessions, readers);
+    if script.is_empty() {
+        combination(rt, alloc, &mut manager, accounts, plan);
+    } else {
+        calls(rt, alloc, &mut manager, script);
+    }
 }
 
 /// Opens three stores for a plan. Runs its combination, or the script of calls where there is one.
@@ -228,16 +288,7 @@ fn run<R: Abort + Wait>(rt: &R, alloc: Global, plan: Plan, script: &[u8]) {
     seat(rt, &mut seats, plan, 0, &one, passes_0, &accounts[0]);
     seat(rt, &mut seats, plan, 1, &two, passes_1, &accounts[1]);
     seat(rt, &mut seats, plan, 2, &three, passes_2, &accounts[2]);
-    let Seats { sessions, readers } = seats;
-    if sessions.len() != 3 || readers.len() != 3 {
-        panic!(rt; "three seats")
-    }
-    let mut manager = Manager::new(alloc, sessions, readers);
-    if script.is_empty() {
-        combination(rt, alloc, &mut manager, &accounts, plan);
-    } else {
-        calls(rt, alloc, &mut manager, script);
-    }
+    run_over(rt, alloc, seats, &accounts, plan, script);
 }
 
 /// 7 ways at 16 calls, decided and not: 224 combinations.
@@ -254,26 +305,10 @@ fn transaction_ends_alike_in_all_stores_whatever_happens_at_whichever_call(rt: H
     ];
     for way in ways {
         for call in 0..16 {
-            run(
-                &rt,
-                rt.alloc(),
-                Plan {
-                    way,
-                    call,
-                    decides: false,
-                },
-                b"",
-            );
-            run(
-                &rt,
-                rt.alloc(),
-                Plan {
-                    way,
-                    call,
-                    decides: true,
-                },
-                b"",
-            );
+            for decides in [false, true] {
+                let plan = Plan { way, call, decides };
+                run(&rt, rt.alloc(), plan, b"");
+            }
         }
     }
 }

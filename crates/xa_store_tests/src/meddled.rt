@@ -90,14 +90,18 @@ fn prepares<S: Speak>(rt: &impl Wait, other_client: &mut S, xid: &Xid) -> bool {
         && does(rt, other_client, &Statement::Prepare(xid.copy()))
 }
 
+/// Has another client start a branch and roll it back.
+fn rolls_back<S: Speak>(rt: &impl Wait, other_client: &mut S, xid: &Xid) -> bool {
+    does(rt, other_client, &Statement::Start(xid.copy()))
+        && does(rt, other_client, &Statement::End(xid.copy()))
+        && does(rt, other_client, &Statement::Rollback(xid.copy()))
+}
+
 /// Has another client add to the history until there is no room.
 fn fill<S: Speak>(rt: &impl Wait, other_client: &mut S, store: u8) {
     for number in 0..64 {
         let xid = xid_of_branch(&name(b'f'), number, store);
-        let has_room = does(rt, other_client, &Statement::Start(xid.copy()))
-            && does(rt, other_client, &Statement::End(xid.copy()))
-            && does(rt, other_client, &Statement::Rollback(xid));
-        if !has_room {
+        if !rolls_back(rt, other_client, &xid) {
             return;
         }
     }

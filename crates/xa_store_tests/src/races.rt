@@ -1,21 +1,22 @@
 //! Races of runs, in one history and in rounds, and the gates that let them pass.
+ghost use Rattle.std.specs.Prelude.{◌≡◌};
+ghost use Rattle.std.specs.List.{All};
+ghost use Rattle.xa_store.specs.Passes.{identity_of, log_of};
 
 use crate::gates::{CountsQuestions, KeepsAccount, Rendezvous, ShutsFirst, Watches};
-use crate::renewal::{Way, gone_on};
 use crate::runs::{entered, two_runs};
-use crate::stores::{both, joined, opened};
+use crate::stores::{joined, opened, three_passes, two_passes};
 use std::alloc::Global;
 use std::process::Abort;
 use std::sync::Wait;
 use std::sync::atomic::{AtomicU64, Ordering};
 use std::thread::Threads;
 use xa_server::{Reply, XaError};
-use xa_session::Answer;
+use xa_session::{Answer, Session};
 use xa_store::{
-    Gate, OpenGate, Outcome, RaceFault, ShuffledGate, TogetherGate, race, race_in_rounds,
+    Gate, Log, OpenGate, Outcome, RaceFault, Run, ShuffledGate, Store, TogetherGate, race,
+    race_in_rounds,
 };
-use xa_test_support::first_difference;
-use xa_words::Entry;
 use xa_xid::{SessionNo, Statement};
 
 /// Whether a session was answered that the branch is another's, at place 1.
@@ -24,7 +25,7 @@ fn is_dupid(answer: &Answer) -> bool {
 }
 
 /// Whether statements were carried out, one at each place from 0 on.
-fn are_done_in_order(answers: &[Answer]) -> bool {
+pub(crate) fn are_done_in_order(answers: &[Answer]) -> bool {
     answers.iter().enumerate().all(|(place, answer)| {
         answer.place == place as u64 && matches!(answer.reply, Reply::Ok)
     })
@@ -60,6 +61,11 @@ fn two_runs_start_one_branch_side_by_side(rt: HostRuntime) {
     }
 }
 
+/// Whether a race gave no history, no answers and no passes.
+fn is_nothing(outcome: &Outcome) -> bool {
+    outcome.history.is_empty() && outcome.answers.is_empty() && outcome.passes.is_empty()
+}
+
 #[test]
 fn race_without_runs_gives_nothing(rt: HostRuntime) {
     let alloc = rt.alloc();
@@ -67,13 +73,11 @@ fn race_without_runs_gives_nothing(rt: HostRuntime) {
     let Ok(outcome) = race(&rt, alloc, &store, Vec::new(alloc), &OpenGate) else {
         panic!(rt; "a fault")
     };
-    assert!(rt; outcome.history.is_empty() && outcome.answers.is_empty());
-    assert!(rt; outcome.passes.is_empty());
+    assert!(rt; is_nothing(&outcome));
     let Ok((_, outcome)) = race_in_rounds(&rt, alloc, store, Vec::new(alloc), &OpenGate) else {
         panic!(rt; "a fault")
     };
-    assert!(rt; outcome.history.is_empty() && outcome.answers.is_empty());
-    assert!(rt; outcome.passes.is_empty());
+    assert!(rt; is_nothing(&outcome));
 }
 
 /// The fault of a race of one session.
@@ -86,6 +90,19 @@ fn fault_of_one<G: Gate + Sync, R: Abort + Threads + Wait + Sync>(
 ) -> Option<RaceFault> {
     let (store, runs) = entered(rt, alloc, capacity, 1, script);
     race(rt, alloc, &store, runs, gate).err()
+}
+
+/// The fault of a race in rounds.
+fn fault_in_rounds<G: Gate + Sync, R: Abort + Threads + Wait + Sync>(
+    rt: &R,
+    alloc: Global,
+    capacity: u64,
+    sessions: u64,
+    script: &[u8],
+    gate: &G,
+) -> Option<RaceFault> {
+    let (store, runs) = entered(rt, alloc, capacity, sessions, script);
+    race_in_rounds(rt, alloc, store, runs, gate).err()
 }
 
 #[test]
@@ -110,58 +127,74 @@ fn gate_is_asked_once_before_each_statement(rt: HostRuntime) {
     assert_eq!(rt; gate.asked.load(Ordering::SeqCst), 4);
 }
 
+/// Whether a fault is that the gate shut session 1 out before its second statement.
+fn is_first_shut(fault: Option<RaceFault>) -> bool {
+    let session = SessionNo::of(1).unwrap();
+    fault == Some(RaceFault::GateShut { session, line: 1 })
+}
+
+/// A race, in which the gate shuts session 1 out before its second statement.
+fn shuts_first<R: Abort + Threads + Wait + Sync>(
+    rt: &R,
+    alloc: Global,
+    store: &Store,
+    runs: Vec<Run>,
+    gate: &ShutsFirst,
+)
+    requires { All (λ run. log_of run.pass ≡ identity_of store.now.log) runs.items }
+{
+    let fault = race(rt, alloc, store, runs, gate).err();
+    assert!(rt; is_first_shut(fault));
+}
+
+/// Whether a session is told, at place 4, of the branch 'b' alone.
+fn lists_the_branch(session: &mut Session<'_, Log>) -> bool {
+    match session.attempt(&Statement::Recover { convert: false }) {
+        Ok(
+            Answer {
+                place: 4,
+                reply: Reply::Recovered(xids),
+            },
+        ) => match xids.as_slice() {
+            [xid] => xid.gtrid.as_slice() == b"b".as_slice(),
+            _ => false,
+        },
+        _ => false,
+    }
+}
+
 /// Session 1 is shut out before its second statement, and session 2 prepares a branch, which session 3 then lists.
 #[test]
 fn gate_stops_one_run_and_no_other(rt: HostRuntime) {
     let alloc = rt.alloc();
     let script = b"1 XA START 'a'\n1 XA END 'a'\n2 XA START 'b'\n2 XA END 'b'\n2 XA PREPARE 'b'\n";
-    let (store, mut passes) = opened(&rt, alloc, 8, 3);
-    let (Some(third), Some(second), Some(first)) = (passes.pop(), passes.pop(), passes.pop()) else {
-        panic!(rt; "three passes")
-    };
+    let (store, first, second, third) = three_passes(&rt, alloc, 8);
     let runs = two_runs(&rt, alloc, &store, first, second, script);
-    let session = SessionNo::of(1).unwrap();
-    let fault = race(&rt, alloc, &store, runs, &ShutsFirst { others: 3 }).err();
-    assert!(rt; fault == Some(RaceFault::GateShut { session, line: 1 }));
+    shuts_first(&rt, alloc, &store, runs, &ShutsFirst { others: 3 });
     let mut third = joined(&rt, &store, third);
-    let listed = third.attempt(&Statement::Recover { convert: false });
-    let Ok(
-        Answer {
-            place: 4,
-            reply: Reply::Recovered(xids),
-        },
-    ) = listed
-    else {
-        panic!(rt; "not listed")
-    };
-    assert!(rt; xids.as_slice().len() == 1);
-    assert!(rt;
-        xids.as_slice()
-            .iter()
-            .all(|xid| xid.gtrid.as_slice() == b"b".as_slice())
-    );
+    assert!(rt; lists_the_branch(&mut third));
+}
+
+/// Two sessions, of which the first has two statements.
+const SHUT: &[u8] = b"1 XA START 'a'\n1 XA END 'a'\n2 XA START 'b'\n";
+
+/// A race of these, the second first.
+fn shuts_the_second_first<R: Abort + Threads + Wait + Sync>(rt: &R, alloc: Global) {
+    let (store, first, second) = two_passes(rt, alloc, 8);
+    let runs = two_runs(rt, alloc, &store, first, second, SHUT);
+    shuts_first(rt, alloc, &store, runs, &ShutsFirst { others: 0 });
 }
 
 #[test]
 fn fault_of_the_lowest_session_is_told(rt: HostRuntime) {
     let alloc = rt.alloc();
-    let script = b"1 XA START 'a'\n1 XA END 'a'\n2 XA START 'b'\n";
-    let (store, mut passes) = opened(&rt, alloc, 8, 2);
-    let (Some(second), Some(first)) = (passes.pop(), passes.pop()) else {
-        panic!(rt; "two passes")
-    };
-    let runs = two_runs(&rt, alloc, &store, first, second, script);
-    let session = SessionNo::of(1).unwrap();
-    let fault = race(&rt, alloc, &store, runs, &ShutsFirst { others: 0 }).err();
-    assert!(rt; fault == Some(RaceFault::GateShut { session, line: 1 }));
+    shuts_the_second_first(&rt, alloc);
 
-    let (store, runs) = entered(&rt, alloc, 8, 2, script);
-    let fault = race(&rt, alloc, &store, runs, &ShutsFirst { others: 0 }).err();
-    assert!(rt; fault == Some(RaceFault::GateShut { session, line: 1 }));
+    let (store, runs) = entered(&rt, alloc, 8, 2, SHUT);
+    shuts_first(&rt, alloc, &store, runs, &ShutsFirst { others: 0 });
 
-    let (store, runs) = entered(&rt, alloc, 8, 2, script);
-    let fault = race_in_rounds(&rt, alloc, store, runs, &ShutsFirst { others: 0 }).err();
-    assert!(rt; fault == Some(RaceFault::GateShut { session, line: 1 }));
+    let fault = fault_in_rounds(&rt, alloc, 8, 2, SHUT, &ShutsFirst { others: 0 });
+    assert!(rt; is_first_shut(fault));
 }
 
 /// Sessions 1 and 2 have four statements and three, session 3 none.
@@ -179,8 +212,7 @@ fn is_asked_in_order<R: Abort + Threads + Wait + Sync>(
     let (store, runs) = entered(rt, alloc, 8, 3, SPEAKERS);
     let is_answered = race(rt, alloc, &store, runs, &gate).is_ok();
     assert_eq!(rt; is_answered, shut_from == u64::MAX);
-    assert_eq!(rt; gate.announced.load(Ordering::SeqCst), 1);
-    assert_eq!(rt; gate.runs.load(Ordering::SeqCst), 2);
+    assert!(rt; gate.is_told_of_two());
     assert_eq!(rt; gate.first.load(Ordering::SeqCst), asked[0]);
     assert_eq!(rt; gate.second.load(Ordering::SeqCst), asked[1]);
     assert_eq!(rt; gate.odd.load(Ordering::SeqCst), 0);
@@ -197,10 +229,8 @@ fn gate_is_told_once_and_asked_before_each_line_until_it_says_no(rt: HostRuntime
 fn gate_of_a_race_in_rounds_is_told_once(rt: HostRuntime) {
     for (capacity, is_odd) in [(8, false), (1, true)] {
         let gate = KeepsAccount::new(u64::MAX);
-        let (store, runs) = entered(&rt, rt.alloc(), capacity, 3, SPEAKERS);
-        assert!(rt; race_in_rounds(&rt, rt.alloc(), store, runs, &gate).is_ok());
-        assert_eq!(rt; gate.announced.load(Ordering::SeqCst), 1);
-        assert_eq!(rt; gate.runs.load(Ordering::SeqCst), 2);
+        let fault = fault_in_rounds(&rt, rt.alloc(), capacity, 3, SPEAKERS, &gate);
+        assert!(rt; fault.is_none() && gate.is_told_of_two());
         assert_eq!(rt; gate.odd.load(Ordering::SeqCst) > 0, is_odd);
     }
 }
@@ -230,6 +260,11 @@ const WRITES: &[u8] =
     b"1 PUT 'k','a'\n1 PUT 'k','b'\n1 PUT 'k','c'\n1 PUT 'k','d'\n1 PUT 'k','e'\n1 PUT 'k','f'\n1 PUT 'k','g'
 1 PUT 'k','h'\n2 PUT 'k','a'\n2 PUT 'k','b'\n2 PUT 'k','c'\n2 PUT 'k','d'\n2 PUT 'k','e'\n2 PUT 'k','f'\n2 PUT 'k','g'\n2 PUT 'k','h'\n";
 
+/// Whether a write was carried out, at one of 16 places.
+fn is_done(answer: &Answer) -> bool {
+    answer.place < 16 && matches!(answer.reply, Reply::Ok)
+}
+
 /// Each write is carried out, at a place of its own.
 fn write_all<G: Gate + Sync, R: Abort + Threads + Wait + Sync>(rt: &R, alloc: Global, gate: &G) {
     let (store, runs) = entered(rt, alloc, 16, 2, WRITES);
@@ -239,9 +274,7 @@ fn write_all<G: Gate + Sync, R: Abort + Threads + Wait + Sync>(rt: &R, alloc: Gl
     assert_eq!(rt; outcome.history.len(), 16);
     assert_eq!(rt; outcome.answers.len(), 2);
     for answers in outcome.answers.iter() {
-        let are_done = answers.iter().all(|answer| answer.place < 16
-            && matches!(answer.reply, Reply::Ok));
-        assert!(rt; answers.len() == 8 && are_done);
+        assert!(rt; answers.len() == 8 && answers.iter().all(is_done));
     }
 }
 
@@ -260,81 +293,22 @@ fn gate_of_which_nobody_is_told_is_open(rt: HostRuntime) {
     assert!(rt; ShuffledGate::new(7).enter(session, u64::MAX));
 }
 
-/// Session 1 prepares a branch with a row, session 2 says nothing.
-const PREPARES: &[u8] = b"1 XA START 'a'\n1 PUT 'k','v'\n1 XA END 'a'\n1 XA PREPARE 'a'\n";
-
-/// What a race gives.
-#[derive(Drop)]
-struct Told {
-    history: Vec<Entry>,
-    answers: Vec<Vec<Answer>>,
-}
-
-/// A race in rounds of that: what it gives, and then the store is renewed.
-fn prepares<G: Gate + Sync, R: Abort + Threads + Wait + Sync>(
+/// Whether a race of two sessions, one of which starts the branch, found memory and threads.
+fn is_raced<R: Abort + Threads + Wait + Sync>(
     rt: &R,
     alloc: Global,
-    capacity: u64,
-    gate: &G,
-) -> Result<Told, RaceFault> {
-    let (store, runs) = entered(rt, alloc, capacity, 2, PREPARES);
-    assert_eq!(rt; runs.len(), 2);
-    let (store, outcome) = race_in_rounds(rt, alloc, store, runs, gate)?;
-    let Outcome {
-        history,
-        answers,
-        passes,
-    } = outcome;
-    let (store, mut passes) = gone_on(rt, alloc, Way::Renew, store, passes, b"");
-    let (mut first, mut second) = both(rt, &store, &mut passes);
-    let listed = b"2 XA RECOVER = 0 ROWS 1|1 1 0 a\n";
-    assert_eq!(rt;
-        first_difference(rt, alloc, &mut first, &mut second, listed),
-        None
-    );
-    Ok(Told { history, answers })
-}
-
-#[test]
-fn open_branch_goes_on_from_round_to_round(rt: HostRuntime) {
-    for capacity in 1..6 {
-        let Ok(outcome) = prepares(&rt, rt.alloc(), capacity, &OpenGate) else {
-            panic!(rt; "a fault with room for {capacity}")
-        };
-        assert_eq!(rt; outcome.history.len(), 4);
-        let [first, second] = outcome.answers.as_slice() else {
-            panic!(rt; "two lists")
-        };
-        assert!(rt; first.len() == 4 && are_done_in_order(first.as_slice()));
-        assert!(rt; second.is_empty());
-    }
-}
-
-#[test]
-fn gate_is_asked_again_for_a_statement_without_room(rt: HostRuntime) {
-    let gate = CountsQuestions {
-        asked: AtomicU64::new(0),
-        shut_from: u64::MAX,
-        is_in_order: false,
-    };
-    assert!(rt; prepares(&rt, rt.alloc(), 1, &gate).is_ok());
-    assert_eq!(rt; gate.asked.load(Ordering::SeqCst), 7);
-}
-
-#[test]
-fn gate_that_shuts_in_a_later_round_stops_the_race(rt: HostRuntime) {
-    let session = SessionNo::of(1).unwrap();
-    for (shut_from, line) in [(0, 0), (1, 1), (2, 1), (3, 2), (4, 2), (5, 3), (6, 3)] {
-        let gate = CountsQuestions {
-            asked: AtomicU64::new(0),
-            shut_from,
-            is_in_order: false,
-        };
-        let fault = prepares(&rt, rt.alloc(), 1, &gate).err();
-        assert!(rt;
-            fault == Some(RaceFault::GateShut { session, line }),
-            "shut from {shut_from}"
-        );
+    store: &Store,
+    runs: Vec<Run>,
+) -> bool
+    requires { All (λ run. log_of run.pass ≡ identity_of store.now.log) runs.items }
+{
+    match race(rt, alloc, store, runs, &OpenGate) {
+        Ok(outcome) => {
+            assert!(rt; outcome.history.len() == 1 && outcome.answers.len() == 2);
+            true
+        }
+        Err(RaceFault::NoMemory) | Err(RaceFault::ThreadRefused) => false,
+        Err(fault) => panic!(rt; "fault {}", fault.number()),
     }
 }
 
@@ -343,20 +317,9 @@ fn gate_that_shuts_in_a_later_round_stops_the_race(rt: HostRuntime) {
 fn race_survives(rt: HostRuntime) {
     let alloc = rt.alloc();
     let script = b"1 XA START 'a'\n2 XA START 'a'\n";
-    let (store, mut passes) = opened(&rt, alloc, 1024, 3);
-    let (Some(third), Some(second), Some(first)) = (passes.pop(), passes.pop(), passes.pop()) else {
-        panic!(rt; "three passes")
-    };
+    let (store, first, second, third) = three_passes(&rt, alloc, 1024);
     let runs = two_runs(&rt, alloc, &store, first, second, script);
-    let is_raced = match race(&rt, alloc, &store, runs, &OpenGate) {
-        Ok(outcome) => {
-            let lists = outcome.answers.as_slice();
-            assert!(rt; outcome.history.len() == 1 && lists.len() == 2);
-            true
-        }
-        Err(RaceFault::NoMemory) | Err(RaceFault::ThreadRefused) => false,
-        Err(fault) => panic!(rt; "fault {}", fault.number()),
-    };
+    let is_raced = is_raced(&rt, alloc, &store, runs);
     let mut third = joined(&rt, &store, third);
     let count = third.look();
     assert!(rt; count <= 1 && (!is_raced || count == 1));

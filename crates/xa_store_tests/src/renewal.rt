@@ -5,14 +5,14 @@ ghost use Rattle.std.specs.List.{All};
 ghost use Rattle.xa_store.specs.Passes.{identity_of, log_of};
 ghost use Rattle.xa_store.specs.Renewal.{AreGathered};
 
-use crate::stores::{both, next_session, opened, pushed};
+use crate::stores::{both, opened, pushed};
 use decision_log::OpenFault;
 use std::alloc::Global;
 use std::process::Abort;
 use std::sync::Wait;
 use xa_session::Session;
 use xa_store::{Log, Pass, Store};
-use xa_test_support::{first_difference, has_history};
+use xa_test_support::first_difference;
 use xa_words::Entry;
 
 /// Asks the sessions to leave together; they are back where there was no memory.
@@ -115,25 +115,37 @@ fn going_on(
     }
 }
 
-/// Sessions 1 and 2 play a script and leave. Session 1 may be dropped before session 2 leaves.
-fn generation<R: Abort + Wait>(
+/// Two sessions play a script.
+pub(crate) fn play<R: Abort + Wait>(
+    rt: &R,
+    alloc: Global,
+    first: &mut Session<'_, Log>,
+    second: &mut Session<'_, Log>,
+    script: &[u8],
+)
+    ensures first { log_of first.new.pass ≡ log_of first.old.pass }
+    ensures second { log_of second.new.pass ≡ log_of second.old.pass }
+{
+    let found = first_difference(rt, alloc, first, second, script);
+    assert_eq!(rt; found, None);
+}
+
+/// Sessions 1 and 2 of a store play a script. Session 1 may be dropped then; the others are given in order.
+fn played<'s, R: Abort + Wait>(
     rt: &R,
     alloc: Global,
     way: Way,
-    store: &Store,
+    store: &'s Store,
     mut passes: Vec<Pass>,
     script: &[u8],
-) -> Vec<Pass>
+) -> Vec<Session<'s, Log>>
     requires { All (λ pass. log_of pass ≡ identity_of store.now.log) passes.items }
-    ensures { AreGathered (identity_of store.now.log) result.items }
+    ensures some { 0 < length result.items }
+    ensures belongs { All (λ session. log_of session.pass ≡ identity_of store.now.log) result.items }
 {
-    assert_eq!(rt; passes.len(), 2);
     let (mut first, mut second) = both(rt, store, &mut passes);
     assert!(rt; first.number().get() == 1 && second.number().get() == 2);
-    assert_eq!(rt;
-        first_difference(rt, alloc, &mut first, &mut second, script),
-        None
-    );
+    play(rt, alloc, &mut first, &mut second, script);
     let mut sessions = Vec::new(alloc);
     if let Way::Drop = way {
         drop(first);
@@ -141,6 +153,23 @@ fn generation<R: Abort + Wait>(
         pushed(rt, &mut sessions, first);
     }
     pushed(rt, &mut sessions, second);
+    sessions
+}
+
+/// Sessions 1 and 2 play a script and leave. Session 1 may be dropped before session 2 leaves.
+fn generation<R: Abort + Wait>(
+    rt: &R,
+    alloc: Global,
+    way: Way,
+    store: &Store,
+    passes: Vec<Pass>,
+    script: &[u8],
+) -> Vec<Pass>
+    requires { All (λ pass. log_of pass ≡ identity_of store.now.log) passes.items }
+    ensures { AreGathered (identity_of store.now.log) result.items }
+{
+    assert_eq!(rt; passes.len(), 2);
+    let sessions = played(rt, alloc, way, store, passes, script);
     left(rt, alloc, store, sessions)
 }
 
@@ -168,6 +197,23 @@ pub(crate) fn gone_on<R: Abort + Wait>(
     }
 }
 
+/// A store plays a script, and goes on. Where it can't at first for lack of memory, it plays `still` in the history that it has.
+fn next_history<R: Abort + Wait>(
+    rt: &R,
+    alloc: Global,
+    way: Way,
+    opened: (Store, Vec<Pass>),
+    script: &[u8],
+    still: &[u8],
+) -> (Store, Vec<Pass>)
+    requires { All (λ pass. log_of pass ≡ identity_of opened.0.log) opened.1.items }
+    ensures { All (λ pass. log_of pass ≡ identity_of result.0.log) result.1.items }
+{
+    let (store, passes) = opened;
+    let passes = generation(rt, alloc, way, &store, passes, script);
+    gone_on(rt, alloc, way, store, passes, still)
+}
+
 /// A store with so much room plays each script in a history of its own, and goes on between them. Where it can't at first for lack of
 /// memory, it plays `still` in the history that it has.
 fn goes_on<R: Abort + Wait>(
@@ -179,11 +225,9 @@ fn goes_on<R: Abort + Wait>(
     still: &[u8],
 ) {
     let [first, second, third] = scripts;
-    let (store, passes) = opened(rt, alloc, capacity, 2);
-    let passes = generation(rt, alloc, way, &store, passes, first);
-    let (store, passes) = gone_on(rt, alloc, way, store, passes, still);
-    let passes = generation(rt, alloc, way, &store, passes, second);
-    let (store, passes) = gone_on(rt, alloc, way, store, passes, b"");
+    let opened = opened(rt, alloc, capacity, 2);
+    let opened = next_history(rt, alloc, way, opened, first, still);
+    let (store, passes) = next_history(rt, alloc, way, opened, second, b"");
     let _ = generation(rt, alloc, way, &store, passes, third);
 }
 
@@ -290,91 +334,4 @@ fn store_is_opened_for_its_sizes_alone(rt: HostRuntime) {
         let found = Store::open(rt.alloc(), capacity, sessions).err();
         assert_eq!(rt; found, Some(fault));
     }
-}
-
-/// Asks for the history of a store, with which its sessions stay.
-fn asked(alloc: Global, store: &Store, sessions: &mut Vec<Session<'_, Log>>) -> Option<Vec<Entry>>
-    requires { All (λ session. log_of session.pass ≡ identity_of store.now.log) sessions.old.items }
-    ensures { All (λ session. log_of session.pass ≡ identity_of store.now.log) sessions.new.items }
-{
-    store.history(alloc, sessions).ok()
-}
-
-/// The history of a store, asked for again where there was no memory.
-fn history_of(
-    rt: &impl Abort,
-    alloc: Global,
-    store: &Store,
-    sessions: &mut Vec<Session<'_, Log>>,
-) -> Vec<Entry>
-    requires { All (λ session. log_of session.pass ≡ identity_of store.now.log) sessions.old.items }
-{
-    if let Some(history) = asked(alloc, store, sessions) {
-        return history;
-    }
-    let Some(history) = asked(alloc, store, sessions) else {
-        panic!(rt; "refused twice")
-    };
-    history
-}
-
-/// What two sessions add.
-const ADDED: &[u8] = b"1 XA START 'a' = 0 OK
-1 XA END 'a' = 1 OK
-1 XA PREPARE 'a' = 2 OK
-2 PUT 'k','v' = 3 OK
-";
-
-/// The history of it.
-const HISTORY: &[u8] = b"1 XA START 'a'
-1 XA END 'a'
-1 XA PREPARE 'a'
-2 PUT 'k','v'
-";
-
-/// Two sessions add to a store's history; it is asked for, and each of them has all of it.
-#[test]
-fn store_survives(rt: HostRuntime) {
-    let alloc = rt.alloc();
-    let (store, mut passes) = opened(&rt, alloc, 8, 2);
-    let mut sessions = Vec::new(alloc);
-    let (mut first, mut second) = both(&rt, &store, &mut passes);
-    let found = first_difference(&rt, alloc, &mut first, &mut second, ADDED);
-    assert_eq!(rt; found, None);
-    pushed(&rt, &mut sessions, second);
-    pushed(&rt, &mut sessions, first);
-    let history = history_of(&rt, alloc, &store, &mut sessions);
-    assert_eq!(rt; history.len(), 4);
-    assert!(rt;
-        history
-            .iter()
-            .filter(|entry| entry.session().get() == 2)
-            .count()
-            == 1
-    );
-    for session in sessions.iter_mut() {
-        assert_eq!(rt; session.seen(), 4);
-        assert!(rt; has_history(session, HISTORY));
-    }
-}
-
-/// What sessions 2 and 3 are answered once session 1 was dropped: its branch is there, and holds its row.
-const LEFT: &[u8] = b"2 PUT 'k','x' = 2 ERROR 3572 (HY000): row locked by another branch
-2 XA START 'a' = 2 ERROR 1440 (XAE08): XAER_DUPID xid already exists
-3 XA RECOVER = 2 ROWS 0
-";
-
-#[test]
-fn dropped_session_leaves_its_branch(rt: HostRuntime) {
-    let alloc = rt.alloc();
-    let (store, mut passes) = opened(&rt, alloc, 8, 3);
-    let mut third = next_session(&rt, &store, &mut passes);
-    let (mut first, mut second) = both(&rt, &store, &mut passes);
-    let script = b"1 XA START 'a' = 0 OK\n1 PUT 'k','v' = 1 OK\n";
-    let found = first_difference(&rt, alloc, &mut first, &mut second, script);
-    assert_eq!(rt; found, None);
-    drop(first);
-    let found = first_difference(&rt, alloc, &mut second, &mut third, LEFT);
-    assert_eq!(rt; found, None);
-    assert!(rt; has_history(&mut second, b"1 XA START 'a'\n1 PUT 'k','v'\n"));
 }

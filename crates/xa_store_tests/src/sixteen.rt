@@ -7,10 +7,9 @@ use crate::replay::{Account, Told, explains};
 use decision_log::DecisionLog;
 use std::alloc::Global;
 use std::process::Abort;
-use std::snapshot::Snapshot;
 use std::sync::Wait;
 use std::thread;
-use std::thread::{Promise, Scope, Threads};
+use std::thread::Threads;
 use xa_session::{Fault, Session};
 use xa_statement::read_statement;
 use xa_store::{Log, Pass, Store};
@@ -123,43 +122,20 @@ fn works<'a, L: DecisionLog, R: Wait>(
     worked
 }
 
-/// What a thread promises of the session that it works with: that it is of the same log.
-#[derive(Drop)]
-struct StaysHome<'a, L: DecisionLog>(Snapshot<Session<'a, L>>);
-
-impl<'a, L: DecisionLog> Promise<Worked<'a, L>> for StaysHome<'a, L> {
-    ghost kept_by = { λ promise ended. L.belongs_to ended.session.pass ≡ L.belongs_to promise.0.value.pass };
-}
-
-/// Gives each session a thread of its own, and waits for all of them. All are started before the first is waited for. A session whose
-/// thread couldn't be started is missing.
-fn side_by_side<'s, 'a: 's, E, L: DecisionLog + Sync, R: Threads + Wait + Sync>(
-    scope: &Scope<'s, E>,
-    rt: &'s R,
+/// Gives each session a thread of its own, and waits for all of them. Nothing where there was no memory.
+fn side_by_side<'a, L: DecisionLog + Sync, R: Threads + Wait + Sync>(
+    rt: &R,
     alloc: Global,
     store: &Store,
-    mut sessions: Vec<Session<'a, L>>,
-) -> Vec<Worked<'a, L>>
+    sessions: Vec<Session<'a, L>>,
+) -> Option<Vec<Worked<'a, L>>>
 where
     L::Pass: Send + Drop,
     requires { All (λ session. L.belongs_to session.pass ≡ identity_of store.now.log) sessions.items }
-    ensures { All (λ worked. L.belongs_to worked.session.pass ≡ identity_of store.now.log) result.items }
+    ensures { IfSome result (λ all. All (λ worked. L.belongs_to worked.session.pass ≡ identity_of store.now.log) all.items) }
 {
-    let Some(session) = sessions.pop() else {
-        return Vec::new(alloc);
-    };
-    let thread = scope.spawn_with(
-        StaysHome(Snapshot::of(&session)),
-        move || works(rt, alloc, session),
-    );
-    let mut all = side_by_side(scope, rt, alloc, store, sessions);
-    let Ok(thread) = thread else {
-        return all;
-    };
-    let Ok(()) = all.push(thread.join(rt)) else {
-        return Vec::new(alloc);
-    };
-    all
+    let _store = store;
+    thread::map_vec(rt, sessions, &|session| works(rt, alloc, session)).ok()
 }
 
 /// Sessions of these passes.
@@ -218,35 +194,15 @@ fn apart<'a>(
     (sessions, accounts)
 }
 
-/// Sessions work side by side.
-fn worked_by<'a, L: DecisionLog + Sync, R: Threads + Wait + Sync>(
-    rt: &R,
-    alloc: Global,
-    store: &Store,
-    sessions: Vec<Session<'a, L>>,
-) -> Vec<Worked<'a, L>>
-where
-    L::Pass: Send + Drop,
-    requires { All (λ session. L.belongs_to session.pass ≡ identity_of store.now.log) sessions.items }
-    ensures { All (λ worked. L.belongs_to worked.session.pass ≡ identity_of store.now.log) result.items }
-{
-    thread::scope(
-        thread::scope_env(),
-        rt,
-        |scope| -> Vec<Worked<'_, L>>
-            requires { All (λ session. L.belongs_to session.pass ≡ identity_of store.now.log) sessions.items }
-            ensures { All (λ worked. L.belongs_to worked.session.pass ≡ identity_of store.entry.now.log) result.items }
-        { side_by_side(scope, rt, alloc, store, sessions) },
-    )
-}
-
 #[test]
 fn sixteen_sessions_fill_one_history(rt: HostRuntime) {
     let Ok((store, passes)) = Store::open(rt.alloc(), 1024, 16) else {
         panic!(rt; "not opened")
     };
     let sessions = connected(&rt, rt.alloc(), &store, passes);
-    let worked = worked_by(&rt, rt.alloc(), &store, sessions);
+    let Some(worked) = side_by_side(&rt, rt.alloc(), &store, sessions) else {
+        panic!(rt; "no memory")
+    };
     let (mut sessions, mut accounts) = apart(&rt, rt.alloc(), &store, worked);
     assert_eq!(rt; accounts.len(), 16);
     assert!(rt; accounts.iter().filter(|account| account.is_full).count() >= AT_LEAST_FULL);

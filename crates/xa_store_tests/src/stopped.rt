@@ -1,17 +1,19 @@
 //! Sessions that can't answer between the start of a branch and its end: the coordinator keeps what it has open there, and rolls no
 //! branch back without its `XA END`.
 ghost use Rattle.std.specs.Prelude.{◌≡◌, ◌≤◌, vec_len};
+ghost use Rattle.xa_store.specs.Passes.{identity_of, log_of};
 
 use crate::coordinators::{over, puts, recovers, works};
 use crate::meddled::name;
-use crate::stores::{both, opened};
+use crate::stores::{joined, two_passes};
 use std::alloc::Global;
 use std::process::Abort;
 use std::sync::Wait;
 use xa_coordinator::{
-    Cause, Coordinator, Decisions, Ending, Fused, RecoverFault, Speak, Vote, WorkFault,
+    Cause, Coordinator, Decisions, Ending, Fused, RecoverFault, Speak, Transaction, Vote, WorkFault,
 };
-use xa_session::Fault;
+use xa_session::{Fault, Session};
+use xa_store::{Log, Pass, Store};
 use xa_xid::{Key, Statement};
 
 /// A vote that store 1 stops after so many calls, 0 or 1. What is left is said there, and no more: `XA END` where it wasn't carried
@@ -64,6 +66,40 @@ fn abandon_stops<S: Speak, R: Abort + Wait>(
     recovers(rt, alloc, coordinator, decisions, 0, 0);
 }
 
+/// Whether a recovery was stopped by this fault in store 1.
+fn is_stopped(found: Option<RecoverFault>, fault: Fault) -> bool {
+    found == Some(RecoverFault::Session { store: 1, fault })
+}
+
+/// Whether a transaction's end is a hazard in store 0 alone.
+fn is_hazard(ending: &Ending) -> bool {
+    match ending {
+        Ending::Hazard { stores } => stores.as_slice() == [0].as_slice(),
+        _ => false,
+    }
+}
+
+/// A transaction works on in store 1, and has lost its work in store 0.
+fn loses<S: Speak, R: Abort + Wait>(
+    rt: &R,
+    coordinator: &mut Coordinator<S>,
+    transaction: &mut Transaction,
+)
+    requires name { transaction.old.name.items ≡ coordinator.old.name.items }
+    requires stores { transaction.old.stores ≡ vec_len coordinator.old.stores }
+    requires count { vec_len coordinator.old.stores ≡ 2 }
+    ensures name { transaction.new.name.items ≡ coordinator.new.name.items }
+    ensures stores { transaction.new.stores ≡ vec_len coordinator.new.stores }
+    ensures count { vec_len coordinator.new.stores ≡ 2 }
+{
+    puts(rt, coordinator, transaction, 1, b'm');
+    let Some(key) = Key::of(name(b'k')) else {
+        panic!(rt; "a key")
+    };
+    let told = coordinator.work(rt, transaction, 0, &Statement::Get(key));
+    assert!(rt; matches!(told, Err(WorkFault::Lost)));
+}
+
 /// A recovery that store 1 stops at once. Store 0 has let go, so that the transaction's work is lost there; in store 1 its branch is
 /// open as before, and is ended and rolled back by two calls.
 fn recovery_stops<S: Speak, R: Abort + Wait>(
@@ -77,41 +113,54 @@ fn recovery_stops<S: Speak, R: Abort + Wait>(
 {
     let mut transaction = works(rt, coordinator, decisions, b'k');
     coordinator.allow(1, 0);
-    let fault = Fault::NoMemory;
     let found = coordinator.recover(rt, alloc, decisions).err();
-    assert!(rt; found == Some(RecoverFault::Session { store: 1, fault }));
+    assert!(rt; is_stopped(found, Fault::NoMemory));
     coordinator.allow(1, u64::MAX);
-    puts(rt, coordinator, &mut transaction, 1, b'm');
-    let Some(key) = Key::of(name(b'k')) else {
-        panic!(rt; "a key")
-    };
-    let told = coordinator.work(rt, &mut transaction, 0, &Statement::Get(key));
-    assert!(rt; matches!(told, Err(WorkFault::Lost)));
+    loses(rt, coordinator, &mut transaction);
     coordinator.allow(1, 2);
-    let Ending::Hazard { stores } = coordinator.abandon(rt, transaction) else {
-        panic!(rt; "no hazard")
-    };
-    assert!(rt; stores.as_slice() == [0].as_slice());
+    let ending = coordinator.abandon(rt, transaction);
+    assert!(rt; is_hazard(&ending), "{ending:?}");
     coordinator.allow(1, u64::MAX);
+}
+
+/// A coordinator of a session of each of two stores.
+fn of_two<'a>(
+    rt: &impl Abort,
+    alloc: Global,
+    one: &'a Store,
+    first: Pass,
+    two: &'a Store,
+    second: Pass,
+) -> Coordinator<Fused<Session<'a, Log>>>
+    requires one { log_of first ≡ identity_of one.now.log }
+    requires two { log_of second ≡ identity_of two.now.log }
+    ensures { vec_len result.stores ≡ 2 }
+{
+    let first = Fused::new(joined(rt, one, first), u64::MAX);
+    let second = Fused::new(joined(rt, two, second), u64::MAX);
+    over(rt, alloc, b'c', first, second)
+}
+
+/// Everything that store 1 stops, one thing after another.
+fn stops<S: Speak, R: Abort + Wait>(rt: &R, alloc: Global, coordinator: &mut Coordinator<Fused<S>>)
+    requires { vec_len coordinator.old.stores ≡ 2 }
+{
+    let mut decisions = Decisions::new(alloc);
+    vote_stops(rt, coordinator, &mut decisions, 0);
+    abandon_stops(rt, alloc, coordinator, &mut decisions, 0);
+    vote_stops(rt, coordinator, &mut decisions, 1);
+    abandon_stops(rt, alloc, coordinator, &mut decisions, 1);
+    recovery_stops(rt, alloc, coordinator, &mut decisions);
+    recovers(rt, alloc, coordinator, &mut decisions, 0, 0);
 }
 
 #[test]
 fn branch_is_ended_before_it_is_rolled_back_after_a_fault(rt: HostRuntime) {
     let alloc = rt.alloc();
-    let (one, mut passes_0) = opened(&rt, alloc, 64, 2);
-    let (two, mut passes_1) = opened(&rt, alloc, 64, 2);
-    let (first, _) = both(&rt, &one, &mut passes_0);
-    let (second, _) = both(&rt, &two, &mut passes_1);
-    let first = Fused::new(first, u64::MAX);
-    let second = Fused::new(second, u64::MAX);
-    let mut coordinator = over(&rt, alloc, b'c', first, second);
-    let mut decisions = Decisions::new(alloc);
-    vote_stops(&rt, &mut coordinator, &mut decisions, 0);
-    abandon_stops(&rt, alloc, &mut coordinator, &mut decisions, 0);
-    vote_stops(&rt, &mut coordinator, &mut decisions, 1);
-    abandon_stops(&rt, alloc, &mut coordinator, &mut decisions, 1);
-    recovery_stops(&rt, alloc, &mut coordinator, &mut decisions);
-    recovers(&rt, alloc, &mut coordinator, &mut decisions, 0, 0);
+    let (one, first, _) = two_passes(&rt, alloc, 64);
+    let (two, second, _) = two_passes(&rt, alloc, 64);
+    let mut coordinator = of_two(&rt, alloc, &one, first, &two, second);
+    stops(&rt, alloc, &mut coordinator);
 }
 
 /// Store 1 is full once the branch has its row: neither the vote, the end nor a recovery gets further there, and store 0 is finished.
@@ -133,18 +182,15 @@ fn fills<S: Speak, R: Abort + Wait>(rt: &R, alloc: Global, coordinator: &mut Coo
         panic!(rt; "finished")
     };
     assert!(rt; store == 1 && cause == Cause::Session(Fault::Full));
-    let fault = Fault::Full;
     let found = coordinator.recover(rt, alloc, &mut decisions).err();
-    assert!(rt; found == Some(RecoverFault::Session { store: 1, fault }));
+    assert!(rt; is_stopped(found, Fault::Full));
 }
 
 #[test]
 fn branch_in_a_full_store_stays_open(rt: HostRuntime) {
     let alloc = rt.alloc();
-    let (one, mut passes_0) = opened(&rt, alloc, 16, 2);
-    let (two, mut passes_1) = opened(&rt, alloc, 2, 2);
-    let (first, _) = both(&rt, &one, &mut passes_0);
-    let (second, _) = both(&rt, &two, &mut passes_1);
-    let mut coordinator = over(&rt, alloc, b'c', first, second);
+    let (one, first, _) = two_passes(&rt, alloc, 16);
+    let (two, second, _) = two_passes(&rt, alloc, 2);
+    let mut coordinator = of_two(&rt, alloc, &one, first, &two, second);
     fills(&rt, alloc, &mut coordinator);
 }

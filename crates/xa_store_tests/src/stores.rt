@@ -1,5 +1,5 @@
 //! Stores and their sessions. What wanted memory is done once more.
-ghost use Rattle.std.specs.Prelude.{◌≡◌, ◌++◌, ◌∷◌, []};
+ghost use Rattle.std.specs.Prelude.{◌≡◌, ◌++◌, ◌∷◌, [], IfSome};
 ghost use Rattle.std.specs.List.{All};
 ghost use Rattle.xa_store.specs.Passes.{identity_of, log_of};
 
@@ -8,6 +8,19 @@ use std::alloc::Global;
 use std::process::Abort;
 use xa_session::Session;
 use xa_store::{Log, Pass, Store};
+
+/// A store, and the passes of its sessions, the last one last; nothing where there was no memory.
+fn tried(rt: &impl Abort, alloc: Global, capacity: u64, sessions: u64) -> Option<(Store, Vec<Pass>)>
+    ensures { IfSome result (λ opened. All (λ pass. log_of pass ≡ identity_of opened.0.log) opened.1.items) }
+{
+    match Store::open(alloc, capacity, sessions) {
+        Ok(opened) => Some(opened),
+        Err(fault) => {
+            assert!(rt; fault == OpenFault::NoMemory);
+            None
+        }
+    }
+}
 
 /// A store, and the passes of its sessions, the last one last.
 pub(crate) fn opened(
@@ -18,16 +31,13 @@ pub(crate) fn opened(
 ) -> (Store, Vec<Pass>)
     ensures { All (λ pass. log_of pass ≡ identity_of result.0.log) result.1.items }
 {
-    match Store::open(alloc, capacity, sessions) {
-        Ok(opened) => opened,
-        Err(fault) => {
-            assert!(rt; fault == OpenFault::NoMemory);
-            let Ok(opened) = Store::open(alloc, capacity, sessions) else {
-                panic!(rt; "refused twice")
-            };
-            opened
-        }
+    if let Some(opened) = tried(rt, alloc, capacity, sessions) {
+        return opened;
     }
+    let Some(opened) = tried(rt, alloc, capacity, sessions) else {
+        panic!(rt; "refused twice")
+    };
+    opened
 }
 
 /// A session of a store.
@@ -46,6 +56,19 @@ pub(crate) fn joined<'a>(rt: &impl Abort, store: &'a Store, pass: Pass) -> Sessi
     }
 }
 
+/// The last pass of a list.
+pub(crate) fn last_pass(rt: &impl Abort, store: &Store, passes: &mut Vec<Pass>) -> Pass
+    requires { All (λ pass. log_of pass ≡ identity_of store.now.log) passes.old.items }
+    ensures own { log_of result ≡ identity_of store.now.log }
+    ensures others { All (λ pass. log_of pass ≡ identity_of store.now.log) passes.new.items }
+{
+    let _store = store;
+    let Some(pass) = passes.pop() else {
+        panic!(rt; "no pass is left")
+    };
+    pass
+}
+
 /// A session of the last pass of a list.
 pub(crate) fn next_session<'a>(
     rt: &impl Abort,
@@ -56,9 +79,7 @@ pub(crate) fn next_session<'a>(
     ensures own { log_of result.pass ≡ identity_of store.now.log }
     ensures others { All (λ pass. log_of pass ≡ identity_of store.now.log) passes.new.items }
 {
-    let Some(pass) = passes.pop() else {
-        panic!(rt; "no pass is left")
-    };
+    let pass = last_pass(rt, store, passes);
     joined(rt, store, pass)
 }
 
@@ -84,4 +105,32 @@ pub(crate) fn pushed<T: Drop>(rt: &impl Abort, list: &mut Vec<T>, item: T)
         assert!(rt; list.reserve(1).is_ok());
     }
     list.push_reserved(item);
+}
+
+/// A store of two sessions, and their passes in order.
+pub(crate) fn two_passes(rt: &impl Abort, alloc: Global, capacity: u64) -> (Store, Pass, Pass)
+    ensures first { log_of result.1 ≡ identity_of result.0.log }
+    ensures second { log_of result.2 ≡ identity_of result.0.log }
+{
+    let (store, mut passes) = opened(rt, alloc, capacity, 2);
+    let second = last_pass(rt, &store, &mut passes);
+    let first = last_pass(rt, &store, &mut passes);
+    (store, first, second)
+}
+
+/// A store of three sessions, and their passes in order.
+pub(crate) fn three_passes(
+    rt: &impl Abort,
+    alloc: Global,
+    capacity: u64,
+) -> (Store, Pass, Pass, Pass)
+    ensures first { log_of result.1 ≡ identity_of result.0.log }
+    ensures second { log_of result.2 ≡ identity_of result.0.log }
+    ensures third { log_of result.3 ≡ identity_of result.0.log }
+{
+    let (store, mut passes) = opened(rt, alloc, capacity, 3);
+    let third = last_pass(rt, &store, &mut passes);
+    let second = last_pass(rt, &store, &mut passes);
+    let first = last_pass(rt, &store, &mut passes);
+    (store, first, second, third)
 }

@@ -1,7 +1,7 @@
 use Rattle.std.proofs.Common.{◌≡◌, Some}
 use Rattle.std.proofs.lemmas.List.Elements.{All-pop}
 use Rattle.xa_store.specs.Passes.{identity_of, log_of}
-use Rattle.xa_store_tests.proofs.stores.next_session.Goals as goal
+use Rattle.xa_store_tests.proofs.stores.last_pass.Goals as goal
 
 pub returns-clause-others : goal.returns-clause-others
 returns-clause-others g c =

@@ -1,0 +1,128 @@
+//! The history of a store, asked for; and what a session that is dropped leaves. What wanted memory is done once more.
+ghost use Rattle.std.specs.Prelude.{◌≡◌};
+ghost use Rattle.std.specs.List.{All};
+ghost use Rattle.xa_store.specs.Passes.{identity_of, log_of};
+
+use crate::renewal::play;
+use crate::stores::{both, next_session, opened, pushed};
+use std::alloc::Global;
+use std::process::Abort;
+use std::sync::Wait;
+use xa_session::Session;
+use xa_store::{Log, Pass, Store};
+use xa_test_support::has_history;
+use xa_words::Entry;
+
+/// Asks for the history of a store, with which its sessions stay.
+fn asked(alloc: Global, store: &Store, sessions: &mut Vec<Session<'_, Log>>) -> Option<Vec<Entry>>
+    requires { All (λ session. log_of session.pass ≡ identity_of store.now.log) sessions.old.items }
+    ensures { All (λ session. log_of session.pass ≡ identity_of store.now.log) sessions.new.items }
+{
+    store.history(alloc, sessions).ok()
+}
+
+/// The history of a store, asked for again where there was no memory.
+fn history_of(
+    rt: &impl Abort,
+    alloc: Global,
+    store: &Store,
+    sessions: &mut Vec<Session<'_, Log>>,
+) -> Vec<Entry>
+    requires { All (λ session. log_of session.pass ≡ identity_of store.now.log) sessions.old.items }
+{
+    if let Some(history) = asked(alloc, store, sessions) {
+        return history;
+    }
+    let Some(history) = asked(alloc, store, sessions) else {
+        panic!(rt; "refused twice")
+    };
+    history
+}
+
+/// What two sessions add.
+const ADDED: &[u8] = b"1 XA START 'a' = 0 OK
+1 XA END 'a' = 1 OK
+1 XA PREPARE 'a' = 2 OK
+2 PUT 'k','v' = 3 OK
+";
+
+/// The history of it.
+const HISTORY: &[u8] = b"1 XA START 'a'
+1 XA END 'a'
+1 XA PREPARE 'a'
+2 PUT 'k','v'
+";
+
+/// Whether a history has four entries, of which session 2 has added one.
+fn is_added(history: &[Entry]) -> bool {
+    let mut of_second = 0u64;
+    for entry in history {
+        if entry.session().get() == 2 {
+            of_second = of_second.saturating_add(1);
+        }
+    }
+    history.len() == 4 && of_second == 1
+}
+
+/// The second session of a store and the first, which have added to its history.
+fn added<'s, R: Abort + Wait>(
+    rt: &R,
+    alloc: Global,
+    store: &'s Store,
+    mut passes: Vec<Pass>,
+) -> Vec<Session<'s, Log>>
+    requires { All (λ pass. log_of pass ≡ identity_of store.now.log) passes.items }
+    ensures { All (λ session. log_of session.pass ≡ identity_of store.now.log) result.items }
+{
+    let (mut first, mut second) = both(rt, store, &mut passes);
+    play(rt, alloc, &mut first, &mut second, ADDED);
+    let mut sessions = Vec::new(alloc);
+    pushed(rt, &mut sessions, second);
+    pushed(rt, &mut sessions, first);
+    sessions
+}
+
+/// Two sessions add to a store's history; it is asked for, and each of them has all of it.
+#[test]
+fn store_survives(rt: HostRuntime) {
+    let alloc = rt.alloc();
+    let (store, passes) = opened(&rt, alloc, 8, 2);
+    let mut sessions = added(&rt, alloc, &store, passes);
+    let history = history_of(&rt, alloc, &store, &mut sessions);
+    assert!(rt; is_added(history.as_slice()));
+    for session in sessions.iter_mut() {
+        assert_eq!(rt; session.seen(), 4);
+        assert!(rt; has_history(session, HISTORY));
+    }
+}
+
+/// What sessions 2 and 3 are answered once session 1 was dropped: its branch is there, and holds its row.
+const LEFT: &[u8] = b"2 PUT 'k','x' = 2 ERROR 3572 (HY000): row locked by another branch
+2 XA START 'a' = 2 ERROR 1440 (XAE08): XAER_DUPID xid already exists
+3 XA RECOVER = 2 ROWS 0
+";
+
+/// Session 2, once session 1 has started a branch and was dropped.
+fn left_alone<'s, R: Abort + Wait>(
+    rt: &R,
+    alloc: Global,
+    store: &'s Store,
+    passes: &mut Vec<Pass>,
+) -> Session<'s, Log>
+    requires { All (λ pass. log_of pass ≡ identity_of store.now.log) passes.old.items }
+{
+    let (mut first, mut second) = both(rt, store, passes);
+    let script = b"1 XA START 'a' = 0 OK\n1 PUT 'k','v' = 1 OK\n";
+    play(rt, alloc, &mut first, &mut second, script);
+    second
+}
+
+#[test]
+fn dropped_session_leaves_its_branch(rt: HostRuntime) {
+    let alloc = rt.alloc();
+    let (store, mut passes) = opened(&rt, alloc, 8, 3);
+    let mut third = next_session(&rt, &store, &mut passes);
+    let mut second = left_alone(&rt, alloc, &store, &mut passes);
+    play(&rt, alloc, &mut second, &mut third, LEFT);
+    assert!(rt; has_history(&mut second, b"1 XA START 'a'\n1 PUT 'k','v'\n"));
+}
