@@ -6,10 +6,9 @@ use anyhow::{Result, bail};
 use nigbaru::history::DecisionLog;
 use nigbaru::{Answer, Bytes, OpenGate, Outcome, Reply, Run, Session, Statement, Xid, race};
 use std::alloc::Global;
-use std::snapshot::Snapshot;
 use std::sync::Wait;
 use std::thread;
-use std::thread::{Promise, Threads};
+use std::thread::Threads;
 
 /// Two runs of one statement each, raced: each on a thread of its own, and one history that explains all answers.
 pub fn raced<R: Threads + Wait + Sync>(rt: &R, alloc: Global) -> Result<Outcome> {
@@ -71,16 +70,8 @@ fn prepare<'a, L: DecisionLog, R: Wait>(
     (session, prepared)
 }
 
-/// What a thread promises of the session that it gives back: that it is still one of its store.
-#[derive(Drop)]
-struct StaysHome<'a, L: DecisionLog>(Snapshot<Session<'a, L>>);
-
-impl<'a, L: DecisionLog> Promise<(Session<'a, L>, bool)> for StaysHome<'a, L> {
-    ghost kept_by = { λ promise ended. L.belongs_to ended.0.pass ≡ L.belongs_to promise.0.value.pass };
-}
-
 /// Two sessions of one store prepare a branch each, on threads of their own; then they meet, and the second lists what is prepared.
-/// None where a thread can't be started or a branch isn't prepared.
+/// None where a branch isn't prepared.
 fn listed_by_second<'a, L: DecisionLog + Sync, R: Threads + Wait + Sync>(
     rt: &R,
     first: Session<'a, L>,
@@ -92,35 +83,20 @@ where
     L::Pass: Send + Drop,
     requires { L.belongs_to first.pass ≡ L.belongs_to second.pass }
 {
-    thread::scope(
-        thread::scope_env(),
+    let (first, second) = thread::join(
         rt,
-        |scope|
-            requires { L.belongs_to first.pass ≡ L.belongs_to second.pass }
-        {
-            let first = scope.spawn_with(
-                StaysHome(Snapshot::of(&first)),
-                move || prepare(rt, first, left),
-            );
-            let second = scope.spawn_with(
-                StaysHome(Snapshot::of(&second)),
-                move || prepare(rt, second, right),
-            );
-            let (Ok(first), Ok(second)) = (first, second) else {
-                return None;
-            };
-            let (mut first, first_prepared) = first.join(rt);
-            let (mut second, second_prepared) = second.join(rt);
-            if !first_prepared || !second_prepared {
-                return None;
-            }
-            first.meet(&mut second);
-            let answer = second
-                .execute(rt, &Statement::Recover { convert: false })
-                .ok()?;
-            Some(answer.reply)
-        },
-    )
+        move || prepare(rt, first, left),
+        move || prepare(rt, second, right),
+    );
+    let ((mut first, first_prepared), (mut second, second_prepared)) = (first, second);
+    if !first_prepared || !second_prepared {
+        return None;
+    }
+    first.meet(&mut second);
+    let answer = second
+        .execute(rt, &Statement::Recover { convert: false })
+        .ok()?;
+    Some(answer.reply)
 }
 
 /// The list of prepared branches of a store, of which two sessions have prepared one each, on threads of their own.
