@@ -13,6 +13,7 @@ use crate::kept_server::KeptServer;
 use crate::moves::{Act, Move};
 use crate::request::Request;
 use crate::shared_answer::SharedAnswer;
+use crate::shared_lists::SharedLists;
 use crate::shared_request::SharedRequest;
 use std::alloc::Global;
 use xa_xid::{NoMemory, SessionNo, Statement};
@@ -38,17 +39,17 @@ fn same_among(clients: &[ClientState], answer: &Answer) -> Result<Option<SharedA
     Ok(None)
 }
 
-/// The answer, to be shared: one that a client has already, where that is the same.
+/// The answer, to be shared: one that a client has already, or one of the lists, where that is the same.
 fn shared_among(
-    alloc: Global,
     clients: &[ClientState],
+    lists: &mut SharedLists,
     answer: Answer,
 ) -> Result<SharedAnswer, NoMemory>
     ensures { IfOk result (λ shared. shared ≡ answer) }
 {
     match same_among(clients, &answer)? {
         Some(same) => Ok(same),
-        None => SharedAnswer::of(alloc, answer),
+        None => lists.with(answer),
     }
 }
 
@@ -73,6 +74,7 @@ impl Configuration {
         self,
         session: SessionNo,
         request: &SharedRequest,
+        lists: &mut SharedLists,
     ) -> Result<Configuration, NoMemory>
         requires { session < vec_len self.clients }
         ensures config { IfOk result
@@ -85,9 +87,8 @@ impl Configuration {
             clients,
             path,
         } = self;
-        let alloc = server.alloc();
         let (server, answer) = server.carried_out(session, request)?;
-        let shared = shared_among(alloc, clients.as_slice(), answer)?;
+        let shared = shared_among(clients.as_slice(), lists, answer)?;
         let answered = ClientState::Answered(shared);
         Configuration {
             server,
@@ -149,14 +150,18 @@ impl Configuration {
 
     /// How things stand once what the session has called for has taken effect; as they do, where it has called for nothing.
     #[tactic(auto, unfolding(crate::specs::Found::after_settling))]
-    pub fn settled(self, session: SessionNo) -> Result<Configuration, NoMemory>
+    pub fn settled(
+        self,
+        session: SessionNo,
+        lists: &mut SharedLists,
+    ) -> Result<Configuration, NoMemory>
         ensures config { IfOk result (λ new. config_of new ≡ after_settling (config_of self) session) }
         ensures reach { IfOk result (IsSettledFrom session self) }
     {
         match self.called_for(session)? {
             None => Ok(self),
             Some(request) => {
-                let new = self.answered(session, &request)?;
+                let new = self.answered(session, &request, lists)?;
                 Ok(new)
             }
         }
@@ -164,7 +169,11 @@ impl Configuration {
 
     /// How things stand once what the session called for has taken effect, where that can be.
     #[tactic(auto, unfolding(crate::specs::Explained::effect_of, crate::specs::Explained::carried_out))]
-    fn carried_out(self, session: SessionNo) -> Result<Option<Configuration>, NoMemory>
+    fn carried_out(
+        self,
+        session: SessionNo,
+        lists: &mut SharedLists,
+    ) -> Result<Option<Configuration>, NoMemory>
         ensures config { IfOk result (λ found. option_map config_of found ≡ effect_of (config_of self) session Act.Statement) }
         ensures path { IfOk result (λ found. IfSome found (λ new. new.path ≡ self.path ++ Move.Effect session Act.Statement ∷ [])) }
         ensures session { IsSession session }
@@ -174,7 +183,7 @@ impl Configuration {
             Some(ClientState::Idle) => Ok(None),
             Some(ClientState::Called(request)) => {
                 let request = request.try_clone()?;
-                Ok(Some(self.answered(session, &request)?))
+                Ok(Some(self.answered(session, &request, lists)?))
             }
             Some(ClientState::Answered(_)) => Ok(None),
             Some(ClientState::Gone(None)) => Ok(None),
@@ -203,6 +212,23 @@ impl Configuration {
         }
     }
 
+    /// How things stand once the session's act has taken effect, where that can be. A list that it is answered is one of these, where it can be.
+    pub fn effected_among(
+        self,
+        session: SessionNo,
+        act: Act,
+        lists: &mut SharedLists,
+    ) -> Result<Option<Configuration>, NoMemory>
+        ensures config { IfOk result (λ found. option_map config_of found ≡ effect_of (config_of self) session act) }
+        ensures path { IfOk result (λ found. IfSome found (λ new. new.path ≡ self.path ++ Move.Effect session act ∷ [])) }
+        ensures session { IsSession session }
+    {
+        match act {
+            Act::Statement => self.carried_out(session, lists),
+            Act::Disconnect => self.disconnected(session),
+        }
+    }
+
     /// How things stand once the session's act has taken effect, where that can be.
     pub fn once_effected(
         self,
@@ -213,10 +239,8 @@ impl Configuration {
         ensures path { IfOk result (λ found. IfSome found (λ new. new.path ≡ self.path ++ Move.Effect session act ∷ [])) }
         ensures session { IsSession session }
     {
-        match act {
-            Act::Statement => self.carried_out(session),
-            Act::Disconnect => self.disconnected(session),
-        }
+        let mut lists = SharedLists::new(self.server.alloc());
+        self.effected_among(session, act, &mut lists)
     }
 
     /// Whether the session's act can take effect.
@@ -237,7 +261,12 @@ impl Configuration {
     }
 
     /// How things stand once the session's act has taken effect in a copy, where that can be.
-    pub fn effected(&self, session: SessionNo, act: Act) -> Result<Option<Configuration>, NoMemory>
+    pub fn effected(
+        &self,
+        session: SessionNo,
+        act: Act,
+        lists: &mut SharedLists,
+    ) -> Result<Option<Configuration>, NoMemory>
         ensures config { IfOk result (λ found. option_map config_of found ≡ effect_of (config_of self.now) session act) }
         ensures path { IfOk result (λ found. IfSome found (λ new. new.path ≡ self.now.path ++ Move.Effect session act ∷ [])) }
         ensures session { IsSession session }
@@ -245,7 +274,7 @@ impl Configuration {
         if !self.can_take_effect(session, act) {
             return Ok(None);
         }
-        self.copy()?.once_effected(session, act)
+        self.copy()?.effected_among(session, act, lists)
     }
 
     /// The server after the session's act, kept over the same one, where that can take effect.

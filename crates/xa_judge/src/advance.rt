@@ -9,6 +9,7 @@ use crate::closing::{answers_in, close, observe_all, settle_all};
 use crate::configuration::Configuration;
 use crate::event::Event;
 use crate::fingerprint_index::FingerprintIndex;
+use crate::shared_answer::SharedAnswer;
 use std::alloc::Global;
 use xa_xid::{NoMemory, SessionNo};
 
@@ -23,19 +24,30 @@ pub enum Advance {
     TooMany,
 }
 
+/// The answers by themselves.
+fn apart(alloc: Global, answers: Vec<SharedAnswer>) -> Result<Vec<Answer>, NoMemory>
+    ensures { IfOk result (λ all. all.items ≡ answers.items) }
+{
+    let mut all = Vec::new(alloc);
+    for answer in answers {
+        all.push(answer.into_answer()?)?;
+    }
+    Ok(all)
+}
+
 /// What is left of these configurations once the event is seen.
 fn seen(
     alloc: Global,
     ready: Vec<Configuration>,
     index: &mut FingerprintIndex,
-    answers: Vec<Answer>,
+    answers: Vec<SharedAnswer>,
     event: &Event,
 ) -> Result<Advance, NoMemory>
     ensures { IfOk result (IsSeenFrom ready.items answers.items event.now) }
 {
     let next = observe_all(alloc, ready, index, event)?;
     if next.is_empty() {
-        Ok(Advance::Impossible(answers))
+        Ok(Advance::Impossible(apart(alloc, answers)?))
     } else {
         Ok(Advance::Known(next))
     }
@@ -57,7 +69,7 @@ fn return_seen(
     if !is_closed {
         return Ok(Advance::TooMany);
     }
-    let settled = settle_all(alloc, known, returning)?;
+    let settled = settle_all(alloc, known, returning, &mut index.lists)?;
     let answers = answers_in(alloc, settled.as_slice(), returning)?;
     let next = seen(alloc, settled, index, answers, event)?;
     Ok(next)

@@ -9,6 +9,7 @@ use crate::fingerprint_index::FingerprintIndex;
 use crate::foresight::{Fit, Foresight};
 use crate::known::add;
 use crate::room::has_room;
+use crate::shared_lists::SharedLists;
 use std::alloc::Global;
 use std::mem;
 use xa_xid::{NoMemory, SessionNo};
@@ -37,6 +38,19 @@ pub struct Beam<'a> {
     alloc: Global,
 }
 
+/// The configuration once the effect has come about, where it fits.
+fn after(
+    foresight: &Foresight,
+    lists: &mut SharedLists,
+    one: &Configuration,
+    effect: &Effect,
+) -> Result<Option<Configuration>, NoMemory> {
+    if foresight.fit(one, effect)? == Fit::Not {
+        return Ok(None);
+    }
+    one.effected(effect.session, effect.act, lists)
+}
+
 impl<'a> Beam<'a> {
     /// From these configurations on, before all events; at most `width` are kept, and `left` effects tried.
     pub fn new(
@@ -59,11 +73,12 @@ impl<'a> Beam<'a> {
     }
 
     /// The same once whatever is quiet has taken effect: that is never too early.
-    fn quieted(&self, one: Configuration) -> Result<Option<Configuration>, NoMemory> {
+    fn quieted(&mut self, one: Configuration) -> Result<Option<Configuration>, NoMemory> {
         let mut here = one;
         for effect in self.effects.iter() {
             if self.foresight.fit(&here, effect)? == Fit::Quiet {
-                here = match here.once_effected(effect.session, effect.act)? {
+                let lists = &mut self.index.lists;
+                here = match here.effected_among(effect.session, effect.act, lists)? {
                     None => return Ok(None),
                     Some(next) => next,
                 };
@@ -83,28 +98,17 @@ impl<'a> Beam<'a> {
         }
     }
 
-    /// The configuration once the effect has come about, where it fits.
-    fn after(
-        &self,
-        one: &Configuration,
-        effect: &Effect,
-    ) -> Result<Option<Configuration>, NoMemory> {
-        if self.foresight.fit(one, effect)? == Fit::Not {
-            return Ok(None);
-        }
-        one.effected(effect.session, effect.act)
-    }
-
     /// The configuration once all effects of other sessions that fit have come about, and then this one.
     fn after_all(
-        &self,
+        &mut self,
         one: &Configuration,
         own: &Effect,
     ) -> Result<Option<Configuration>, NoMemory> {
         let mut here = one.copy()?;
         for effect in self.effects.iter() {
             if effect.session != own.session && self.foresight.fit(&here, effect)? != Fit::Not {
-                here = match here.once_effected(effect.session, effect.act)? {
+                let lists = &mut self.index.lists;
+                here = match here.effected_among(effect.session, effect.act, lists)? {
                     None => return Ok(None),
                     Some(next) => next,
                 };
@@ -113,13 +117,13 @@ impl<'a> Beam<'a> {
         if self.foresight.fit(&here, own)? == Fit::Not {
             return Ok(None);
         }
-        here.once_effected(own.session, own.act)
+        here.effected_among(own.session, own.act, &mut self.index.lists)
     }
 
     /// Adds what the effect leads to from the configuration, alone and behind all others.
     fn add_both(&mut self, one: &Configuration, own: &Effect) -> Result<(), NoMemory> {
         self.left = self.left.saturating_sub(2);
-        let alone = self.after(one, own)?;
+        let alone = after(&self.foresight, &mut self.index.lists, one, own)?;
         self.add(alone)?;
         let behind = self.after_all(one, own)?;
         self.add(behind)
@@ -129,7 +133,7 @@ impl<'a> Beam<'a> {
     fn add_effect(&mut self, index: usize, effect: &Effect) -> Result<(), NoMemory> {
         let found = match self.known.get(index) {
             None => None,
-            Some(one) => self.after(one, effect)?,
+            Some(one) => after(&self.foresight, &mut self.index.lists, one, effect)?,
         };
         if found.is_some() {
             self.left = self.left.saturating_sub(1);
@@ -157,7 +161,7 @@ impl<'a> Beam<'a> {
         let count = self.known.len();
         self.left > 0
             && count < self.width.saturating_mul(SIGHT)
-            && has_room(count, self.index.rows())
+            && has_room(count, self.index.records())
     }
 
     /// Adds what fits, as few effects as can be in front.

@@ -2,14 +2,16 @@
 ghost use Rattle.std.specs.Prelude.{◌≡◌, ◌<◌, ℕ, List, Some, true, false, slice_get, vec_len, length, IfOk, OnOk};
 ghost use Rattle.std.specs.List.{All, Contains};
 ghost use Rattle.xa_judge.specs.Explained.{Config, observed};
+ghost use Rattle.xa_judge.specs.declared.answer.Answer.{Answer};
 ghost use Rattle.xa_judge.specs.Found.{Has, IsSpread, Grows, KeepsReach, ReachesPast, after_settling, IsClosedBelow, IsAnsweredIn, IsAnswerAdded, IsSeenAdded};
 
-use crate::answer::Answer;
 use crate::client_state::ClientState;
 use crate::configuration::Configuration;
 use crate::event::Event;
 use crate::fingerprint_index::FingerprintIndex;
 use crate::known::{add, expand, fit};
+use crate::shared_answer::SharedAnswer;
+use crate::shared_lists::SharedLists;
 use crate::shared_request::SharedRequest;
 use std::alloc::Global;
 use xa_xid::{NoMemory, SessionNo};
@@ -61,13 +63,14 @@ pub fn settle_all(
     alloc: Global,
     mut known: Vec<Configuration>,
     session: SessionNo,
+    lists: &mut SharedLists,
 ) -> Result<Vec<Configuration>, NoMemory>
     ensures has { IfOk result (λ list. (one : Config) → Has known.items one → Has list.items (after_settling one session)) }
     ensures reach { IfOk result (λ list. KeepsReach known.items list.items) }
 {
     let mut list = Vec::new(alloc);
     while let Some(one) = known.pop() {
-        list.push(one.settled(session)?)?;
+        list.push(one.settled(session, lists)?)?;
     }
     Ok(list)
 }
@@ -114,15 +117,16 @@ pub fn observe_all(
     let count = known.len();
     let mut list = Vec::new(alloc);
     while let Some(one) = known.pop() {
-        let one = fit(one, count, index.rows())?;
+        let one = fit(one, count, index.records())?;
         add_seen(&mut list, index, one, event, &request)?;
     }
+    index.settle(list.len());
     Ok(list)
 }
 
 /// Adds what the session is answered in a configuration, where it is.
 fn add_answer(
-    answers: &mut Vec<Answer>,
+    answers: &mut Vec<SharedAnswer>,
     one: &Configuration,
     session: SessionNo,
 ) -> Result<(), NoMemory>
@@ -133,7 +137,7 @@ fn add_answer(
         Some(ClientState::Idle) => Ok(()),
         Some(ClientState::Called(_)) => Ok(()),
         Some(ClientState::Answered(answer)) => {
-            answers.push(answer.answer().copy()?)?;
+            answers.push(answer.try_clone()?)?;
             Ok(())
         }
         Some(ClientState::Gone(_)) => Ok(()),
@@ -146,7 +150,7 @@ pub fn answers_in(
     alloc: Global,
     known: &[Configuration],
     session: SessionNo,
-) -> Result<Vec<Answer>, NoMemory>
+) -> Result<Vec<SharedAnswer>, NoMemory>
     ensures each { IfOk result (λ answers. All (IsAnsweredIn known.now session) answers.items) }
     ensures all { IfOk result
         (λ answers. (one : Config) (answer : Answer)

@@ -3,10 +3,12 @@ ghost use Rattle.std.specs.Prelude.{◌≡◌, true, IfOk};
 ghost use Rattle.xa_judge.specs.Marks.{mark};
 ghost use Rattle.xa_judge.specs.Found.{config_of, IsSpread};
 
+use crate::branch_records::BranchRecords;
 use crate::configuration::Configuration;
 use crate::event::Event;
-use crate::fingerprints::mark_of;
+use crate::fingerprints::{mark_of, mark_of_key};
 use crate::request::Request;
+use crate::shared_lists::SharedLists;
 use std::alloc::Global;
 use std::collections::{BTreeMap, BTreeSet};
 use xa_xid::{Key, NoMemory, Statement};
@@ -22,8 +24,16 @@ pub struct FingerprintIndex {
     before: Vec<Option<usize>>,
     /// The fingerprint of the configuration that was looked for last.
     sought: Option<u64>,
-    /// The rows that any event called to write. All others have the same value in each configuration.
+    /// Rows that events called to write. All others have the same value in each configuration.
     written: Vec<Key>,
+    /// At the fingerprint of each row that any event called to write, how often rows had been forgotten when it was listed last.
+    rows: BTreeMap<u64, u64>,
+    /// How often rows were forgotten.
+    forgotten: u64,
+    /// What servers have beside.
+    branches: BranchRecords,
+    /// The lists that configurations share which have seen the same events.
+    pub lists: SharedLists,
     alloc: Global,
 }
 
@@ -44,6 +54,10 @@ impl FingerprintIndex {
             before: Vec::new(alloc),
             sought: None,
             written: Vec::new(alloc),
+            rows: BTreeMap::new(alloc),
+            forgotten: 0,
+            branches: BranchRecords::new(alloc),
+            lists: SharedLists::new(alloc),
             alloc,
         }
     }
@@ -58,17 +72,27 @@ impl FingerprintIndex {
     /// Forgets all places, for a list of configurations that have seen this event too.
     pub fn go_on(&mut self, event: &Event) -> Result<(), NoMemory> {
         self.clear();
+        self.lists.clear();
         if let Some(key) = key_written(event)
-            && !self.written.contains(key)
+            && self.rows.insert(mark_of_key(key), self.forgotten)? != Some(self.forgotten)
         {
             self.written.push(key.copy())?;
         }
-        Ok(())
+        self.branches.see(event)
     }
 
-    /// How many rows any event called to write.
-    pub fn rows(&self) -> usize {
-        self.written.len()
+    /// Forgets the rows where all configurations from here on have the values of one: so many are left, no call is open, and no branch
+    /// is there.
+    pub fn settle(&mut self, count: usize) {
+        if count == 1 && self.branches.is_still() {
+            self.written.clear();
+            self.forgotten = self.forgotten.saturating_add(1);
+        }
+    }
+
+    /// How many records of rows and branches a server has, by an estimate from the events.
+    pub fn records(&self) -> usize {
+        self.rows.len().saturating_add(self.branches.sum())
     }
 
     /// The fingerprint of a configuration.

@@ -247,6 +247,20 @@ impl Fingerprint {
     }
 }
 
+/// The fingerprint of a row's key.
+pub fn mark_of_key(key: &Key) -> u64
+    ensures { result ≡ with_text 0 key.now }
+{
+    Fingerprint::new().with_text(key.as_slice()).number
+}
+
+/// The fingerprint of an answer.
+pub fn mark_of_answer(answer: &Answer) -> u64
+    ensures { result ≡ with_answer 0 answer.now }
+{
+    Fingerprint::new().with_answer(answer).number
+}
+
 /// The fingerprint of a configuration: of what its sessions are about, of its server's branches and the rows that they hold, and of
 /// the committed values of these rows.
 #[tactic(auto, unfolding(crate::specs::Marks::mark))]

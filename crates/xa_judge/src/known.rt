@@ -105,11 +105,11 @@ pub fn add(
     index.note(known.len())
 }
 
-/// The same, as a list of `count` is to keep it, where so many rows were written.
-pub fn fit(one: Configuration, count: usize, rows: usize) -> Result<Configuration, NoMemory>
+/// The same, as a list of `count` is to keep it, where servers have so many records.
+pub fn fit(one: Configuration, count: usize, records: usize) -> Result<Configuration, NoMemory>
     ensures { IfOk result (λ same. same ≡ one) }
 {
-    if has_room(count, rows) && (count < WIDE || one.server.did_much()) {
+    if has_room(count, records) && (count < WIDE || one.server.did_much()) {
         one.whole()
     } else {
         Ok(one)
@@ -119,7 +119,7 @@ pub fn fit(one: Configuration, count: usize, rows: usize) -> Result<Configuratio
 /// The configuration to which the session's act leads from the one at this place, as a list of these keeps it.
 fn fitting(
     known: &[Configuration],
-    rows: usize,
+    records: usize,
     place: usize,
     session: SessionNo,
     act: Act,
@@ -129,7 +129,7 @@ fn fitting(
     requires leads { IsEffectAt known.now place session act next }
     ensures { IfOk result (λ new. new ≡ next) }
 {
-    if known.len() < WIDE && has_room(known.len(), rows) {
+    if known.len() < WIDE && has_room(known.len(), records) {
         return Ok(next);
     }
     next.over(&known[place], session, act)
@@ -151,7 +151,7 @@ fn add_next(
     if is_known(known.as_slice(), index, &next)? {
         return Ok(());
     }
-    let new = fitting(known.as_slice(), index.rows(), place, session, act, next)?;
+    let new = fitting(known.as_slice(), index.records(), place, session, act, next)?;
     known.push(new)?;
     index.note(known.len())
 }
@@ -172,7 +172,7 @@ fn add_effect(
         → effect_of (config_of one) session act ≡ Some new
         → Has known.new.items new) }
 {
-    match known[place].effected(session, act)? {
+    match known[place].effected(session, act, &mut index.lists)? {
         None => Ok(()),
         Some(next) => {
             add_next(known, index, place, session, act, next)?;

@@ -47,6 +47,16 @@ impl SharedAnswer {
         &self.shared
     }
 
+    /// The answer by itself: it is copied where it has other owners.
+    pub fn into_answer(self) -> Result<Answer, NoMemory>
+        ensures { IfOk result (λ answer. answer ≡ self) }
+    {
+        match Arc::try_unwrap(self.shared) {
+            Ok(answer) => Ok(answer),
+            Err(shared) => shared.copy(),
+        }
+    }
+
     /// Whether both are known to be the same.
     pub fn is_same(&self, other: &SharedAnswer) -> bool
         ensures { result ≡ true → self.now ≡ other.now }

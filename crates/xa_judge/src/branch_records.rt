@@ -1,0 +1,154 @@
+//! How many records of branches a server has.
+
+use crate::event::{Event, Seen};
+use crate::request::Request;
+use std::alloc::Global;
+use std::collections::BTreeMap;
+use xa_xid::{NoMemory, SessionNo, Statement, Xid};
+
+/// One place for each session's number, and one more.
+const SESSIONS: usize = 17;
+
+/// How many records servers have of branches, by the events: one of each branch, and one of each statement within it, which may be about a row.
+///
+/// An estimate: what open calls add and what lost sessions take away isn't counted.
+#[derive(Drop)]
+pub struct BranchRecords {
+    /// How many there are of each branch.
+    counts: BTreeMap<Xid, usize>,
+    /// How many there are.
+    sum: usize,
+    /// At each session's number, its branch, until that is prepared.
+    owned: Vec<Option<Xid>>,
+    /// At each session's number, what it has called for.
+    called: Vec<Option<Statement>>,
+}
+
+impl BranchRecords {
+    /// Of no branches.
+    pub fn new(alloc: Global) -> BranchRecords {
+        BranchRecords {
+            counts: BTreeMap::new(alloc),
+            sum: 0,
+            owned: Vec::new(alloc),
+            called: Vec::new(alloc),
+        }
+    }
+
+    /// How many records there are.
+    pub fn sum(&self) -> usize {
+        self.sum
+    }
+
+    /// Whether no branch is there and no call open that could change anything.
+    pub fn is_still(&self) -> bool {
+        self.sum == 0 && self.called.iter().all(|called| called.is_none())
+    }
+
+    /// The event is seen.
+    pub fn see(&mut self, event: &Event) -> Result<(), NoMemory> {
+        match event {
+            Event::Call(session, Request::Statement(statement)) => {
+                self.call(*session, Some(statement.copy()))
+            }
+            Event::Call(session, Request::Unread) => self.call(*session, None),
+            Event::Return(session, Seen::Ok) => self.carried_out(*session),
+            Event::Return(session, Seen::Value(_)) => self.carried_out(*session),
+            Event::Return(session, _) => self.call(*session, None),
+            Event::Unknown(session) => self.carried_out(*session),
+            Event::Lost(_) => Ok(()),
+        }
+    }
+
+    /// The session has called for this, or for nothing.
+    fn call(&mut self, session: SessionNo, statement: Option<Statement>) -> Result<(), NoMemory> {
+        for _ in self.called.len()..SESSIONS {
+            self.called.push(None)?;
+            self.owned.push(None)?;
+        }
+        if let Some(place) = self.called.get_mut(session.get() as usize) {
+            *place = statement;
+        }
+        Ok(())
+    }
+
+    /// The session's branch is this one, or none.
+    fn own(&mut self, session: SessionNo, branch: Option<Xid>) {
+        if let Some(place) = self.owned.get_mut(session.get() as usize) {
+            *place = branch;
+        }
+    }
+
+    /// One record more of a branch.
+    fn add(&mut self, xid: &Xid) -> Result<(), NoMemory> {
+        let count = self.counts.get(xid).copied().unwrap_or(0);
+        self.counts.insert(xid.copy(), count.saturating_add(1))?;
+        self.sum = self.sum.saturating_add(1);
+        Ok(())
+    }
+
+    /// No record of a branch any more.
+    fn remove(&mut self, xid: &Xid) {
+        if let Some(count) = self.counts.remove(xid) {
+            self.sum = self.sum.saturating_sub(count);
+        }
+    }
+
+    /// The session's branch, where it has one.
+    fn owned_by(&self, session: SessionNo) -> Option<Xid> {
+        match self.owned.get(session.get() as usize) {
+            Some(Some(xid)) => Some(xid.copy()),
+            _ => None,
+        }
+    }
+
+    /// The session's branch ends, where it has one.
+    fn end_own(&mut self, session: SessionNo) {
+        if let Some(xid) = self.owned_by(session) {
+            self.remove(&xid);
+            self.own(session, None);
+        }
+    }
+
+    /// What the session has called for was carried out, or may have been.
+    fn carried_out(&mut self, session: SessionNo) -> Result<(), NoMemory> {
+        let called = match self.called.get_mut(session.get() as usize) {
+            None => None,
+            Some(place) => place.take(),
+        };
+        match called {
+            Some(Statement::Start(xid)) => {
+                self.add(&xid)?;
+                self.own(session, Some(xid));
+                Ok(())
+            }
+            Some(Statement::Prepare(_)) => {
+                self.own(session, None);
+                Ok(())
+            }
+            Some(Statement::Commit { xid, one_phase: _ }) => {
+                self.end(session, &xid);
+                Ok(())
+            }
+            Some(Statement::Rollback(xid)) => {
+                self.end(session, &xid);
+                Ok(())
+            }
+            Some(Statement::Disconnect) => {
+                self.end_own(session);
+                Ok(())
+            }
+            Some(_) => match self.owned_by(session) {
+                None => Ok(()),
+                Some(xid) => self.add(&xid),
+            },
+            None => Ok(()),
+        }
+    }
+
+    /// The branch ends, by this session.
+    fn end(&mut self, session: SessionNo, xid: &Xid) {
+        self.remove(xid);
+        self.own(session, None);
+    }
+}
