@@ -40,6 +40,11 @@ shorter-is branch = refl
 front_of : (keys : List (List ℕ)) (key : List ℕ) → without_last (keys ++ key ∷ []) ≡ keys
 front_of keys key = rw (length-append) (let n : (length keys + 1) - 1 ≡ length keys = omega arith in rw n (take-append_seam keys (key ∷ [])))
 
+-- the branches, one of which was changed by its name
+pub changed_as : (branches new : BranchMap) (own named : Xid) (change : BranchRecord → BranchRecord) → named ≡ own
+    → new ≡ with_record branches named change → new ≡ with_record branches own change
+changed_as branches new own named change same is = is ∙ ap (λ xid. with_record branches xid change) same
+
 -- a change that the state doesn't see
 with_same : (state : State) (xid : Xid) → with_changed state xid (λ branch. branch) ≡ state
 with_same state xid = by (map.get state.branches xid) refl

@@ -27,7 +27,7 @@ impl Server {
             return Ok(());
         }
         let own = own.try_clone()?;
-        self.share(own.xid(), key)
+        self.share(&own, key)
     }
 
     /// Gives a row a value: at once, or in the session's branch. After `NoMemory` the server is as before.

@@ -157,7 +157,7 @@ impl Lock {
     }
 
     /// Has this branch share a row that no branch holds exclusively. After `NoMemory` the lock is as before.
-    pub fn share(&mut self, xid: &Xid) -> Result<(), NoMemory>
+    pub fn share(&mut self, xid: &SharedXid) -> Result<(), NoMemory>
         ensures ok { OnOk result (self.new ≡ with_sharer xid.now self.old) }
         ensures err { OnErr result (self.new ≡ self.old) }
     {

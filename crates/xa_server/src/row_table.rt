@@ -54,7 +54,11 @@ fn set_lock(by_key: &mut BTreeMap<Key, RowRecord>, key: &Key, lock: Lock) -> Opt
 }
 
 /// Has a branch share a row's record, where there is one, and answers whether there is.
-fn share_in(by_key: &mut BTreeMap<Key, RowRecord>, key: &Key, xid: &Xid) -> Result<bool, NoMemory>
+fn share_in(
+    by_key: &mut BTreeMap<Key, RowRecord>,
+    key: &Key,
+    xid: &SharedXid,
+) -> Result<bool, NoMemory>
     ensures ok { OnOk result (MatchOption (tree.get bytes_cmp by_key.old key.now) (by_key.new ≡ by_key.old)
         (λ row. tree.Updates bytes_cmp by_key.old by_key.new key.now (Some (record row { lock = with_sharer xid.now row.lock })))) }
     ensures found { IfOk result (λ found. found ≡ is_some (tree.get bytes_cmp by_key.old key.now)) }
@@ -183,7 +187,7 @@ impl RowTable {
     }
 
     /// Has a branch share a row that no branch holds exclusively. After `NoMemory` the records are as before.
-    pub fn share(&mut self, key: &Key, xid: &Xid) -> Result<(), NoMemory>
+    pub fn share(&mut self, key: &Key, xid: &SharedXid) -> Result<(), NoMemory>
         ensures ok { OnOk result (self.new ≡ map.insert self.old key.now (shared_row xid.now (map.get self.old key.now))) }
         ensures err { OnErr result (self.new ≡ self.old) }
     {

@@ -246,16 +246,17 @@ impl Server {
 
     /// Has a branch that doesn't hold a row share it, where no other branch holds it exclusively. After `NoMemory` the server
     /// is as before.
-    pub(crate) fn share(&mut self, own: &Xid, key: &Key) -> Result<(), NoMemory>
+    pub(crate) fn share(&mut self, own: &SharedXid, key: &Key) -> Result<(), NoMemory>
         requires known { is_known self.old own.now ≡ true }
         requires unlocked { is_locked_against_of self.old (Active own.now) key.now ≡ false }
         requires new_lock { holds_of self.old own.now key.now ≡ false }
         ensures ok { OnOk result (self.new ≡ with_changed self.old own.now (with_lock key.now)) }
         ensures err { OnErr result (self.new ≡ self.old) }
     {
-        self.branches.list(own, key)?;
+        let xid = own.xid();
+        self.branches.list(xid, key)?;
         let shared = self.rows.share(key, own);
-        unlist_refused(&mut self.branches, own, &shared);
+        unlist_refused(&mut self.branches, xid, &shared);
         shared
     }
 

@@ -5,7 +5,6 @@ use Rattle.std.specs.FinMap as map
 use Rattle.xa_xid.specs.declared.xid.Xid.{Xid}
 use Rattle.xa_server.specs.declared.association.Association.TheVariants.{Active}
 use Rattle.xa_server.specs.declared.lock.Change.{Change}
-use Rattle.xa_server.specs.declared.branch.BranchRecord.{BranchRecord}
 use Rattle.xa_server.specs.declared.row.RowRecord.{RowRecord}
 use Rattle.xa_server.specs.State.{State, is_known}
 use Rattle.xa_server.specs.Locks.{is_held_against}
@@ -27,11 +26,6 @@ lock_in branches rows own named key found b is same told =
 held_as : (rows new : RowMap) (own holder : Xid) (key : List ℕ) (change : Change) → holder ≡ own
     → new ≡ map.insert rows key (held_row holder change (map.get rows key)) → new ≡ map.insert rows key (held_row own change (map.get rows key))
 held_as rows new own holder key change same is = is ∙ ap (λ xid. map.insert rows key (held_row xid change (map.get rows key))) same
-
--- the branches, one of which was changed by its name
-changed_as : (branches new : BranchMap) (own named : Xid) (change : BranchRecord → BranchRecord) → named ≡ own
-    → new ≡ with_record branches named change → new ≡ with_record branches own change
-changed_as branches new own named change same is = is ∙ ap (λ xid. with_record branches xid change) same
 
 again : (branches : BranchMap) (rows : RowMap) (state : State) (own : Xid) (key : List ℕ) (change : Change) → state_of branches rows ≡ state
     → IsWhole branches rows → is_known state own ≡ true →
@@ -80,12 +74,12 @@ pub invariant_of-self-2 : goal.invariant_of-self-2
 unfolding Holding.longer Holding.shorter
 invariant_of-self-2 c =
     whichever c.hold-held.result c.hold-held.ensures.ok c.hold-held.ensures.err c.unlist_refused.ensures.held c.unlist_refused.ensures.refused
-    (λ ok kept. rw (kept ∙ (changed_as c.self.inside.branches c.list.new.self c.args.own.now c.xid-xid.result.now (Holding.longer c.args.key.now) c.xid-xid.ensures c.in_ok-list.ensures.ok), (held_as c.self.inside.rows _ c.args.own.now _ c.args.key.now c.args.change c.in_ok-holder.ensures ok))
+    (λ ok kept. rw (kept ∙ (Holding.changed_as c.self.inside.branches c.list.new.self c.args.own.now c.xid-xid.result.now (Holding.longer c.args.key.now) c.xid-xid.ensures c.in_ok-list.ensures.ok), (held_as c.self.inside.rows _ c.args.own.now _ c.args.key.now c.args.change c.in_ok-holder.ensures ok))
     (anew c.self.inside.branches c.self.inside.rows c.args.self.now c.args.own.now c.args.key.now c.args.change c.self.view_is c.self.invariant c.requires.known
     c.requires.unheld
     (lock_in c.self.inside.branches c.self.inside.rows c.args.own.now c.xid-xid.result.now c.args.key.now _ _ c.row.ensures c.xid-xid.ensures c.if-is_held_by.ensures)).0)
     (λ err taken. rw (
-      back c.self.inside.branches c.list.new.self c.unlist_refused.new.branches c.args.own.now c.args.key.now (changed_as c.self.inside.branches c.list.new.self c.args.own.now c.xid-xid.result.now (Holding.longer c.args.key.now) c.xid-xid.ensures c.in_ok-list.ensures.ok) (changed_as c.list.new.self c.unlist_refused.new.branches c.args.own.now c.xid-xid.result.now Holding.shorter c.xid-xid.ensures taken),
+      back c.self.inside.branches c.list.new.self c.unlist_refused.new.branches c.args.own.now c.args.key.now (Holding.changed_as c.self.inside.branches c.list.new.self c.args.own.now c.xid-xid.result.now (Holding.longer c.args.key.now) c.xid-xid.ensures c.in_ok-list.ensures.ok) (Holding.changed_as c.list.new.self c.unlist_refused.new.branches c.args.own.now c.xid-xid.result.now Holding.shorter c.xid-xid.ensures taken),
       err,
     ) c.self.invariant)
 
@@ -93,13 +87,13 @@ pub returns-clause-err : goal.returns-clause-err
 unfolding Holding.longer Holding.shorter
 returns-clause-err c = on_err_both c.hold-held.result c.hold-held.ensures.err c.unlist_refused.ensures.refused (λ err taken.
     ap (λ b. state_of b c.hold-held.new.self)
-    (back c.self.inside.branches c.list.new.self c.unlist_refused.new.branches c.args.own.now c.args.key.now (changed_as c.self.inside.branches c.list.new.self c.args.own.now c.xid-xid.result.now (Holding.longer c.args.key.now) c.xid-xid.ensures c.in_ok-list.ensures.ok) (changed_as c.list.new.self c.unlist_refused.new.branches c.args.own.now c.xid-xid.result.now Holding.shorter c.xid-xid.ensures taken))
+    (back c.self.inside.branches c.list.new.self c.unlist_refused.new.branches c.args.own.now c.args.key.now (Holding.changed_as c.self.inside.branches c.list.new.self c.args.own.now c.xid-xid.result.now (Holding.longer c.args.key.now) c.xid-xid.ensures c.in_ok-list.ensures.ok) (Holding.changed_as c.list.new.self c.unlist_refused.new.branches c.args.own.now c.xid-xid.result.now Holding.shorter c.xid-xid.ensures taken))
     ∙ ap (state_of c.self.inside.branches) err ∙ c.self.view_is)
 
 pub returns-clause-ok : goal.returns-clause-ok
 unfolding Holding.longer
 returns-clause-ok c = on_ok_both c.hold-held.result c.hold-held.ensures.ok c.unlist_refused.ensures.held (λ ok kept.
-    ap (λ b. state_of b c.hold-held.new.self) (kept ∙ (changed_as c.self.inside.branches c.list.new.self c.args.own.now c.xid-xid.result.now (Holding.longer c.args.key.now) c.xid-xid.ensures c.in_ok-list.ensures.ok))
+    ap (λ b. state_of b c.hold-held.new.self) (kept ∙ (Holding.changed_as c.self.inside.branches c.list.new.self c.args.own.now c.xid-xid.result.now (Holding.longer c.args.key.now) c.xid-xid.ensures c.in_ok-list.ensures.ok))
     ∙ ap (state_of (with_record c.self.inside.branches c.args.own.now (Holding.longer c.args.key.now))) (held_as c.self.inside.rows _ c.args.own.now _ c.args.key.now c.args.change c.in_ok-holder.ensures ok)
     ∙ (anew c.self.inside.branches c.self.inside.rows c.args.self.now c.args.own.now c.args.key.now c.args.change c.self.view_is c.self.invariant
     c.requires.known c.requires.unheld

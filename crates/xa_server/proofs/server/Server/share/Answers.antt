@@ -33,11 +33,11 @@ pub invariant_of-self-2 : goal.invariant_of-self-2
 unfolding Holding.longer Holding.shorter
 invariant_of-self-2 c =
     whichever c.share-shared.result c.share-shared.ensures.ok c.share-shared.ensures.err c.unlist_refused.ensures.held c.unlist_refused.ensures.refused
-    (λ ok kept. rw (kept ∙ c.in_ok-list.ensures.ok, ok)
+    (λ ok kept. rw (kept ∙ (Holding.changed_as c.self.inside.branches c.list.new.self c.args.own.now c.xid-xid.result.now (Holding.longer c.args.key.now) c.xid-xid.ensures c.in_ok-list.ensures.ok), ok)
     (anew c.self.inside.branches c.self.inside.rows c.args.self.now c.args.own.now c.args.key.now c.self.view_is c.self.invariant c.requires.known
     c.requires.unlocked c.requires.new_lock).0)
     (λ err taken. rw (
-      back c.self.inside.branches c.list.new.self c.unlist_refused.new.branches c.args.own.now c.args.key.now c.in_ok-list.ensures.ok taken,
+      back c.self.inside.branches c.list.new.self c.unlist_refused.new.branches c.args.own.now c.args.key.now (Holding.changed_as c.self.inside.branches c.list.new.self c.args.own.now c.xid-xid.result.now (Holding.longer c.args.key.now) c.xid-xid.ensures c.in_ok-list.ensures.ok) (Holding.changed_as c.list.new.self c.unlist_refused.new.branches c.args.own.now c.xid-xid.result.now Holding.shorter c.xid-xid.ensures taken),
       err,
     ) c.self.invariant)
 
@@ -45,13 +45,13 @@ pub returns-clause-err : goal.returns-clause-err
 unfolding Holding.longer Holding.shorter
 returns-clause-err c = on_err_both c.share-shared.result c.share-shared.ensures.err c.unlist_refused.ensures.refused (λ err taken.
     ap (λ b. state_of b c.share-shared.new.self)
-    (back c.self.inside.branches c.list.new.self c.unlist_refused.new.branches c.args.own.now c.args.key.now c.in_ok-list.ensures.ok taken)
+    (back c.self.inside.branches c.list.new.self c.unlist_refused.new.branches c.args.own.now c.args.key.now (Holding.changed_as c.self.inside.branches c.list.new.self c.args.own.now c.xid-xid.result.now (Holding.longer c.args.key.now) c.xid-xid.ensures c.in_ok-list.ensures.ok) (Holding.changed_as c.list.new.self c.unlist_refused.new.branches c.args.own.now c.xid-xid.result.now Holding.shorter c.xid-xid.ensures taken))
     ∙ ap (state_of c.self.inside.branches) err ∙ c.self.view_is)
 
 pub returns-clause-ok : goal.returns-clause-ok
 unfolding Holding.longer
 returns-clause-ok c = on_ok_both c.share-shared.result c.share-shared.ensures.ok c.unlist_refused.ensures.held (λ ok kept.
-    ap (λ b. state_of b c.share-shared.new.self) (kept ∙ c.in_ok-list.ensures.ok)
+    ap (λ b. state_of b c.share-shared.new.self) (kept ∙ (Holding.changed_as c.self.inside.branches c.list.new.self c.args.own.now c.xid-xid.result.now (Holding.longer c.args.key.now) c.xid-xid.ensures c.in_ok-list.ensures.ok))
     ∙ ap (state_of (with_record c.self.inside.branches c.args.own.now (Holding.longer c.args.key.now))) ok
     ∙ (anew c.self.inside.branches c.self.inside.rows c.args.self.now c.args.own.now c.args.key.now c.self.view_is c.self.invariant c.requires.known
     c.requires.unlocked c.requires.new_lock).1)

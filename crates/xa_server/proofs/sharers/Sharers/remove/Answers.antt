@@ -5,5 +5,5 @@ use Rattle.xa_server.proofs.sharers.Sharers.remove.Goals as goal
 
 pub returns : goal.returns
 returns c =
-    one_removed c.self.inside.xids c.remove-was_there.new.self c.args.xid.now c.remove-was_there.ensures.updates
+    one_removed c.self.inside.one c.clear_place.new.one c.self.inside.others c.take_out.new.xids c.args.xid.now c.clear_place.ensures c.take_out.ensures
     ∙ ap (λ sharers. set.remove sharers c.args.xid.now) c.self.view_is
