@@ -2,6 +2,7 @@
 
 use crate::event::{Event, Seen};
 use crate::request::Request;
+use crate::shared_request::SharedRequest;
 use std::alloc::Global;
 use std::collections::BTreeMap;
 use xa_xid::{NoMemory, SessionNo, Statement, Xid};
@@ -21,7 +22,7 @@ pub struct BranchRecords {
     /// At each session's number, its branch, until that is prepared.
     owned: Vec<Option<Xid>>,
     /// At each session's number, what it has called for.
-    called: Vec<Option<Statement>>,
+    called: Vec<Option<SharedRequest>>,
 }
 
 impl BranchRecords {
@@ -40,7 +41,7 @@ impl BranchRecords {
         self.sum
     }
 
-    /// Whether no branch is there and no call open that could change anything.
+    /// Whether no branch is there and no call is open.
     pub fn is_still(&self) -> bool {
         self.sum == 0 && self.called.iter().all(|called| called.is_none())
     }
@@ -48,26 +49,24 @@ impl BranchRecords {
     /// The event is seen.
     pub fn see(&mut self, event: &Event) -> Result<(), NoMemory> {
         match event {
-            Event::Call(session, Request::Statement(statement)) => {
-                self.call(*session, Some(statement.copy()))
-            }
-            Event::Call(session, Request::Unread) => self.call(*session, None),
-            Event::Return(session, Seen::Ok) => self.carried_out(*session),
-            Event::Return(session, Seen::Value(_)) => self.carried_out(*session),
-            Event::Return(session, _) => self.call(*session, None),
+            Event::Call(session, request) => self.call(*session, Some(request.try_clone()?)),
+            Event::Return(session, seen) => match seen.seen() {
+                Seen::Ok | Seen::Value(_) => self.carried_out(*session),
+                Seen::Rows(_) | Seen::Error(_) => self.call(*session, None),
+            },
             Event::Unknown(session) => self.carried_out(*session),
             Event::Lost(_) => Ok(()),
         }
     }
 
     /// The session has called for this, or for nothing.
-    fn call(&mut self, session: SessionNo, statement: Option<Statement>) -> Result<(), NoMemory> {
+    fn call(&mut self, session: SessionNo, request: Option<SharedRequest>) -> Result<(), NoMemory> {
         for _ in self.called.len()..SESSIONS {
             self.called.push(None)?;
             self.owned.push(None)?;
         }
         if let Some(place) = self.called.get_mut(session.get() as usize) {
-            *place = statement;
+            *place = request;
         }
         Ok(())
     }
@@ -102,12 +101,35 @@ impl BranchRecords {
         }
     }
 
-    /// The session's branch ends, where it has one.
-    fn end_own(&mut self, session: SessionNo) {
-        if let Some(xid) = self.owned_by(session) {
+    /// The session's work ends, with this branch.
+    fn end(&mut self, session: SessionNo, branch: Option<Xid>) {
+        if let Some(xid) = branch {
             self.remove(&xid);
-            self.own(session, None);
         }
+        self.own(session, None);
+    }
+
+    /// The session has carried out the statement, or may have.
+    fn act(&mut self, session: SessionNo, statement: &Statement) -> Result<(), NoMemory> {
+        match statement {
+            Statement::Start(xid) => {
+                self.add(xid)?;
+                self.own(session, Some(xid.copy()));
+            }
+            Statement::Prepare(_) => self.own(session, None),
+            Statement::Commit { xid, one_phase: _ } => self.end(session, Some(xid.copy())),
+            Statement::Rollback(xid) => self.end(session, Some(xid.copy())),
+            Statement::Disconnect => {
+                let branch = self.owned_by(session);
+                self.end(session, branch);
+            }
+            _ => {
+                if let Some(xid) = self.owned_by(session) {
+                    self.add(&xid)?;
+                }
+            }
+        }
+        Ok(())
     }
 
     /// What the session has called for was carried out, or may have been.
@@ -116,39 +138,12 @@ impl BranchRecords {
             None => None,
             Some(place) => place.take(),
         };
-        match called {
-            Some(Statement::Start(xid)) => {
-                self.add(&xid)?;
-                self.own(session, Some(xid));
-                Ok(())
-            }
-            Some(Statement::Prepare(_)) => {
-                self.own(session, None);
-                Ok(())
-            }
-            Some(Statement::Commit { xid, one_phase: _ }) => {
-                self.end(session, &xid);
-                Ok(())
-            }
-            Some(Statement::Rollback(xid)) => {
-                self.end(session, &xid);
-                Ok(())
-            }
-            Some(Statement::Disconnect) => {
-                self.end_own(session);
-                Ok(())
-            }
-            Some(_) => match self.owned_by(session) {
-                None => Ok(()),
-                Some(xid) => self.add(&xid),
-            },
-            None => Ok(()),
+        let Some(request) = called else {
+            return Ok(());
+        };
+        match request.request() {
+            Request::Statement(statement) => self.act(session, statement),
+            Request::Unread => Ok(()),
         }
-    }
-
-    /// The branch ends, by this session.
-    fn end(&mut self, session: SessionNo, xid: &Xid) {
-        self.remove(xid);
-        self.own(session, None);
     }
 }

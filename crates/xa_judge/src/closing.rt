@@ -12,7 +12,6 @@ use crate::fingerprint_index::FingerprintIndex;
 use crate::known::{add, expand, fit};
 use crate::shared_answer::SharedAnswer;
 use crate::shared_lists::SharedLists;
-use crate::shared_request::SharedRequest;
 use std::alloc::Global;
 use xa_xid::{NoMemory, SessionNo};
 
@@ -75,25 +74,16 @@ pub fn settle_all(
     Ok(list)
 }
 
-/// What the event calls for, to be shared by all configurations that see it.
-fn request_in(alloc: Global, event: &Event) -> Result<Option<SharedRequest>, NoMemory> {
-    match event {
-        Event::Call(_, request) => Ok(Some(SharedRequest::of(alloc, request.copy())?)),
-        _ => Ok(None),
-    }
-}
-
 /// Adds the configuration once the event is seen, where it can be.
 fn add_seen(
     list: &mut Vec<Configuration>,
     index: &mut FingerprintIndex,
     one: Configuration,
     event: &Event,
-    request: &Option<SharedRequest>,
 ) -> Result<(), NoMemory>
     ensures { OnOk result (IsSeenAdded event.now one list.old.items list.new.items) }
 {
-    match one.observed(event, request)? {
+    match one.observed(event)? {
         None => Ok(()),
         Some(next) => {
             add(list, index, next)?;
@@ -113,12 +103,11 @@ pub fn observe_all(
     ensures reach { IfOk result (λ list. ReachesPast event.now known.items list.items) }
 {
     index.go_on(event)?;
-    let request = request_in(alloc, event)?;
     let count = known.len();
     let mut list = Vec::new(alloc);
     while let Some(one) = known.pop() {
         let one = fit(one, count, index.records())?;
-        add_seen(&mut list, index, one, event, &request)?;
+        add_seen(&mut list, index, one, event)?;
     }
     index.settle(list.len());
     Ok(list)

@@ -4,8 +4,9 @@ ghost use Rattle.xa_judge.specs.Explained.{shows_answer};
 
 use crate::answer::Answer;
 use crate::error_numbers::ErrorNumbers;
-use crate::request::Request;
 use crate::same::{is_same_rows, is_same_value};
+use crate::shared_request::SharedRequest;
+use crate::shared_seen::SharedSeen;
 use xa_server::Reply;
 use xa_xid::{Bytes, SessionNo, Xid};
 
@@ -26,9 +27,9 @@ pub enum Seen {
 #[derive(Debug, Drop)]
 pub enum Event {
     /// The session calls.
-    Call(SessionNo, Request),
+    Call(SessionNo, SharedRequest),
     /// The session's call returns so.
-    Return(SessionNo, Seen),
+    Return(SessionNo, SharedSeen),
     /// The session's client is gone, from here on at the earliest.
     Lost(SessionNo),
     /// The session's call has an answer, but it isn't known which.

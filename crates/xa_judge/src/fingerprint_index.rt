@@ -40,8 +40,11 @@ pub struct FingerprintIndex {
 /// The row that the event calls to write, if it does.
 fn key_written(event: &Event) -> Option<&Key> {
     match event {
-        Event::Call(_, Request::Statement(Statement::Put(key, _))) => Some(key),
-        Event::Call(_, Request::Statement(Statement::Del(key))) => Some(key),
+        Event::Call(_, request) => match request.request() {
+            Request::Statement(Statement::Put(key, _)) => Some(key),
+            Request::Statement(Statement::Del(key)) => Some(key),
+            _ => None,
+        },
         _ => None,
     }
 }

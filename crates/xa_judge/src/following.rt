@@ -40,7 +40,7 @@ impl Following {
     {
         match events.get(self.seen) {
             None => Ok(None),
-            Some(event) => match self.one.observed(event, &None)? {
+            Some(event) => match self.one.observed(event)? {
                 None => Ok(None),
                 Some(next) => Ok(Some(Following {
                     one: next.without_path(),

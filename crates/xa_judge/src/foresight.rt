@@ -47,7 +47,7 @@ fn answer_ahead<'a>(events: &'a [Event], from: usize, session: SessionNo) -> Opt
         let event = events.get(place)?;
         if session_of(event) == session {
             return match event {
-                Event::Return(_, seen) => Some(seen),
+                Event::Return(_, seen) => Some(seen.seen()),
                 _ => None,
             };
         }

@@ -7,6 +7,7 @@ use crate::event::Event;
 use crate::fingerprint_index::FingerprintIndex;
 use crate::following::follows;
 use crate::known::opening;
+use crate::loading::count_alone;
 use crate::progress::{Progress, Silent};
 use crate::searching::moves_through;
 use crate::trunk::{path_of, share};
@@ -17,6 +18,9 @@ use xa_xid::NoMemory;
 
 /// So many configurations are kept of each record at first. Most need no more, and one that does is known soon.
 const NARROW: usize = 8;
+
+/// Where so many events come before calls that overlap, one order is looked for first.
+const LONG: usize = 512;
 
 /// Whether any order explains the events, by all configurations in which they can end.
 fn judge_in_breadth<P: Progress>(
@@ -94,10 +98,15 @@ pub fn judge_telling<P: Progress>(
 ) -> Result<Verdict, NoMemory>
     ensures { IfOk result (IsVerdict base.now events.now limit) }
 {
+    let alone = count_alone(events);
+    let is_long = LONG <= alone && alone < events.len();
+    if is_long && let Some(verdict) = judge_by_search(alloc, base, events, limit, progress)? {
+        return Ok(verdict);
+    }
     if let Some(verdict) = judge_narrow(alloc, base, events, limit, progress)? {
         return Ok(verdict);
     }
-    if let Some(verdict) = judge_by_search(alloc, base, events, limit, progress)? {
+    if !is_long && let Some(verdict) = judge_by_search(alloc, base, events, limit, progress)? {
         return Ok(verdict);
     }
     judge_in_breadth(alloc, base, events, limit, progress)

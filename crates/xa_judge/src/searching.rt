@@ -3,6 +3,7 @@
 use crate::beam::Beam;
 use crate::event::Event;
 use crate::known::opening;
+use crate::loading::{count_alone, moves_alone, server_for};
 use crate::moves::Move;
 use crate::progress::Progress;
 use crate::trunk::{path_of, share};
@@ -19,19 +20,22 @@ const EFFECTS: u64 = 500_000;
 const EFFECTS_EACH: u64 = 64;
 
 /// Moves that may lead through all of the events, where some are found with so many configurations at a time and so many effects,
-/// which are taken off.
+/// which are taken off. So many events come before them.
 fn moves_within<P: Progress>(
     alloc: Global,
     base: &Server,
+    before: usize,
     events: &[Event],
     width: usize,
     left: &mut u64,
     progress: &mut P,
 ) -> Result<Option<Vec<Move>>, NoMemory> {
+    let all = before.saturating_add(events.len());
     let mut beam = Beam::new(alloc, events, opening(alloc, base)?, width, *left)?;
     let mut trunk = Vec::new(alloc);
     for place in 0..events.len() {
-        progress.judged(place as u64, events.len() as u64, beam.known.len() as u64);
+        let done = before.saturating_add(place);
+        progress.judged(done as u64, all as u64, beam.known.len() as u64);
         beam.see(place)?;
         *left = beam.left();
         if *left == 0 || beam.known.is_empty() {
@@ -45,23 +49,43 @@ fn moves_within<P: Progress>(
     Ok(Some(path_of(trunk, beam.known.as_slice())?))
 }
 
-/// Moves that may lead through all of the events, where the search finds some.
-///
-/// It looks at no order in which a call is answered otherwise than it returns, and keeps the configurations in which the fewest open
-/// calls would be; first few, then more.
-pub fn moves_through<P: Progress>(
+/// Moves that may lead through all of the events, where the search finds some with any width. So many events come before them.
+fn moves_behind<P: Progress>(
     alloc: Global,
     base: &Server,
+    before: usize,
     events: &[Event],
     progress: &mut P,
 ) -> Result<Option<Vec<Move>>, NoMemory> {
     let all = events.len() as u64;
     let mut left = all.saturating_mul(EFFECTS_EACH).saturating_add(EFFECTS);
     for width in WIDTHS {
-        let found = moves_within(alloc, base, events, width, &mut left, progress)?;
+        let found = moves_within(alloc, base, before, events, width, &mut left, progress)?;
         if found.is_some() {
             return Ok(found);
         }
     }
     Ok(None)
+}
+
+/// Moves that may lead through all of the events, where the search finds some.
+///
+/// It looks at no order in which a call is answered otherwise than it returns, and keeps the configurations in which the fewest open
+/// calls would be; first few, then more. It begins where calls overlap, with the rows that are named from there on.
+pub fn moves_through<P: Progress>(
+    alloc: Global,
+    base: &Server,
+    events: &[Event],
+    progress: &mut P,
+) -> Result<Option<Vec<Move>>, NoMemory> {
+    let (first, later) = events.split_at(count_alone(events).min(events.len()));
+    let near = server_for(alloc, base, first, later)?;
+    match moves_behind(alloc, &near, first.len(), later, progress)? {
+        None => Ok(None),
+        Some(moves) => {
+            let mut all = moves_alone(alloc, first)?;
+            all.extend_from_slice(moves.as_slice())?;
+            Ok(Some(all))
+        }
+    }
 }

@@ -8,34 +8,16 @@ use crate::client_state::ClientState;
 use crate::configuration::Configuration;
 use crate::event::{Event, Seen};
 use crate::moves::Move;
-use crate::request::Request;
 use crate::shared_request::SharedRequest;
 use xa_xid::{NoMemory, SessionNo};
 
 impl Configuration {
-    /// The request, to be shared: the one that is shared already, where that is the same.
-    fn shared(
-        &self,
-        request: &Request,
-        shared: &Option<SharedRequest>,
-    ) -> Result<SharedRequest, NoMemory>
-        ensures { IfOk result (λ shared. shared ≡ request.now) }
-    {
-        if let Some(one) = shared
-            && one.request().is_same(request)
-        {
-            return one.try_clone();
-        }
-        SharedRequest::of(self.server.alloc(), request.copy())
-    }
-
     /// How things stand once the session has called, where it can.
     #[tactic(auto, unfolding(crate::specs::Explained::observed, crate::specs::Explained::called))]
     fn called(
         self,
         session: SessionNo,
-        request: &Request,
-        shared: &Option<SharedRequest>,
+        request: &SharedRequest,
     ) -> Result<Option<Configuration>, NoMemory>
         ensures config { IfOk result (λ found. option_map config_of found ≡ observed (config_of self) (Event.Call session request.now)) }
         ensures path { IfOk result (λ found. IfSome found (λ new. new.path ≡ self.path ++ Move.Event ∷ [])) }
@@ -43,13 +25,13 @@ impl Configuration {
         match self.client(session) {
             None => Ok(None),
             Some(ClientState::Idle) => {
-                let client = ClientState::Called(self.shared(request, shared)?);
+                let client = ClientState::Called(request.try_clone()?);
                 Ok(Some(self.moved(session, client, Move::Event)?))
             }
             Some(ClientState::Called(_)) => Ok(None),
             Some(ClientState::Answered(_)) => Ok(None),
             Some(ClientState::Gone(None)) => {
-                let client = ClientState::Gone(Some(self.shared(request, shared)?));
+                let client = ClientState::Gone(Some(request.try_clone()?));
                 Ok(Some(self.moved(session, client, Move::Event)?))
             }
             Some(ClientState::Gone(Some(_))) => Ok(None),
@@ -115,18 +97,14 @@ impl Configuration {
         Ok(Some(self.moved(session, ClientState::Idle, Move::Event)?))
     }
 
-    /// How things stand once the event is seen, where it can be. What it calls for may be shared already.
-    pub fn observed(
-        self,
-        event: &Event,
-        shared: &Option<SharedRequest>,
-    ) -> Result<Option<Configuration>, NoMemory>
+    /// How things stand once the event is seen, where it can be.
+    pub fn observed(self, event: &Event) -> Result<Option<Configuration>, NoMemory>
         ensures config { IfOk result (λ found. option_map config_of found ≡ observed (config_of self) event.now) }
         ensures path { IfOk result (λ found. IfSome found (λ new. new.path ≡ self.path ++ Move.Event ∷ [])) }
     {
         match event {
-            Event::Call(session, request) => self.called(*session, request, shared),
-            Event::Return(session, seen) => self.returned(*session, seen),
+            Event::Call(session, request) => self.called(*session, request),
+            Event::Return(session, seen) => self.returned(*session, seen.seen()),
             Event::Lost(session) => self.lost(*session),
             Event::Unknown(session) => self.answered_unknown(*session),
         }

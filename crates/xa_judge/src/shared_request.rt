@@ -7,7 +7,7 @@ use std::marker::Model;
 use std::sync::Arc;
 use xa_xid::NoMemory;
 
-/// A request that configurations own together. A contract sees the request.
+/// A request that events and configurations own together. A contract sees the request.
 #[derive(Debug, Drop)]
 pub struct SharedRequest {
     shared: Arc<Request>,
@@ -23,6 +23,8 @@ impl Model for SharedRequest {
 
 impl SharedRequest {
     /// A request with one owner.
+    ///
+    /// May answer `NoMemory`. Doesn't wait.
     pub fn of(alloc: Global, request: Request) -> Result<SharedRequest, NoMemory>
         ensures { IfOk result (λ shared. shared ≡ request) }
     {
@@ -32,6 +34,8 @@ impl SharedRequest {
     }
 
     /// One more owner.
+    ///
+    /// May answer `NoMemory`, where there are too many owners. Doesn't wait.
     pub fn try_clone(&self) -> Result<SharedRequest, NoMemory>
         ensures { IfOk result (λ shared. shared ≡ self.now) }
     {
@@ -41,6 +45,8 @@ impl SharedRequest {
     }
 
     /// The request.
+    ///
+    /// Takes no memory. Doesn't wait.
     pub fn request(&self) -> &Request
         ensures { result.now ≡ self.now }
     {
@@ -48,6 +54,8 @@ impl SharedRequest {
     }
 
     /// Whether both are known to be the same.
+    ///
+    /// Takes no memory. Doesn't wait.
     pub fn is_same(&self, other: &SharedRequest) -> bool
         ensures { result ≡ true → self.now ≡ other.now }
     {

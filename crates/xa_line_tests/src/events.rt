@@ -1,7 +1,10 @@
 //! The judge on events without a text. Verdicts on records are in the folder cases/judge.
 use std::alloc::Global;
 use std::test::Fail;
-use xa_judge::{Act, Event, Move, Progress, Request, Seen, Verdict, follows, judge, judge_telling};
+use xa_judge::{
+    Act, Event, Move, Progress, Request, Seen, SharedRequest, SharedSeen, Verdict, follows, judge,
+    judge_telling,
+};
 use xa_server::Server;
 use xa_xid::{Bytes, Key, NoMemory, SessionNo, Statement};
 
@@ -10,6 +13,12 @@ fn text(byte: u8) -> Bytes {
     let mut bytes = Bytes::new();
     let _ = bytes.try_push(byte);
     bytes
+}
+
+/// The session calls for the statement.
+fn call(alloc: Global, session: SessionNo, statement: Statement) -> Result<Event, NoMemory> {
+    let request = SharedRequest::of(alloc, Request::Statement(statement))?;
+    Ok(Event::Call(session, request))
 }
 
 /// Session 1 writes a row, and session 2 reads it at the same time and is seen to get no value; then session 1's call returns.
@@ -21,10 +30,10 @@ fn overlapping(alloc: Global) -> Result<Vec<Event>, NoMemory> {
         Key::of(text(b'k')),
     ) {
         let put = Statement::Put(key.copy(), text(b'v'));
-        events.push(Event::Call(one, Request::Statement(put)))?;
-        events.push(Event::Call(two, Request::Statement(Statement::Get(key))))?;
-        events.push(Event::Return(two, Seen::Value(None)))?;
-        events.push(Event::Return(one, Seen::Ok))?;
+        events.push(call(alloc, one, put)?)?;
+        events.push(call(alloc, two, Statement::Get(key))?)?;
+        events.push(Event::Return(two, SharedSeen::of(alloc, Seen::Value(None))?))?;
+        events.push(Event::Return(one, SharedSeen::of(alloc, Seen::Ok)?))?;
     }
     Ok(events)
 }

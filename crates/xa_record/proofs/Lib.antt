@@ -7,6 +7,7 @@ pub mod Texts
 pub mod JsonTexts
 pub mod NamedRows
 pub mod Pairs
+pub mod RowTexts
 pub mod EventLists
 pub mod AllowanceLists
 pub mod Returns

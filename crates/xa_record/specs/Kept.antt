@@ -1,4 +1,5 @@
 -- How the program keeps what it reads, as the definitions see it.
+--     rows_kept                 the identifiers that these texts say
 --     shown_kept, told_kept, line_kept      what a return shows;  what happens to a session;  what a line says
 --     numbered_kept                what happens, with its line's number
 --     awaited_kept              rows that are still to come
@@ -7,7 +8,10 @@
 --     text_told, text_at        what is called for where this happens;  at this place of what happens
 --     calls_kept                at each session's number, the text that it called for last
 --     with_place                at each session's number, the place of its last call, once this happens there
-use Rattle.std.specs.Prelude.{ℕ, Option, Some, None, List, [], map, slice_get, slice_set}
+use Rattle.std.specs.Prelude.{ℕ, Option, Some, None, List, [], ◌∷◌, map, slice_get, slice_set}
+use Rattle.std.specs.Borrow.{Bor}
+use Rattle.xa_xid.specs.declared.xid.Xid.{Xid}
+use Rattle.xa_record.specs.Rows.{row_said}
 use Rattle.std.specs.Option.{option_map}
 use Rattle.xa_record.specs.declared.line_event.LineEvent.{LineEvent}
 use Rattle.xa_record.specs.declared.line_event.LineEvent.TheVariants.{Call, Return, Unknown, Lost}
@@ -27,12 +31,21 @@ use Rattle.xa_record.specs.declared.report.Report.TheVariants.{Faulty as FaultyM
 use Rattle.xa_record.specs.declared.report.Report.TheVariants.{Undecided as UndecidedMade}
 use Rattle.xa_record.specs.Reports.{Reason, Report, Faulty, Empty, Legal, Illegal, Undecided}
 
+abbrev pub row_before : Option Xid → List Xid → List Xid
+row_before None rows = rows
+row_before (Some row) rows = row ∷ rows
+
+-- the identifiers that these texts say
+abbrev pub rows_kept : List (Bor (List ℕ)) → List Xid
+rows_kept [] = []
+rows_kept (text ∷ texts) = row_before (row_said text.now) (rows_kept texts)
+
 -- what a return shows
 abbrev pub shown_kept : ShownRead → Shown
 shown_kept OkRead = ShowsOk
 shown_kept NoneRead = ShowsValue None
 shown_kept (ValueRead value) = ShowsValue (Some value.value)
-shown_kept (ManyRead rows) = ShowsRows rows.value.items
+shown_kept (ManyRead texts) = ShowsRows (rows_kept texts.value.items)
 shown_kept (ErrorRead number) = ShowsError number
 
 -- what happens to a session
@@ -58,7 +71,7 @@ numbered_kept numbered = record { number = numbered.number; told = told_kept num
 -- rows that are still to come
 abbrev pub awaited_kept : Pending → Awaited
 awaited_kept pending =
-    record { session = pending.session; number = pending.number; missing = pending.missing; rows = pending.rows.value.items; faults = pending.faults.items }
+    record { session = pending.session; number = pending.number; missing = pending.missing; rows = rows_kept pending.rows.value.items; faults = pending.faults.items }
 
 -- what was read so far
 abbrev pub notes_kept : NotesRead → Notes

@@ -26,7 +26,7 @@ impl AskedKinds {
     {
         match event {
             Event::Call(session, request) => self.kinds[session.get() as usize] = StatementKind::of(
-                request,
+                request.request(),
             ),
             Event::Return(_, _) => {}
             Event::Lost(_) => {}

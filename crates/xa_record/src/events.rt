@@ -1,17 +1,19 @@
 //! The events that the lines of a record say.
-ghost use Rattle.std.specs.Prelude.{◌≡◌, map, IfOk};
+ghost use Rattle.std.specs.Prelude.{◌≡◌, ◌++◌, [], None, map, IfOk, OnOk};
 ghost use Rattle.std.specs.List.Sorted.{IsPermutation, IsSorted};
 ghost use Rattle.xa_xid.specs.Xid.{xid_cmp};
 ghost use Rattle.xa_record.specs.Events.{request_called, others_shown, IsSeen, IsEvent, AreEvents, AreCalls};
-ghost use Rattle.xa_record.specs.Kept.{shown_kept, told_kept, numbered_kept};
+ghost use Rattle.xa_record.specs.Rows.{row_said};
+ghost use Rattle.xa_record.specs.Kept.{row_before, rows_kept, shown_kept, told_kept, numbered_kept};
 
 use crate::allowance::{Allowance, others_for};
 use crate::asked_kinds::AskedKinds;
 use crate::line_event::{LineEvent, NumberedEvent};
+use crate::rows::read_row;
 use crate::shown::Shown;
 use crate::statement_kind::StatementKind;
 use std::alloc::Global;
-use xa_judge::{ErrorNumbers, Event, Request, Seen};
+use xa_judge::{ErrorNumbers, Event, Request, Seen, SharedRequest, SharedSeen};
 use xa_statement::read_statement;
 use xa_xid::{NoMemory, Xid, copy_of};
 
@@ -25,13 +27,37 @@ fn request_of(text: &[u8]) -> Request
     }
 }
 
-/// The identifiers in ascending order.
-fn ascending(rows: &Vec<Xid>) -> Result<Vec<Xid>, NoMemory>
-    ensures same { IfOk result (λ sorted. IsPermutation rows.now.items sorted.items) }
+/// Puts the identifier of a text behind the others.
+fn push_row(rows: &mut Vec<Xid>, text: &[u8]) -> Result<(), NoMemory>
+    ensures { OnOk result (rows.new.items ≡ rows.old.items ++ row_before (row_said text.now) []) }
+{
+    match read_row(text) {
+        None => Ok(()),
+        Some(row) => {
+            rows.push(row)?;
+            Ok(())
+        }
+    }
+}
+
+/// The identifiers of these texts.
+fn rows_in(alloc: Global, texts: &[&[u8]]) -> Result<Vec<Xid>, NoMemory>
+    ensures { IfOk result (λ rows. rows.items ≡ rows_kept texts.now) }
+{
+    let mut rows = Vec::new(alloc);
+    for text in texts {
+        push_row(&mut rows, text)?;
+    }
+    Ok(rows)
+}
+
+/// The identifiers of these texts in ascending order.
+fn ascending(alloc: Global, texts: &[&[u8]]) -> Result<Vec<Xid>, NoMemory>
+    ensures same { IfOk result (λ sorted. IsPermutation (rows_kept texts.now) sorted.items) }
     ensures sorted { IfOk result (λ sorted. IsSorted xid_cmp sorted.items) }
 {
-    let mut sorted = rows.clone()?;
-    sorted.sort()?;
+    let mut sorted = rows_in(alloc, texts)?;
+    sorted.sort_unstable();
     Ok(sorted)
 }
 
@@ -48,7 +74,7 @@ fn seen_of(
         Shown::Ok => Ok(Seen::Ok),
         Shown::None => Ok(Seen::Value(None)),
         Shown::Value(value) => Ok(Seen::Value(Some(copy_of(value)))),
-        Shown::Rows(rows) => Ok(Seen::Rows(ascending(rows)?)),
+        Shown::Rows(rows) => Ok(Seen::Rows(ascending(alloc, rows.as_slice())?)),
         Shown::Error(number) => {
             let others = others_for(alloc, allowances, kind, *number)?;
             Ok(Seen::Error(ErrorNumbers {
@@ -59,19 +85,46 @@ fn seen_of(
     }
 }
 
+/// The same, which all returns share that show `OK`, and all that show `NONE`.
+fn shared_seen_of(
+    alloc: Global,
+    allowances: &[Allowance],
+    kind: Option<StatementKind>,
+    shown: &Shown,
+    ok: &SharedSeen,
+    none: &SharedSeen,
+) -> Result<SharedSeen, NoMemory>
+    requires ok { ok.now ≡ Seen.Ok }
+    requires none { none.now ≡ Seen.Value None }
+    ensures { let said = shown_kept shown.now in IfOk result (IsSeen (others_shown allowances.now kind said) said) }
+{
+    match shown {
+        Shown::Ok => Ok(ok.try_clone()?),
+        Shown::None => Ok(none.try_clone()?),
+        _ => SharedSeen::of(alloc, seen_of(alloc, allowances, kind, shown)?),
+    }
+}
+
 /// The event that is what happens.
 fn event_of(
     alloc: Global,
     allowances: &[Allowance],
     asked: &AskedKinds,
     line_event: &LineEvent,
+    ok: &SharedSeen,
+    none: &SharedSeen,
 ) -> Result<Event, NoMemory>
+    requires ok { ok.now ≡ Seen.Ok }
+    requires none { none.now ≡ Seen.Value None }
     ensures { IfOk result (IsEvent allowances.now asked.now.kinds (told_kept line_event.now)) }
 {
     match line_event {
-        LineEvent::Call(session, text) => Ok(Event::Call(*session, request_of(text))),
+        LineEvent::Call(session, text) => {
+            let request = SharedRequest::of(alloc, request_of(text))?;
+            Ok(Event::Call(*session, request))
+        }
         LineEvent::Return(session, shown) => {
-            let seen = seen_of(alloc, allowances, asked.of(*session), shown)?;
+            let seen = shared_seen_of(alloc, allowances, asked.of(*session), shown, ok, none)?;
             Ok(Event::Return(*session, seen))
         }
         LineEvent::Unknown(session) => Ok(Event::Unknown(*session)),
@@ -90,8 +143,10 @@ pub fn events_of(
 {
     let mut events = Vec::new(alloc);
     let mut asked = AskedKinds::none();
+    let ok = SharedSeen::of(alloc, Seen::Ok)?;
+    let none = SharedSeen::of(alloc, Seen::Value(None))?;
     for one in numbered {
-        let event = event_of(alloc, allowances, &asked, &one.line_event)?;
+        let event = event_of(alloc, allowances, &asked, &one.line_event, &ok, &none)?;
         asked.follow(&event);
         events.push(event)?;
     }

@@ -53,8 +53,8 @@ fn trimmed(text: &[u8]) -> &[u8]
 }
 
 /// The return, where nothing stands behind it.
-fn alone(session: SessionNo, shown: Shown, rest: &[u8]) -> RecordLine<'static>
-    ensures { line_kept result ≡ alone (Says (Returns session (shown_kept shown))) rest.now }
+fn alone<'a>(session: SessionNo, shown: Shown<'a>, rest: &'a [u8]) -> RecordLine<'a>
+    ensures { line_kept result ≡ alone (Says (Returns session (shown_kept shown.entry))) rest.now }
 {
     if rest.is_empty() {
         RecordLine::Happens(LineEvent::Return(session, shown))
@@ -64,7 +64,7 @@ fn alone(session: SessionNo, shown: Shown, rest: &[u8]) -> RecordLine<'static>
 }
 
 /// The return of a value, where nothing stands behind it.
-fn value_alone(session: SessionNo, value: Bytes, rest: &[u8]) -> RecordLine<'static>
+fn value_alone(session: SessionNo, value: Bytes, rest: &[u8]) -> RecordLine<'_>
     ensures { line_kept result ≡ alone (Says (Returns session (ShowsValue (Some value)))) rest.now }
 {
     if rest.is_empty() {
@@ -75,7 +75,7 @@ fn value_alone(session: SessionNo, value: Bytes, rest: &[u8]) -> RecordLine<'sta
 }
 
 /// What `VALUE` says, with the text behind it.
-fn value(session: SessionNo, text: &[u8]) -> RecordLine<'static>
+fn value(session: SessionNo, text: &[u8]) -> RecordLine<'_>
     ensures { line_kept result ≡ value_said session (literal_ahead text.now) }
 {
     match literal_of(text) {
@@ -85,7 +85,7 @@ fn value(session: SessionNo, text: &[u8]) -> RecordLine<'static>
 }
 
 /// What `ROWS` says, with the text behind it.
-fn rows(session: SessionNo, text: &[u8]) -> RecordLine<'static>
+fn rows(session: SessionNo, text: &[u8]) -> RecordLine<'_>
     ensures { line_kept result ≡ rows_said session (number_of_word (first_word text.now)) (behind_word_of text.now) }
 {
     let (word, rest) = split_word(text);
@@ -102,7 +102,7 @@ fn rows(session: SessionNo, text: &[u8]) -> RecordLine<'static>
 }
 
 /// What `ERROR` says, with the text behind it.
-fn error(session: SessionNo, text: &[u8]) -> RecordLine<'static>
+fn error(session: SessionNo, text: &[u8]) -> RecordLine<'_>
     ensures { line_kept result ≡ error_said session (leading_number_of text.now) }
 {
     match leading_number(text) {
@@ -119,7 +119,7 @@ fn error(session: SessionNo, text: &[u8]) -> RecordLine<'static>
 
 /// What stands behind `<`.
 #[tactic(auto, unfolding(crate::specs::Lines::return_said))]
-fn returned(session: SessionNo, word: &[u8], text: &[u8]) -> RecordLine<'static>
+fn returned<'a>(session: SessionNo, word: &[u8], text: &'a [u8]) -> RecordLine<'a>
     ensures { line_kept result ≡ return_said session word.now text.now }
 {
     if word == b"OK".as_slice() {
@@ -138,7 +138,7 @@ fn returned(session: SessionNo, word: &[u8], text: &[u8]) -> RecordLine<'static>
 }
 
 /// What stands behind `?`.
-fn unknown(session: SessionNo, word: &[u8]) -> RecordLine<'static>
+fn unknown(session: SessionNo, word: &[u8]) -> RecordLine<'_>
     ensures { line_kept result ≡ unknown_said session word.now }
 {
     if word == b"ERROR".as_slice() {
@@ -150,7 +150,7 @@ fn unknown(session: SessionNo, word: &[u8]) -> RecordLine<'static>
 
 /// What stands behind `!`.
 #[tactic(auto, unfolding(crate::specs::Lines::loss_said))]
-fn loss(session: SessionNo, word: &[u8], text: &[u8]) -> RecordLine<'static>
+fn loss<'a>(session: SessionNo, word: &[u8], text: &'a [u8]) -> RecordLine<'a>
     ensures { line_kept result ≡ loss_said session word.now text.now }
 {
     if !text.is_empty() {

@@ -14,7 +14,7 @@ pub enum LineEvent<'a> {
     /// It calls for what this text asks for.
     Call(SessionNo, &'a [u8]),
     /// Its call returns so.
-    Return(SessionNo, Shown),
+    Return(SessionNo, Shown<'a>),
     /// Its call returns, and what it returned isn't known.
     Unknown(SessionNo),
     /// Its client is gone, at this line or at any time since its last return.

@@ -39,8 +39,10 @@ fn put_in_row_called(keys: &mut BTreeSet<Key>, event: &Event) -> Result<(), NoMe
     ensures { OnOk result (keys.new.keys ≡ with_row_called event.now keys.old.keys) }
 {
     match event {
-        Event::Call(_, Request::Statement(statement)) => put_in_row_of(keys, statement),
-        Event::Call(_, Request::Unread) => Ok(()),
+        Event::Call(_, request) => match request.request() {
+            Request::Statement(statement) => put_in_row_of(keys, statement),
+            Request::Unread => Ok(()),
+        },
         Event::Return(_, _) => Ok(()),
         Event::Lost(_) => Ok(()),
         Event::Unknown(_) => Ok(()),

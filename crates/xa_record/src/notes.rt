@@ -2,6 +2,7 @@
 ghost use Rattle.std.specs.Prelude.{◌≡◌, ◌≤◌, OnOk, length, map, slice_get, option_copied};
 ghost use Rattle.std.specs.Option.{option_map};
 ghost use Rattle.xa_record.specs.Reading.{no_notes, blamed, blamed_too, note_of, up_to_return as up_to_return_of, note_closed, returned, awaiting, with_row, noted_row, noted_said, noted_line, ended_by};
+ghost use Rattle.xa_record.specs.Rows.{row_said};
 ghost use Rattle.xa_record.specs.Kept.{told_kept, numbered_kept, awaited_kept, line_kept, notes_kept};
 
 use crate::line::{RecordLine, is_silent, read_record_line};
@@ -12,7 +13,7 @@ use crate::presence::Presence;
 use crate::rows::read_row;
 use crate::shown::Shown;
 use std::alloc::Global;
-use xa_xid::{NoMemory, SessionNo, Xid, skip_blanks};
+use xa_xid::{NoMemory, SessionNo, skip_blanks};
 
 /// What was read of a record so far.
 #[derive(Drop)]
@@ -24,7 +25,7 @@ pub struct Notes<'a> {
     /// At each session's number what the lines say of it.
     pub presence: [Presence; 17],
     /// Rows that are still to come.
-    pub pending: Option<Pending>,
+    pub pending: Option<Pending<'a>>,
 }
 
 /// How much happens up to the session's last return and with it, nothing where it has none.
@@ -113,8 +114,8 @@ impl<'a> Notes<'a> {
     }
 
     /// All rows have come: the call returns them. Its own line comes before the faulty ones among them.
-    fn finish(&mut self, pending: Pending) -> Result<(), NoMemory>
-        ensures { OnOk result (notes_kept self.new ≡ returned (notes_kept self.old) (awaited_kept pending)) }
+    fn finish(&mut self, pending: Pending<'a>) -> Result<(), NoMemory>
+        ensures { OnOk result (notes_kept self.new ≡ returned (notes_kept self.old) (awaited_kept pending.entry)) }
     {
         let Pending {
             session,
@@ -128,8 +129,8 @@ impl<'a> Notes<'a> {
     }
 
     /// Where all rows have come, the call returns them; else the others are still to come.
-    fn wait_for(&mut self, pending: Pending) -> Result<(), NoMemory>
-        ensures { OnOk result (notes_kept self.new ≡ awaiting (notes_kept self.old) (awaited_kept pending)) }
+    fn wait_for(&mut self, pending: Pending<'a>) -> Result<(), NoMemory>
+        ensures { OnOk result (notes_kept self.new ≡ awaiting (notes_kept self.old) (awaited_kept pending.entry)) }
     {
         if pending.missing == 0 {
             self.finish(pending)
@@ -139,20 +140,20 @@ impl<'a> Notes<'a> {
         }
     }
 
-    /// One row has come, or a line that isn't written as one is.
-    #[tactic(auto, unfolding(crate::specs::Reading::with_row))]
+    /// A line has come where a row was to come.
+    #[tactic(auto, using(crate::proofs::RowTexts::rows_behind), unfolding(crate::specs::Reading::with_row))]
     fn take_row(
         &mut self,
-        mut pending: Pending,
+        mut pending: Pending<'a>,
         number: u64,
-        row: Option<Xid>,
+        text: &'a [u8],
     ) -> Result<(), NoMemory>
-        ensures { OnOk result (notes_kept self.new ≡ with_row (notes_kept self.old) (awaited_kept pending) number row) }
+        ensures { OnOk result (notes_kept self.new ≡ with_row (notes_kept self.old) (awaited_kept pending.entry) number (row_said text.now)) }
     {
         pending.missing = pending.missing.saturating_sub(1);
-        match row {
+        match read_row(text) {
             None => LineFault::NotARow.push(&mut pending.faults, number)?,
-            Some(xid) => pending.rows.push(xid)?,
+            Some(_) => pending.rows.push(text)?,
         }
         self.wait_for(pending)
     }
@@ -198,7 +199,7 @@ impl<'a> Notes<'a> {
                     self.pending = Some(pending);
                     Ok(())
                 } else {
-                    self.take_row(pending, number, read_row(skip_blanks(line)))
+                    self.take_row(pending, number, skip_blanks(line))
                 }
             }
         }

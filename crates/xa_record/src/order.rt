@@ -68,7 +68,7 @@ fn push_called(
 {
     match line_event {
         LineEvent::Call(_, text) => match event {
-            Event::Call(_, request) => push_call(alloc, out, text, request),
+            Event::Call(_, request) => push_call(alloc, out, text, request.request()),
             Event::Return(_, _) => unreachable!(),
             Event::Lost(_) => unreachable!(),
             Event::Unknown(_) => unreachable!(),

@@ -1,18 +1,18 @@
 //! Rows that are still to come.
 
-use xa_xid::{SessionNo, Xid};
+use xa_xid::SessionNo;
 
 /// Rows that are still to come.
 #[derive(Drop)]
-pub struct Pending {
+pub struct Pending<'a> {
     /// The session that they are returned to.
     pub session: SessionNo,
     /// The number of the return's line.
     pub number: u64,
     /// How many are still to come.
     pub missing: u64,
-    /// Those that have come.
-    pub rows: Box<Vec<Xid>>,
+    /// The texts of those that have come, each of an identifier.
+    pub rows: Box<Vec<&'a [u8]>>,
     /// What is written for the lines among them that aren't rows: behind what is written for the return's own line.
     pub faults: Vec<u8>,
 }

@@ -42,20 +42,11 @@ fn is_written_call(event: &Event)
     ensures { IsWrittenCall event.now }
 {
     match event {
-        Event::Call(_, Request::Statement(statement)) => match statement {
-            Statement::Unsupported => {}
-            Statement::Start(_)
-            | Statement::End(_)
-            | Statement::Prepare(_)
-            | Statement::Commit { .. }
-            | Statement::Rollback(_)
-            | Statement::Recover { .. }
-            | Statement::Get(_)
-            | Statement::Put(_, _)
-            | Statement::Del(_)
-            | Statement::Disconnect => is_written_back(statement),
+        Event::Call(_, request) => match request.request() {
+            Request::Statement(Statement::Unsupported) => {}
+            Request::Statement(statement) => is_written_back(statement),
+            Request::Unread => {}
         },
-        Event::Call(_, Request::Unread) => {}
         Event::Return(_, _) => {}
         Event::Lost(_) => {}
         Event::Unknown(_) => {}

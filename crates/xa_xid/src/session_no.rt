@@ -6,7 +6,7 @@ use std::marker::Model;
 /// The number of a session, in `[1, 16]`. A contract sees it as that number.
 #[derive(Clone, Copy, Debug, PartialEq, Eq, PartialOrd, Ord)]
 pub struct SessionNo {
-    number: u64,
+    number: u8,
 }
 
 impl Model for SessionNo {
@@ -33,7 +33,9 @@ impl SessionNo {
         ensures number { IfSome result (λ session. session ≡ number) }
     {
         if 1 <= number && number <= Self::MAX {
-            Some(SessionNo { number })
+            Some(SessionNo {
+                number: number as u8,
+            })
         } else {
             None
         }
@@ -46,6 +48,6 @@ impl SessionNo {
         ensures value { result ≡ self.now }
         ensures in_range { (1 ≤ result) × (result ≤ 16) }
     {
-        self.number
+        self.number as u64
     }
 }

@@ -1,0 +1,102 @@
+//! How a record begins, before calls overlap.
+//!
+//! A test bench often fills its tables first, one call after another. A search for an order needs none of those rows that no later call
+//! names, and each copy of its server is then small.
+
+use crate::event::Event;
+use crate::fingerprints::mark_of_key;
+use crate::moves::{Act, Move};
+use crate::request::Request;
+use std::alloc::Global;
+use std::collections::BTreeSet;
+use xa_server::Server;
+use xa_xid::{Key, NoMemory, Statement};
+
+/// The row that the statement names, if it does.
+fn key_of(statement: &Statement) -> Option<&Key> {
+    match statement {
+        Statement::Get(key) => Some(key),
+        Statement::Put(key, _) => Some(key),
+        Statement::Del(key) => Some(key),
+        _ => None,
+    }
+}
+
+/// The row that the event calls for, if it does.
+fn key_called(event: &Event) -> Option<&Key> {
+    match event {
+        Event::Call(_, request) => match request.request() {
+            Request::Statement(statement) => key_of(statement),
+            Request::Unread => None,
+        },
+        _ => None,
+    }
+}
+
+/// Whether a call stands at this place, and its return right behind it.
+fn is_alone(events: &[Event], place: usize) -> bool {
+    match events.get(place) {
+        Some(Event::Call(session, _)) => match events.get(place.saturating_add(1)) {
+            Some(Event::Return(other, _)) => *session == *other,
+            _ => false,
+        },
+        _ => false,
+    }
+}
+
+/// How many events there are before calls overlap: each call returns before the next one.
+pub fn count_alone(events: &[Event]) -> usize {
+    for pair in 0..events.len() / 2 {
+        let place = pair.saturating_mul(2);
+        if !is_alone(events, place) {
+            return place;
+        }
+    }
+    events.len() / 2 * 2
+}
+
+/// The fingerprints of the rows that the events call for.
+fn rows_called(alloc: Global, events: &[Event]) -> Result<BTreeSet<u64>, NoMemory> {
+    let mut rows = BTreeSet::new(alloc);
+    for event in events {
+        if let Some(key) = key_called(event) {
+            rows.insert(mark_of_key(key))?;
+        }
+    }
+    Ok(rows)
+}
+
+/// The server after the first events, in which each call is alone, but without the rows that no later one calls for.
+pub fn server_for(
+    alloc: Global,
+    base: &Server,
+    first: &[Event],
+    later: &[Event],
+) -> Result<Server, NoMemory> {
+    let rows = rows_called(alloc, later)?;
+    let mut server = base.copy()?;
+    for event in first {
+        if let Event::Call(session, request) = event {
+            let is_needed = match key_called(event) {
+                None => true,
+                Some(key) => rows.contains(&mark_of_key(key)),
+            };
+            if is_needed {
+                let _answer = request.request().carry_out(&mut server, *session)?;
+            }
+        }
+    }
+    Ok(server)
+}
+
+/// The moves through events in which each call is alone.
+pub fn moves_alone(alloc: Global, first: &[Event]) -> Result<Vec<Move>, NoMemory> {
+    let mut moves = Vec::new(alloc);
+    for event in first {
+        moves.push(Move::Event)?;
+        if let Event::Call(session, _) = event {
+            moves.push(Move::Effect(*session, Act::Statement))?;
+        }
+    }
+    Ok(moves)
+}
