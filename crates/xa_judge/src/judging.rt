@@ -114,7 +114,8 @@ pub fn judge_telling<P: Progress>(
 
 /// Whether any order explains the events, from this state of the server on.
 ///
-/// At most `limit` configurations are kept before a return. Where more than a few would be, one order is looked for first.
+/// At most `limit` configurations are kept before a return. Where more than a few would be, or 512 events come before calls that
+/// overlap, one order is looked for first.
 /// Errors: `NoMemory`. Takes memory for the configurations; up to 256 have each a copy of the server's records, more share those.
 /// Doesn't wait.
 /// Own rule: docs/JUDGE.md.

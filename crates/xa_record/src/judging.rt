@@ -95,7 +95,7 @@ fn text_in(alloc: Global, form: Form, report: &Report) -> Result<Vec<u8>, NoMemo
 ///
 /// The server holds nothing at first. Its answers may differ from the rules' as the allowances say. At most `asked.limit`
 /// configurations are kept before a return; where an illegal line is explained, what is before it is judged once more, and nothing
-/// is explained where that passes the limit. `progress` is told how far judging is, each time from the first event on.
+/// is explained where that passes the limit. `progress` is told how far judging is.
 /// May answer `NoMemory`. Doesn't wait.
 /// Own rule: docs/JUDGE.md.
 pub fn judge_text<P: Progress>(
