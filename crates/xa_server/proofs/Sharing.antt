@@ -1,78 +1,44 @@
--- The branches that share a row, the one and the others, seen as a finite set.
-use Rattle.std.proofs.Common.{◌≡◌, List, [], ◌∷◌, refl, ap, sym, ◌∙◌, Bool, true, false, inl, inr}
+-- The branches that share a row, a list of the first and a tree of the later ones, seen as a finite set.
+use Rattle.std.proofs.Common.{◌≡◌, List, [], ◌∷◌, ◌++◌, refl, ap, sym, ◌∙◌, Bool, true, false, inl, inr, arith, length-append}
+use Rattle.std.proofs.lemmas.List.Folds.{list_all-append, list_any-append}
 use mathlib.Core.Bool.{true≢false}
-use Rattle.std.specs.Prelude.{Option, Some, None, cond, not, ◌&&◌, ◌||◌}
-use Rattle.std.specs.Option.{option_map_or}
+use Rattle.std.specs.Prelude.{cond, not, ◌&&◌, ◌||◌, ◌⊎◌, filter, length}
 use Rattle.std.specs.List.{list_all, list_any}
 use Rattle.std.specs.Cmp.{eq_by_cmp_equiv}
 use Rattle.std.specs.BTreeSet as tree
 use Rattle.std.specs.BTreeSet.{BTreeSet, Updates}
 use Rattle.std.specs.FinSet as set
-use Rattle.std.specs.FinSet.{contains-insert, contains-remove, contains-from_list, contains-items, contains-is_subset, is_subset-contains, same_set}
+use Rattle.std.specs.FinSet.{contains-empty, contains-insert, contains-remove, contains-from_list, contains-items, contains-is_subset, is_subset-contains, same_set}
 use Rattle.xa_xid.specs.declared.xid.Xid.{Xid}
 use Rattle.xa_xid.specs.Xid.{xid_cmp, same_xid}
 use Rattle.xa_xid.proofs.Orders.{xids_total, exact_xids}
 use Rattle.xa_server.specs.Rows.{Sharing}
-use Rattle.xa_server.proofs.Holders.{both, one_xid, same_any, same_truth}
+use Rattle.xa_server.proofs.Holders.{both, itself, same_any, same_truth, turned_apart}
 use Rattle.xa_server.proofs.Maps.{same_or_apart}
 
--- the set that the one and the tree's keys make
-abbrev pub sharers_in : Option Xid → BTreeSet Xid → Sharing
-sharers_in one others = set.from_list {R = xid_cmp} (option_map_or (λ xid. xid ∷ others.keys) one others.keys)
+-- the set that a list makes
+abbrev pub listed : List Xid → Sharing
+listed few = set.from_list {R = xid_cmp} few
 
--- whether there is one, and it passes the test
-abbrev pub is_one : (Xid → Bool) → Option Xid → Bool
-is_one p one = option_map_or p one false
+-- the set that a list and a tree's keys make
+abbrev pub several_in : List Xid → BTreeSet Xid → Sharing
+several_in few many = listed (few ++ many.keys)
 
--- a look-up in the set is one at the one and in the tree
-pub contains-view : (one : Option Xid) (others : BTreeSet Xid) (xid : Xid)
-    → set.contains (sharers_in one others) xid ≡ (is_one (same_xid xid) one || tree.contains xid_cmp others xid)
-contains-view None others xid = contains-from_list xids_total others.keys xid
-contains-view (Some own) others xid = contains-from_list xids_total (own ∷ others.keys) xid
+-- ---- tests
 
--- a test that the one or one of the tree's keys passes is one that one of the set's members passes
-pub any-view : (p : Xid → Bool) (one : Option Xid) (others : BTreeSet Xid)
-    → list_any p (set.items (sharers_in one others)) ≡ (is_one p one || list_any p others.keys)
-any-view p None others =
-    same_any p (set.items (sharers_in None others)) others.keys (λ xid. sym (contains-items (sharers_in None others) xid) ∙ contains-view None others xid)
-any-view p (Some own) others =
-    same_any p (set.items (sharers_in (Some own) others)) (own ∷ others.keys)
-    (λ xid. sym (contains-items (sharers_in (Some own) others) xid) ∙ contains-view (Some own) others xid)
+or_false : (b : Bool) → (b || false) ≡ b
+or_false true = refl
+or_false false = refl
 
--- what either of two tests says, where the first is told
-pub or_first : (a b : Bool) → true ≡ a → a ≡ (a || b)
-or_first true b e = refl
-or_first false b e = absurd (true≢false e)
+and_false : (b : Bool) → (b && false) ≡ false
+and_false true = refl
+and_false false = refl
 
-pub or_second : (a b : Bool) → false ≡ a → b ≡ (a || b)
-or_second true b e = absurd (true≢false (sym e))
-or_second false b e = refl
-
--- ---- sets within sets
-
-all_some : (p : Xid → Bool) (xs : List Xid) (xid : Xid) → list_all p xs ≡ true → list_any (same_xid xid) xs ≡ true → p xid ≡ true
-all_some p [] xid all there = absurd (true≢false (sym there))
-all_some p (x ∷ xs) xid all there = elim (same_or_apart xids_total exact_xids xid x) [
-  | inl is ↦ ap p is ∙ (both (p x) (list_all p xs) all).0
-  | inr apart ↦ all_some p xs xid (both (p x) (list_all p xs) all).1 (sym (ap (λ b. b || list_any (same_xid xid) xs) apart) ∙ there)
-]
-
--- where a set has the one and the tree's keys, it has all members
-pub subset-view : (one : Option Xid) (others : BTreeSet Xid) (all : Sharing) → option_map_or (set.contains all) one true ≡ true
-    → list_all (set.contains all) others.keys ≡ true → set.is_subset (sharers_in one others) all ≡ true
-subset-view None others all has_one has_others = contains-is_subset xids_total (sharers_in None others) all (λ xid there.
-    all_some (set.contains all) others.keys xid has_others (sym (contains-view None others xid) ∙ there))
-subset-view (Some own) others all has_one has_others = contains-is_subset xids_total (sharers_in (Some own) others) all (λ xid there.
-    all_some (set.contains all) (own ∷ others.keys) xid (ap (λ b. b && list_all (set.contains all) others.keys) has_one ∙ has_others)
-    (sym (contains-view (Some own) others xid) ∙ there))
-
--- sets that are within each other are one
-pub same_sharers : (left right : Sharing) → set.is_subset left right ≡ true → set.is_subset right left ≡ true → left ≡ right
-same_sharers left right to from = same_set xids_total exact_xids left right (λ xid.
-    same_truth (set.contains left xid) (set.contains right xid)
-    (is_subset-contains xids_total left right to xid) (is_subset-contains xids_total right left from xid))
-
--- ---- one comes, one goes
+or_one_more : (a b c : Bool) → ((a || (b || false)) || c) ≡ (b || (a || c))
+or_one_more true true c = refl
+or_one_more true false c = refl
+or_one_more false true c = refl
+or_one_more false false c = refl
 
 or_cond : (a b c : Bool) → (a || cond b true c) ≡ (b || (a || c))
 or_cond true true c = refl
@@ -86,56 +52,167 @@ and_cond true false c = refl
 and_cond false true c = refl
 and_cond false false c = refl
 
-not_both : (b : Bool) → (not b && b) ≡ false
-not_both true = refl
-not_both false = refl
+and_not : (b c : Bool) → (not b && c) ≡ (not b && (b || c))
+and_not true c = refl
+and_not false c = refl
 
-and_false : (b : Bool) → (b && false) ≡ false
-and_false true = refl
-and_false false = refl
+-- what either of two tests says, where the first is told
+pub or_first : (a b : Bool) → true ≡ a → a ≡ (a || b)
+or_first true b e = refl
+or_first false b e = absurd (true≢false e)
 
--- a tree with one key more is a set with one member more
-pub one_added : (one : Option Xid) (old new : BTreeSet Xid) (xid : Xid) → Updates xid_cmp old new xid true
-    → sharers_in one new ≡ set.insert (sharers_in one old) xid
-one_added one old new xid updates = same_set xids_total exact_xids _ _ (λ other.
-    contains-view one new other
-    ∙ ap (λ b. is_one (same_xid other) one || b)
+pub or_second : (a b : Bool) → false ≡ a → b ≡ (a || b)
+or_second true b e = absurd (true≢false (sym e))
+or_second false b e = refl
+
+-- ---- one is sought
+
+-- a look-up in the set of one
+pub contains-one : (own xid : Xid) → set.contains (listed (own ∷ [])) xid ≡ same_xid xid own
+contains-one own xid = contains-from_list xids_total (own ∷ []) xid ∙ or_false (same_xid xid own)
+
+-- a look-up in the set is one in the list and in the tree
+pub contains-several : (few : List Xid) (many : BTreeSet Xid) (xid : Xid)
+    → set.contains (several_in few many) xid ≡ (list_any (same_xid xid) few || tree.contains xid_cmp many xid)
+contains-several few many xid = contains-from_list xids_total (few ++ many.keys) xid ∙ list_any-append (same_xid xid) few many.keys
+
+-- a test that one of the list passes is one that one of the set's members passes
+pub any-listed : (p : Xid → Bool) (xids : List Xid) → list_any p (set.items (listed xids)) ≡ list_any p xids
+any-listed p xids = same_any p (set.items (listed xids)) xids (λ xid. sym (contains-items (listed xids) xid) ∙ contains-from_list xids_total xids xid)
+
+pub any-one : (p : Xid → Bool) (own : Xid) → list_any p (set.items (listed (own ∷ []))) ≡ p own
+any-one p own = any-listed p (own ∷ []) ∙ or_false (p own)
+
+pub any-several : (p : Xid → Bool) (few : List Xid) (many : BTreeSet Xid)
+    → list_any p (set.items (several_in few many)) ≡ (list_any p few || list_any p many.keys)
+any-several p few many = any-listed p (few ++ many.keys) ∙ list_any-append p few many.keys
+
+-- ---- sets within sets
+
+all_some : (p : Xid → Bool) (xs : List Xid) (xid : Xid) → list_all p xs ≡ true → list_any (same_xid xid) xs ≡ true → p xid ≡ true
+all_some p [] xid all there = absurd (true≢false (sym there))
+all_some p (x ∷ xs) xid all there = elim (same_or_apart xids_total exact_xids xid x) [
+  | inl is ↦ ap p is ∙ (both (p x) (list_all p xs) all).0
+  | inr apart ↦ all_some p xs xid (both (p x) (list_all p xs) all).1 (sym (ap (λ b. b || list_any (same_xid xid) xs) apart) ∙ there)
+]
+
+-- where a set has each of the list, it has all members
+pub subset-listed : (xids : List Xid) (all : Sharing) → list_all (set.contains all) xids ≡ true → set.is_subset (listed xids) all ≡ true
+subset-listed xids all each = contains-is_subset xids_total (listed xids) all (λ xid there.
+    all_some (set.contains all) xids xid each (sym (contains-from_list xids_total xids xid) ∙ there))
+
+pub subset-one : (own : Xid) (all : Sharing) → set.contains all own ≡ true → set.is_subset (listed (own ∷ [])) all ≡ true
+subset-one own all has = subset-listed (own ∷ []) all (ap (λ b. b && true) has)
+
+pub subset-several : (few : List Xid) (many : BTreeSet Xid) (all : Sharing) → list_all (set.contains all) few ≡ true
+    → list_all (set.contains all) many.keys ≡ true → set.is_subset (several_in few many) all ≡ true
+subset-several few many all has_few has_many = subset-listed (few ++ many.keys) all
+    (list_all-append (set.contains all) few many.keys ∙ ap (λ b. b && list_all (set.contains all) many.keys) has_few ∙ has_many)
+
+-- sets that are within each other are one
+pub same_sharers : (left right : Sharing) → set.is_subset left right ≡ true → set.is_subset right left ≡ true → left ≡ right
+same_sharers left right to from = same_set xids_total exact_xids left right (λ xid.
+    same_truth (set.contains left xid) (set.contains right xid)
+    (is_subset-contains xids_total left right to xid) (is_subset-contains xids_total right left from xid))
+
+-- ---- nobody
+
+-- a set with a member isn't empty
+some_listed : (xid : Xid) (xids : List Xid) → listed (xid ∷ xids) ≡ set.empty → ⊥
+some_listed xid xids none = true≢false
+    (sym (contains-insert xids_total (listed xids) xid xid ∙ ap (λ b. b || set.contains (listed xids) xid) (itself xid))
+    ∙ ap (λ sharers. set.contains sharers xid) none ∙ contains-empty xid_cmp xid)
+
+none_listed : (xids : List Xid) → listed xids ≡ set.empty → length xids ≡ 0
+none_listed [] none = refl
+none_listed (xid ∷ xids) none = absurd (some_listed xid xids none)
+
+nothing_listed : (xids : List Xid) → length xids ≡ 0 → listed xids ≡ set.empty
+nothing_listed [] none = refl
+nothing_listed (xid ∷ xids) none = absurd (omega (arith, none))
+
+-- a set has no members if neither the list has one nor the tree a key
+pub none_in : (few : List Xid) (many : BTreeSet Xid) → length few ≡ 0 → length many.keys ≡ 0 → several_in few many ≡ set.empty
+none_in few many none no_more = nothing_listed (few ++ many.keys) (length-append few many.keys ∙ omega (arith, none, no_more))
+
+-- and only then
+pub none_of : (few : List Xid) (many : BTreeSet Xid) → several_in few many ≡ set.empty → (length few ≡ 0) × (length many.keys ≡ 0)
+none_of few many none =
+    let e = sym (length-append few many.keys) ∙ none_listed (few ++ many.keys) none in
+    (omega (arith, e), omega (arith, e))
+
+-- ---- one comes
+
+-- a list with one more is a set with one member more
+pub few_added : (few : List Xid) (many : BTreeSet Xid) (xid : Xid) → several_in (few ++ xid ∷ []) many ≡ set.insert (several_in few many) xid
+few_added few many xid = same_set xids_total exact_xids _ _ (λ other.
+    contains-several (few ++ xid ∷ []) many other
+    ∙ ap (λ b. b || tree.contains xid_cmp many other) (list_any-append (same_xid other) few (xid ∷ []))
+    ∙ or_one_more (list_any (same_xid other) few) (same_xid other xid) (tree.contains xid_cmp many other)
+    ∙ sym (contains-insert xids_total (several_in few many) xid other ∙ ap (λ b. same_xid other xid || b) (contains-several few many other)))
+
+-- and so is a tree with one key more
+pub many_added : (few : List Xid) (old new : BTreeSet Xid) (xid : Xid) → Updates xid_cmp old new xid true
+    → several_in few new ≡ set.insert (several_in few old) xid
+many_added few old new xid updates = same_set xids_total exact_xids _ _ (λ other.
+    contains-several few new other
+    ∙ ap (λ b. list_any (same_xid other) few || b)
     (updates.0 other ∙ ap (λ b. cond b true (tree.contains xid_cmp old other)) ((eq_by_cmp_equiv xids_total).symm xid other))
-    ∙ or_cond (is_one (same_xid other) one) (same_xid other xid) (tree.contains xid_cmp old other)
-    ∙ sym (contains-insert xids_total (sharers_in one old) xid other ∙ ap (λ b. same_xid other xid || b) (contains-view one old other)))
+    ∙ or_cond (list_any (same_xid other) few) (same_xid other xid) (tree.contains xid_cmp old other)
+    ∙ sym (contains-insert xids_total (several_in few old) xid other ∙ ap (λ b. same_xid other xid || b) (contains-several few old other)))
 
--- a set that a member left, if it is no more the one, and no key of the tree
-left_by : (one rest : Option Xid) (old new : BTreeSet Xid) (xid : Xid)
-    → ((other : Xid) → is_one (same_xid other) rest ≡ (not (same_xid other xid) && is_one (same_xid other) one))
-    → Updates xid_cmp old new xid false → sharers_in rest new ≡ set.remove (sharers_in one old) xid
-left_by one rest old new xid gone updates = same_set xids_total exact_xids _ _ (λ other.
-    contains-view rest new other
-    ∙ ap (λ b. b || tree.contains xid_cmp new other) (gone other)
-    ∙ ap (λ b. (not (same_xid other xid) && is_one (same_xid other) one) || b)
-    (updates.0 other ∙ ap (λ b. cond b false (tree.contains xid_cmp old other)) ((eq_by_cmp_equiv xids_total).symm xid other))
-    ∙ and_cond (is_one (same_xid other) one) (same_xid other xid) (tree.contains xid_cmp old other)
-    ∙ sym (contains-remove xids_total (sharers_in one old) xid other ∙ ap (λ b. not (same_xid other xid) && b) (contains-view one old other)))
+-- ---- one goes
 
--- the one goes
-one_left : (one : Option Xid) (old new : BTreeSet Xid) (xid : Xid) → is_one (same_xid xid) one ≡ true → Updates xid_cmp old new xid false
-    → sharers_in None new ≡ set.remove (sharers_in one old) xid
-one_left None old new xid is updates = absurd (true≢false (sym is))
-one_left (Some own) old new xid is updates = left_by (Some own) None old new xid
-    (λ other. sym (ap (λ x. not (same_xid other xid) && same_xid other x) (sym (one_xid xid own is)) ∙ not_both (same_xid other xid))) updates
+-- the list without a branch
+abbrev pub without : Xid → List Xid → List Xid
+without xid few = filter (λ own. not (same_xid own xid)) few
 
--- another goes
-other_left : (one : Option Xid) (old new : BTreeSet Xid) (xid : Xid) → is_one (same_xid xid) one ≡ false → Updates xid_cmp old new xid false
-    → sharers_in one new ≡ set.remove (sharers_in one old) xid
-other_left one old new xid isnt = left_by one one old new xid (λ other. elim (same_or_apart xids_total exact_xids other xid) [
-  | inl is ↦ rw is (isnt ∙ sym (ap (λ b. not (same_xid xid xid) && b) isnt ∙ and_false (not (same_xid xid xid))))
-  | inr apart ↦ sym (ap (λ b. not b && is_one (same_xid other) one) apart)
-])
-
--- a set that a member left, with its place, if it had the one, and its key of the tree
-pub one_removed : (one rest : Option Xid) (old new : BTreeSet Xid) (xid : Xid) → rest ≡ cond (is_one (same_xid xid) one) None one
-    → Updates xid_cmp old new xid false → sharers_in rest new ≡ set.remove (sharers_in one old) xid
-one_removed one rest old new xid is updates = by (is_one (same_xid xid) one) refl is
+-- who is left
+any-without : (xid : Xid) (few : List Xid) (other : Xid)
+    → list_any (same_xid other) (without xid few) ≡ (not (same_xid other xid) && list_any (same_xid other) few)
+any-without xid [] other = sym (and_false (not (same_xid other xid)))
+any-without xid (own ∷ few) other = elim (same_or_apart xids_total exact_xids own xid) [
+  | inl is ↦ rw is
+      (ap (λ b. list_any (same_xid other) (cond (not b) (xid ∷ without xid few) (without xid few))) (itself xid) ∙ any-without xid few other
+      ∙ and_not (same_xid other xid) (list_any (same_xid other) few))
+  | inr apart ↦
+      ap (λ b. list_any (same_xid other) (cond (not b) (own ∷ without xid few) (without xid few))) apart
+      ∙ ap (λ b. same_xid other own || b) (any-without xid few other)
+      ∙ by (same_or_apart xids_total exact_xids other xid) apart
+]
   where
-    by : (b : Bool) → is_one (same_xid xid) one ≡ b → rest ≡ cond b None one → sharers_in rest new ≡ set.remove (sharers_in one old) xid
-    by true here is = rw is (one_left one old new xid here updates)
-    by false here is = rw is (other_left one old new xid here updates)
+    by : ((other ≡ xid) ⊎ (same_xid other xid ≡ false)) → same_xid own xid ≡ false
+        → (same_xid other own || (not (same_xid other xid) && list_any (same_xid other) few))
+        ≡ (not (same_xid other xid) && (same_xid other own || list_any (same_xid other) few))
+    by (inl is) apart = rw is
+        (ap (λ b. b || (not (same_xid xid xid) && list_any (same_xid xid) few)) (turned_apart xid own apart)
+        ∙ ap (λ b. not b && list_any (same_xid xid) few) (itself xid)
+        ∙ sym (ap (λ b. not b && (same_xid xid own || list_any (same_xid xid) few)) (itself xid)))
+    by (inr apart_too) apart =
+        ap (λ b. same_xid other own || (not b && list_any (same_xid other) few)) apart_too
+        ∙ sym (ap (λ b. not b && (same_xid other own || list_any (same_xid other) few)) apart_too)
+
+-- a list that a branch left is a set that it left
+pub listed_left : (xids : List Xid) (xid : Xid) → listed (without xid xids) ≡ set.remove (listed xids) xid
+listed_left xids xid = same_set xids_total exact_xids _ _ (λ other.
+    contains-from_list xids_total (without xid xids) other ∙ any-without xid xids other
+    ∙ sym (contains-remove xids_total (listed xids) xid other ∙ ap (λ b. not (same_xid other xid) && b) (contains-from_list xids_total xids other)))
+
+-- the only one goes, or another
+pub one_left : (own xid : Xid) → cond (same_xid own xid) set.empty (listed (own ∷ [])) ≡ set.remove (listed (own ∷ [])) xid
+one_left own xid = by (same_xid own xid) ∙ listed_left (own ∷ []) xid
+  where
+    by : (b : Bool) → cond b set.empty (listed (own ∷ [])) ≡ listed (cond (not b) (own ∷ []) [])
+    by true = refl
+    by false = refl
+
+-- a list and a tree that a branch left
+pub several_left : (few : List Xid) (old new : BTreeSet Xid) (xid : Xid) → Updates xid_cmp old new xid false
+    → several_in (without xid few) new ≡ set.remove (several_in few old) xid
+several_left few old new xid updates = same_set xids_total exact_xids _ _ (λ other.
+    contains-several (without xid few) new other
+    ∙ ap (λ b. b || tree.contains xid_cmp new other) (any-without xid few other)
+    ∙ ap (λ b. (not (same_xid other xid) && list_any (same_xid other) few) || b)
+    (updates.0 other ∙ ap (λ b. cond b false (tree.contains xid_cmp old other)) ((eq_by_cmp_equiv xids_total).symm xid other))
+    ∙ and_cond (list_any (same_xid other) few) (same_xid other xid) (tree.contains xid_cmp old other)
+    ∙ sym (contains-remove xids_total (several_in few old) xid other ∙ ap (λ b. not (same_xid other xid) && b) (contains-several few old other)))

@@ -11,3 +11,4 @@ pub mod View
 pub mod Errors
 pub mod Overview
 pub mod Held
+pub mod Sharers

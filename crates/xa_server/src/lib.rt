@@ -16,6 +16,7 @@ mod reply;
 mod row;
 mod row_table;
 mod server;
+mod several_sharers;
 mod shared_xid;
 mod sharers;
 mod xa_error;

@@ -1,13 +1,13 @@
 //! An identifier with several owners.
 ghost use Rattle.std.specs.Prelude.{◌≡◌, IfOk};
 
-use std::alloc::Global;
+use std::alloc::{AllocError, Global};
 use std::marker::Model;
 use std::sync::Arc;
 use xa_xid::{NoMemory, Xid};
 
-/// An identifier that several own together: what its session has open, and the rows that its branch holds exclusively. A contract sees the
-/// identifier.
+/// An identifier that several own together: what its session has open, and the rows that its branch holds exclusively, or was among the
+/// first to share. A contract sees the identifier.
 #[derive(Drop)]
 pub struct SharedXid {
     shared: Arc<Xid>,
@@ -22,6 +22,14 @@ impl Model for SharedXid {
     ghost coded = { coded_xid };
 
     ghost view = { λ name. name.shared.value };
+}
+
+impl Clone for SharedXid {
+    ghost is_clone = { λ name copy. copy ≡ name };
+
+    fn clone(&self) -> Result<SharedXid, AllocError> {
+        self.try_clone()
+    }
 }
 
 impl SharedXid {

@@ -1,16 +1,15 @@
 //! The branches that share a row.
-ghost use Rattle.std.specs.Prelude.{◌≡◌, true, false, cond, None, IfOk, OnOk, OnErr};
+ghost use Rattle.std.specs.Prelude.{◌≡◌, true, IfOk, OnOk, OnErr, MatchOption};
 ghost use Rattle.std.specs.FinSet as set;
-ghost use Rattle.std.specs.BTreeSet.{keys, Updates};
-ghost use Rattle.std.specs.List.{list_all, list_any};
+ghost use Rattle.std.specs.List.{list_any};
 ghost use Rattle.std.specs.Option.{option_map_or};
-ghost use Rattle.xa_xid.specs.Xid.{same_xid, xid_cmp};
 ghost use Rattle.xa_server.specs.Locks.{is_another as is_another_of};
+ghost use Rattle.xa_server.specs.Sharers.{set_of};
 
 use crate::association::{Association, is_same};
+use crate::several_sharers::SeveralSharers;
 use crate::shared_xid::SharedXid;
 use std::alloc::Global;
-use std::collections::BTreeSet;
 use std::marker::Model;
 use xa_xid::{NoMemory, Xid};
 
@@ -18,15 +17,22 @@ use xa_xid::{NoMemory, Xid};
 /// none either: its identifier is the one that its session has open.
 #[derive(Drop)]
 pub struct Sharers {
-    /// One of them: who comes while there is none gets this place.
-    one: Option<SharedXid>,
-    /// The others. Most rows have none, and a tree's first node has room for fifteen identifiers.
-    others: BTreeSet<Xid>,
+    branches: Branches,
+    alloc: Global,
+}
+
+/// The branches, by how many there are.
+#[derive(Drop)]
+enum Branches {
+    /// Nobody shares the row.
+    Nobody,
+    /// One does.
+    One(SharedXid),
+    /// Several do, at a place of their own.
+    Several(Box<SeveralSharers>),
 }
 
 impl Model for Sharers {
-    ghost use Rattle.std.specs.Prelude.{◌∷◌};
-    ghost use Rattle.std.specs.Option.{option_map_or};
     ghost use Rattle.std.specs.FinSet as set;
     ghost use Rattle.xa_xid.specs.Xid.{xid_cmp, coded_xid};
 
@@ -34,74 +40,62 @@ impl Model for Sharers {
 
     ghost coded = { set.code coded_xid };
 
-    ghost view = { λ sharers. set.from_list {R = xid_cmp} (option_map_or (λ xid. xid ∷ sharers.others.keys) sharers.one sharers.others.keys) };
+    ghost use Rattle.xa_server.specs.Sharers.{set_of};
+
+    ghost view = { λ sharers. set_of sharers.branches };
 }
 
-/// Whether there is one, and it is this branch.
-fn is_one(one: &Option<SharedXid>, xid: &Xid) -> bool
-    ensures { result ≡ option_map_or (same_xid xid.now) one.now false }
+/// A copy of the branches.
+fn copy_of_branches(alloc: Global, branches: &Branches) -> Result<Branches, NoMemory>
+    ensures { IfOk result (λ copy. set_of copy ≡ set_of branches.now) }
 {
-    match one {
-        None => false,
-        Some(own) => is_same(xid, own.xid()),
+    match branches {
+        Branches::Nobody => Ok(Branches::Nobody),
+        Branches::One(own) => Ok(Branches::One(own.try_clone()?)),
+        Branches::Several(several) => Ok(Branches::Several(Box::new(alloc, several.copy()?)?)),
     }
 }
 
-/// Whether there is one, and it isn't the session's own branch.
-fn is_one_another(one: &Option<SharedXid>, association: &Association) -> bool
-    ensures { result ≡ option_map_or (is_another_of association.now) one.now false }
+/// Two branches.
+fn both(alloc: Global, one: &SharedXid, other: &SharedXid) -> Result<Branches, NoMemory>
+    ensures { IfOk result (λ both. set_of both ≡ set.insert (set.insert set.empty one.now) other.now) }
 {
-    match one {
-        None => false,
-        Some(own) => association.is_another(own.xid()),
+    let mut several = SeveralSharers::new(alloc);
+    several.add(one)?;
+    several.add(other)?;
+    Ok(Branches::Several(Box::new(alloc, several)?))
+}
+
+/// What is left of several, where it needs no place of its own.
+fn left_of(several: &mut SeveralSharers) -> Option<Branches>
+    ensures { MatchOption result (several.new ≡ several.old) (λ left. set_of left ≡ several.old) }
+{
+    if several.is_empty() {
+        return Some(Branches::Nobody);
+    }
+    match several.take_only() {
+        None => None,
+        Some(only) => Some(Branches::One(only)),
     }
 }
 
-/// Whether a branch that isn't the session's own is in the set.
-fn has_another_in(xids: &BTreeSet<Xid>, association: &Association) -> bool
-    ensures { result ≡ list_any (is_another_of association.now) (keys xids.now) }
+/// Takes a branch out, where it is one of them, and answers what is to take their place, where something is.
+fn leave(branches: &mut Branches, xid: &Xid) -> Option<Branches>
+    ensures { option_map_or set_of result (set_of branches.new) ≡ set.remove (set_of branches.old) xid.now }
 {
-    for xid in xids {
-        if association.is_another(xid) {
-            return true;
+    match branches {
+        Branches::Nobody => None,
+        Branches::One(own) => {
+            if is_same(own.xid(), xid) {
+                Some(Branches::Nobody)
+            } else {
+                None
+            }
         }
-    }
-    false
-}
-
-/// A copy of the one, where there is one.
-fn copy_of_one(one: &Option<SharedXid>) -> Result<Option<SharedXid>, NoMemory>
-    ensures { IfOk result (λ copy. copy ≡ one.now) }
-{
-    match one {
-        None => Ok(None),
-        Some(own) => Ok(Some(own.try_clone()?)),
-    }
-}
-
-/// A copy of a set.
-fn copy_of_set(xids: &BTreeSet<Xid>) -> Result<BTreeSet<Xid>, NoMemory>
-    ensures { IfOk result (λ copy. keys copy ≡ keys xids.now) }
-{
-    xids.clone()
-}
-
-/// Clears the place of the one, where this branch has it.
-fn clear_place(one: &mut Option<SharedXid>, xid: &Xid)
-    ensures { one.new ≡ cond (option_map_or (same_xid xid.now) one.old false) None one.old }
-{
-    if is_one(one, xid) {
-        *one = None;
-    }
-}
-
-/// Takes a branch out of a set, where it is in it. An empty tree would keep its last node: that goes too.
-fn take_out(xids: &mut BTreeSet<Xid>, xid: &Xid)
-    ensures { Updates xid_cmp xids.old xids.new xid.now false }
-{
-    let _was_there = xids.remove(xid);
-    if xids.is_empty() {
-        xids.clear();
+        Branches::Several(several) => {
+            several.remove(xid);
+            left_of(several)
+        }
     }
 }
 
@@ -111,8 +105,8 @@ impl Sharers {
         ensures { result ≡ set.empty }
     {
         Sharers {
-            one: None,
-            others: BTreeSet::new(alloc),
+            branches: Branches::Nobody,
+            alloc,
         }
     }
 
@@ -127,29 +121,11 @@ impl Sharers {
     fn has_all_of(&self, other: &Sharers) -> bool
         ensures { result ≡ true → set.is_subset other.now self.now ≡ true }
     {
-        self.has_one(&other.one) && self.has_all_in(&other.others)
-    }
-
-    /// Whether the one, where there is one, is one of these.
-    fn has_one(&self, one: &Option<SharedXid>) -> bool
-        ensures { result ≡ option_map_or (set.contains self.now) one.now true }
-    {
-        match one {
-            None => true,
-            Some(own) => self.contains(own.xid()),
+        match &other.branches {
+            Branches::Nobody => true,
+            Branches::One(own) => self.contains(own.xid()),
+            Branches::Several(several) => several.is_within(self),
         }
-    }
-
-    /// Whether each branch of a set is one of these.
-    fn has_all_in(&self, xids: &BTreeSet<Xid>) -> bool
-        ensures { result ≡ list_all (set.contains self.now) (keys xids.now) }
-    {
-        for xid in xids {
-            if !self.contains(xid) {
-                return false;
-            }
-        }
-        true
     }
 
     /// A copy of the set.
@@ -157,8 +133,8 @@ impl Sharers {
         ensures { IfOk result (λ copy. copy ≡ self.now) }
     {
         Ok(Sharers {
-            one: copy_of_one(&self.one)?,
-            others: copy_of_set(&self.others)?,
+            branches: copy_of_branches(self.alloc, &self.branches)?,
+            alloc: self.alloc,
         })
     }
 
@@ -166,14 +142,22 @@ impl Sharers {
     pub fn contains(&self, xid: &Xid) -> bool
         ensures { result ≡ set.contains self.now xid.now }
     {
-        is_one(&self.one, xid) || self.others.contains(xid)
+        match &self.branches {
+            Branches::Nobody => false,
+            Branches::One(own) => is_same(xid, own.xid()),
+            Branches::Several(several) => several.contains(xid),
+        }
     }
 
     /// Whether a branch that isn't the session's own is one of them. Looks at two of them at most.
     pub fn has_another(&self, association: &Association) -> bool
         ensures { result ≡ list_any (is_another_of association.now) (set.items self.now) }
     {
-        is_one_another(&self.one, association) || has_another_in(&self.others, association)
+        match &self.branches {
+            Branches::Nobody => false,
+            Branches::One(own) => association.is_another(own.xid()),
+            Branches::Several(several) => several.has_another(association),
+        }
     }
 
     /// Adds a branch. After `NoMemory` the set is as before.
@@ -181,19 +165,25 @@ impl Sharers {
         ensures ok { OnOk result (self.new ≡ set.insert self.old xid.now) }
         ensures err { OnErr result (self.new ≡ self.old) }
     {
-        if self.one.is_none() {
-            self.one = Some(xid.try_clone()?);
-        } else {
-            let _is_new = self.others.insert(xid.xid().copy())?;
+        match &mut self.branches {
+            Branches::Nobody => {
+                self.branches = Branches::One(xid.try_clone()?);
+                Ok(())
+            }
+            Branches::One(own) => {
+                self.branches = both(self.alloc, own, xid)?;
+                Ok(())
+            }
+            Branches::Several(several) => several.add(xid),
         }
-        Ok(())
     }
 
     /// Takes a branch out, where it is one of them.
     pub fn remove(&mut self, xid: &Xid)
         ensures { self.new ≡ set.remove self.old xid.now }
     {
-        clear_place(&mut self.one, xid);
-        take_out(&mut self.others, xid);
+        if let Some(left) = leave(&mut self.branches, xid) {
+            self.branches = left;
+        }
     }
 }

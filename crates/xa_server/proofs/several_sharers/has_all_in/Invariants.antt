@@ -1,8 +1,8 @@
 use Rattle.std.proofs.Common.{◌≡◌}
 use Rattle.std.specs.FinSet as set
 use Rattle.std.specs.List.{list_all}
-use Rattle.xa_server.proofs.sharers.Sharers.has_all_in.Given as goal
+use Rattle.xa_server.proofs.several_sharers.has_all_in.Given as goal
 
 -- whether all that is left is here is whether all is
 abbrev pub invariant-loop-xid : goal.invariant-loop-xid
-invariant-loop-xid l = list_all (set.contains l.self) l.xid-iterator ≡ list_all (set.contains l.self) l.xids.keys
+invariant-loop-xid l = list_all (set.contains l.sharers) l.xid-iterator ≡ list_all (set.contains l.sharers) l.many.keys
