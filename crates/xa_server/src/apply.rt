@@ -6,8 +6,8 @@ ghost use Rattle.xa_server.specs.Step.{Step, after, effect, is_refused, makes_re
 ghost use Rattle.xa_xid.specs.declared.statement.Statement.TheVariants.{Get, Put, Del, Disconnect};
 
 use crate::association::Association;
-use crate::boxed_text::BoxedText;
 use crate::lock::Change;
+use crate::shared_text::SharedText;
 use crate::{Reply, Server};
 use xa_xid::{Bytes, Key, NoMemory, SessionNo, Statement};
 
@@ -41,7 +41,7 @@ impl Server {
             Association::Free => self.put_row(key, value),
             Association::Active(own) => {
                 let own = own.try_clone()?;
-                let value = BoxedText::of(self.alloc(), value)?;
+                let value = SharedText::of(self.alloc(), value)?;
                 self.hold(&own, key, Change::Put(value))
             }
             Association::Idle(_) => Ok(()),

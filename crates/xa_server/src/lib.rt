@@ -3,7 +3,6 @@
 
 mod apply;
 mod association;
-mod boxed_text;
 mod branch;
 mod branch_table;
 mod decide;
@@ -17,6 +16,7 @@ mod row;
 mod row_table;
 mod server;
 mod several_sharers;
+mod shared_text;
 mod shared_xid;
 mod sharers;
 mod xa_error;

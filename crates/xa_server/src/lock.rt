@@ -5,7 +5,7 @@ ghost use Rattle.std.specs.Option.{option_map};
 ghost use Rattle.xa_server.specs.Rows.{write_of, write_in, mode_in, held_beside, locked_beside, with_sharer, freed_lock};
 
 use crate::association::{Association, is_same};
-use crate::boxed_text::BoxedText;
+use crate::shared_text::SharedText;
 use crate::shared_xid::SharedXid;
 use crate::sharers::Sharers;
 use std::alloc::Global;
@@ -15,7 +15,7 @@ use xa_xid::{Bytes, NoMemory, Xid};
 #[derive(Drop)]
 pub enum Change {
     /// The row gets this value.
-    Put(BoxedText),
+    Put(SharedText),
     /// The row loses its value.
     Delete,
 }
@@ -54,7 +54,7 @@ impl Change {
         ensures { IfOk result (λ copy. copy ≡ self.now) }
     {
         match self {
-            Change::Put(value) => Ok(Change::Put(value.copy()?)),
+            Change::Put(value) => Ok(Change::Put(value.try_clone()?)),
             Change::Delete => Ok(Change::Delete),
         }
     }
@@ -73,11 +73,11 @@ impl Change {
     }
 
     /// The value that the row has after it.
-    pub fn into_value(self) -> Option<Bytes>
+    pub fn into_value(self) -> Option<SharedText>
         ensures { result ≡ write_of self }
     {
         match self {
-            Change::Put(value) => Some(value.into_text()),
+            Change::Put(value) => Some(value),
             Change::Delete => None,
         }
     }

@@ -1,18 +1,19 @@
 //! The record of a row.
-ghost use Rattle.std.specs.Prelude.{◌≡◌, true, is_some};
+ghost use Rattle.std.specs.Prelude.{◌≡◌, true, is_some, IfOk};
 ghost use Rattle.std.specs.Option.{option_copied, option_and_then};
 ghost use Rattle.xa_server.specs.Rows.{committed_of, held_against, locked_against, value_seen, lock_by, freed_row, is_needed};
 
 use crate::association::{Association, is_same};
 use crate::lock::{Change, Lock, is_same_text};
+use crate::shared_text::SharedText;
 use std::alloc::{AllocError, Global};
-use xa_xid::{Bytes, Xid, copy_of};
+use xa_xid::{Bytes, NoMemory, Xid, copy_of};
 
 /// What the server keeps of a row. A row without a value that nobody holds has no record.
 #[derive(Drop)]
 pub struct RowRecord {
     /// The value that all sessions see.
-    pub committed: Option<Bytes>,
+    pub committed: Option<SharedText>,
     /// Who holds the row.
     pub lock: Lock,
 }
@@ -22,21 +23,21 @@ impl Clone for RowRecord {
 
     fn clone(&self) -> Result<RowRecord, AllocError> {
         Ok(RowRecord {
-            committed: copy_of_value(&self.committed),
+            committed: share_of_value(&self.committed)?,
             lock: self.lock.copy()?,
         })
     }
 }
 
 /// Whether two values are the same, or neither is there.
-fn is_same_value(left: &Option<Bytes>, right: &Option<Bytes>) -> bool
+fn is_same_value(left: &Option<SharedText>, right: &Option<SharedText>) -> bool
     ensures { result ≡ true → left.now ≡ right.now }
 {
     match left {
         None => right.is_none(),
         Some(value) => match right {
             None => false,
-            Some(other) => is_same_text(value, other),
+            Some(other) => is_same_text(value.text(), other.text()),
         },
     }
 }
@@ -50,13 +51,23 @@ impl RowRecord {
     }
 }
 
+/// One more owner of a value, where there is one.
+fn share_of_value(value: &Option<SharedText>) -> Result<Option<SharedText>, NoMemory>
+    ensures { IfOk result (λ share. share ≡ value.now) }
+{
+    match value {
+        None => Ok(None),
+        Some(text) => Ok(Some(text.try_clone()?)),
+    }
+}
+
 /// A copy of a value, where there is one.
-fn copy_of_value(value: &Option<Bytes>) -> Option<Bytes>
+fn copy_of_value(value: &Option<SharedText>) -> Option<Bytes>
     ensures { result ≡ value.now }
 {
     match value {
         None => None,
-        Some(text) => Some(copy_of(text)),
+        Some(shared) => Some(copy_of(shared.text())),
     }
 }
 

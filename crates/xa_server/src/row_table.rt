@@ -12,11 +12,12 @@ use crate::hold::{HeldRow, held_in};
 use crate::keys::Keys;
 use crate::lock::{Change, Lock};
 use crate::row::{RowRecord, free};
+use crate::shared_text::SharedText;
 use crate::shared_xid::SharedXid;
 use std::alloc::Global;
 use std::collections::BTreeMap;
 use std::marker::Model;
-use xa_xid::{Bytes, Key, NoMemory, Xid, copy_of};
+use xa_xid::{Bytes, Key, NoMemory, Xid};
 
 /// The records of all rows, by key in logarithmic time.
 #[derive(Drop)]
@@ -210,7 +211,7 @@ impl RowTable {
         ensures err { OnErr result (self.new ≡ self.old) }
     {
         let row = RowRecord {
-            committed: Some(copy_of(value)),
+            committed: Some(SharedText::of(self.alloc, value)?),
             lock: Lock::nobodys(self.alloc),
         };
         self.by_key.insert(key.copy(), row)?;

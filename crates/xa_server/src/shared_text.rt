@@ -1,0 +1,51 @@
+//! A text with several owners.
+ghost use Rattle.std.specs.Prelude.{◌≡◌, IfOk};
+
+use std::alloc::Global;
+use std::marker::Model;
+use std::sync::Arc;
+use xa_xid::{Bytes, NoMemory, copy_of};
+
+/// A text that several own together: the record of a row, and those of the server's copies. It lies at a place of its own, so that a
+/// record without a value has no room for one. A contract sees the text.
+#[derive(Drop)]
+pub struct SharedText {
+    shared: Arc<Bytes>,
+}
+
+impl Model for SharedText {
+    ghost use Rattle.xa_xid.specs.Xid.{Text, coded_text};
+
+    ghost Value = { Text };
+
+    ghost coded = { coded_text };
+
+    ghost view = { λ text. text.shared.value };
+}
+
+impl SharedText {
+    /// A copy of a text, with one owner.
+    pub fn of(alloc: Global, text: &Bytes) -> Result<SharedText, NoMemory>
+        ensures { IfOk result (λ shared. shared ≡ text.now) }
+    {
+        Ok(SharedText {
+            shared: Arc::new(alloc, copy_of(text))?,
+        })
+    }
+
+    /// One more owner. May answer `NoMemory`, though it takes none, once there are too many to be counted.
+    pub fn try_clone(&self) -> Result<SharedText, NoMemory>
+        ensures { IfOk result (λ shared. shared ≡ self.now) }
+    {
+        Ok(SharedText {
+            shared: Arc::try_clone(&self.shared)?,
+        })
+    }
+
+    /// The text.
+    pub fn text(&self) -> &Bytes
+        ensures { result.now ≡ self.now }
+    {
+        &self.shared
+    }
+}
