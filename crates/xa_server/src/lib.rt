@@ -26,4 +26,5 @@ pub use hold::{HeldRow, Hold};
 pub use overview::BranchEntry;
 pub use reply::{Reply, XidList};
 pub use server::Server;
+pub use shared_xid::SharedXid;
 pub use xa_error::{BranchState, XaError};

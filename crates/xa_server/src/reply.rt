@@ -73,7 +73,9 @@ impl Model for XidList {
 
 impl XidList {
     /// The list of these identifiers.
-    pub(crate) fn of(xids: Vec<Xid>) -> XidList
+    ///
+    /// Takes no memory. Doesn't wait.
+    pub fn of(xids: Vec<Xid>) -> XidList
         ensures { result ≡ xids.items }
     {
         XidList { xids }

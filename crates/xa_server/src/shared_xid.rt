@@ -8,7 +8,7 @@ use xa_xid::{NoMemory, Xid};
 
 /// An identifier that several own together: what its session has open, and the rows that its branch holds exclusively, or was among the
 /// first to share. A contract sees the identifier.
-#[derive(Drop)]
+#[derive(Debug, Drop)]
 pub struct SharedXid {
     shared: Arc<Xid>,
 }
@@ -34,6 +34,8 @@ impl Clone for SharedXid {
 
 impl SharedXid {
     /// An identifier with one owner.
+    ///
+    /// May answer `NoMemory`. Doesn't wait.
     pub fn of(alloc: Global, xid: &Xid) -> Result<SharedXid, NoMemory>
         ensures { IfOk result (λ name. name ≡ xid.now) }
     {
@@ -42,7 +44,9 @@ impl SharedXid {
         })
     }
 
-    /// One more owner. May answer `NoMemory`, though it takes none, once there are too many to be counted.
+    /// One more owner.
+    ///
+    /// Takes no memory, but answers `NoMemory` once there are too many owners to be counted. Doesn't wait.
     pub fn try_clone(&self) -> Result<SharedXid, NoMemory>
         ensures { IfOk result (λ name. name ≡ self.now) }
     {
@@ -52,6 +56,8 @@ impl SharedXid {
     }
 
     /// The identifier.
+    ///
+    /// Takes no memory. Doesn't wait.
     pub fn xid(&self) -> &Xid
         ensures { result.now ≡ self.now }
     {
