@@ -1,17 +1,25 @@
 -- What stands behind an answer is what is to stand there.
-use Rattle.std.proofs.Common.{◌≡◌, ◌⊎◌, ◌++◌, ◌∙◌, ℕ, Bool, ◌||◌, ◌&&◌, List, [], true, false, subst, Result, Ok, Err, refl, ap, sym, append-nil, inl, inr, codes, decimal}
+use Rattle.std.proofs.Common.{◌≡◌, ◌⊎◌, ◌++◌, ◌∙◌, ℕ, Bool, ◌||◌, ◌&&◌, List, [], true, false, not, subst, Result, Ok, Err, refl, ap, sym, append-nil, inl, inr, codes, decimal}
 use Rattle.std.specs.Prelude.{IfOk, OnOk, OnErr, MatchResult}
 use Rattle.xa_xid.specs.declared.statement.Statement.{Statement}
+use Rattle.xa_xid.specs.declared.statement.Statement.TheVariants.{Start, End, Prepare, Commit, Rollback, Recover, Unsupported, Get, Put, Del, Disconnect}
 use Rattle.xa_statement.specs.Reading.{read_of}
-use Rattle.xa_server.specs.State.{State}
+use Rattle.xa_server.specs.State.{State, association_of, is_known, is_prepared, value_within}
 use Rattle.xa_lines.specs.Printed.{answer_text, converts, reply_text, syntax_text}
 use Rattle.xa_lines.specs.Script.{Line, Blank, Bad, Given, line_of, is_comment_line}
 use Rattle.xa_lines.specs.Received.{Whole, TooLong}
 use Rattle.xa_lines.specs.Transcript.{answer_of, answer_to, state_after_line, state_then}
-use Rattle.xa_server.specs.Replies.{reply_to}
-use Rattle.xa_server.specs.Step.{after, enters, is_recover, makes_record, may_take_memory}
+use Rattle.xa_server.specs.Replies.{ok_if, refused_if, reply_to, table}
+use Rattle.xa_server.specs.Step.{enters, is_list, is_recover, makes_record}
+use Rattle.xa_server.specs.declared.association.Association.{Association}
+use Rattle.xa_server.specs.declared.association.Association.TheVariants.{Free, Active, Idle}
+use Rattle.xa_server.specs.Locks.{is_held_against, is_locked_against}
 use Rattle.xa_server.specs.declared.reply.Reply.{Reply}
-use Rattle.xa_lines.specs.Statements.{IsAnswerTo, IsStatementAnswer, MayBeRefused, is_word, refused_text}
+use Rattle.xa_server.specs.declared.reply.Reply.TheVariants.{Ok as Accepted, Value, Refused}
+use Rattle.xa_server.specs.declared.xa_error.XaError.{XaError}
+use Rattle.xa_server.specs.declared.xa_error.XaError.TheVariants.{Nota, Rmfail, Dupid, RowLocked}
+use Rattle.xa_server.specs.declared.xa_error.BranchState.TheVariants.{Prepared}
+use Rattle.xa_lines.specs.Statements.{IsAnswerTo, IsStatementAnswer, MayBeRefused, refused_text}
 use Rattle.xa_lines.specs.Listing.{listing}
 use Rattle.xa_lines.specs.Shown.{keys_asked, keys_of_read, listing_after, IsUnshown, IsAnswerShown, IsShown, comment_text, unshown_text}
 
@@ -23,15 +31,11 @@ given_answer old new session statement read text is (inl told) = inl (told.0 ∙
 given_answer old new session statement read text is (inr refused) =
     let P : Result Statement ℕ → Type 0 = λ r. MayBeRefused old session r in inr ((refused.0, subst P (sym is) refused.2), refused.1)
 
--- an answer of one word
-pub word_answered : (old new : State) (session : ℕ) (statement : Statement) (reply : Reply) (word text : List ℕ) → reply ≡ reply_to old session statement
-    → ((convert : Bool) → word ≡ answer_text (decimal session) (reply_text convert reply))
-    → ((text ≡ word) × (new ≡ after old session statement))
-    ⊎ ((text ≡ refused_text session) × (new ≡ old) × (may_take_memory old session statement ≡ true))
-    → IsStatementAnswer old session (Ok statement) text new
-word_answered old new session statement reply word text is words (inl told) =
-    inl (told.0 ∙ words (converts statement) ∙ ap (λ r. answer_text (decimal session) (reply_text (converts statement) r)) is, told.1)
-word_answered old new session statement reply word text is words (inr refused) = inr (refused.0, refused.1, inl refused.2)
+-- a reply that is told is the answer
+pub reply_answers : (state : State) (session : ℕ) (statement : Statement) (reply : Reply) (told : List ℕ) → reply ≡ reply_to state session statement
+    → ((convert : Bool) → told ≡ answer_text (decimal session) (reply_text convert reply)) → told ≡ answer_to state session (Ok statement)
+reply_answers state session statement reply told is words =
+    words (converts statement) ∙ ap (λ r. answer_text (decimal session) (reply_text (converts statement) r)) is
 
 -- an answer that takes memory
 pub text_answered : {A E : Type 0} (items : A → List ℕ) (result : Result A E) (old new : State) (session : ℕ) (read : Result Statement ℕ) (text : List ℕ)
@@ -41,21 +45,65 @@ pub text_answered : {A E : Type 0} (items : A → List ℕ) (result : Result A E
 text_answered items (Ok answer) old new session read text may told then same given = inl (given ∙ told, then)
 text_answered items (Err fault) old new session read text may told then same given = inr (given, same, may)
 
--- the answer to a text that isn't a statement
-pub unread_answered : {A E : Type 0} (items : A → List ℕ) (result : Result A E) (state : State) (session place : ℕ) (text : List ℕ)
-    → IfOk result (λ answer. items answer ≡ answer_text (decimal session) (syntax_text place))
-    → MatchResult result (λ answer. text ≡ items answer) (λ _. text ≡ refused_text session) → IsStatementAnswer state session (Err place) text state
-unread_answered items (Ok answer) state session place text told given = inl (given ∙ told, refl)
-unread_answered items (Err fault) state session place text told given = inr (given, refl, tt)
-
--- an answer of more than a word
-pub reply_answered : (state : State) (session : ℕ) (statement : Statement) (reply : Reply) → reply ≡ reply_to state session statement → is_word reply ≡ false
-    → MayBeRefused state session (Ok statement)
-reply_answered state session statement reply is many = inr (ap is_word (sym is) ∙ many)
-
 -- memory may be refused for a list
 pub list_refused : (state : State) (session : ℕ) (statement : Statement) → is_recover statement ≡ true → MayBeRefused state session (Ok statement)
-list_refused state session statement is = inl (ap (λ b. b || (enters state session statement && makes_record statement)) is)
+list_refused state session statement is = ap (λ b. b || (enters state session statement && makes_record statement)) is
+
+-- no test leads to a list
+ok_if-list : (b : Bool) (error : XaError) → is_list (ok_if b error) ≡ false
+ok_if-list true error = refl
+ok_if-list false error = refl
+
+refused_if-list : (b : Bool) (error : XaError) (reply : Reply) → is_list reply ≡ false → is_list (refused_if b error reply) ≡ false
+refused_if-list true error reply none = refl
+refused_if-list false error reply none = none
+
+-- a list answers XA RECOVER alone
+table-list : (state : State) (association : Association) (statement : Statement) → is_list (table state association statement) ≡ is_recover statement
+unfolding table
+table-list state Free (Start xid) = refused_if-list (is_known state xid) Dupid Accepted refl
+table-list state (Active own) (Start xid) = refl
+table-list state (Idle own) (Start xid) = refl
+table-list state Free (End xid) = refl
+table-list state (Active own) (End xid) = ok_if-list _ _
+table-list state (Idle own) (End xid) = refl
+table-list state Free (Prepare xid) = refl
+table-list state (Active own) (Prepare xid) = refl
+table-list state (Idle own) (Prepare xid) = ok_if-list _ _
+table-list state Free (Commit xid false) = ok_if-list _ _
+table-list state (Active own) (Commit xid false) = refl
+table-list state (Idle own) (Commit xid false) = refl
+table-list state Free (Commit xid true) = refused_if-list (not (is_prepared state xid)) Nota (Refused (Rmfail Prepared)) refl
+table-list state (Active own) (Commit xid true) = refl
+table-list state (Idle own) (Commit xid true) = ok_if-list _ _
+table-list state Free (Rollback xid) = ok_if-list _ _
+table-list state (Active own) (Rollback xid) = refl
+table-list state (Idle own) (Rollback xid) = ok_if-list _ _
+table-list state Free (Recover convert) = refl
+table-list state (Active own) (Recover convert) = refl
+table-list state (Idle own) (Recover convert) = refl
+table-list state Free Unsupported = refl
+table-list state (Active own) Unsupported = refl
+table-list state (Idle own) Unsupported = refl
+table-list state Free (Get key) = refl
+table-list state (Active own) (Get key) = refused_if-list (is_locked_against state (Active own) key) RowLocked (Value (value_within state own key)) refl
+table-list state (Idle own) (Get key) = refl
+table-list state Free (Put key value) = refused_if-list (is_held_against state Free key) RowLocked Accepted refl
+table-list state (Active own) (Put key value) = refused_if-list (is_held_against state (Active own) key) RowLocked Accepted refl
+table-list state (Idle own) (Put key value) = refl
+table-list state Free (Del key) = refused_if-list (is_held_against state Free key) RowLocked Accepted refl
+table-list state (Active own) (Del key) = refused_if-list (is_held_against state (Active own) key) RowLocked Accepted refl
+table-list state (Idle own) (Del key) = refl
+table-list state Free Disconnect = refl
+table-list state (Active own) Disconnect = refl
+table-list state (Idle own) Disconnect = refl
+
+-- memory may be refused for a reply that is a list
+pub reply_answered : (state : State) (session : ℕ) (statement : Statement) (reply : Reply) → reply ≡ reply_to state session statement → is_list reply ≡ true
+    → MayBeRefused state session (Ok statement)
+unfolding reply_to
+reply_answered state session statement reply is list =
+    list_refused state session statement (sym (table-list state (association_of state session) statement) ∙ sym (ap is_list is) ∙ list)
 
 behind : (old : State) (line : Line) (answer text rest : List ℕ) (new : State) → (text ≡ answer ++ unshown_text → IsUnshown line answer text)
     → IsAnswerTo old line answer new → rest ≡ listing_after old line new → (text ≡ answer ++ rest) ⊎ (text ≡ answer ++ unshown_text)

@@ -1,8 +1,7 @@
 -- The same of a client that says what has passed, or doesn't.
-use Rattle.std.proofs.Common.{◌≡◌, ℕ, ◌==◌, ◌≤◌, ◌<◌, ◌+◌, add-one, ◌-◌, ◌^◌, true, false, Option, Some, None, Result, Ok, Err, List, [], ◌∷◌, length, take}
-use Rattle.std.proofs.Common.{drop, get_or, refl, sym, subst, ◌∙◌, inl, inr, arith}
+use Rattle.std.proofs.Common.{◌≡◌, ℕ, ◌==◌, ◌≤◌, ◌+◌, ◌-◌, ◌^◌, true, false, Option, Some, None, Result, Ok, Err, List, [], ◌∷◌, length, take}
+use Rattle.std.proofs.Common.{sym, subst, ◌∙◌, inl, inr, arith}
 use Rattle.std.specs.Prelude.{OnOk, OnErr, IfErr, IfSome}
-use Rattle.std.proofs.Math.Seq.{drop-cons}
 use Rattle.xa_lines.specs.Received.{Received, Whole, longer, is_nothing}
 use Rattle.xa_lines.specs.Exchange.{Exchange, IsFresh, CanBeTold, WritesText, Flushes, Receives}
 use Rattle.xa_lines.specs.Served.{AwaitsMore, IsServed, IsCutOff, AfterServing}

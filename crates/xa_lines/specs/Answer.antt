@@ -14,4 +14,4 @@ bytes_of (Short text) = text.items
 -- so many bytes more can be appended without memory
 abbrev pub HasRoom : ℕ → Answer → Type 0
 HasRoom spare (Text text) = vec_len text + spare ≤ vec_capacity text
-HasRoom spare (Short text) = array_vec_len text + spare ≤ 64
+HasRoom spare (Short text) = array_vec_len text + spare ≤ 160

@@ -6,14 +6,11 @@
 --     IsAnswerTo, IsLineAnswer    how it may answer what is said, and a line
 --     IsToldAll, AfterFaultOfStatements   what is told to a client that ends, and what a fault leaves
 --     served_text     the answers to lines, where it is known for which memory was refused
-use Rattle.std.specs.Prelude.{◌≡◌, ◌⊎◌, ◌≤◌, ℕ, ◌-◌, ◌^◌, ⊤, Bool, true, false, Some, None, Result, Ok, Err, List, [], ◌∷◌, ◌++◌, length, codes, decimal}
+use Rattle.std.specs.Prelude.{◌≡◌, ◌⊎◌, ◌≤◌, ℕ, ◌-◌, ◌^◌, Bool, true, false, Result, Ok, Err, List, [], ◌∷◌, ◌++◌, length, codes, decimal}
 use Rattle.xa_xid.specs.declared.statement.Statement.{Statement}
 use Rattle.xa_statement.specs.Reading.{read_of}
 use Rattle.xa_server.specs.State.{State, no_state}
-use Rattle.xa_server.specs.Replies.{reply_to}
 use Rattle.xa_server.specs.Step.{may_take_memory}
-use Rattle.xa_server.specs.declared.reply.Reply.{Reply}
-use Rattle.xa_server.specs.declared.reply.Reply.TheVariants.{Ok as Accepted, Value, Recovered, Refused}
 use Rattle.xa_lines.specs.Script.{Line, Blank, Bad, Given, line_of, lines_of}
 use Rattle.xa_lines.specs.Printed.{answer_text}
 use Rattle.xa_lines.specs.Transcript.{answer_of, answer_to, state_after_line, state_then}
@@ -37,20 +34,10 @@ refused_text session = answer_text (decimal session) (codes "ERROR 1037 (HY001):
 abbrev pub HoldsNothing : State → Type 0
 HoldsNothing state = state ≡ no_state
 
--- the reply is OK or NONE
-abbrev pub is_word : Reply → Bool
-is_word Accepted = true
-is_word (Value None) = true
-is_word (Value (Some value)) = false
-is_word (Recovered xids) = false
-is_word (Refused error) = false
-
--- memory may be refused for a statement that makes a record or a list, or whose answer has more than a word, as one that isn't read has;
--- so an `XA END`, `XA PREPARE`, `XA COMMIT`, `XA ROLLBACK` or `DISCONNECT` that is accepted is answered so (own rule)
+-- memory may be refused for a statement that makes a record or a list, and for no text that isn't a statement (own rule)
 abbrev pub MayBeRefused : State → ℕ → Result Statement ℕ → Type 0
-MayBeRefused state session (Ok statement) =
-    (may_take_memory state session statement ≡ true) ⊎ (is_word (reply_to state session statement) ≡ false)
-MayBeRefused state session (Err place) = ⊤
+MayBeRefused state session (Ok statement) = may_take_memory state session statement ≡ true
+MayBeRefused state session (Err place) = ⊥
 
 -- only for such a statement memory may be refused
 abbrev pub IsRefusal : State → Line → List ℕ → Type 0

@@ -8,8 +8,8 @@ use arrayvec::ArrayVec;
 pub enum Answer {
     /// A text of any length.
     Text(Vec<u8>),
-    /// A text of at most 64 bytes, which takes no memory.
-    Short(ArrayVec<u8, 64>),
+    /// A text of at most 160 bytes, which takes no memory.
+    Short(ArrayVec<u8, 160>),
 }
 
 impl Answer {

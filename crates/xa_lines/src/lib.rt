@@ -20,6 +20,7 @@ mod run;
 mod script_fault;
 mod served_answer;
 mod short_answer;
+mod short_reply;
 mod shown;
 mod stage;
 mod statements;

@@ -103,20 +103,13 @@ fn put_read(
     put_reply(alloc, answer, server, session, statement, &reply, enters, 0)
 }
 
-/// Answers a text that isn't a statement, with the place where it goes wrong. So many bytes more can be appended without memory.
-pub(crate) fn put_unread(
-    answer: &mut Vec<u8>,
-    session: SessionNo,
-    place: u64,
-    spare: usize,
-) -> Result<(), NoMemory>
-    ensures answer { OnOk result (answer.new.items ≡ answer_text (decimal session) (syntax_text place)) }
-    ensures room { OnOk result (vec_len answer.new + spare ≤ vec_capacity answer.new) }
+/// Answers a text that isn't a statement, with the place where it goes wrong.
+fn put_unread(answer: &mut Vec<u8>, session: SessionNo, place: u64) -> Result<(), NoMemory>
+    ensures { OnOk result (answer.new.items ≡ answer_text (decimal session) (syntax_text place)) }
 {
     put_session(answer, session)?;
     push_syntax_fault(answer, place)?;
-    answer.extend_from_slice(b"\n")?;
-    answer.reserve(spare)
+    answer.extend_from_slice(b"\n")
 }
 
 /// Gives the statement of the text to the server, and answers it.
@@ -133,7 +126,7 @@ fn put_statement(
 {
     match read_statement(text) {
         Ok(statement) => put_read(alloc, answer, server, session, &statement),
-        Err(fault) => put_unread(answer, session, fault.at, 0),
+        Err(fault) => put_unread(answer, session, fault.at),
     }
 }
 

@@ -1,18 +1,16 @@
-//! Answers statements as serving does: that memory was refused is answered too, and an answer of one word takes none.
-ghost use Rattle.std.specs.Prelude.{◌≡◌, ◌≤◌, ◌⊎◌, ◌+◌, ◌++◌, Bool, true, false, None, Ok, Err, IfSome, IfOk, OnOk, OnErr, length, decimal, vec_len, vec_capacity};
+//! Answers statements as serving does: that memory was refused is answered too, and only the answer to a list takes any.
+ghost use Rattle.std.specs.Prelude.{◌≡◌, ◌≤◌, ◌+◌, false, Ok, Err, IfOk, OnOk, OnErr, vec_len, vec_capacity};
 ghost use Rattle.xa_server.specs.Replies.{reply_to};
-ghost use Rattle.xa_server.specs.Step.{after, enters as enters_at, may_take_memory};
+ghost use Rattle.xa_server.specs.Step.{enters as enters_at, is_list};
 ghost use Rattle.xa_lines.specs.Answer.{bytes_of, HasRoom};
-ghost use Rattle.xa_lines.specs.Printed.{answer_text, reply_text, syntax_text};
 ghost use Rattle.xa_lines.specs.Script.{Given};
 ghost use Rattle.xa_lines.specs.Transcript.{answer_to, state_then};
-ghost use Rattle.xa_lines.specs.Statements.{refused_text, is_word, IsStatementAnswer, IsAnswerTo};
+ghost use Rattle.xa_lines.specs.Statements.{IsStatementAnswer, IsAnswerTo};
 
 use crate::Answer;
-use crate::line_answer::{carry_out, put_reply, put_unread};
+use crate::line_answer::{carry_out, put_reply};
 use crate::short_answer::{answer_or_refusal, refusal};
-use arrayvec::ArrayVec;
-use itoa::Buffer;
+use crate::short_reply::{reply_told, unread_told};
 use std::alloc::Global;
 use xa_server::{Reply, Server};
 use xa_statement::read_statement;
@@ -21,50 +19,22 @@ use xa_xid::{NoMemory, SessionNo, Statement};
 /// How many bytes more an answer has room for.
 const SPARE_BYTES: usize = 16;
 
-/// An answer of one word.
-fn word_to(session: SessionNo, word: &[u8]) -> Answer
-    requires { length word.now ≤ 4 }
-    ensures bytes { bytes_of result ≡ answer_text (decimal session) word.now }
-    ensures room { HasRoom 16 result }
-{
-    let mut buffer = Buffer::new();
-    let mut text = ArrayVec::new();
-    let _ = text.try_extend_from_slice(buffer.format(session.get()).as_bytes());
-    let _ = text.try_extend_from_slice(b" ");
-    let _ = text.try_extend_from_slice(word);
-    let _ = text.try_extend_from_slice(b"\n");
-    Answer::Short(text)
-}
-
-/// The answer to a reply of one word.
-fn word_of(session: SessionNo, reply: &Reply) -> Option<Answer>
-    ensures bytes { IfSome result (λ answer. (convert : Bool) → bytes_of answer ≡ answer_text (decimal session) (reply_text convert reply.now)) }
-    ensures room { IfSome result (HasRoom 16) }
-    ensures none { result ≡ None → is_word reply.now ≡ false }
-{
-    match reply {
-        Reply::Ok => Some(word_to(session, b"OK")),
-        Reply::Value(None) => Some(word_to(session, b"NONE")),
-        _ => None,
-    }
-}
-
-/// The answer, where the statement is carried out; else that memory was refused for it.
-fn carried_out(
+/// Carries out a statement of which the reply is known and isn't a list, and answers it without memory.
+fn serve_short(
     server: &mut Server,
     session: SessionNo,
     statement: &Statement,
+    reply: &Reply,
     enters: bool,
-    answer: Answer,
 ) -> Answer
+    requires reply { reply.now ≡ reply_to server.old session statement.now }
+    requires short { is_list reply.now ≡ false }
     requires enters { enters ≡ enters_at server.old session statement.now }
-    requires room { HasRoom 16 answer }
-    ensures answered { ((bytes_of result ≡ bytes_of answer) × (server.new ≡ after server.old session statement.now))
-        ⊎ ((bytes_of result ≡ refused_text session) × (server.new ≡ server.old) × (may_take_memory server.old session statement.now ≡ true)) }
+    ensures answered { IsStatementAnswer server.old session (Ok statement.now) (bytes_of result) server.new }
     ensures room { HasRoom 16 result }
 {
     match carry_out(server, session, statement, enters) {
-        Ok(()) => answer,
+        Ok(()) => reply_told(session, reply),
         Err(_) => refusal(session),
     }
 }
@@ -114,12 +84,12 @@ fn serve_reply(
     ensures answered { IsStatementAnswer server.old session (Ok statement.now) (bytes_of result) server.new }
     ensures room { HasRoom 16 result }
 {
-    match word_of(session, reply) {
-        Some(word) => carried_out(server, session, statement, enters, word),
-        None => {
+    match reply {
+        Reply::Recovered(_) => {
             let answered = answer_reply(alloc, server, session, statement, reply, enters);
             answer_or_refusal(session, answered)
         }
+        _ => serve_short(server, session, statement, reply, enters),
     }
 }
 
@@ -139,24 +109,13 @@ pub(crate) fn serve_read(
     }
 }
 
-/// Answers a text that isn't a statement, by a text of its own. 16 bytes more can be appended to the answer without memory.
-fn answer_unread(alloc: Global, session: SessionNo, place: u64) -> Result<Vec<u8>, NoMemory>
-    ensures answer { IfOk result (λ answer. answer.items ≡ answer_text (decimal session) (syntax_text place)) }
-    ensures room { IfOk result (λ answer. vec_len answer + 16 ≤ vec_capacity answer) }
-{
-    let mut answer = Vec::new(alloc);
-    put_unread(&mut answer, session, place, SPARE_BYTES)?;
-    Ok(answer)
-}
-
 /// Answers a text that isn't a statement. 16 bytes more can be appended to the answer without memory.
-pub(crate) fn serve_unread(alloc: Global, server: &Server, session: SessionNo, place: u64) -> Answer
+pub(crate) fn serve_unread(server: &Server, session: SessionNo, place: u64) -> Answer
     ensures answered { IsStatementAnswer server.now session (Err place) (bytes_of result) server.now }
     ensures room { HasRoom 16 result }
 {
     let _server = server;
-    let answered = answer_unread(alloc, session, place);
-    answer_or_refusal(session, answered)
+    unread_told(session, place)
 }
 
 /// Answers a session's line.
@@ -170,6 +129,6 @@ pub(crate) fn serve_given(
 {
     match read_statement(text) {
         Ok(statement) => serve_read(alloc, server, session, &statement),
-        Err(fault) => serve_unread(alloc, server, session, fault.at),
+        Err(fault) => serve_unread(server, session, fault.at),
     }
 }

@@ -10,11 +10,11 @@ use arrayvec::ArrayVec;
 use itoa::Buffer;
 use xa_xid::{NoMemory, SessionNo};
 
-/// An answer of at most 64 bytes: to whom, and what.
+/// An answer of at most 160 bytes: to whom, and what.
 fn short_answer(who: &[u8], what: &[u8]) -> Answer
-    requires { length who.now + length what.now ≤ 64 }
+    requires { length who.now + length what.now ≤ 160 }
     ensures bytes { bytes_of result ≡ who.now ++ what.now }
-    ensures room { (spare : ℕ) → length who.now + length what.now + spare ≤ 64 → HasRoom spare result }
+    ensures room { (spare : ℕ) → length who.now + length what.now + spare ≤ 160 → HasRoom spare result }
 {
     let mut text = ArrayVec::new();
     let _ = text.try_extend_from_slice(who);

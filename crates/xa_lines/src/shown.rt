@@ -95,7 +95,7 @@ fn show_unread(alloc: Global, server: &Server, session: SessionNo, place: u64) -
         → read_of text ≡ Err place
         → IsAnswerShown server.now (Given session text) (bytes_of result) server.now }
 {
-    let answer = serve_unread(alloc, server, session, place);
+    let answer = serve_unread(server, session, place);
     with_shown(alloc, answer, server, &[])
 }
 

@@ -35,8 +35,8 @@ impl LineServer for Server {
 ///
 /// Each line is answered as a script's is, and the answers to all whole lines are flushed before more is received. A line of more
 /// than 65,536 bytes without its line feed is answered as a bad one. A statement for which memory is refused is answered
-/// `ERROR 1037 (HY001): out of memory`; the server is then as before, and goes on. No statement is answered so
-/// that is accepted, makes no record, and whose reply is neither a list nor a value.
+/// `ERROR 1037 (HY001): out of memory`; the server is then as before, and goes on. Only an `XA RECOVER`, or an `XA START`, `PUT`, `DEL` or
+/// `GET` that enters, is answered so.
 /// Errors: `NoMemory` where the memory for a line was refused, before anything was received; `Read` where a read failed, or after
 /// 2 ^ 64 - 1 reads; `Write` where a write or a flush failed. After `Read` all whole lines are answered; after `Write` a prefix
 /// of the answers was given.

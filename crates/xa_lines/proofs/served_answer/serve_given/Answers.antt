@@ -1,5 +1,4 @@
 use Rattle.std.proofs.Common.{Ok, Err, rules}
-use Rattle.xa_statement.specs.Reading.{read_of}
 use Rattle.xa_lines.specs.Answer.{bytes_of}
 use Rattle.xa_lines.proofs.Behind.{given_answer}
 use Rattle.xa_lines.proofs.served_answer.serve_given.Goals as goal

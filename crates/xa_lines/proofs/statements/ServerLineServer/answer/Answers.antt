@@ -1,4 +1,4 @@
-use Rattle.std.proofs.Common.{inl, refl, subst}
+use Rattle.std.proofs.Common.{inl, subst}
 use Rattle.xa_lines.specs.Answer.{bytes_of}
 use Rattle.xa_lines.specs.Script.{Line, line_of}
 use Rattle.xa_lines.specs.Statements.{IsAnswerTo}
