@@ -1,8 +1,8 @@
 //! Records of what clients of a server saw, and whether some order of their statements explains them.
 
 pub use xa_judge::{
-    Act, Answer, ErrorNumbers, Event, Move, Progress, Request, Seen, SharedRequest, SharedSeen,
-    Silent, Verdict, judge, judge_telling,
+    Act, Answer, ErrorNumbers, Event, Move, Progress, Request, Seen, SharedAnswer, SharedRequest,
+    SharedSeen, Silent, Verdict, judge, judge_telling,
 };
 pub use xa_record::{
     AllowFault, Allowance, Asked, Form, Judged, Outcome, StatementKind, judge_record, judge_text,

@@ -1,3 +1,4 @@
+pub mod Answers
 pub mod Explained
 pub mod Kept
 pub mod Verdicts

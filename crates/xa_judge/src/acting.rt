@@ -31,7 +31,7 @@ fn same_among(clients: &[ClientState], answer: &Answer) -> Result<Option<SharedA
 {
     for client in clients {
         if let ClientState::Answered(other) = client
-            && other.answer().is_same(answer)
+            && other.is(answer)
         {
             return Ok(Some(other.try_clone()?));
         }

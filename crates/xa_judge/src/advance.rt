@@ -4,7 +4,6 @@ ghost use Rattle.xa_judge.specs.Explained.{Config};
 ghost use Rattle.xa_judge.specs.Found.{Has, has_unheard};
 ghost use Rattle.xa_judge.specs.Advances.{IsAdvance, IsSeenFrom, IsCallOf, IsReturnOf, IsNoReturn};
 
-use crate::answer::Answer;
 use crate::closing::{answers_in, close, observe_all, settle_all};
 use crate::configuration::Configuration;
 use crate::event::Event;
@@ -19,20 +18,9 @@ pub enum Advance {
     /// To these configurations, at least one.
     Known(Vec<Configuration>),
     /// To none. The call could have been answered so.
-    Impossible(Vec<Answer>),
+    Impossible(Vec<SharedAnswer>),
     /// To more configurations than are allowed.
     TooMany,
-}
-
-/// The answers by themselves.
-fn apart(alloc: Global, answers: Vec<SharedAnswer>) -> Result<Vec<Answer>, NoMemory>
-    ensures { IfOk result (λ all. all.items ≡ answers.items) }
-{
-    let mut all = Vec::new(alloc);
-    for answer in answers {
-        all.push(answer.into_answer()?)?;
-    }
-    Ok(all)
 }
 
 /// What is left of these configurations once the event is seen.
@@ -47,7 +35,7 @@ fn seen(
 {
     let next = observe_all(alloc, ready, index, event)?;
     if next.is_empty() {
-        Ok(Advance::Impossible(apart(alloc, answers)?))
+        Ok(Advance::Impossible(answers))
     } else {
         Ok(Advance::Known(next))
     }

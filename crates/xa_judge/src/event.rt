@@ -1,13 +1,15 @@
 //! What was seen.
 ghost use Rattle.std.specs.Prelude.{◌≡◌};
+ghost use Rattle.xa_judge.specs.Answers.{answer_kept};
 ghost use Rattle.xa_judge.specs.Explained.{shows_answer};
 
 use crate::answer::Answer;
 use crate::error_numbers::ErrorNumbers;
-use crate::same::{is_same_rows, is_same_value};
+use crate::kept_answer::KeptAnswer;
+use crate::same::{is_same_listed, is_same_rows, is_same_value};
 use crate::shared_request::SharedRequest;
 use crate::shared_seen::SharedSeen;
-use xa_server::Reply;
+use xa_server::{Reply, SharedXid};
 use xa_xid::{Bytes, SessionNo, Xid};
 
 /// What a call was seen to return.
@@ -66,6 +68,28 @@ impl Seen {
                 Reply::Recovered(_) => false,
                 Reply::Refused(error) => numbers.stand_for(error.number()),
             },
+        }
+    }
+
+    /// Whether the list of these identifiers shows so.
+    fn shows_listed(&self, xids: &[SharedXid]) -> bool
+        ensures { result ≡ shows_answer self.now (Answer.Reply (Reply.Recovered xids.now)) }
+    {
+        match self {
+            Seen::Ok => false,
+            Seen::Value(_) => false,
+            Seen::Rows(rows) => is_same_listed(rows.as_slice(), xids),
+            Seen::Error(_) => false,
+        }
+    }
+
+    /// Whether the answer, as it is kept, shows so.
+    pub(crate) fn shows_kept(&self, answer: &KeptAnswer) -> bool
+        ensures { result ≡ shows_answer self.now (answer_kept answer.now) }
+    {
+        match answer {
+            KeptAnswer::Whole(answer) => self.shows(answer),
+            KeptAnswer::Listed(xids) => self.shows_listed(xids.as_slice()),
         }
     }
 

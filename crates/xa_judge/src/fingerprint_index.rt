@@ -8,10 +8,14 @@ use crate::configuration::Configuration;
 use crate::event::Event;
 use crate::fingerprints::{mark_of, mark_of_key};
 use crate::request::Request;
+use crate::room::MOST_RECORDS;
 use crate::shared_lists::SharedLists;
 use std::alloc::Global;
 use std::collections::{BTreeMap, BTreeSet};
 use xa_xid::{Key, NoMemory, Statement};
+
+/// So many rows are listed at most that events called to write.
+const MOST_WRITTEN: usize = 65_536;
 
 /// Where in a list the configurations of each fingerprint stand, as a chain of places for each fingerprint.
 ///
@@ -24,7 +28,7 @@ pub struct FingerprintIndex {
     before: Vec<Option<usize>>,
     /// The fingerprint of the configuration that was looked for last.
     sought: Option<u64>,
-    /// Rows that events called to write. All others have the same value in each configuration.
+    /// Rows that events called to write. All others have the same value in each configuration, unless there are more than are listed.
     written: Vec<Key>,
     /// At the fingerprint of each row that any event called to write, how often rows had been forgotten when it was listed last.
     rows: BTreeMap<u64, u64>,
@@ -76,12 +80,22 @@ impl FingerprintIndex {
     pub fn go_on(&mut self, event: &Event) -> Result<(), NoMemory> {
         self.clear();
         self.lists.clear();
-        if let Some(key) = key_written(event)
-            && self.rows.insert(mark_of_key(key), self.forgotten)? != Some(self.forgotten)
-        {
-            self.written.push(key.copy())?;
+        if let Some(key) = key_written(event) {
+            self.see_written(key)?;
         }
         self.branches.see(event)
+    }
+
+    /// An event calls to write this row. Where there are more rows than servers have room for, they aren't counted any more.
+    fn see_written(&mut self, key: &Key) -> Result<(), NoMemory> {
+        let fingerprint = mark_of_key(key);
+        let is_full = self.rows.len() > MOST_RECORDS && !self.rows.contains_key(&fingerprint);
+        let is_listed = !is_full
+            && self.rows.insert(fingerprint, self.forgotten)? == Some(self.forgotten);
+        if !is_listed && self.written.len() < MOST_WRITTEN {
+            self.written.push(key.copy())?;
+        }
+        Ok(())
     }
 
     /// Forgets the rows where all configurations from here on have the values of one: so many are left, no call is open, and no branch

@@ -2,14 +2,18 @@
 ghost use Rattle.std.specs.Prelude.{◌≡◌, fold, map, IfOk};
 ghost use Rattle.xa_judge.specs.Marks.{with_word, with_text, with_xid, with_value, with_xids, with_state, with_error, with_answer, with_client};
 ghost use Rattle.xa_judge.specs.Marks.{with_phase, with_owner, with_hold, with_row, with_rows, with_branch, with_key, with_server, mark};
+ghost use Rattle.xa_judge.specs.Answers.{answer_kept};
 ghost use Rattle.xa_server.specs.Overview.{branches_of};
 ghost use Rattle.xa_judge.specs.Found.{config_of};
 
 use crate::answer::Answer;
 use crate::client_state::ClientState;
 use crate::configuration::Configuration;
+use crate::kept_answer::KeptAnswer;
 use std::alloc::Global;
-use xa_server::{BranchEntry, BranchState, HeldRow, Hold, Phase, Reply, Server, XaError};
+use xa_server::{
+    BranchEntry, BranchState, HeldRow, Hold, Phase, Reply, Server, SharedXid, XaError,
+};
 use xa_xid::{Bytes, Key, NoMemory, SessionNo, Xid};
 
 /// What each word is multiplied by: an odd number whose bits look like chance, 2^64 over the golden ratio.
@@ -83,6 +87,17 @@ impl Fingerprint {
         fingerprint
     }
 
+    /// With identifiers more, which other lists have too.
+    fn with_listed(self, xids: &[SharedXid]) -> Fingerprint
+        ensures { result.number ≡ with_xids self.number xids.now }
+    {
+        let mut fingerprint = self.with(xids.len() as u64);
+        for xid in xids {
+            fingerprint = fingerprint.with_xid(xid.xid());
+        }
+        fingerprint
+    }
+
     /// With a branch's state more.
     fn with_state(self, state: &BranchState) -> Fingerprint
         ensures { result.number ≡ with_state self.number state.now }
@@ -122,6 +137,16 @@ impl Fingerprint {
         }
     }
 
+    /// With an answer more, as it is kept.
+    fn with_kept(self, answer: &KeptAnswer) -> Fingerprint
+        ensures { result.number ≡ with_answer self.number (answer_kept answer.now) }
+    {
+        match answer {
+            KeptAnswer::Whole(answer) => self.with_answer(answer),
+            KeptAnswer::Listed(xids) => self.with(3).with_listed(xids.as_slice()),
+        }
+    }
+
     /// With what a session is about more. What it has called for is left out: in all configurations of a list it is the same.
     fn with_client(self, client: &ClientState) -> Fingerprint
         ensures { result.number ≡ with_client self.number client.now }
@@ -129,7 +154,7 @@ impl Fingerprint {
         match client {
             ClientState::Idle => self.with(0),
             ClientState::Called(_) => self.with(1),
-            ClientState::Answered(answer) => self.with(2).with_answer(answer.answer()),
+            ClientState::Answered(answer) => self.with(2).with_kept(answer.kept()),
             ClientState::Gone(None) => self.with(3),
             ClientState::Gone(Some(_)) => self.with(4),
             ClientState::Left => self.with(5),
@@ -254,11 +279,18 @@ pub fn mark_of_key(key: &Key) -> u64
     Fingerprint::new().with_text(key.as_slice()).number
 }
 
-/// The fingerprint of an answer.
-pub fn mark_of_answer(answer: &Answer) -> u64
-    ensures { result ≡ with_answer 0 answer.now }
+/// The fingerprint of an identifier.
+pub fn mark_of_xid(xid: &Xid) -> u64
+    ensures { result ≡ with_xid 0 xid.now }
 {
-    Fingerprint::new().with_answer(answer).number
+    Fingerprint::new().with_xid(xid).number
+}
+
+/// The fingerprint of a list of identifiers.
+pub fn mark_of_xids(xids: &[Xid]) -> u64
+    ensures { result ≡ with_xids 0 xids.now }
+{
+    Fingerprint::new().with_xids(xids).number
 }
 
 /// The fingerprint of a configuration: of what its sessions are about, of its server's branches and the rows that they hold, and of

@@ -23,18 +23,6 @@ fn is_same_statement(left: &Statement, right: &Statement) -> bool
 }
 
 impl Request {
-    /// The same request.
-    ///
-    /// Takes no memory. Doesn't wait.
-    pub fn copy(&self) -> Request
-        ensures { result ≡ self.now }
-    {
-        match self {
-            Request::Statement(statement) => Request::Statement(statement.copy()),
-            Request::Unread => Request::Unread,
-        }
-    }
-
     /// Whether both are known to be the same.
     pub(crate) fn is_same(&self, other: &Request) -> bool
         ensures { result ≡ true → self.now ≡ other.now }

@@ -3,6 +3,7 @@ ghost use Rattle.std.specs.Prelude.{◌≡◌, true};
 ghost use Rattle.xa_xid.specs.Xid.{same_xid};
 ghost use Rattle.xa_judge.specs.Explained.{same_text, same_values, same_rows};
 
+use xa_server::SharedXid;
 use xa_xid::{Bytes, Xid};
 
 /// Whether two identifiers are one.
@@ -58,6 +59,38 @@ pub fn is_same_rows(left: &[Xid], right: &[Xid]) -> bool
         [row, rows @ ..] => match right {
             [] => false,
             [xid, xids @ ..] => is_same_xid(row, xid) && is_same_rows(rows, xids),
+        },
+    }
+}
+
+/// Whether two lists have the same identifiers in the same order.
+pub fn is_same_listed(left: &[Xid], right: &[SharedXid]) -> bool
+    ensures exact { result ≡ same_rows left.now right.now }
+    ensures same { result ≡ true → left.now ≡ right.now }
+{
+    match left {
+        [] => match right {
+            [] => true,
+            [_, ..] => false,
+        },
+        [row, rows @ ..] => match right {
+            [] => false,
+            [xid, xids @ ..] => is_same_xid(row, xid.xid()) && is_same_listed(rows, xids),
+        },
+    }
+}
+
+/// Whether two lists are known to have the same identifiers in the same order.
+pub fn is_same_lists(left: &[SharedXid], right: &[SharedXid]) -> bool
+    ensures { result ≡ true → left.now ≡ right.now }
+{
+    match left {
+        [] => right.is_empty(),
+        [one, rest @ ..] => match right {
+            [] => false,
+            [other, others @ ..] => {
+                is_same_xid(one.xid(), other.xid()) && is_same_lists(rest, others)
+            }
         },
     }
 }

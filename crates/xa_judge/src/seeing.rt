@@ -52,7 +52,7 @@ impl Configuration {
             Some(ClientState::Idle) => Ok(None),
             Some(ClientState::Called(_)) => Ok(None),
             Some(ClientState::Answered(answer)) => {
-                if seen.shows(answer.answer()) {
+                if seen.shows_kept(answer.kept()) {
                     Ok(Some(self.moved(session, ClientState::Idle, Move::Event)?))
                 } else {
                     Ok(None)

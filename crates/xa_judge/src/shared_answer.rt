@@ -1,37 +1,54 @@
 //! An answer with several owners.
 ghost use Rattle.std.specs.Prelude.{◌≡◌, true, IfOk};
+ghost use Rattle.xa_judge.specs.Answers.{answer_kept};
 
 use crate::answer::Answer;
+use crate::kept_answer::KeptAnswer;
 use std::alloc::Global;
 use std::marker::Model;
 use std::sync::Arc;
-use xa_xid::NoMemory;
+use xa_server::{Reply, SharedXid};
+use xa_xid::{NoMemory, Xid};
 
-/// An answer that configurations own together. A contract sees the answer.
+/// An answer that configurations and verdicts own together. A contract sees the answer.
 #[derive(Debug, Drop)]
 pub struct SharedAnswer {
-    shared: Arc<Answer>,
+    shared: Arc<KeptAnswer>,
 }
 
 impl Model for SharedAnswer {
     ghost use Rattle.xa_judge.specs.declared.answer.Answer.{Answer as AnswerSeen};
+    ghost use Rattle.xa_judge.specs.Answers.{answer_kept};
 
     ghost Value = { AnswerSeen };
 
-    ghost view = { λ answer. answer.shared.value };
+    ghost view = { λ answer. answer_kept answer.shared.value };
 }
 
 impl SharedAnswer {
     /// An answer with one owner.
+    ///
+    /// May answer `NoMemory`. Doesn't wait.
     pub fn of(alloc: Global, answer: Answer) -> Result<SharedAnswer, NoMemory>
         ensures { IfOk result (λ shared. shared ≡ answer) }
     {
         Ok(SharedAnswer {
-            shared: Arc::new(alloc, answer)?,
+            shared: Arc::new(alloc, KeptAnswer::Whole(answer))?,
+        })
+    }
+
+    /// The list of identifiers that other lists have too, with one owner.
+    pub(crate) fn of_list(alloc: Global, xids: Vec<SharedXid>) -> Result<SharedAnswer, NoMemory>
+        ensures { IfOk result (λ shared. shared ≡ Answer.Reply (Reply.Recovered xids.items)) }
+    {
+        Ok(SharedAnswer {
+            shared: Arc::new(alloc, KeptAnswer::Listed(xids))?,
         })
     }
 
     /// One more owner.
+    ///
+    /// Takes no memory, but answers `NoMemory` once there are too many owners to be counted. Doesn't wait.
     pub fn try_clone(&self) -> Result<SharedAnswer, NoMemory>
         ensures { IfOk result (λ shared. shared ≡ self.now) }
     {
@@ -40,27 +57,40 @@ impl SharedAnswer {
         })
     }
 
-    /// The answer.
-    pub fn answer(&self) -> &Answer
-        ensures { result.now ≡ self.now }
+    /// The answer by itself.
+    ///
+    /// May answer `NoMemory`, for a list of identifiers alone. Doesn't wait.
+    pub fn answer(&self, alloc: Global) -> Result<Answer, NoMemory>
+        ensures { IfOk result (λ answer. answer ≡ self.now) }
+    {
+        self.shared.copy(alloc)
+    }
+
+    /// The answer as it is kept.
+    pub(crate) fn kept(&self) -> &KeptAnswer
+        ensures { answer_kept result.now ≡ self.now }
     {
         &self.shared
     }
 
-    /// The answer by itself: it is copied where it has other owners.
-    pub fn into_answer(self) -> Result<Answer, NoMemory>
-        ensures { IfOk result (λ answer. answer ≡ self) }
+    /// Whether it is known to be this answer.
+    pub(crate) fn is(&self, answer: &Answer) -> bool
+        ensures { result ≡ true → self.now ≡ answer.now }
     {
-        match Arc::try_unwrap(self.shared) {
-            Ok(answer) => Ok(answer),
-            Err(shared) => shared.copy(),
-        }
+        self.shared.is(answer)
+    }
+
+    /// Whether it is known to be the list of these identifiers.
+    pub(crate) fn is_list(&self, xids: &[Xid]) -> bool
+        ensures { result ≡ true → self.now ≡ Answer.Reply (Reply.Recovered xids.now) }
+    {
+        self.shared.is_list(xids)
     }
 
     /// Whether both are known to be the same.
-    pub fn is_same(&self, other: &SharedAnswer) -> bool
+    pub(crate) fn is_same(&self, other: &SharedAnswer) -> bool
         ensures { result ≡ true → self.now ≡ other.now }
     {
-        self.answer().is_same(other.answer())
+        self.shared.is_same(&other.shared)
     }
 }

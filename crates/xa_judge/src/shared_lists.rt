@@ -2,17 +2,20 @@
 ghost use Rattle.std.specs.Prelude.{◌≡◌, IfOk};
 
 use crate::answer::Answer;
-use crate::fingerprints::mark_of_answer;
+use crate::fingerprints::{mark_of_xid, mark_of_xids};
+use crate::same::is_same_xid;
 use crate::shared_answer::SharedAnswer;
 use std::alloc::Global;
 use std::collections::BTreeMap;
-use xa_server::Reply;
-use xa_xid::NoMemory;
+use xa_server::{Reply, SharedXid};
+use xa_xid::{NoMemory, Xid};
 
-/// Replies of XA RECOVER that configurations own together, the newest of each fingerprint.
+/// Replies of XA RECOVER that configurations own together, and the identifiers that these lists own together: the newest of each
+/// fingerprint.
 #[derive(Drop)]
 pub struct SharedLists {
     newest: BTreeMap<u64, SharedAnswer>,
+    xids: BTreeMap<u64, SharedXid>,
     alloc: Global,
 }
 
@@ -21,6 +24,7 @@ impl SharedLists {
     pub fn new(alloc: Global) -> SharedLists {
         SharedLists {
             newest: BTreeMap::new(alloc),
+            xids: BTreeMap::new(alloc),
             alloc,
         }
     }
@@ -28,19 +32,47 @@ impl SharedLists {
     /// Forgets them. Who owns one keeps it.
     pub fn clear(&mut self) {
         self.newest.clear();
+        self.xids.clear();
     }
 
-    /// The list, to be shared: one that is there, where it is the same.
-    fn with_list(&mut self, list: Answer) -> Result<SharedAnswer, NoMemory>
-        ensures { IfOk result (λ shared. shared ≡ list) }
+    /// The identifier, to be shared: one that is there, where it is the same.
+    fn with_xid(&mut self, xid: &Xid) -> Result<SharedXid, NoMemory>
+        ensures { IfOk result (λ shared. shared ≡ xid.now) }
     {
-        let fingerprint = mark_of_answer(&list);
-        if let Some(one) = self.newest.get(&fingerprint)
-            && one.answer().is_same(&list)
+        let fingerprint = mark_of_xid(xid);
+        if let Some(one) = self.xids.get(&fingerprint)
+            && is_same_xid(one.xid(), xid)
         {
             return one.try_clone();
         }
-        let shared = SharedAnswer::of(self.alloc, list)?;
+        let shared = SharedXid::of(self.alloc, xid)?;
+        self.xids.insert(fingerprint, shared.try_clone()?)?;
+        Ok(shared)
+    }
+
+    /// The identifiers, to be shared.
+    fn with_xids(&mut self, xids: &[Xid]) -> Result<Vec<SharedXid>, NoMemory>
+        ensures { IfOk result (λ names. names.items ≡ xids.now) }
+    {
+        let mut names = Vec::with_capacity(self.alloc, xids.len())?;
+        for xid in xids {
+            names.push(self.with_xid(xid)?)?;
+        }
+        Ok(names)
+    }
+
+    /// The list of these identifiers, to be shared: one that is there, where it is the same.
+    fn with_list(&mut self, xids: &[Xid]) -> Result<SharedAnswer, NoMemory>
+        ensures { IfOk result (λ shared. shared ≡ Answer.Reply (Reply.Recovered xids.now)) }
+    {
+        let fingerprint = mark_of_xids(xids);
+        if let Some(one) = self.newest.get(&fingerprint)
+            && one.is_list(xids)
+        {
+            return one.try_clone();
+        }
+        let names = self.with_xids(xids)?;
+        let shared = SharedAnswer::of_list(self.alloc, names)?;
         self.newest.insert(fingerprint, shared.try_clone()?)?;
         Ok(shared)
     }
@@ -50,9 +82,7 @@ impl SharedLists {
         ensures { IfOk result (λ shared. shared ≡ answer) }
     {
         match answer {
-            Answer::Reply(Reply::Recovered(xids)) => {
-                self.with_list(Answer::Reply(Reply::Recovered(xids)))
-            }
+            Answer::Reply(Reply::Recovered(xids)) => self.with_list(xids.as_slice()),
             other => SharedAnswer::of(self.alloc, other),
         }
     }

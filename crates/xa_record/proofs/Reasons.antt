@@ -1,8 +1,7 @@
 -- An order that explains what is before a line, and the store after it.
-use Rattle.std.proofs.Common.{◌≡◌, ℕ, zero, suc, ◌<◌, true, Bool, Option, Result, Ok, Err, IfOk, List, [], ◌∷◌, ◌++◌, Vec, Global, length, map, take, ap, sym, ◌∙◌, subst}
+use Rattle.std.proofs.Common.{◌≡◌, ℕ, zero, suc, ◌≤◌, Option, Some, Result, Ok, Err, IfOk, MatchOption, List, [], ◌∷◌, ◌++◌, Vec, Global, length, map, take, ap, sym, ◌∙◌, subst}
 use Rattle.std.proofs.Common.{arith}
 use Rattle.std.specs.List.{AllZip}
-use Rattle.std.specs.Option.{option_map}
 use Rattle.std.proofs.lemmas.List.{take-map, length-take-le}
 use Rattle.xa_server.specs.State.{State, no_state}
 use Rattle.xa_lines.specs.Listing.{listing}
@@ -12,13 +11,12 @@ use Rattle.xa_judge.specs.declared.moves.Move.{Move}
 use Rattle.xa_judge.specs.declared.verdict.Verdict.{Verdict}
 use Rattle.xa_judge.specs.declared.verdict.Verdict.TheVariants.{Legal as LegalBy, Illegal as IllegalAt}
 use Rattle.xa_judge.specs.Explained.{Config, opening_config, LeadsThrough, Explained}
-use Rattle.xa_judge.specs.Verdicts.{IsVerdict}
+use Rattle.xa_judge.specs.Verdicts.{IsVerdict, IsWide}
 use Rattle.xa_record.specs.declared.line_event.NumberedEvent.{NumberedEvent as NumberedRead}
-use Rattle.xa_record.specs.declared.reason.Reason.{Reason as ReasonFound}
 use Rattle.xa_record.specs.Events.{IsCallOf, AreCalls}
-use Rattle.xa_record.specs.Kept.{numbered_kept, reason_kept}
+use Rattle.xa_record.specs.Kept.{numbered_kept}
 use Rattle.xa_record.specs.Reading.{NumberedEvent}
-use Rattle.xa_record.specs.Reports.{keys_named, IsReasonFound, IsReasonSought}
+use Rattle.xa_record.specs.Reports.{keys_named}
 use Rattle.xa_record.proofs.Pairs.{calls-length}
 
 -- some configuration is that to which the moves lead
@@ -67,7 +65,7 @@ AllZip-take R (suc count) (x ∷ xs) [] all = absurd all
 AllZip-take R (suc count) (x ∷ xs) (y ∷ ys) all = (all.0, AllZip-take R count xs ys all.1)
 
 -- there is a place in the list as the program keeps it
-pub place_within : (numbered : List NumberedRead) (events : List Event) (place : ℕ) → AreCalls (map numbered_kept numbered) events → place < length events
+pub place_within : (numbered : List NumberedRead) (events : List Event) (place : ℕ) → AreCalls (map numbered_kept numbered) events → place ≤ length events
     → place ≡ length (take place numbered)
 place_within numbered events place are within =
     let long : length numbered ≡ length events = calls-length numbered events are in
@@ -80,12 +78,10 @@ events_before numbered events place are =
     subst (λ (l : List NumberedEvent). AreCalls l (take place events)) (take-map numbered_kept place numbered)
     (AllZip-take (λ one event. IsCallOf one.told event) place (map numbered_kept numbered) events are)
 
--- the reason was sought
-pub sought : {E : Type 0} (result : Result (Option ReasonFound) E) (explains : Bool) (numbered : List NumberedRead) (events : List Event) (limit place : ℕ)
-    → explains ≡ true
-    → IfOk result (λ reason. IsReasonFound (map numbered_kept (take place numbered)) events limit (option_map reason_kept reason))
-    → IfOk result (λ reason. IsReasonSought explains (take place (map numbered_kept numbered)) events limit (option_map reason_kept reason))
-sought (Ok reason) explains numbered events limit place asked found =
-    subst (λ (b : Bool). IsReasonSought b (take place (map numbered_kept numbered)) events limit (option_map reason_kept reason)) (sym asked)
-    (subst (λ (l : List NumberedEvent). IsReasonFound l events limit (option_map reason_kept reason)) (sym (take-map numbered_kept place numbered)) found)
-sought (Err fault) explains numbered events limit place asked found = tt
+-- the moves that were found lead through what is seen
+pub found_lead : (found : Option (Vec Move Global)) (events : List Event) (limit : ℕ) (moves : Vec Move Global) (slice : List Move)
+    → MatchOption found ((place : ℕ) × IsWide no_state events limit place) (λ some. Lead events some.items) → found ≡ Some moves → slice ≡ moves.items
+    → Lead events slice
+found_lead found events limit moves slice lead is same =
+    subst (Lead events) (sym same)
+    (subst (λ (o : Option (Vec Move Global)). MatchOption o ((place : ℕ) × IsWide no_state events limit place) (λ some. Lead events some.items)) is lead)

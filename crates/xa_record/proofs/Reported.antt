@@ -43,6 +43,20 @@ judged_so (Ok report) allowances numbered asked events first second third base v
     }
 judged_so (Err fault) allowances numbered asked events first second third base verdict one two none bare are written three right told = tt
 
+-- where it was judged so whatever the allowances are
+pub judged_always : {E : Type 0} (result : Result ReportMade E) (told : List NumberedEvent) (asked : Asked) (events : List Event)
+    → ((allowances : List Allowance) → AreEvents allowances told events → IfOk result (λ report. IsJudgement allowances told asked (report_kept report)))
+    → IfOk result (λ report. (allowances : List Allowance) → AreEvents allowances told events → IsJudgement allowances told asked (report_kept report))
+judged_always (Ok report) told asked events judged = judged
+judged_always (Err fault) told asked events judged = tt
+
+-- and with these
+pub judged_with : {E : Type 0} (result : Result ReportMade E) (allowances : List Allowance) (told : List NumberedEvent) (asked : Asked) (events : List Event)
+    → IfOk result (λ report. (allowances : List Allowance) → AreEvents allowances told events → IsJudgement allowances told asked (report_kept report))
+    → AreEvents allowances told events → IfOk result (λ report. IsJudgement allowances told asked (report_kept report))
+judged_with (Ok report) allowances told asked events judged are = judged allowances are
+judged_with (Err fault) allowances told asked events judged are = tt
+
 -- something happens in the record, and it was judged
 pub reported : {E : Type 0} (result : Result ReportMade E) (allowances : List Allowance) (faults : List ℕ) (numbered : List NumberedRead) (asked : Asked)
     → faults ≡ [] → (length numbered == 0) ≡ false

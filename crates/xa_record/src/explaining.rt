@@ -1,17 +1,18 @@
 //! Explains why no order explains a line.
-ghost use Rattle.std.specs.Prelude.{◌≡◌, ◌<◌, length, IfOk, map, take};
+ghost use Rattle.std.specs.Prelude.{◌≡◌, ◌<◌, ℕ, length, IfOk, MatchOption, take};
 ghost use Rattle.xa_server.specs.State.{no_state};
 ghost use Rattle.xa_judge.specs.Explained.{Config, opening_config, LeadsThrough, Explained};
 ghost use Rattle.xa_lines.specs.Listing.{listing};
 ghost use Rattle.xa_record.specs.Events.{AreCalls};
-ghost use Rattle.xa_record.specs.Kept.{numbered_kept, reason_kept};
+ghost use Rattle.xa_judge.specs.Verdicts.{IsWide};
+ghost use Rattle.xa_record.specs.Kept.{reason_kept};
+ghost use Rattle.xa_record.specs.Reading.{notes_of};
 ghost use Rattle.xa_record.specs.Reports.{keys_named, IsReason, IsReasonFound, IsReasonSought};
 ghost use Rattle.std.specs.Option.{option_map};
 
 use crate::asked::Asked;
-use crate::line_event::NumberedEvent;
+use crate::lines_again::order_before;
 use crate::named_rows::rows_named;
-use crate::order::order_lines;
 use crate::reason::Reason;
 use std::alloc::Global;
 use xa_judge::{Event, Move, Progress, Verdict, judge_telling, server_after};
@@ -47,66 +48,82 @@ fn state_lines(alloc: Global, events: &[Event], moves: &[Move]) -> Result<Vec<u8
     with_listing(alloc, Vec::new(alloc), &store, rows.as_slice())
 }
 
-/// An order by moves that lead through what is seen, and the store after it.
+/// An order by moves that lead through what is seen before a place, and the store after it.
 fn reason_by(
     alloc: Global,
-    numbered: &[NumberedEvent],
+    text: &[u8],
     events: &[Event],
+    place: usize,
     moves: &[Move],
 ) -> Result<Reason, NoMemory>
-    requires are { AreCalls (map numbered_kept numbered.now) events.now }
-    requires lead { (config : Config) × LeadsThrough (opening_config no_state) events.now moves.now config }
-    ensures { IfOk result (λ reason. IsReason (map numbered_kept numbered.now) events.now (reason_kept reason)) }
+    requires are { AreCalls (notes_of text.now).told events.now }
+    requires within { place < length events.now }
+    requires lead { (config : Config) × LeadsThrough (opening_config no_state) (take place events.now) moves.now config }
+    ensures { IfOk result (λ reason. IsReason (take place (notes_of text.now).told) (take place events.now) (reason_kept reason)) }
 {
-    Ok(Reason {
-        order: order_lines(alloc, numbered, events, moves)?,
-        state: state_lines(alloc, events, moves)?,
-    })
+    let state = state_lines(alloc, &events[..place], moves)?;
+    let order = order_before(alloc, text, events, place, moves)?;
+    Ok(Reason { order, state })
 }
 
-/// An order that explains what is seen, and the store after it; or none, where it passes the limit.
-fn reason_of<P: Progress>(
+/// Moves that lead through what is seen; or none, where too many configurations are before a place of that.
+fn moves_through<P: Progress>(
     alloc: Global,
     limit: usize,
-    numbered: &[NumberedEvent],
     events: &[Event],
     progress: &mut P,
-) -> Result<Option<Reason>, NoMemory>
-    requires are { AreCalls (map numbered_kept numbered.now) events.now }
-    requires explained { Explained no_state events.now }
-    ensures { IfOk result (λ reason. IsReasonFound (map numbered_kept numbered.now) events.now limit (option_map reason_kept reason)) }
+) -> Result<Option<Vec<Move>>, NoMemory>
+    requires { Explained no_state events.now }
+    ensures { IfOk result (λ found. MatchOption found ((place : ℕ) × IsWide no_state events.now limit place)
+        (λ moves. (config : Config) × LeadsThrough (opening_config no_state) events.now moves.items config)) }
 {
     let base = Server::new(alloc);
     match judge_telling(alloc, &base, events, limit, progress)? {
-        Verdict::Legal(moves) => Ok(Some(reason_by(alloc, numbered, events, moves.as_slice())?)),
+        Verdict::Legal(moves) => Ok(Some(moves)),
         Verdict::Illegal(_, _) => unreachable!(),
         Verdict::Undecided(_) => Ok(None),
     }
 }
 
-/// The reason why no order explains what happens at this place, where that is asked.
-pub fn reason_for<P: Progress>(
+/// An order that explains what is seen in the record of this text before a place, and the store after it; or none, where it passes
+/// the limit.
+fn reason_of<P: Progress>(
     alloc: Global,
-    asked: Asked,
-    numbered: &[NumberedEvent],
+    limit: usize,
+    text: &[u8],
     events: &[Event],
     place: usize,
     progress: &mut P,
 ) -> Result<Option<Reason>, NoMemory>
-    requires are { AreCalls (map numbered_kept numbered.now) events.now }
+    requires are { AreCalls (notes_of text.now).told events.now }
     requires within { place < length events.now }
     requires explained { Explained no_state (take place events.now) }
-    ensures { IfOk result (λ reason. IsReasonSought asked.explains (take place (map numbered_kept numbered.now)) (take place events.now) asked.limit
+    ensures { IfOk result (λ reason. IsReasonFound (take place (notes_of text.now).told) (take place events.now) limit (option_map reason_kept reason)) }
+{
+    let found = moves_through(alloc, limit, &events[..place], progress)?;
+    match found {
+        None => Ok(None),
+        Some(moves) => Ok(Some(reason_by(alloc, text, events, place, moves.as_slice())?)),
+    }
+}
+
+/// The reason why no order explains what happens at this place in the record of this text, where that is asked.
+pub fn reason_for<P: Progress>(
+    alloc: Global,
+    asked: Asked,
+    text: &[u8],
+    events: &[Event],
+    place: usize,
+    progress: &mut P,
+) -> Result<Option<Reason>, NoMemory>
+    requires are { AreCalls (notes_of text.now).told events.now }
+    requires within { place < length events.now }
+    requires explained { Explained no_state (take place events.now) }
+    ensures { IfOk result (λ reason. IsReasonSought asked.explains (take place (notes_of text.now).told) (take place events.now) asked.limit
         (option_map reason_kept reason)) }
 {
     if !asked.explains {
         return Ok(None);
     }
-    reason_of(
-        alloc,
-        asked.limit,
-        &numbered[..place],
-        &events[..place],
-        progress,
-    )
+    reason_of(alloc, asked.limit, text, events, place, progress)
 }

@@ -1,8 +1,9 @@
 //! Judges the text of a record.
-ghost use Rattle.std.specs.Prelude.{◌≡◌, IfOk, map};
+ghost use Rattle.std.specs.Prelude.{◌≡◌, List, IfOk};
+ghost use Rattle.xa_record.specs.Events.{AreCalls, AreEvents};
 ghost use Rattle.xa_record.specs.Forms.{text_in as text_of_report};
 ghost use Rattle.xa_record.specs.Judged.{IsJudgement, IsReported, IsJudged};
-ghost use Rattle.xa_record.specs.Kept.{numbered_kept, report_kept};
+ghost use Rattle.xa_record.specs.Kept.{notes_kept, report_kept};
 ghost use Rattle.xa_record.specs.Reading.{notes_of};
 ghost use Rattle.xa_record.specs.Replaying.{AreBare};
 
@@ -11,7 +12,7 @@ use crate::asked::Asked;
 use crate::events::events_of;
 use crate::form::Form;
 use crate::json_text::json_text;
-use crate::line_event::NumberedEvent;
+use crate::notes::Notes;
 use crate::outcome::Outcome;
 use crate::plain_text::plain_text;
 use crate::reading::read_notes;
@@ -19,7 +20,7 @@ use crate::report::Report;
 use crate::report_of::report_of;
 use crate::written_calls::are_written_calls;
 use std::alloc::Global;
-use xa_judge::{Progress, judge_telling};
+use xa_judge::{Event, Progress, judge_telling};
 use xa_server::Server;
 use xa_xid::NoMemory;
 
@@ -30,29 +31,35 @@ pub struct Judged {
     pub text: Vec<u8>,
 }
 
-/// What is told of what happens in a record.
+/// The events that were read of a record. Its lines are let go.
+fn events_read(
+    alloc: Global,
+    allowances: &[Allowance],
+    notes: Notes,
+) -> Result<Vec<Event>, NoMemory>
+    ensures are { IfOk result (λ events. AreEvents allowances.now (notes_kept notes.entry).told events.items) }
+    ensures calls { IfOk result (λ events. AreCalls (notes_kept notes.entry).told events.items) }
+{
+    events_of(alloc, allowances, notes.numbered.as_slice())
+}
+
+/// What is told of the record of this text, which these events happen in.
 fn verdict_on<P: Progress>(
     alloc: Global,
-    numbered: &[NumberedEvent],
-    allowances: &[Allowance],
+    text: &[u8],
+    events: &[Event],
     asked: Asked,
     progress: &mut P,
 ) -> Result<Report, NoMemory>
-    requires { AreBare (map numbered_kept numbered.now) }
-    ensures { IfOk result (λ report. IsJudgement allowances.now (map numbered_kept numbered.now) asked (report_kept report)) }
+    requires calls { AreCalls (notes_of text.now).told events.now }
+    requires bare { AreBare (notes_of text.now).told }
+    ensures { IfOk result (λ report. (allowances : List Allowance) → AreEvents allowances (notes_of text.now).told events.now
+        → IsJudgement allowances (notes_of text.now).told asked (report_kept report)) }
 {
-    let events = events_of(alloc, allowances, numbered)?;
-    are_written_calls(events.as_slice());
+    are_written_calls(events);
     let base = Server::new(alloc);
-    let verdict = judge_telling(alloc, &base, events.as_slice(), asked.limit, progress)?;
-    report_of(
-        alloc,
-        asked,
-        numbered,
-        events.as_slice(),
-        &verdict,
-        progress,
-    )
+    let verdict = judge_telling(alloc, &base, events, asked.limit, progress)?;
+    report_of(alloc, asked, text, events, &verdict, progress)
 }
 
 /// What is told of the record of this text.
@@ -72,13 +79,8 @@ fn report_on<P: Progress>(
     if notes.numbered.is_empty() {
         return Ok(Report::Empty);
     }
-    verdict_on(
-        alloc,
-        notes.numbered.as_slice(),
-        allowances,
-        asked,
-        progress,
-    )
+    let events = events_read(alloc, allowances, notes)?;
+    verdict_on(alloc, text, events.as_slice(), asked, progress)
 }
 
 /// The text of a report in a form.

@@ -16,6 +16,7 @@ pub mod laws;
 mod line;
 mod line_event;
 mod line_fault;
+mod lines_again;
 mod named_rows;
 mod notes;
 mod order;

@@ -1,27 +1,38 @@
-use Rattle.std.proofs.Common.{◌≡◌, ◌==◌, false, [], IfOk, length, map, ap, sym, ◌∙◌, subst, arith}
+use Rattle.std.proofs.Common.{◌≡◌, ◌==◌, false, [], IfOk, List, length, map, ap, sym, ◌∙◌, subst, arith}
 use Rattle.std.proofs.lemmas.Grind.{common_steps}
+use Rattle.xa_judge.specs.declared.event.Event.{Event}
+use Rattle.xa_record.specs.Events.{AreEvents, AreCalls}
 use Rattle.xa_record.specs.Judged.{IsJudgement, IsReported}
 use Rattle.xa_record.specs.Kept.{numbered_kept, report_kept}
-use Rattle.xa_record.specs.Reading.{Notes}
-use Rattle.xa_record.specs.Replaying.{AreBare}
+use Rattle.xa_record.specs.Reading.{NumberedEvent, Notes, notes_of}
 use Rattle.xa_record.proofs.BareTexts.{notes-bare}
-use Rattle.xa_record.proofs.Reported.{reported, no_fault}
+use Rattle.xa_record.proofs.Reported.{reported, judged_with, no_fault}
 use Rattle.xa_record.proofs.judging.report_on.Goals as goal
 
 pub returns : goal.returns
 returns g c =
     let notes = c.in_ok-notes.notes in
+    let same = c.in_ok-notes.ensures in
+    let told = (notes_of c.args.text.now).told in
+    let told_is : map numbered_kept notes.numbered.items ≡ told = ap (λ (n : Notes). n.told) same in
     let none : notes.faults.items ≡ [] = no_fault notes.faults.items (grind (arith, common_steps)) in
     let some : (length notes.numbered.items == 0) ≡ false = grind (arith, common_steps) in
-    subst (λ (n : Notes). IfOk c.verdict_on.result (λ report. IsReported c.args.allowances.now n c.args.asked (report_kept report))) c.in_ok-notes.ensures
+    let are : AreEvents c.args.allowances.now told c.as_slice.result.now =
+    subst (λ (l : List Event). AreEvents c.args.allowances.now told l) (sym c.as_slice.ensures.value)
+    (subst (λ (l : List NumberedEvent). AreEvents c.args.allowances.now l c.in_ok-events.events.items) told_is c.in_ok-events.ensures.are) in
+    let judged = judged_with c.verdict_on.result c.args.allowances.now told c.args.asked c.as_slice.result.now c.verdict_on.ensures are in
+    subst (λ (n : Notes). IfOk c.verdict_on.result (λ report. IsReported c.args.allowances.now n c.args.asked (report_kept report))) same
     (reported c.verdict_on.result c.args.allowances.now notes.faults.items notes.numbered.items c.args.asked none some
-    (subst (λ l. IfOk c.verdict_on.result (λ report. IsJudgement c.args.allowances.now (map numbered_kept l) c.args.asked (report_kept report)))
-    c.as_slice.ensures.value c.verdict_on.ensures))
+    (subst (λ (l : List NumberedEvent). IfOk c.verdict_on.result (λ report. IsJudgement c.args.allowances.now l c.args.asked (report_kept report))) (sym told_is) judged))
 
-pub verdict_on-requires : goal.verdict_on-requires
-verdict_on-requires g c =
+pub verdict_on-requires-clause-calls : goal.verdict_on-requires-clause-calls
+verdict_on-requires-clause-calls g c =
+    let told_is = ap (λ (n : Notes). n.told) c.in_ok-notes.ensures in
+    subst (λ (l : List Event). AreCalls (notes_of c.args.text.now).told l) (sym c.as_slice.ensures.value)
+    (subst (λ (l : List NumberedEvent). AreCalls l c.in_ok-events.events.items) told_is c.in_ok-events.ensures.calls)
+
+pub verdict_on-requires-clause-bare : goal.verdict_on-requires-clause-bare
+verdict_on-requires-clause-bare g c =
     let notes = c.in_ok-notes.notes in
     let none : notes.faults.items ≡ [] = no_fault notes.faults.items (grind (arith, common_steps)) in
-    let same = c.in_ok-notes.ensures in
-    subst (λ l. AreBare (map numbered_kept l)) (sym c.as_slice.ensures.value)
-    (subst (λ (n : Notes). AreBare n.told) (sym same) (notes-bare c.args.text.now (ap (λ (n : Notes). n.faults) (sym same) ∙ none)))
+    notes-bare c.args.text.now (ap (λ (n : Notes). n.faults) (sym c.in_ok-notes.ensures) ∙ none)

@@ -1,7 +1,7 @@
 use Rattle.std.proofs.Common.{ap, sym, ◌∙◌, arith}
 use Rattle.xa_record.specs.declared.line_event.NumberedEvent.{NumberedEvent}
 use Rattle.xa_record.proofs.Texts.{number_at-within, number_at-past}
-use Rattle.xa_record.proofs.report_of.number_of.Goals as goal
+use Rattle.xa_record.proofs.lines_again.number_of.Goals as goal
 
 pub returns-then-place-numbered : goal.returns-then-place-numbered
 returns-then-place-numbered c =
