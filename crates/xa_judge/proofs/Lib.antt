@@ -8,3 +8,7 @@ pub mod Spreading
 pub mod Advances
 pub mod Verdicts
 pub mod Steps
+pub mod NearStates
+pub mod NearRuns
+pub mod Loaded
+pub mod NearVerdicts

@@ -7,3 +7,4 @@ pub mod Advances
 pub mod Marks
 pub mod Following
 pub mod Path
+pub mod Near

@@ -8,6 +8,7 @@ use crate::fingerprint_index::FingerprintIndex;
 use crate::following::follows;
 use crate::known::opening;
 use crate::loading::count_alone;
+use crate::near::judge_behind;
 use crate::progress::{Progress, Silent};
 use crate::searching::moves_through;
 use crate::trunk::{path_of, share};
@@ -22,10 +23,11 @@ const NARROW: usize = 8;
 /// Where so many events come before calls that overlap, one order is looked for first.
 const LONG: usize = 512;
 
-/// Whether any order explains the events, by all configurations in which they can end.
-fn judge_in_breadth<P: Progress>(
+/// Whether any order explains the events, by all configurations in which they can end. So many come before them.
+pub fn judge_in_breadth<P: Progress>(
     alloc: Global,
     base: &Server,
+    before: usize,
     events: &[Event],
     limit: usize,
     progress: &mut P,
@@ -35,8 +37,10 @@ fn judge_in_breadth<P: Progress>(
     let mut trunk = Vec::new(alloc);
     let mut known = opening(alloc, base)?;
     let mut index = FingerprintIndex::new(alloc);
+    let all = before.saturating_add(events.len());
     for place in 0..events.len() {
-        progress.judged(place as u64, events.len() as u64, known.len() as u64);
+        let done = before.saturating_add(place);
+        progress.judged(done as u64, all as u64, known.len() as u64);
         known = match see_event(alloc, known, &mut index, &events[place], limit)? {
             Advance::Known(next) => next,
             Advance::Impossible(answers) => return Ok(Verdict::Illegal(place, answers)),
@@ -57,7 +61,7 @@ fn judge_narrow<P: Progress>(
 ) -> Result<Option<Verdict>, NoMemory>
     ensures { IfOk result (λ found. IfSome found (IsVerdict base.now events.now limit)) }
 {
-    match judge_in_breadth(alloc, base, events, NARROW.min(limit), progress)? {
+    match judge_in_breadth(alloc, base, 0, events, NARROW.min(limit), progress)? {
         Verdict::Legal(moves) => Ok(Some(Verdict::Legal(moves))),
         Verdict::Illegal(place, answers) => Ok(Some(Verdict::Illegal(place, answers))),
         Verdict::Undecided(_) => Ok(None),
@@ -86,6 +90,22 @@ fn judge_by_search<P: Progress>(
     }
 }
 
+/// The verdict where so many events come before calls that overlap that only the rows that these name are looked at, where that is enough.
+fn judge_long<P: Progress>(
+    alloc: Global,
+    base: &Server,
+    events: &[Event],
+    limit: usize,
+    progress: &mut P,
+) -> Result<Option<Verdict>, NoMemory>
+    ensures { IfOk result (λ found. IfSome found (IsVerdict base.now events.now limit)) }
+{
+    match judge_by_search(alloc, base, events, limit, progress)? {
+        Some(verdict) => Ok(Some(verdict)),
+        None => judge_behind(alloc, base, events, limit, progress),
+    }
+}
+
 /// Whether any order explains the events, as `judge` says; `progress` is told how far it is.
 ///
 /// Errors: `NoMemory`. Takes memory as `judge` does. Doesn't wait. Own rule: docs/JUDGE.md.
@@ -100,7 +120,7 @@ pub fn judge_telling<P: Progress>(
 {
     let alone = count_alone(events);
     let is_long = LONG <= alone && alone < events.len();
-    if is_long && let Some(verdict) = judge_by_search(alloc, base, events, limit, progress)? {
+    if is_long && let Some(verdict) = judge_long(alloc, base, events, limit, progress)? {
         return Ok(verdict);
     }
     if let Some(verdict) = judge_narrow(alloc, base, events, limit, progress)? {
@@ -109,7 +129,7 @@ pub fn judge_telling<P: Progress>(
     if !is_long && let Some(verdict) = judge_by_search(alloc, base, events, limit, progress)? {
         return Ok(verdict);
     }
-    judge_in_breadth(alloc, base, events, limit, progress)
+    judge_in_breadth(alloc, base, 0, events, limit, progress)
 }
 
 /// Whether any order explains the events, from this state of the server on.

@@ -3,6 +3,7 @@
 
 mod acting;
 mod advance;
+mod alone_call;
 mod answer;
 mod beam;
 mod best;
@@ -29,6 +30,7 @@ mod known;
 pub mod laws;
 mod loading;
 mod moves;
+mod near;
 mod path;
 mod progress;
 mod request;

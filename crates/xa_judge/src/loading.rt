@@ -23,7 +23,7 @@ fn key_of(statement: &Statement) -> Option<&Key> {
 }
 
 /// The row that the event calls for, if it does.
-fn key_called(event: &Event) -> Option<&Key> {
+pub fn key_called(event: &Event) -> Option<&Key> {
     match event {
         Event::Call(_, request) => match request.request() {
             Request::Statement(statement) => key_of(statement),

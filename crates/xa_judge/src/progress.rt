@@ -4,8 +4,8 @@
 pub trait Progress {
     /// So many events are judged, of so many; after these things can stand in so many ways, as far as they are looked at.
     ///
-    /// It is called before each event that is gone through, and where some are gone through once more, before these again. Events that a
-    /// search for an order leaves out, and those along which its order is followed, aren't told.
+    /// It is called before each event that is gone through, and where some are gone through once more, before these again. Events before
+    /// calls that overlap, where they are left out, and those along which an order that was found is followed, aren't told.
     fn judged(&mut self, done: u64, all: u64, configurations: u64);
 }
 

@@ -42,9 +42,9 @@ fn state_lines(alloc: Global, events: &[Event], moves: &[Move]) -> Result<Vec<u8
     ensures { IfOk result (λ text. (config : Config) × LeadsThrough (opening_config no_state) events.now moves.now config
         × (text.items ≡ listing config.state (keys_named events.now))) }
 {
+    let rows = rows_named(alloc, events)?;
     let base = Server::new(alloc);
     let store = store_after(alloc, &base, events, moves)?;
-    let rows = rows_named(alloc, events)?;
     with_listing(alloc, Vec::new(alloc), &store, rows.as_slice())
 }
 

@@ -1,0 +1,47 @@
+-- Servers that differ in rows that nobody reads.
+--     AreNear            two states have the same branches, and the same committed values of the rows that are named
+--     Keys, named_in     a set of keys;  a key is in it
+--     ReadsNamed         a request reads no row but one that is named
+--     CallsNamed         where an event is a call, its request does so
+--     IsLoadedTo         the one state to which the events lead, with all sessions idle
+use Rattle.std.specs.Prelude.{◌≡◌, ℕ, Bool, true, List, ◌++◌}
+use Rattle.std.specs.BTreeSet.{BTreeSet, contains}
+use Rattle.xa_xid.specs.Xid.{bytes_cmp}
+use Rattle.xa_xid.specs.declared.statement.Statement.TheVariants.{Get}
+use Rattle.xa_server.specs.State.{State, committed_value}
+use Rattle.xa_judge.specs.declared.request.Request.{Request}
+use Rattle.xa_judge.specs.declared.request.Request.TheVariants.{Statement as Given}
+use Rattle.xa_judge.specs.declared.event.Event.{Event}
+use Rattle.xa_judge.specs.declared.event.Event.TheVariants.{Call}
+use Rattle.xa_judge.specs.declared.moves.Move.{Move}
+use Rattle.xa_judge.specs.Explained.{Config, opening_config, LeadsThrough}
+
+-- a set of keys
+abbrev pub Keys : Type 0
+Keys = BTreeSet (List ℕ)
+
+-- the key is in the set
+abbrev pub named_in : Keys → List ℕ → Bool
+named_in keys key = contains bytes_cmp keys key
+
+-- the same branches, and the same committed values of the rows that are named
+pub record AreNear (named : List ℕ → Bool) (left right : State) : Type 0 where
+  pub branches : left.branches ≡ right.branches
+  pub rows : (key : List ℕ) → named key ≡ true → committed_value left key ≡ committed_value right key
+
+-- the request reads no row but one that is named
+abbrev pub ReadsNamed : (List ℕ → Bool) → Request → Type 0
+ReadsNamed named (Given (Get key)) = named key ≡ true
+ReadsNamed named request = Unit {0}
+
+-- where the event is a call, its request reads no row but one that is named
+abbrev pub CallsNamed : (List ℕ → Bool) → Event → Type 0
+CallsNamed named (Call session request) = ReadsNamed named request
+CallsNamed named event = Unit {0}
+
+-- moves lead through the events to this state with all sessions idle, and where moves lead through these and more, some lead from there through the others
+pub record IsLoadedTo (base : State) (events : List Event) (full : State) : Type 0 where
+  pub moves : List Move
+  pub leads : LeadsThrough (opening_config base) events moves (opening_config full)
+  pub only : (more : List Event) (all : List Move) (end : Config) → LeadsThrough (opening_config base) (events ++ more) all end
+      → (later : List Move) × LeadsThrough (opening_config full) more later end

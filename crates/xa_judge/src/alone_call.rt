@@ -1,0 +1,43 @@
+//! Calls that don't overlap others.
+ghost use Rattle.std.specs.Prelude.{◌≡◌, ◌∷◌, IfSome};
+
+use crate::event::{Event, Seen};
+use crate::request::Request;
+use xa_xid::SessionNo;
+
+/// A call that returns at once.
+#[derive(Drop)]
+pub struct AloneCall<'a> {
+    /// Whose it is.
+    pub session: SessionNo,
+    /// What is called for.
+    pub request: &'a Request,
+    /// What it returns.
+    pub seen: &'a Seen,
+    /// The events behind it.
+    pub later: &'a [Event],
+}
+
+/// The call with which the events begin, where it is alone.
+pub fn alone(events: &[Event]) -> Option<AloneCall<'_>>
+    ensures { IfSome result (λ call. events.now ≡ Event.Call call.session call.request.now ∷ Event.Return call.session call.seen.now ∷ call.later.now) }
+{
+    match events {
+        [Event::Call(session, request), rest @ ..] => match rest {
+            [Event::Return(other, seen), later @ ..] => {
+                if session.get() == other.get() {
+                    Some(AloneCall {
+                        session: *session,
+                        request: request.request(),
+                        seen: seen.seen(),
+                        later,
+                    })
+                } else {
+                    None
+                }
+            }
+            _ => None,
+        },
+        _ => None,
+    }
+}

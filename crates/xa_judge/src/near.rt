@@ -1,0 +1,282 @@
+//! Judges what stands behind calls that don't overlap, on a server without the rows that it doesn't name.
+//!
+//! A test bench often fills its tables first, one call after another. What its other calls are answered doesn't depend on rows that
+//! none of them names, and a server without these is soon copied.
+ghost use Rattle.std.specs.Prelude.{◌≡◌, ◌+◌, ◌<◌, ◌^◌, ◌++◌, true, false, length, IfOk, IfSome, OnOk};
+ghost use Rattle.std.specs.List.{All};
+ghost use Rattle.xa_server.specs.State.{State, association_of};
+ghost use Rattle.xa_server.specs.Step.{after};
+ghost use Rattle.xa_server.specs.declared.association.Association.{Association};
+ghost use Rattle.xa_judge.specs.Explained.{answer_to, next_state, shows_answer, IsSession};
+ghost use Rattle.xa_judge.specs.Near.{Keys, named_in, AreNear, ReadsNamed, CallsNamed, IsLoadedTo};
+ghost use Rattle.xa_judge.specs.Verdicts.{IsVerdict};
+
+use crate::alone_call::{AloneCall, alone};
+use crate::event::Event;
+use crate::following::follows;
+use crate::judging::judge_in_breadth;
+use crate::loading::{count_alone, key_called, moves_alone};
+use crate::moves::Move;
+use crate::progress::Progress;
+use crate::request::Request;
+use crate::verdict::Verdict;
+use std::alloc::Global;
+use std::collections::BTreeSet;
+use xa_server::{BranchState, Reply, Server, XaError};
+use xa_xid::{Bytes, Key, NoMemory, SessionNo, Statement, Xid};
+
+/// The keys of the rows that the events call for.
+fn keys_called(alloc: Global, events: &[Event]) -> Result<BTreeSet<Key>, NoMemory> {
+    let mut keys = BTreeSet::new(alloc);
+    for event in events {
+        if let Some(key) = key_called(event) {
+            keys.insert(key.copy())?;
+        }
+    }
+    Ok(keys)
+}
+
+/// Whether the request reads no row but those of these keys.
+fn reads_named(keys: &BTreeSet<Key>, request: &Request) -> bool
+    ensures { result ≡ true → ReadsNamed (named_in keys.now) request.now }
+{
+    match request {
+        Request::Statement(Statement::Get(key)) => keys.contains(key),
+        _ => true,
+    }
+}
+
+/// Whether the event calls for nothing but what reads rows of these keys.
+fn calls_named(keys: &BTreeSet<Key>, event: &Event) -> bool
+    ensures { result ≡ true → CallsNamed (named_in keys.now) event.now }
+{
+    match event {
+        Event::Call(_, request) => reads_named(keys, request.request()),
+        Event::Return(_, _) => true,
+        Event::Lost(_) => true,
+        Event::Unknown(_) => true,
+    }
+}
+
+/// Whether all events do so.
+fn all_named(keys: &BTreeSet<Key>, events: &[Event]) -> bool
+    ensures { result ≡ true → All (CallsNamed (named_in keys.now)) events.now }
+{
+    for event in events {
+        if !calls_named(keys, event) {
+            return false;
+        }
+    }
+    true
+}
+
+/// Whether a session that is answered so to an XA END has nothing open.
+fn tells_free(reply: &Reply) -> bool
+    ensures { result ≡ true → reply.now ≡ Reply.Refused (XaError.Rmfail BranchState.NonExisting) }
+{
+    match reply {
+        Reply::Refused(XaError::Rmfail(BranchState::NonExisting)) => true,
+        _ => false,
+    }
+}
+
+/// Whether the session is known to have nothing open.
+#[tactic(auto, using(crate::proofs::NearStates::free_told))]
+fn is_free(server: &Server, session: SessionNo) -> Result<bool, NoMemory>
+    ensures { IfOk result (λ free. free ≡ true → association_of server.now session ≡ Association.Free) }
+{
+    let xid = Xid {
+        format_id: 0,
+        gtrid: Bytes::new(),
+        bqual: Bytes::new(),
+    };
+    let statement = Statement::End(xid);
+    let (reply, _enters) = server.reply(session, &statement)?;
+    let free = tells_free(&reply);
+    Ok(free)
+}
+
+/// Whether the key is none of these, and the session has nothing open.
+fn is_apart(
+    server: &Server,
+    keys: &BTreeSet<Key>,
+    session: SessionNo,
+    key: &Key,
+) -> Result<bool, NoMemory>
+    ensures free { IfOk result (λ apart. apart ≡ true → association_of server.now session ≡ Association.Free) }
+    ensures other { IfOk result (λ apart. apart ≡ true → named_in keys.now key.now ≡ false) }
+{
+    if keys.contains(key) {
+        return Ok(false);
+    }
+    is_free(server, session)
+}
+
+/// Whether the session's statement only writes a row of another key than these, and at once.
+fn is_left_out(
+    server: &Server,
+    keys: &BTreeSet<Key>,
+    session: SessionNo,
+    statement: &Statement,
+) -> Result<bool, NoMemory>
+    ensures { IfOk result (λ out. out ≡ true → (near : State) → AreNear (named_in keys.now) server.now near
+        → AreNear (named_in keys.now) (after server.now session statement.now) near) }
+{
+    match statement {
+        Statement::Put(key, _) => {
+            let out = is_apart(server, keys, session, key)?;
+            Ok(out)
+        }
+        Statement::Del(key) => {
+            let out = is_apart(server, keys, session, key)?;
+            Ok(out)
+        }
+        _ => Ok(false),
+    }
+}
+
+/// Has the near server carry out the session's statement, or leaves it out, where it can be.
+#[tactic(auto, using(crate::proofs::NearStates::near_after))]
+fn carry_out_near(
+    full: &Server,
+    near: &mut Server,
+    keys: &BTreeSet<Key>,
+    session: SessionNo,
+    statement: &Statement,
+) -> Result<(), NoMemory>
+    ensures { OnOk result (AreNear (named_in keys.now) full.now near.old → AreNear (named_in keys.now) (after full.now session statement.now) near.new) }
+{
+    if is_left_out(full, keys, session, statement)? {
+        return Ok(());
+    }
+    let _reply = near.apply(session, statement)?;
+    Ok(())
+}
+
+/// So it is with the session's request.
+fn follow(
+    full: &Server,
+    near: &mut Server,
+    keys: &BTreeSet<Key>,
+    session: SessionNo,
+    request: &Request,
+) -> Result<(), NoMemory>
+    ensures { OnOk result (AreNear (named_in keys.now) full.now near.old → AreNear (named_in keys.now) (next_state full.now session request.now) near.new) }
+{
+    match request {
+        Request::Statement(statement) => carry_out_near(full, near, keys, session, statement),
+        Request::Unread => Ok(()),
+    }
+}
+
+/// Has the server carry out the call, and a near one what it needs of it; and answers whether what was seen shows the answer.
+fn shows_alone(
+    full: &mut Server,
+    near: &mut Server,
+    keys: &BTreeSet<Key>,
+    call: &AloneCall,
+) -> Result<bool, NoMemory>
+    ensures session { IsSession call.now.session }
+    ensures shows { IfOk result (λ shows. shows ≡ shows_answer call.now.seen.now (answer_to full.old call.now.session call.now.request.now)) }
+    ensures state { OnOk result (full.new ≡ next_state full.old call.now.session call.now.request.now) }
+    ensures near { OnOk result (AreNear (named_in keys.now) full.old near.old → AreNear (named_in keys.now) full.new near.new) }
+{
+    let _number = call.session.get();
+    follow(full, near, keys, call.session, call.request)?;
+    let answer = call.request.carry_out(full, call.session)?;
+    Ok(call.seen.shows(&answer))
+}
+
+/// Near the server after the first events, in which each call is to be alone, one without the rows of other keys; or none, where a call
+/// isn't alone, or not answered so.
+fn loaded(base: &Server, first: &[Event], keys: &BTreeSet<Key>) -> Result<Option<Server>, NoMemory>
+    ensures { IfOk result (λ found. IfSome found
+        (λ near. (full : State) × IsLoadedTo base.now first.now full × AreNear (named_in keys.now) full near)) }
+{
+    let mut full = base.copy()?;
+    let mut near = base.copy()?;
+    let mut rest = first;
+    while !rest.is_empty() {
+        let Some(call) = alone(rest) else {
+            return Ok(None);
+        };
+        let shows = shows_alone(&mut full, &mut near, keys, &call)?;
+        if !shows {
+            return Ok(None);
+        }
+        rest = call.later;
+    }
+    Ok(Some(near))
+}
+
+/// The verdict where the moves lead through the later of all events, behind those through the first, in which each call is alone.
+fn legal_behind(
+    alloc: Global,
+    base: &Server,
+    events: &[Event],
+    first: &[Event],
+    later: &[Move],
+    limit: usize,
+) -> Result<Option<Verdict>, NoMemory>
+    ensures { IfOk result (λ found. IfSome found (IsVerdict base.now events.now limit)) }
+{
+    let _limit = limit;
+    let mut moves = moves_alone(alloc, first)?;
+    moves.extend_from_slice(later)?;
+    let leads = follows(alloc, base, events, moves.as_slice())?;
+    if leads {
+        Ok(Some(Verdict::Legal(moves)))
+    } else {
+        Ok(None)
+    }
+}
+
+/// The verdict on the later of all events by a server that is near the one to which the first lead, where it gives one.
+fn judge_later<P: Progress>(
+    alloc: Global,
+    base: &Server,
+    events: &[Event],
+    first: &[Event],
+    near: &Server,
+    later: &[Event],
+    limit: usize,
+    progress: &mut P,
+) -> Result<Option<Verdict>, NoMemory>
+    requires parts { events.now ≡ first.now ++ later.now }
+    requires within { length first.now + length later.now < 2 ^ 63 }
+    requires near { (keys : Keys) × (full : State) × IsLoadedTo base.now first.now full × AreNear (named_in keys) full near.now
+        × All (CallsNamed (named_in keys)) later.now }
+    ensures { IfOk result (λ found. IfSome found (IsVerdict base.now events.now limit)) }
+{
+    match judge_in_breadth(alloc, near, first.len(), later, limit, progress)? {
+        Verdict::Legal(moves) => {
+            legal_behind(alloc, base, events, first, moves.as_slice(), limit)
+        }
+        Verdict::Illegal(place, answers) => {
+            Ok(Some(Verdict::Illegal(first.len() + place, answers)))
+        }
+        Verdict::Undecided(_) => Ok(None),
+    }
+}
+
+/// The verdict by what stands behind calls that don't overlap, on a server without the rows that it doesn't name, where that gives one.
+pub fn judge_behind<P: Progress>(
+    alloc: Global,
+    base: &Server,
+    events: &[Event],
+    limit: usize,
+    progress: &mut P,
+) -> Result<Option<Verdict>, NoMemory>
+    ensures { IfOk result (λ found. IfSome found (IsVerdict base.now events.now limit)) }
+{
+    let (first, later) = events.split_at(count_alone(events).min(events.len()));
+    let keys = keys_called(alloc, later)?;
+    if !all_named(&keys, later) {
+        return Ok(None);
+    }
+    let found = loaded(base, first, &keys)?;
+    match found {
+        None => Ok(None),
+        Some(near) => judge_later(alloc, base, events, first, &near, later, limit, progress),
+    }
+}
