@@ -18,7 +18,7 @@ extern struct xa_switch_t nigbaru_xa_switch;
    values 0 to 64. What is returned is a status of nigbaru.h:
 
    - NIGBARU_OK (put, delete); NIGBARU_VALUE with the value and its length, or NIGBARU_NONE (get);
-   - 3572: another branch holds the row; 1399: the thread's branch has ended its work (docs/BEHAVIOR.md, 'Replies');
+   - 3572: another branch holds the row; 1399: the thread's branch has ended its work (docs/STATEMENTS.md#replies);
    - NIGBARU_NO_POINTER, NIGBARU_OUT_OF_RANGE (a length), NIGBARU_NO_SESSION (the thread hasn't rmid open), NIGBARU_NO_MEMORY.
 
    In all but the first line nothing was done. */

@@ -4,7 +4,7 @@
     record.py --socket PATH [--user NAME] [--password WORD] [--database NAME] [--in-turn | --pauses SEED] [--first N] [--timeout SECONDS] [--lose S:N ..] [--cut S:N ..] SCRIPT > RECORD
 
 Each session of the script has a thread and a connection of its own. All begin together, and each gives its statements in order, as fast as they are
-answered. The lines of the record stand in the order in which they were seen (docs/JUDGE.md). README.md, beside this file, says how rows are kept, and what is
+answered. The lines of the record stand in the order in which they were seen (docs/HISTORIES.md). README.md, beside this file, says how rows are kept, and what is
 recorded for what.
 
 It needs Python 3.9 and PyMySQL (Debian's python3-pymysql). Nothing of it is proved.

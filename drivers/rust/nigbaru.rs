@@ -2,7 +2,7 @@
 //!
 //! A [`Store`] may be shared by threads; each [`Session`] is one thread's at a time, and may be sent to another. Statements of several sessions go on
 //! side by side, without a lock; a mutex is taken only to take a session, to give it back, and to renew a store whose history is full, which
-//! happens by itself. What a statement is, and what it is answered: docs/STATEMENTS.md and docs/BEHAVIOR.md. The library is proved, this file is tested.
+//! happens by itself. What a statement is, and what it is answered: docs/STATEMENTS.md. The library is proved, this file is tested.
 use std::ffi::c_void;
 use std::fmt;
 use std::os::raw::c_char;

@@ -1,4 +1,4 @@
-//! A server of plain Rust: branches in order, rows in a hash table, locks and writes as the rules of docs/BEHAVIOR.md have them, but
+//! A server of plain Rust: branches in order, rows in a hash table, locks and writes as the rules of docs/STATEMENTS.md have them, but
 //! for shared locks: here a GET in a branch locks its row exclusively.
 use crate::statement::Statement;
 use crate::text::{Text, Xid};

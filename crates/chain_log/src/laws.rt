@@ -17,21 +17,21 @@ ghost use Rattle.chain_log.specs.ChainRule.{own_cell, try_word, newest_for, Know
 
 /// Whatever words and seats keep the rule, the walk from the newest cell along the links spells the rule's history.
 ///
-/// Takes no memory. Doesn't wait. Own rule: docs/LOG.md, 'A chain'.
+/// Takes no memory. Doesn't wait. Own rule: docs/INTERNALS.md#the-chain.
 pub fn chain_is_the_history()
     ensures { (sizes : Sizes) (words : List ℕ) (views : List SeatView) (rule : ChainRule sizes words views) → Chain words rule.log }
 {}
 
 /// Words spell at most one history.
 ///
-/// Takes no memory. Doesn't wait. Own rule: docs/LOG.md, 'A chain'.
+/// Takes no memory. Doesn't wait. Own rule: docs/INTERNALS.md#the-chain.
 pub fn one_history_of_its_words()
     ensures { (words : List ℕ) (one other : List Entry) → Chain words one → Chain words other → one ≡ other }
 {}
 
 /// A pass whose last cell is still the newest has seen the whole history.
 ///
-/// Takes no memory. Doesn't wait. Own rule: docs/LOG.md, 'A chain'.
+/// Takes no memory. Doesn't wait. Own rule: docs/INTERNALS.md#the-chain.
 pub fn one_history_of_its_newest_cell()
     ensures { (sizes : Sizes) (words : List ℕ) (views : List SeatView) (rule : ChainRule sizes words views) (pass : PassView)
         → Knows sizes words rule.log pass
@@ -41,7 +41,7 @@ pub fn one_history_of_its_newest_cell()
 
 /// Behind all that a pass has seen the history has no cell in the pass's own column.
 ///
-/// Takes no memory. Doesn't wait. Own rule: docs/LOG.md, 'A chain'.
+/// Takes no memory. Doesn't wait. Own rule: docs/INTERNALS.md#the-chain.
 pub fn later_entries_are_of_others()
     ensures { (sizes : Sizes) (words : List ℕ) (views : List SeatView) (rule : ChainRule sizes words views) (pass : PassView)
         → Knows sizes words rule.log pass
@@ -53,7 +53,7 @@ pub fn later_entries_are_of_others()
 
 /// Whatever words and seats keep the rule, its history and its passes are a state of the log machine.
 ///
-/// Takes no memory. Doesn't wait. Own rule: docs/LOG.md, 'A chain'.
+/// Takes no memory. Doesn't wait. Own rule: docs/INTERNALS.md#the-chain.
 pub fn passes_are_sessions_of_the_machine()
     ensures { (sizes : Sizes) (words : List ℕ) (views : List SeatView) (rule : ChainRule sizes words views)
         → (machine : Machine) × HasPasses sizes.sessions sizes.capacity rule.log views machine }
@@ -61,7 +61,7 @@ pub fn passes_are_sessions_of_the_machine()
 
 /// A word that a pass stores into its own cell leaves the history as it was.
 ///
-/// Takes no memory. Doesn't wait. Own rule: docs/LOG.md, 'A chain'.
+/// Takes no memory. Doesn't wait. Own rule: docs/INTERNALS.md#the-chain.
 pub fn store_keeps_the_history()
     ensures { (sizes : Sizes) (words : List ℕ) (views views' : List SeatView) (rule : ChainRule sizes words views) (id : ℕ) (pass : PassView) (index word : ℕ)
         → get_elem? views id ≡ some (Single pass)
@@ -75,7 +75,7 @@ pub fn store_keeps_the_history()
 /// An exchange that finds the newest cell's name to be the last that the pass has seen puts the entry of the pass's own cell
 /// at the end of the history.
 ///
-/// Takes no memory. Doesn't wait. Own rule: docs/LOG.md, 'A chain'.
+/// Takes no memory. Doesn't wait. Own rule: docs/INTERNALS.md#the-chain.
 pub fn won_exchange_adds_its_entry()
     ensures { (sizes : Sizes) (words : List ℕ) (views views' : List SeatView) (rule : ChainRule sizes words views) (id : ℕ) (pass : PassView) (entry : Entry)
         → get_elem? views id ≡ some (Single pass)
@@ -91,7 +91,7 @@ pub fn won_exchange_adds_its_entry()
 /// A step by which a pass's `looks` rise loads the newest cell's name and leaves the history as it was, and all of that is what the pass
 /// has seen after it.
 ///
-/// Takes no memory. Doesn't wait. Own rule: docs/LOG.md, 'A chain'.
+/// Takes no memory. Doesn't wait. Own rule: docs/INTERNALS.md#the-chain.
 pub fn each_look_sees_the_history()
     ensures { (sizes : Sizes) (words words' : List ℕ) (views views' : List SeatView) (before : ChainRule sizes words views)
         (after : ChainRule sizes words' views') (step : Atomic) (found id : ℕ) (old new : PassView)
@@ -104,7 +104,7 @@ pub fn each_look_sees_the_history()
 
 /// A step by which a pass's `tries` rise exchanges the newest cell's name.
 ///
-/// Takes no memory. Doesn't wait. Own rule: docs/LOG.md, 'A chain'.
+/// Takes no memory. Doesn't wait. Own rule: docs/INTERNALS.md#the-chain.
 pub fn each_try_exchanges_the_newest_cell()
     ensures { (step : Atomic) (found : ℕ) (old new : PassView)
         → Counts newest_for try_word step found old new

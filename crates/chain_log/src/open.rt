@@ -17,7 +17,7 @@ impl ChainLog {
     /// Errors, in the order of test: `CapacityOutOfRange`, `SessionsOutOfRange`, `NoMemory`.
     ///
     /// May answer `NoMemory`. Doesn't wait.
-    /// Own rule: docs/LOG.md, 'A chain'.
+    /// Own rule: docs/INTERNALS.md#the-chain.
     pub fn open(
         alloc: Global,
         capacity: u64,

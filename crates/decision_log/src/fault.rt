@@ -23,7 +23,7 @@ impl OpenFault {
     /// The fault's number, in `[1, 3]`, in the order of test.
     ///
     /// Takes no memory. Doesn't wait.
-    /// Own rule: docs/LOG.md, 'What a log promises'.
+    /// Own rule: docs/INTERNALS.md#what-a-log-promises.
     pub fn number(&self) -> u64
         ensures { result ≡ number_of_open_fault self.now }
     {
@@ -56,7 +56,7 @@ impl AddFault {
     /// The fault's number, in `[1, 3]`.
     ///
     /// Takes no memory. Doesn't wait.
-    /// Own rule: docs/LOG.md, 'What a log promises'.
+    /// Own rule: docs/INTERNALS.md#what-a-log-promises.
     pub fn number(&self) -> u64
         ensures { result ≡ number_of_add_fault self.now }
     {

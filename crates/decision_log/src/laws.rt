@@ -19,7 +19,7 @@ ghost use Rattle.decision_log.specs.TurnRule.{row_at, turn_word, count_for, Turn
 
 /// Whatever happens, the entries of a session's number in what it has seen are its own.
 ///
-/// Takes no memory. Doesn't wait. Own rule: docs/LOG.md, 'What a log promises'.
+/// Takes no memory. Doesn't wait. Own rule: docs/INTERNALS.md#what-a-log-promises.
 pub fn mine_is_the_own_part_of_seen()
     ensures { (capacity : ℕ) (events : List Event) (machine : Machine)
         → Runs events (opening_machine capacity) machine
@@ -29,7 +29,7 @@ pub fn mine_is_the_own_part_of_seen()
 
 /// Whatever happens, what each session knows fits the history.
 ///
-/// Takes no memory. Doesn't wait. Own rule: docs/LOG.md, 'What a log promises'.
+/// Takes no memory. Doesn't wait. Own rule: docs/INTERNALS.md#what-a-log-promises.
 pub fn what_happens_leads_to_states()
     ensures { (capacity : ℕ) (events : List Event) (machine : Machine) → Runs events (opening_machine capacity) machine → IsState machine }
 {}
@@ -37,14 +37,14 @@ pub fn what_happens_leads_to_states()
 /// What each session knows fits the history only where looks and adds lead there: the other way round, for sessions 1 to a number that all
 /// entries are of.
 ///
-/// Takes no memory. Doesn't wait. Own rule: docs/LOG.md, 'What a log promises'.
+/// Takes no memory. Doesn't wait. Own rule: docs/INTERNALS.md#what-a-log-promises.
 pub fn states_are_reached()
     ensures { (sessions : ℕ) (machine : Machine) → IsState machine → AllOf sessions machine.history → IsReached sessions machine }
 {}
 
 /// Whatever words and seats keep the rule of a log with a turn, its history and its passes are a state of the log machine.
 ///
-/// Takes no memory. Doesn't wait. Own rule: docs/LOG.md, 'A log with a turn'.
+/// Takes no memory. Doesn't wait. Own rule: docs/INTERNALS.md#the-log-with-a-turn.
 pub fn passes_are_sessions_of_the_machine()
     ensures { (sizes : Sizes) (words : List ℕ) (views : List SeatView) (rule : TurnRule sizes words views)
         → (machine : Machine) × HasPasses sizes.sessions sizes.capacity rule.log views machine }
@@ -52,7 +52,7 @@ pub fn passes_are_sessions_of_the_machine()
 
 /// In a log with a turn, taking the turn and giving it back leave the history as it was.
 ///
-/// Takes no memory. Doesn't wait. Own rule: docs/LOG.md, 'A log with a turn'.
+/// Takes no memory. Doesn't wait. Own rule: docs/INTERNALS.md#the-log-with-a-turn.
 pub fn turn_keeps_the_history()
     ensures { (sizes : Sizes) (words : List ℕ) (views views' : List SeatView) (rule : TurnRule sizes words views) (turn : ℕ)
         (after : TurnRule sizes (set words 1 turn) views')
@@ -61,7 +61,7 @@ pub fn turn_keeps_the_history()
 
 /// In a log with a turn, a word that the fresh pass stores into the row behind all that it has seen leaves the history as it was.
 ///
-/// Takes no memory. Doesn't wait. Own rule: docs/LOG.md, 'A log with a turn'.
+/// Takes no memory. Doesn't wait. Own rule: docs/INTERNALS.md#the-log-with-a-turn.
 pub fn store_keeps_the_history()
     ensures { (sizes : Sizes) (words : List ℕ) (views views' : List SeatView) (rule : TurnRule sizes words views) (id : ℕ) (pass : PassView) (index word : ℕ)
         → get_elem? views id ≡ some (Single pass)
@@ -75,7 +75,7 @@ pub fn store_keeps_the_history()
 
 /// In a log with a turn, the count that the fresh pass stores, one higher, puts the entry of its draft at the end of the history.
 ///
-/// Takes no memory. Doesn't wait. Own rule: docs/LOG.md, 'A log with a turn'.
+/// Takes no memory. Doesn't wait. Own rule: docs/INTERNALS.md#the-log-with-a-turn.
 pub fn stored_count_adds_its_entry()
     ensures { (sizes : Sizes) (words : List ℕ) (views views' : List SeatView) (rule : TurnRule sizes words views) (id : ℕ) (pass : PassView) (entry : Entry)
         → get_elem? views id ≡ some (Single pass)
@@ -91,7 +91,7 @@ pub fn stored_count_adds_its_entry()
 /// In a log with a turn, a step by which a pass's `looks` rise loads the count and leaves the history as it was, and all of that is
 /// what the pass has seen after it.
 ///
-/// Takes no memory. Doesn't wait. Own rule: docs/LOG.md, 'A log with a turn'.
+/// Takes no memory. Doesn't wait. Own rule: docs/INTERNALS.md#the-log-with-a-turn.
 pub fn each_look_sees_the_history()
     ensures { (sizes : Sizes) (words words' : List ℕ) (views views' : List SeatView) (before : TurnRule sizes words views)
         (after : TurnRule sizes words' views') (step : Atomic) (found id : ℕ) (old new : PassView)
@@ -104,7 +104,7 @@ pub fn each_look_sees_the_history()
 
 /// In a log with a turn, a step by which a pass's `tries` rise exchanges the turn's word.
 ///
-/// Takes no memory. Doesn't wait. Own rule: docs/LOG.md, 'A log with a turn'.
+/// Takes no memory. Doesn't wait. Own rule: docs/INTERNALS.md#the-log-with-a-turn.
 pub fn each_try_exchanges_the_turn()
     ensures { (step : Atomic) (found : ℕ) (old new : PassView)
         → Counts count_for turn_word step found old new

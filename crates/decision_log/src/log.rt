@@ -18,7 +18,7 @@ use xa_xid::SessionNo;
 ///
 /// No call takes memory, and none waits.
 ///
-/// Own rule: docs/LOG.md, 'What a log promises'.
+/// Own rule: docs/INTERNALS.md#what-a-log-promises.
 pub trait DecisionLog {
     /// What one session knows of the log.
     type Pass;

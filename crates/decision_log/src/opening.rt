@@ -14,7 +14,7 @@ use xa_xid::SessionNo;
 
 /// A pass that has a seat at the words of its log.
 ///
-/// Own rule: docs/LOG.md, 'What both logs share'.
+/// Own rule: docs/INTERNALS.md#what-both-logs-share.
 pub trait SeatedPass {
     // of which log the pass is
     ghost belongs_to: { Self → LogIdentity };
@@ -42,7 +42,7 @@ pub trait SeatedPass {
 /// Errors: `NoMemory`.
 ///
 /// May answer `NoMemory`. Doesn't wait.
-/// Own rule: docs/LOG.md, 'What both logs share'.
+/// Own rule: docs/INTERNALS.md#what-both-logs-share.
 pub fn open_seats<R: LogWords, P: SeatedPass + Drop>(
     alloc: Global,
     sizes: &Sizes,

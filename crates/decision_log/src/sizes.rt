@@ -23,7 +23,7 @@ impl Sizes {
     /// Errors, in the order of test: `CapacityOutOfRange`, `SessionsOutOfRange`.
     ///
     /// Takes no memory. Doesn't wait.
-    /// Own rule: docs/LOG.md, 'What a log promises'.
+    /// Own rule: docs/INTERNALS.md#what-a-log-promises.
     pub fn of(capacity: u64, sessions: u64) -> Result<Sizes, OpenFault>
         ensures ok { IfOk result (λ sizes. AreSizes sizes × (sizes.capacity ≡ capacity) × (sizes.sessions ≡ sessions)) }
         ensures err { IfErr result (λ fault. Refuses capacity sessions fault) }

@@ -2,7 +2,7 @@
  *
  * Sessions of one store may be on threads of their own, without a lock of the caller's; each answers from a copy of the
  * history of its own, and adds to the one that all share. What a statement is, and what it is answered: docs/STATEMENTS.md
- * and docs/BEHAVIOR.md.
+ * and docs/STATEMENTS.md.
  *
  * What no call can see, and the caller owes:
  *   1. a pointer that isn't null leads to what its type says, with room for it;

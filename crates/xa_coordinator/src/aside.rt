@@ -25,7 +25,7 @@ impl<S: Beside> Coordinator<Fused<S>> {
     /// spoken to, pass on as many calls as before, and have open what they had.
     ///
     /// Errors: those of the session. May answer `NoMemory`. May wait: no number of tries is promised.
-    /// Own rule: docs/COORDINATOR.md, 'At the command line'.
+    /// Own rule: docs/COORDINATOR.md#calls.
     pub fn execute_other<R: Wait>(
         &mut self,
         rt: &R,

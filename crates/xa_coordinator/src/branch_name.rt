@@ -13,7 +13,7 @@ pub const FORMAT_ID: u64 = 22593;
 /// number in eight bytes, highest first; bqual is the store's number as one byte.
 ///
 /// Takes no memory. Doesn't wait.
-/// Own rule: docs/COORDINATOR.md, 'Names of branches'.
+/// Own rule: docs/COORDINATOR.md#branch-names.
 #[tactic(auto, unfolding(crate::specs::Branch::branch_xid))]
 pub fn branch_xid(name: &Bytes, number: u64, store: u8) -> Xid
     requires { array_vec_len name.now ≤ 56 }

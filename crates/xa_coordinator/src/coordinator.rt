@@ -46,7 +46,7 @@ impl<S: Speak> Coordinator<S> {
     /// Errors: `NumbersSpent`, where 1,000,000 numbers were given; `NoMemory`. The decisions are as before then.
     ///
     /// May answer `NoMemory`. Doesn't wait.
-    /// Own rule: docs/COORDINATOR.md, 'Decisions'.
+    /// Own rule: docs/COORDINATOR.md#decisions.
     pub fn begin(&self, decisions: &mut Decisions) -> Result<Transaction, BeginFault>
         ensures number { IfOk result (λ transaction. transaction.number ≡ length decisions.old + 1) }
         ensures name { IfOk result (λ transaction. transaction.name ≡ self.now.name) }

@@ -83,7 +83,7 @@ impl Decisions {
     /// closed, which no call of a coordinator leads to; `NoMemory`.
     ///
     /// May answer `NoMemory`. Doesn't wait.
-    /// Own rule: docs/COORDINATOR.md, 'Decisions'.
+    /// Own rule: docs/COORDINATOR.md#decisions.
     pub fn of(alloc: Global, list: &[Decision]) -> Result<Decisions, DecisionsFault>
         ensures ok { IfOk result (λ decisions. decisions ≡ list.now) }
         ensures stands { OnOk result (CanStand list.now) }
@@ -123,7 +123,7 @@ impl Decisions {
     /// Whether it is decided that the transaction of this number commits.
     ///
     /// Takes no memory. Doesn't wait.
-    /// Own rule: docs/COORDINATOR.md, 'Decisions'.
+    /// Own rule: docs/COORDINATOR.md#decisions.
     pub fn is_decided(&self, number: u64) -> bool
         ensures { result ≡ is_decided_by self.now number }
     {
@@ -186,7 +186,7 @@ impl Decisions {
     /// A second call answers Ok again.
     ///
     /// Takes no memory. Doesn't wait.
-    /// Own rule: docs/COORDINATOR.md, 'Decisions'.
+    /// Own rule: docs/COORDINATOR.md#decisions.
     pub fn decide(&mut self, prepared: &Prepared) -> Result<(), Closed>
         requires { prepared.now.vote_kind ≡ VoteKind.Ready }
         ensures given { OnOk result (may_be_decided self.old prepared.now.transaction.number ≡ true) }

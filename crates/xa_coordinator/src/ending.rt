@@ -30,7 +30,7 @@ impl Ending {
     /// The ending's number, in `[1, 4]`.
     ///
     /// Takes no memory. Doesn't wait.
-    /// Own rule: docs/COORDINATOR.md, 'The second phase'.
+    /// Own rule: docs/COORDINATOR.md#finishing.
     pub fn number(&self) -> u64
         ensures { result ≡ number_of_ending self.now }
     {

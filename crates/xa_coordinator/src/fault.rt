@@ -25,7 +25,7 @@ impl WorkFault {
     /// The fault's number, in `[1, 3]`.
     ///
     /// Takes no memory. Doesn't wait.
-    /// Own rule: docs/BEHAVIOR.md, 'Faults of a coordinator'.
+    /// Own rule: docs/COORDINATOR.md#faults.
     pub fn number(&self) -> u64
         ensures { result ≡ number_of_work_fault self.now }
     {
@@ -58,7 +58,7 @@ impl DecisionsFault {
     /// The fault's number, in `[1, 3]`.
     ///
     /// Takes no memory. Doesn't wait.
-    /// Own rule: docs/BEHAVIOR.md, 'Faults of a coordinator'.
+    /// Own rule: docs/COORDINATOR.md#faults.
     pub fn number(&self) -> u64
         ensures { result ≡ number_of_decisions_fault self.now }
     {
@@ -85,7 +85,7 @@ impl BeginFault {
     /// The fault's number, in `[1, 2]`.
     ///
     /// Takes no memory. Doesn't wait.
-    /// Own rule: docs/BEHAVIOR.md, 'Faults of a coordinator'.
+    /// Own rule: docs/COORDINATOR.md#faults.
     pub fn number(&self) -> u64
         ensures { result ≡ number_of_begin_fault self.now }
     {
@@ -130,7 +130,7 @@ impl RecoverFault {
     /// The fault's number, in `[1, 4]`.
     ///
     /// Takes no memory. Doesn't wait.
-    /// Own rule: docs/BEHAVIOR.md, 'Faults of a coordinator'.
+    /// Own rule: docs/COORDINATOR.md#faults.
     pub fn number(&self) -> u64
         ensures { result ≡ number_of_recover_fault self.now }
     {

@@ -109,7 +109,7 @@ impl<S: Speak> Coordinator<S> {
     /// transaction is spent in every case.
     ///
     /// May answer a fault of a session. May wait: no number of tries is promised.
-    /// Own rule: docs/COORDINATOR.md, 'The second phase'.
+    /// Own rule: docs/COORDINATOR.md#finishing.
     pub fn finish<R: Wait>(&mut self, rt: &R, decisions: &Decisions, prepared: Prepared) -> Ending
         requires name { prepared.transaction.name.items ≡ self.old.name.items }
         requires stores { prepared.transaction.stores ≡ vec_len self.old.stores }
@@ -137,7 +137,7 @@ impl<S: Speak> Coordinator<S> {
     /// transaction is spent in every case.
     ///
     /// May answer a fault of a session. May wait: no number of tries is promised.
-    /// Own rule: docs/COORDINATOR.md, 'The second phase'.
+    /// Own rule: docs/COORDINATOR.md#finishing.
     pub fn abandon<R: Wait>(&mut self, rt: &R, transaction: Transaction) -> Ending
         requires name { transaction.name.items ≡ self.old.name.items }
         requires stores { transaction.stores ≡ vec_len self.old.stores }

@@ -24,7 +24,7 @@ impl<S: Speak> Fused<S> {
     /// The session that passes `calls` calls on, in `[0, 2^64)`.
     ///
     /// Takes no memory. Doesn't wait.
-    /// Own rule: docs/COORDINATOR.md, 'Who speaks'.
+    /// Own rule: docs/COORDINATOR.md#sessions-of-a-coordinator.
     pub fn new(inner: S, calls: u64) -> Fused<S>
         ensures inner { result.inner ≡ inner }
         ensures left { result.left ≡ calls }

@@ -19,7 +19,7 @@ impl<S: Speak> Coordinator<S> {
     /// The sessions, in the order of their stores, and the coordinator apart from them. Nothing is said to the stores.
     ///
     /// Takes no memory. Doesn't wait.
-    /// Own rule: docs/COORDINATOR.md, 'Renewed between calls'.
+    /// Own rule: docs/COORDINATOR.md#renewal-between-calls.
     pub fn pause(self) -> (Vec<S>, Paused)
         ensures stores { result.0 ≡ self.stores }
         ensures name { result.1.name ≡ self.name }
@@ -40,7 +40,7 @@ impl Paused {
     /// coordinator has open in its store. Nothing is said to the stores.
     ///
     /// Takes no memory. Doesn't wait.
-    /// Own rule: docs/COORDINATOR.md, 'Renewed between calls'.
+    /// Own rule: docs/COORDINATOR.md#renewal-between-calls.
     pub fn resume<S: Speak>(self, stores: Vec<S>) -> Coordinator<S>
         requires sized { (1 ≤ vec_len stores) × (vec_len stores ≤ 16) }
         requires open_there { OpenThere S.view self.name.items stores.items self.branches }

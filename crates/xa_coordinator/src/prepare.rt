@@ -103,7 +103,7 @@ impl<S: Speak> Coordinator<S> {
     /// that doesn't carry its statement out; those above it aren't asked.
     ///
     /// May answer a fault of a session. May wait: no number of tries is promised.
-    /// Own rule: docs/COORDINATOR.md, 'The vote'.
+    /// Own rule: docs/COORDINATOR.md#votes.
     pub fn prepare<R: Wait>(&mut self, rt: &R, transaction: Transaction) -> Vote
         requires name { transaction.name.items ≡ self.old.name.items }
         requires stores { transaction.stores ≡ vec_len self.old.stores }

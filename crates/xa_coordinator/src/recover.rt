@@ -178,7 +178,7 @@ impl<S: Speak> Coordinator<S> {
     /// `StillPrepared`, where somebody prepared another such branch meanwhile. The numbers stay closed, and it may be called again.
     ///
     /// May answer `NoMemory`, and a fault of a session. May wait: no number of tries is promised.
-    /// Own rule: docs/COORDINATOR.md, 'Recovery'.
+    /// Own rule: docs/COORDINATOR.md#recovery.
     pub fn recover<R: Wait>(
         &mut self,
         rt: &R,

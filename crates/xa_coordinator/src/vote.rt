@@ -28,7 +28,7 @@ impl Vote {
     /// The vote's number, in `[1, 4]`.
     ///
     /// Takes no memory. Doesn't wait.
-    /// Own rule: docs/COORDINATOR.md, 'The vote'.
+    /// Own rule: docs/COORDINATOR.md#votes.
     pub fn number(&self) -> u64
         ensures { result ≡ number_of_vote self.now }
     {

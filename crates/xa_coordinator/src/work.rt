@@ -141,7 +141,7 @@ impl<S: Speak> Coordinator<S> {
     /// said to the store then. Of a store that takes part the branch is never started again.
     ///
     /// May answer a fault of a session. May wait: no number of tries is promised.
-    /// Own rule: docs/COORDINATOR.md, 'Work'.
+    /// Own rule: docs/COORDINATOR.md#work.
     pub fn work<R: Wait>(
         &mut self,
         rt: &R,

@@ -1,4 +1,4 @@
--- Whether an order explains what clients saw. All of it is our own: docs/JUDGE.md.
+-- Whether an order explains what clients saw. All of it is our own: docs/HISTORIES.md.
 --     answer_to, next_state      what a request is answered, and the state after it
 --     Config, opening_config     a state of the server, and what each session is about;  before all events
 --     effect_of                  an act of a session takes effect

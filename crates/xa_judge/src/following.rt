@@ -103,7 +103,7 @@ fn followed(
 
 /// Whether the moves lead through all of the events, from this state of the server on.
 ///
-/// Errors: `NoMemory`. Takes memory for one copy of the server's records. Doesn't wait. Own rule: docs/JUDGE.md, 'What explains a record'.
+/// Errors: `NoMemory`. Takes memory for one copy of the server's records. Doesn't wait. Own rule: docs/HISTORIES.md#what-explains-a-record.
 pub fn follows(
     alloc: Global,
     base: &Server,
@@ -117,7 +117,7 @@ pub fn follows(
 
 /// The server after the moves, where they lead through all of the events, from this state of the server on.
 ///
-/// Errors: `NoMemory`. Takes memory for one copy of the server's records. Doesn't wait. Own rule: docs/JUDGE.md, 'What explains a record'.
+/// Errors: `NoMemory`. Takes memory for one copy of the server's records. Doesn't wait. Own rule: docs/HISTORIES.md#what-explains-a-record.
 pub fn server_after(
     alloc: Global,
     base: &Server,

@@ -108,7 +108,7 @@ fn judge_long<P: Progress>(
 
 /// Whether any order explains the events, as `judge` says; `progress` is told how far it is.
 ///
-/// Errors: `NoMemory`. Takes memory as `judge` does. Doesn't wait. Own rule: docs/JUDGE.md.
+/// Errors: `NoMemory`. Takes memory as `judge` does. Doesn't wait. Own rule: docs/HISTORIES.md.
 pub fn judge_telling<P: Progress>(
     alloc: Global,
     base: &Server,
@@ -138,7 +138,7 @@ pub fn judge_telling<P: Progress>(
 /// overlap, one order is looked for first.
 /// Errors: `NoMemory`. Takes memory for the configurations; up to 256 have each a copy of the server's records, more share those.
 /// Doesn't wait.
-/// Own rule: docs/JUDGE.md.
+/// Own rule: docs/HISTORIES.md.
 pub fn judge(
     alloc: Global,
     base: &Server,

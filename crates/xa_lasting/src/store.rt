@@ -39,7 +39,7 @@ impl LastingStore {
     /// The store that begins with this server, as a store's history can have left it, and none of whose sessions has seen anything.
     ///
     /// Takes no memory. Doesn't wait.
-    /// Own rule: docs/COORDINATOR.md, 'Stores that last'.
+    /// Own rule: docs/COORDINATOR.md#unbounded-stores.
     #[tactic(auto, using(crate::proofs::Served::starts, crate::proofs::Served::none_entered))]
     pub fn new(alloc: Global, server: Server) -> LastingStore
         ensures base { result.first.value ≡ server }
@@ -60,7 +60,7 @@ impl LastingStore {
     /// The state that the history leaves.
     ///
     /// Takes no memory. Doesn't wait.
-    /// Own rule: docs/COORDINATOR.md, 'Stores that last'.
+    /// Own rule: docs/COORDINATOR.md#unbounded-stores.
     pub fn server(&self) -> &Server
         ensures { result.now ≡ state_after self.now.first.value (history_of self.now) }
     {
@@ -71,7 +71,7 @@ impl LastingStore {
     ///
     /// Error: `NoMemory`. Nothing has changed then.
     /// May answer `NoMemory`. Doesn't wait.
-    /// Own rule: docs/COORDINATOR.md, 'Stores that last'.
+    /// Own rule: docs/COORDINATOR.md#unbounded-stores.
     pub fn answer_other(&mut self, statement: &Statement) -> Result<Answer, Fault>
         ensures answered { IfOk result (IsAnsweredBeside statement.now (other_view self.old) (other_view self.new)) }
         ensures err { OnErr result (other_view self.new ≡ other_view self.old) }

@@ -1,4 +1,4 @@
--- The runs of a race, written down as a record of overlapping calls. All of it is our own: docs/JUDGE.md.
+-- The runs of a race, written down as a record of overlapping calls. All of it is our own: docs/HISTORIES.md.
 --     RunLine               a statement of a run, its answer, and what the record shows of it
 --     Lines                 the lines of each session
 --     with_lines            the same, but for one session

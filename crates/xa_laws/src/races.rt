@@ -11,7 +11,7 @@ ghost use Rattle.xa_laws.specs.Overlapping.{Lines, AreFreshRuns, AreLinesOf, IsE
 /// for its first line before any call returns, and for the next one as soon as the last has returned, and each return shows the
 /// race's answer.
 ///
-/// Takes no memory. Doesn't wait. Own rule: docs/JUDGE.md, 'What is proved'.
+/// Takes no memory. Doesn't wait. Own rule: docs/PROOF.md#the-judge.
 pub fn race_is_explained()
     ensures { (base : State) (runs : List Run) (outcome : Outcome) (lines : Lines)
         → IsOutcome base runs outcome

@@ -1,4 +1,4 @@
--- How a state is shown: the lines of docs/BEHAVIOR.md, 'Showing', in its order. Each begins with two blanks, so that what
+-- How a state is shown: the lines of docs/COMMANDS.md#show, in its order. Each begins with two blanks, so that what
 -- answers a script can be cut out.
 --     branch_line     a branch, with its phase and its owner
 --     hold_line       a row that the branch before it holds

@@ -7,7 +7,7 @@ use std::io;
 
 /// Who asks a server, and is answered. Before it says more it is told the answers to all whole lines that it has said.
 ///
-/// Own rule: docs/BEHAVIOR.md, 'Serving'.
+/// Own rule: docs/COMMANDS.md#serve.
 pub trait Client<S: LineServer> {
     ghost use Rattle.xa_lines.specs.Exchange.{Exchange, Receives, WritesText, Flushes, CanBeTold};
     ghost use Rattle.xa_lines.specs.Served.{AwaitsMore};

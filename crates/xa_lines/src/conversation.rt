@@ -133,7 +133,7 @@ fn answer_last<S: LineServer, P: Client<S>>(
 /// 2 ^ 64 - 1 reads; `Write` where a write or a flush failed. After `Read` all whole lines are answered; after `Write` a prefix
 /// of the answers was given, and nothing more is said to the client.
 /// Takes memory for a line, once, and what the server's answers take. Doesn't wait, unless the client does.
-/// Own rule: docs/BEHAVIOR.md, 'Serving'.
+/// Own rule: docs/COMMANDS.md#serve.
 pub fn serve<S: LineServer, P: Client<S>>(
     alloc: Global,
     server: &mut S,

@@ -8,7 +8,7 @@ ghost use Rattle.xa_lines.specs.Statements.{IsShort, served_text};
 /// Where memory is refused for no statement, and no line has more than 65,536 bytes, what is served for a script is its
 /// transcript, byte by byte.
 ///
-/// Takes no memory. Doesn't wait. Own rule: docs/BEHAVIOR.md, 'Serving'.
+/// Takes no memory. Doesn't wait. Own rule: docs/COMMANDS.md#serve.
 pub fn what_is_served_is_the_transcript()
     ensures { (received : List ℕ) → All IsShort (lines_of received) → served_text [] no_state (lines_of received) ≡ transcript received }
 {}

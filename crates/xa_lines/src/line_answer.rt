@@ -19,7 +19,7 @@ use xa_xid::{NoMemory, SessionNo, Statement};
 /// Whether recovered identifiers are to be printed in digits.
 ///
 /// Takes no memory. Doesn't wait.
-/// Own rule: docs/BEHAVIOR.md, 'Scripts'.
+/// Own rule: docs/COMMANDS.md#scripts.
 pub fn converts(statement: &Statement) -> bool
     ensures { result ≡ converts_of statement.now }
 {
@@ -165,7 +165,7 @@ pub(crate) fn put_line(
 /// The text is a statement's, without its session. The answer is printed before the statement is carried out.
 /// Errors: `NoMemory` where an allocation failed; then the server is as before.
 /// Takes memory for the answer. Doesn't wait.
-/// Own rule: docs/BEHAVIOR.md, 'Scripts'.
+/// Own rule: docs/COMMANDS.md#scripts.
 pub fn answer_statement(
     alloc: Global,
     server: &mut Server,
@@ -186,7 +186,7 @@ pub fn answer_statement(
 /// The line is one of a script, without its line feed. The answer ends in a line feed; it is empty for a line of blanks.
 /// Errors: `NoMemory` where an allocation failed; then the server is as before.
 /// Takes memory for the answer. Doesn't wait.
-/// Own rule: docs/BEHAVIOR.md, 'Scripts'.
+/// Own rule: docs/COMMANDS.md#scripts.
 pub fn answer_line(alloc: Global, server: &mut Server, line: &[u8]) -> Result<Vec<u8>, NoMemory>
     ensures answer { IfOk result (λ answer. answer.items ≡ answer_of server.old (line_of line.now)) }
     ensures after { OnOk result (server.new ≡ state_after_line server.old (line_of line.now)) }

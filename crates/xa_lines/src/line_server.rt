@@ -6,7 +6,7 @@ use std::alloc::Global;
 
 /// A server of lines: it answers one after another, and each answer may depend on the lines before.
 ///
-/// A contract sees how it may begin, and how it may answer a line. Own rule: docs/BEHAVIOR.md, 'Serving'.
+/// A contract sees how it may begin, and how it may answer a line. Own rule: docs/COMMANDS.md#serve.
 pub trait LineServer {
     ghost use Rattle.xa_lines.specs.Received.{Received, Whole, TooLong};
     ghost use Rattle.xa_lines.specs.Answer.{bytes_of};

@@ -39,7 +39,7 @@ fn session_of(word: &[u8]) -> Option<SessionNo>
 
 /// What a line of a script says.
 ///
-/// Own rule: docs/BEHAVIOR.md, 'Scripts'.
+/// Own rule: docs/COMMANDS.md#scripts.
 pub enum ScriptLine<'a> {
     /// Nothing: it has no answer.
     Blank,
@@ -52,7 +52,7 @@ pub enum ScriptLine<'a> {
 /// The first line, without its line feed, and what stands after that.
 ///
 /// Takes no memory. Doesn't wait.
-/// Own rule: docs/BEHAVIOR.md, 'Scripts'.
+/// Own rule: docs/COMMANDS.md#scripts.
 pub fn split_line(text: &[u8]) -> (&[u8], &[u8])
     requires { 0 < length text.now }
     ensures lines { lines_of text.now ≡ result.0.now ∷ lines_of result.1.now }
@@ -68,7 +68,7 @@ pub fn split_line(text: &[u8]) -> (&[u8], &[u8])
 /// The text up to its first blank, and from there on.
 ///
 /// Takes no memory. Doesn't wait.
-/// Own rule: docs/BEHAVIOR.md, 'Scripts'.
+/// Own rule: docs/COMMANDS.md#scripts.
 pub fn split_word(text: &[u8]) -> (&[u8], &[u8])
     ensures word { result.0.now ≡ first_word text.now }
     ensures rest { result.1.now ≡ after_word text.now }
@@ -79,7 +79,7 @@ pub fn split_word(text: &[u8]) -> (&[u8], &[u8])
 /// Whether the line is a comment: its first byte that isn't a blank is `#`.
 ///
 /// The line is without its line feed. Takes no memory. Doesn't wait.
-/// Own rule: docs/BEHAVIOR.md, 'Scripts'.
+/// Own rule: docs/COMMANDS.md#scripts.
 pub fn is_comment(line: &[u8]) -> bool
     ensures { result ≡ is_comment_line line.now }
 {
@@ -92,7 +92,7 @@ pub fn is_comment(line: &[u8]) -> bool
 /// The number that the word is: decimal digits, in `[0, 2^64 - 1]`, without a sign and without leading zeros.
 ///
 /// None for any other word. Takes no memory. Doesn't wait.
-/// Own rule: docs/BEHAVIOR.md, 'Scripts'.
+/// Own rule: docs/COMMANDS.md#scripts.
 #[tactic(auto, unfolding(crate::specs::Script::number_of_word))]
 pub fn number_in(word: &[u8]) -> Option<u64>
     ensures { result ≡ number_of_word word.now }
@@ -111,7 +111,7 @@ pub fn number_in(word: &[u8]) -> Option<u64>
 /// What the line says.
 ///
 /// The line is one of a script, without its line feed. Takes no memory. Doesn't wait.
-/// Own rule: docs/BEHAVIOR.md, 'Scripts'.
+/// Own rule: docs/COMMANDS.md#scripts.
 pub fn read_line(line: &[u8]) -> ScriptLine<'_>
     ensures { line_seen result ≡ line_of line.now }
 {

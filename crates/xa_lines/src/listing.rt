@@ -153,7 +153,7 @@ fn with_rows(text: Vec<u8>, server: &Server, keys: &[Key]) -> Result<Vec<u8>, No
 ///
 /// Each line begins with two blanks. Looks at every row of the server for each branch. May answer `NoMemory`, and the text is then
 /// dropped. Doesn't wait.
-/// Own rule: docs/BEHAVIOR.md, 'Showing'.
+/// Own rule: docs/COMMANDS.md#show.
 #[tactic(auto, unfolding(crate::specs::Listing::listing))]
 pub fn with_listing(
     alloc: Global,

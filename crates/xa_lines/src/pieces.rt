@@ -8,7 +8,7 @@ use std::io::{Read, Write};
 
 /// A reader of which a contract sees each read. Every reader is one.
 ///
-/// Own rule: docs/BEHAVIOR.md, 'Scripts'.
+/// Own rule: docs/COMMANDS.md#scripts.
 pub trait PieceReader: Read {
     // From the first state on a read may give these bytes, none at the end, and the last state is then the reader's.
     ghost gives: { Self → List ℕ → Self → Type 0 };
@@ -37,7 +37,7 @@ impl<R: Read> PieceReader for R {
 
 /// A writer of which a contract sees each write. Every writer is one.
 ///
-/// Own rule: docs/BEHAVIOR.md, 'Scripts'.
+/// Own rule: docs/COMMANDS.md#scripts.
 pub trait PieceWriter: Write {
     // From the first state on a write may take these bytes, and the last state is then the writer's.
     ghost takes: { Self → List ℕ → Self → Type 0 };

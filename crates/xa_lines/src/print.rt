@@ -15,7 +15,7 @@ use xa_xid::{NoMemory, Xid, with_part};
 /// Appends the number in decimal.
 ///
 /// May answer `NoMemory`. Doesn't wait.
-/// Own rule: docs/BEHAVIOR.md, 'Scripts'.
+/// Own rule: docs/COMMANDS.md#scripts.
 pub fn push_number(text: &mut Vec<u8>, number: u64) -> Result<(), NoMemory>
     ensures { OnOk result (text.new.items ≡ text.old.items ++ decimal number) }
 {
@@ -95,7 +95,7 @@ fn push_error(text: &mut Vec<u8>, error: &XaError) -> Result<(), NoMemory>
 /// Appends the text of a reply, recovered identifiers in digits where `convert`. It doesn't end in a line feed.
 ///
 /// May answer `NoMemory`; then some of the reply may be appended, or the whole text be lost. Doesn't wait.
-/// Own rule: docs/BEHAVIOR.md, 'Scripts'.
+/// Own rule: docs/COMMANDS.md#scripts.
 pub fn push_reply(
     alloc: Global,
     text: &mut Vec<u8>,
@@ -124,7 +124,7 @@ pub fn push_reply(
 /// Appends what answers a text that isn't a statement, with the place where it goes wrong.
 ///
 /// May answer `NoMemory`; then some of the text may be appended. Doesn't wait.
-/// Own rule: docs/BEHAVIOR.md, 'Scripts'.
+/// Own rule: docs/COMMANDS.md#scripts.
 pub fn push_syntax_fault(text: &mut Vec<u8>, at: u64) -> Result<(), NoMemory>
     ensures { OnOk result (text.new.items ≡ text.old.items ++ syntax_text at) }
 {

@@ -45,7 +45,7 @@ fn run_lines<W: PieceWriter>(
 /// where an allocation failed; `Write` where a write failed or took nothing. After `Read` and `TooLong` nothing was
 /// written, after `Write` and `NoMemory` a prefix of the transcript. A reader or a writer that failed isn't called again.
 /// May answer `NoMemory`. Doesn't wait, unless the reader or the writer does.
-/// Own rule: docs/BEHAVIOR.md, 'Scripts'.
+/// Own rule: docs/COMMANDS.md#scripts.
 pub fn run_script<R: PieceReader, W: PieceWriter>(
     alloc: Global,
     reader: &mut R,

@@ -7,7 +7,7 @@ use thiserror::Error;
 
 /// Why a script's run ends early.
 ///
-/// Own rule: docs/BEHAVIOR.md, 'Scripts'.
+/// Own rule: docs/COMMANDS.md#scripts.
 #[derive(Clone, Copy, Debug, Drop, PartialEq, Eq, Error)]
 pub enum ScriptFault {
     /// 1: a read failed. Nothing was written.
@@ -37,7 +37,7 @@ impl ScriptFault {
     /// The fault's number, in `[1, 7]`.
     ///
     /// Takes no memory. Doesn't wait.
-    /// Own rule: docs/BEHAVIOR.md, 'Scripts'.
+    /// Own rule: docs/COMMANDS.md#scripts.
     pub fn number(&self) -> u64
         ensures { result ≡ number_of_script_fault self.now }
     {

@@ -41,7 +41,7 @@ impl LineServer for Server {
 /// 2 ^ 64 - 1 reads; `Write` where a write or a flush failed. After `Read` all whole lines are answered; after `Write` a prefix
 /// of the answers was given.
 /// Doesn't wait, unless the client does.
-/// Own rule: docs/BEHAVIOR.md, 'Serving'.
+/// Own rule: docs/COMMANDS.md#serve.
 pub fn serve_statements<P: Client<Server>>(alloc: Global, client: &mut P) -> Result<(), ScriptFault>
     requires { IfSome (P.exchange client.old) IsFresh }
     ensures told { OnOk result (IfSome (P.exchange client.new) IsToldAll) }

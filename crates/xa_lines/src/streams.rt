@@ -18,7 +18,7 @@ const SCRIPT_READS: u64 = 2_097_152;
 /// How long a script is at most, in bytes, and how many reads it takes at most.
 ///
 /// Takes no memory. Doesn't wait.
-/// Own rule: docs/BEHAVIOR.md, 'Scripts'.
+/// Own rule: docs/COMMANDS.md#scripts.
 pub fn script_limits() -> (usize, u64)
     ensures bytes { result.0 ≡ script_bytes }
     ensures reads { result.1 ≡ script_reads }
@@ -61,7 +61,7 @@ fn write_once<W: PieceWriter>(writer: &mut W, bytes: &[u8]) -> Result<usize, Scr
 /// Errors: `Read` where a read failed, or too many were needed; `TooLong` where the reader gives more; `NoMemory`. A reader that
 /// failed isn't read again.
 /// May answer `NoMemory`. Doesn't wait, unless the reader does.
-/// Own rule: docs/BEHAVIOR.md, 'Scripts'.
+/// Own rule: docs/COMMANDS.md#scripts.
 pub fn read_within<R: PieceReader>(
     alloc: Global,
     reader: &mut R,
@@ -96,7 +96,7 @@ pub fn read_within<R: PieceReader>(
 /// Errors: `Read` where a read failed, or too many were needed; `TooLong` where the reader gives more; `NoMemory`. A reader that
 /// failed isn't read again.
 /// May answer `NoMemory`. Doesn't wait, unless the reader does.
-/// Own rule: docs/BEHAVIOR.md, 'Scripts'.
+/// Own rule: docs/COMMANDS.md#scripts.
 pub fn read_all<R: PieceReader>(alloc: Global, reader: &mut R) -> Result<Vec<u8>, ScriptFault>
     ensures all { IfOk result (λ script. Consumes (R.remaining reader.old) (R.remaining reader.new) script.items) }
     ensures end { OnOk result (IsAtEnd (R.remaining reader.new)) }
@@ -113,7 +113,7 @@ pub fn read_all<R: PieceReader>(alloc: Global, reader: &mut R) -> Result<Vec<u8>
 ///
 /// Error: `Write` where a write failed or took nothing. The writer is then called no more: neither written to nor flushed.
 /// Takes no memory. Doesn't wait, unless the writer does.
-/// Own rule: docs/BEHAVIOR.md, 'Scripts'.
+/// Own rule: docs/COMMANDS.md#scripts.
 pub fn write_whole<W: PieceWriter>(writer: &mut W, bytes: &[u8]) -> Result<(), ScriptFault>
     ensures all { OnOk result (Appends (W.contents writer.old) (W.contents writer.new) bytes.now) }
     ensures fault { IfErr result (λ fault. fault ≡ ScriptFault.Write) }

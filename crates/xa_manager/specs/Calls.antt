@@ -1,4 +1,4 @@
--- What a line tells a transaction manager. All of it is our own: docs/COORDINATOR.md, 'At the command line'.
+-- What a line tells a transaction manager. All of it is our own: docs/COORDINATOR.md#calls.
 --     takes_rows       the statements that a transaction gives: GET, PUT and DEL
 --     call_of          what a line tells
 --     IsWritten        a call that a line can tell

@@ -1,4 +1,4 @@
--- What is written for a call, by what it was answered. All of it is our own: docs/COORDINATOR.md, 'At the command line'.
+-- What is written for a call, by what it was answered. All of it is our own: docs/COORDINATOR.md#calls.
 --     fault_text, cause_text       why a statement wasn't answered, or carried out
 --     worked_text                  what work came to
 --     vote_text                    what the stores voted

@@ -261,7 +261,7 @@ impl<S: Speak, T: Speak> Manager<Fused<S>, T> {
     /// passes 2 ^ 64 - 1, and nothing is open in any store.
     /// Error: `NoMemory`, where a transaction can't be kept or a list of answers has no room; nothing was said to any session then, and nothing changed.
     /// May wait: no number of tries is promised.
-    /// Own rule: docs/COORDINATOR.md, 'At the command line'.
+    /// Own rule: docs/COORDINATOR.md#calls.
     pub fn answer<R: Wait>(
         &mut self,
         rt: &R,

@@ -70,7 +70,7 @@ impl<S: Beside, T: Speak> Manager<Fused<S>, T> {
     ///
     /// Error: `NoMemory`, where a transaction can't be kept or a list of answers has no room; nothing was said to any session then, and nothing changed.
     /// May wait: no number of tries is promised.
-    /// Own rule: docs/COORDINATOR.md, 'At the command line'.
+    /// Own rule: docs/COORDINATOR.md#calls.
     pub fn answer_beside<R: Wait>(
         &mut self,
         rt: &R,

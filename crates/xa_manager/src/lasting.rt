@@ -41,7 +41,7 @@ fn open_each(
 ///
 /// Error: `NoMemory`.
 /// May return `NoMemory`. Never waits.
-/// Own rule: docs/COORDINATOR.md, 'At the command line'.
+/// Own rule: docs/COORDINATOR.md#calls.
 pub fn lasting_manager(
     alloc: Global,
     count: u64,
@@ -60,7 +60,7 @@ pub fn lasting_manager(
 ///
 /// Errors: those of `converse`.
 /// May wait, for the client too.
-/// Own rule: docs/COORDINATOR.md, 'At the command line'.
+/// Own rule: docs/COORDINATOR.md#calls.
 pub fn converse_lasting<
     'a,
     R: Wait,

@@ -103,7 +103,7 @@ impl Ledger {
     ///
     /// Errors: `UnknownTransaction`, where it wasn't begun; `WrongStage`, where it doesn't take work any more. The ledger is as before
     /// then. Takes no memory. Doesn't wait.
-    /// Own rule: docs/COORDINATOR.md, 'At the command line'.
+    /// Own rule: docs/COORDINATOR.md#calls.
     pub fn take_working(&mut self, number: u64) -> Result<Transaction, Response>
         ensures taken { IfOk result (λ transaction. stage_of self.old number ≡ Some (Stage.Working transaction)) }
         ensures over { OnOk result (self.new ≡ with_stage self.old number Stage.Over) }
@@ -124,7 +124,7 @@ impl Ledger {
     ///
     /// Errors: as those of `take_working`, `WrongStage` where its vote isn't Ready, or it was finished.
     /// Takes no memory. Doesn't wait.
-    /// Own rule: docs/COORDINATOR.md, 'At the command line'.
+    /// Own rule: docs/COORDINATOR.md#calls.
     pub fn take_ready(&mut self, number: u64) -> Result<Prepared, Response>
         ensures taken { IfOk result (λ prepared. stage_of self.old number ≡ Some (Stage.Ready prepared)) }
         ensures over { OnOk result (self.new ≡ with_stage self.old number Stage.Over) }
@@ -145,7 +145,7 @@ impl Ledger {
     ///
     /// Errors: as those of `take_working`, `WrongStage` where it has no such vote, or it was finished.
     /// Takes no memory. Doesn't wait.
-    /// Own rule: docs/COORDINATOR.md, 'At the command line'.
+    /// Own rule: docs/COORDINATOR.md#calls.
     pub fn take_voted(&mut self, number: u64) -> Result<Prepared, Response>
         ensures taken { IfOk result
             (λ prepared. (stage_of self.old number ≡ Some (Stage.Ready prepared)) ⊎ (stage_of self.old number ≡ Some (Stage.Voted prepared))) }

@@ -313,7 +313,7 @@ fn write_into(
 ///
 /// `room` is an empty text, which may have room for it already.
 /// Errors: `NoMemory`, never for a response of few words, which takes no memory. Doesn't wait.
-/// Own rule: docs/COORDINATOR.md, 'At the command line'.
+/// Own rule: docs/COORDINATOR.md#calls.
 pub fn write_response(
     alloc: Global,
     room: Vec<u8>,

@@ -215,7 +215,7 @@ fn named(word: &[u8], rest: &[u8]) -> Call
 /// The call that a line tells. Its words stand between blanks; a line of blanks, and one whose first byte that isn't blank is `#`, tells nothing.
 ///
 /// Takes no memory. Doesn't wait.
-/// Own rule: docs/COORDINATOR.md, 'At the command line'.
+/// Own rule: docs/COORDINATOR.md#calls.
 #[tactic(auto, unfolding(crate::specs::Calls::call_of))]
 pub fn read_call(line: &[u8]) -> Call
     ensures call { result ≡ call_of line.now }

@@ -41,7 +41,7 @@ fn open_store(alloc: Global, capacity: u64) -> Result<(Store, Pass, Pass), NoMem
 ///
 /// Errors: `NoMemory` where memory can't be had, or where `capacity` isn't in `[1, 1024]`; nothing is kept then.
 /// May return `NoMemory`. Never waits.
-/// Own rule: docs/COORDINATOR.md, 'At the command line'.
+/// Own rule: docs/COORDINATOR.md#calls.
 pub fn open_stores(
     alloc: Global,
     count: u64,
@@ -104,7 +104,7 @@ fn fuse_each<S: Speak + Drop>(alloc: Global, sessions: Vec<S>) -> Result<Vec<Fus
 ///
 /// Errors: `NoMemory`; the passes are gone then.
 /// May return `NoMemory`. Never waits.
-/// Own rule: docs/COORDINATOR.md, 'At the command line'.
+/// Own rule: docs/COORDINATOR.md#calls.
 pub fn manager_over<'a>(
     alloc: Global,
     stores: &'a [Store],
@@ -138,7 +138,7 @@ pub fn manager_over<'a>(
 /// 2 ^ 64 - 1 reads; `Write` where a write or a flush failed. After `Read` all whole lines are answered; after `Write` a prefix of the answers
 /// was given. Where memory is refused for a call, that is its answer, and the next is received.
 /// May wait, for the client too.
-/// Own rule: docs/COORDINATOR.md, 'At the command line'.
+/// Own rule: docs/COORDINATOR.md#calls.
 pub fn converse<
     'a,
     R: Wait,

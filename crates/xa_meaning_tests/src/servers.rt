@@ -6,7 +6,7 @@ use xa_server::{BranchState, Reply, Server, XaError};
 use xa_statement::read_statement;
 use xa_xid::{SessionNo, read_xid, with_part};
 
-/// Each refusal's number, SQLSTATE and XA code as docs/BEHAVIOR.md has them in 'Replies', and its text as in 'Scripts'.
+/// Each refusal's number, SQLSTATE and XA code as docs/STATEMENTS.md has them in 'Replies', and its text as in 'Scripts'.
 const REFUSALS: &str = "1397 XAE04 -4 XAER_NOTA unknown xid
 1398 XAE05 -5 XAER_INVAL clause not supported
 1399 XAE07 -7 XAER_RMFAIL state NON-EXISTING

@@ -1,4 +1,4 @@
--- Orders of lines that sessions give side by side, and what each order comes to. All of it is our own: docs/ORDERS.md.
+-- Orders of lines that sessions give side by side, and what each order comes to. All of it is our own: docs/COMMANDS.md#explore.
 --     Told, Parts          a line;  the lines of a script: those before, those side by side, those behind
 --     Config, opening      a server, and what each line side by side was answered;  before any of them is carried out
 --     turn                 the session's next line is carried out

@@ -1,4 +1,4 @@
--- What a script to be explored says, and what is written for it. All of it is our own: docs/ORDERS.md.
+-- What a script to be explored says, and what is written for it. All of it is our own: docs/COMMANDS.md#explore.
 --     Reading, script_read       what was read so far;  what is read of a script
 --     fault_text                 what is written for a faulty line
 --     read_more                  what was read once this line is

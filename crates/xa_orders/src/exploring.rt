@@ -17,7 +17,7 @@ use xa_xid::{Key, NoMemory};
 /// The lines `before` are carried out first, those `later` last, each in order, by a server that holds nothing at first. `written`
 /// are the rows that a line writes: what isn't among them makes the search slower, and changes nothing.
 /// May answer `NoMemory`. Doesn't wait.
-/// Own rule: docs/ORDERS.md.
+/// Own rule: docs/COMMANDS.md#explore.
 pub fn explore(
     alloc: Global,
     before: &[Line<'_>],

@@ -25,7 +25,7 @@ pub struct Explored {
 ///
 /// At most `limit` ways are kept at once.
 /// May answer `NoMemory`. Doesn't wait.
-/// Own rule: docs/ORDERS.md.
+/// Own rule: docs/COMMANDS.md#explore.
 pub fn explore_text(alloc: Global, text: &[u8], limit: usize) -> Result<Explored, NoMemory>
     ensures { IfOk result (λ explored. IsExploredText text.now limit explored.ended explored.text.items) }
 {
@@ -78,7 +78,7 @@ fn write_explored<W: PieceWriter>(writer: &mut W, explored: &Explored) -> Result
 /// where a write failed or took nothing. After `Write` a prefix of the text was written, after any other nothing. A reader or a
 /// writer that failed isn't called again.
 /// May answer `NoMemory`. Doesn't wait, unless the reader or the writer does.
-/// Own rule: docs/ORDERS.md.
+/// Own rule: docs/COMMANDS.md#explore.
 pub fn explore_script<R: PieceReader, W: PieceWriter>(
     alloc: Global,
     reader: &mut R,

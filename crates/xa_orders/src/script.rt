@@ -183,7 +183,7 @@ impl<'a> Script<'a> {
 /// What is read of a script.
 ///
 /// May answer `NoMemory`. Doesn't wait.
-/// Own rule: docs/ORDERS.md.
+/// Own rule: docs/COMMANDS.md#explore.
 pub fn read_script(alloc: Global, text: &[u8]) -> Result<Script<'_>, NoMemory>
     ensures { IfOk result (λ script. read_kept script ≡ script_read text.now) }
 {

@@ -1,4 +1,4 @@
--- What a race of a script writes. All of it is our own: docs/BEHAVIOR.md, 'A race of a script', 'A race of a script in rounds'.
+-- What a race of a script writes. All of it is our own: docs/COMMANDS.md#race, 'A race of a script in rounds'.
 -- A race in one log has room for `Some` number of entries, one in rounds `None`: its history has any length.
 --     history_text, answers_text   how a history and the answers are printed
 --     outcome_text                 how an outcome is

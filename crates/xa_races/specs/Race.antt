@@ -1,4 +1,4 @@
--- What a script gives to a race. All of it is our own: docs/BEHAVIOR.md, 'A race of a script'.
+-- What a script gives to a race. All of it is our own: docs/COMMANDS.md#race.
 --     fault_place, faults_text     where a line goes wrong;  what is written for all lines that do
 --     IsReadable                   when a race is held
 --     last_session                 the greatest session that a line names

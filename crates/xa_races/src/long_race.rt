@@ -22,7 +22,7 @@ use xa_store::Gate;
 /// Errors: those of `race_script`, but never `Full`; `NoMemory` also where there is none for the history of all rounds. After
 /// `Write` a prefix of the text was written, after any other nothing.
 /// May answer `NoMemory`. Waits for its threads.
-/// Own rule: docs/BEHAVIOR.md, 'A race of a script in rounds'.
+/// Own rule: docs/COMMANDS.md#race-in-rounds.
 pub fn race_script_in_rounds<
     I: PieceReader,
     O: PieceWriter,

@@ -26,7 +26,7 @@ use xa_store::Gate;
 /// allocation failed; `Full`, `GateShut` and `ThreadRefused` as the race tells them; `Write` where a write failed or took nothing.
 /// After `Write` a prefix of the text was written, after any other nothing.
 /// May answer `NoMemory`. Waits for its threads.
-/// Own rule: docs/BEHAVIOR.md, 'A race of a script'.
+/// Own rule: docs/COMMANDS.md#race.
 pub fn race_script<I: PieceReader, O: PieceWriter, G: Gate + Sync, R: Threads + Wait + Sync>(
     rt: &R,
     alloc: Global,

@@ -1,4 +1,4 @@
--- Known differences between a server and the rules, and how they are read. All of it is our own: docs/JUDGE.md, 'Known differences'.
+-- Known differences between a server and the rules, and how they are read. All of it is our own: docs/HISTORIES.md#allowances.
 --     words_of          the words of a kind of statement
 --     kind_of           the kind of what a session asks for
 --     others_for        the rules' numbers for which a number that was seen may stand, beside itself

@@ -1,4 +1,4 @@
--- In which forms a report is written. All of it is our own: docs/JUDGE.md, 'The verdict'.
+-- In which forms a report is written. All of it is our own: docs/HISTORIES.md#verdicts.
 --     plain_text       as lines
 --     text_value       lines as strings of JSON
 --     report_value     as a JSON object, a definition for each of its keys

@@ -1,4 +1,4 @@
--- What judging a record comes to. All of it is our own: docs/JUDGE.md.
+-- What judging a record comes to. All of it is our own: docs/HISTORIES.md.
 --     record_bytes, record_reads     how long a record is at most;  how often it is read
 --     IsJudgement            this is told of some right verdict on what the lines say
 --     IsReportedOf           so it is with lines of which none is faulty: where they say nothing there is no verdict

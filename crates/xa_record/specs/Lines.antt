@@ -1,4 +1,4 @@
--- What a line of a record says. All of it is our own: docs/JUDGE.md, 'Records'.
+-- What a line of a record says. All of it is our own: docs/HISTORIES.md#records.
 --     Shown            what a return shows
 --     Told             what happens to a session: it calls for a text, its call returns, or its client is gone
 --     LineSaid         what a line says

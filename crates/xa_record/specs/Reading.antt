@@ -1,4 +1,4 @@
--- How a record is read, line by line. All of it is our own: docs/JUDGE.md, 'Records'.
+-- How a record is read, line by line. All of it is our own: docs/HISTORIES.md#records.
 -- Faulty lines are written in ascending order, each once: what is written for those among the rows of a return is held until that return is judged, and comes
 -- behind it.
 --     cause_of            why what happens to a session is faulty, by what the lines before say of it

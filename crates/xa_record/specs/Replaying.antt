@@ -1,4 +1,4 @@
--- The script that is written for an order, and what its lines give. All of it is our own: docs/JUDGE.md, 'The verdict'.
+-- The script that is written for an order, and what its lines give. All of it is our own: docs/HISTORIES.md#verdicts.
 --     effect_line, order_lines     the line of an effect;  the lines of an order
 --     joined                       lines, each with a line feed
 --     GivesRequest                 a line gives a request of a session

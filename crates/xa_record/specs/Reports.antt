@@ -1,4 +1,4 @@
--- What is told of a record, in whichever form it is written. All of it is our own: docs/JUDGE.md, 'The verdict'.
+-- What is told of a record, in whichever form it is written. All of it is our own: docs/HISTORIES.md#verdicts.
 --     Reason              an order that explains what is before a line, and the store after it
 --     Report              what is told
 --     outcome_of          which of the five ends it is

@@ -1,4 +1,4 @@
--- How the parts of a verdict are written. All of it is our own: docs/JUDGE.md, 'The verdict'.
+-- How the parts of a verdict are written. All of it is our own: docs/HISTORIES.md#verdicts.
 --     call_text          a statement in its canonical form, or what a session called for as it was written
 --     order_text         the effects of an order as a script
 --     answer_text        what could have been answered

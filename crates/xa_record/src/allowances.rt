@@ -135,7 +135,7 @@ fn push_found(list: &mut Vec<Allowance>, found: Option<Allowance>) -> Result<(),
 /// It is cut into lines as a script is; blank lines and comments say nothing. Numbers are 0 to 65,535.
 /// Errors: `Line` with the number of the first line that isn't so, counted from 1; `NoMemory`.
 /// May answer `NoMemory`. Doesn't wait.
-/// Own rule: docs/JUDGE.md, 'Known differences'.
+/// Own rule: docs/HISTORIES.md#allowances.
 #[tactic(auto, unfolding(crate::specs::Allowances::allowances_of))]
 pub fn read_allowances(alloc: Global, text: &[u8]) -> Result<Vec<Allowance>, AllowFault>
     ensures read { IfOk result (λ list. allowances_of text.now ≡ Ok list.items) }

@@ -99,7 +99,7 @@ fn text_in(alloc: Global, form: Form, report: &Report) -> Result<Vec<u8>, NoMemo
 /// configurations are kept before a return; where an illegal line is explained, what is before it is judged once more, and nothing
 /// is explained where that passes the limit. `progress` is told how far judging is.
 /// May answer `NoMemory`. Doesn't wait.
-/// Own rule: docs/JUDGE.md.
+/// Own rule: docs/HISTORIES.md.
 pub fn judge_text<P: Progress>(
     alloc: Global,
     text: &[u8],

@@ -18,7 +18,7 @@ ghost use Rattle.xa_record.specs.Records.{Tells, HasFault, Begins};
 /// What is read of a record of which no line is faulty is what its lines tell by the rules; and where these let lines tell something, no
 /// line is faulty, and that is what is read.
 ///
-/// Takes no memory. Doesn't wait. Own rule: docs/JUDGE.md, 'Records'.
+/// Takes no memory. Doesn't wait. Own rule: docs/HISTORIES.md#records.
 pub fn lines_tell_what_is_read()
     ensures told { (text : List ℕ) → (notes_of text).faults ≡ [] → Tells (lines_of text) (notes_of text).told }
     ensures only { (text : List ℕ) (list : List NumberedEvent) → Tells (lines_of text) list → ((notes_of text).faults ≡ []) × (list ≡ (notes_of text).told) }
@@ -26,7 +26,7 @@ pub fn lines_tell_what_is_read()
 
 /// Of a record with a faulty line one is the first by the rules, for one cause, and that is written first.
 ///
-/// Takes no memory. Doesn't wait. Own rule: docs/JUDGE.md, 'Records'.
+/// Takes no memory. Doesn't wait. Own rule: docs/HISTORIES.md#records.
 pub fn first_fault_is_written_first()
     ensures found { (text : List ℕ) → (notes_of text).faults ≢ [] → (number : ℕ) × (fault : LineFault) × HasFault (lines_of text) number fault }
     ensures first { (text : List ℕ) (number : ℕ) (fault : LineFault) → HasFault (lines_of text) number fault
@@ -36,7 +36,7 @@ pub fn first_fault_is_written_first()
 /// The order that is written for a legal record is a script: each of its lines gives, to the session, the request that takes
 /// effect there, so that `run` answers each as the effect was answered, and goes through the same states.
 ///
-/// Takes no memory. Doesn't wait. Own rule: docs/JUDGE.md, 'The verdict'.
+/// Takes no memory. Doesn't wait. Own rule: docs/HISTORIES.md#verdicts.
 pub fn order_is_replayed()
     ensures written { (calls : List (List ℕ)) (numbered : List NumberedEvent) (moves : List Move) → order_text calls numbered moves ≡ joined (order_lines calls numbered moves) }
     ensures effects { (base : State) (allowances : List Allowance) (numbered : List NumberedEvent) (events : List Event) (moves : List Move) (new : Config)

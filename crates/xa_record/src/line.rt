@@ -187,7 +187,7 @@ fn session_line<'a>(session: SessionNo, sign: &[u8], text: &'a [u8]) -> RecordLi
 /// What a line of a record says.
 ///
 /// The line is without its line feed. Takes no memory. Doesn't wait.
-/// Own rule: docs/JUDGE.md, 'Records'.
+/// Own rule: docs/HISTORIES.md#records.
 #[tactic(auto, unfolding(crate::specs::Lines::reading_of_line))]
 pub fn read_record_line(line: &[u8]) -> RecordLine<'_>
     ensures { line_kept result ≡ reading_of_line line.now }

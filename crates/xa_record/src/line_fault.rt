@@ -49,7 +49,7 @@ impl LineFault {
     /// Appends `LINE`, the line's number and the cause, and a line feed.
     ///
     /// May answer `NoMemory`. Doesn't wait.
-    /// Own rule: docs/JUDGE.md, 'Records'.
+    /// Own rule: docs/HISTORIES.md#records.
     pub fn push(self, text: &mut Vec<u8>, number: u64) -> Result<(), NoMemory>
         ensures { OnOk result (text.new.items ≡ text.old.items ++ fault_text number self) }
     {

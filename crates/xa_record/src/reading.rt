@@ -11,7 +11,7 @@ use xa_xid::NoMemory;
 /// What is read of a record.
 ///
 /// It is cut into lines as a script is. May answer `NoMemory`. Doesn't wait.
-/// Own rule: docs/JUDGE.md, 'Records'.
+/// Own rule: docs/HISTORIES.md#records.
 #[tactic(auto, unfolding(crate::specs::Reading::notes_of))]
 pub fn read_notes(alloc: Global, text: &[u8]) -> Result<Notes<'_>, NoMemory>
     ensures { IfOk result (λ notes. notes_kept notes ≡ notes_of text.now) }

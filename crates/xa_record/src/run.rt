@@ -41,7 +41,7 @@ fn write_judged<W: PieceWriter>(writer: &mut W, judged: &Judged) -> Result<Outco
 /// where a write failed or took nothing. After `Write` a prefix of the text was written, after any other nothing. A reader or a
 /// writer that failed isn't called again.
 /// May answer `NoMemory`. Doesn't wait, unless the reader or the writer does.
-/// Own rule: docs/JUDGE.md.
+/// Own rule: docs/HISTORIES.md.
 pub fn judge_record<R: PieceReader, W: PieceWriter, P: Progress>(
     alloc: Global,
     reader: &mut R,

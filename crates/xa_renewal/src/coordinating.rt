@@ -17,7 +17,7 @@ use xa_xid::NoMemory;
 /// the same branches open, and with the same sessions of its other stores.
 ///
 /// Error: `NoMemory`. May answer `NoMemory`. Doesn't wait.
-/// Own rule: docs/COORDINATOR.md, 'Renewed between calls'.
+/// Own rule: docs/COORDINATOR.md#renewal-between-calls.
 pub fn renew_store(
     alloc: Global,
     coordinator: Coordinator<Kept>,
@@ -59,7 +59,7 @@ fn renew_within(
 /// `renew_store` of a coordinator whose sessions have limits: each passes on as many calls as before.
 ///
 /// Error: `NoMemory`. May answer `NoMemory`. Doesn't wait.
-/// Own rule: docs/COORDINATOR.md, 'Renewed between calls'.
+/// Own rule: docs/COORDINATOR.md#renewal-between-calls.
 pub fn renew_fused_store(
     alloc: Global,
     coordinator: Coordinator<Fused<Kept>>,

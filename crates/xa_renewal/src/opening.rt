@@ -92,7 +92,7 @@ impl Kept {
     /// Errors, in the order of test: `CapacityOutOfRange`, `SessionsOutOfRange`, `NoMemory`.
     ///
     /// May answer `NoMemory`. Doesn't wait.
-    /// Own rule: docs/COORDINATOR.md, 'Renewed between calls'.
+    /// Own rule: docs/COORDINATOR.md#renewal-between-calls.
     pub fn open(alloc: Global, capacity: u64, sessions: u64) -> Result<Vec<Kept>, OpenFault>
         ensures ok { IfOk result (λ all. OpensStore sessions all.items) }
         ensures err { IfErr result (Refuses capacity sessions) }

@@ -16,7 +16,7 @@ use xa_xid::NoMemory;
 /// Error: `NoMemory`. Then each session stays in the log that it was of, and may have seen more.
 ///
 /// May answer `NoMemory`. Doesn't wait. Takes time for the rows and for the entries since the last renewal.
-/// Own rule: docs/COORDINATOR.md, 'Renewed between calls'.
+/// Own rule: docs/COORDINATOR.md#renewal-between-calls.
 pub fn renew(alloc: Global, others: &mut Vec<Kept>, own: &mut Kept) -> Result<(), NoMemory>
     requires { AreAllOf (others.old.items ++ own.old ∷ []) }
     ensures all { AreAllOf (others.new.items ++ own.new ∷ []) }

@@ -1,4 +1,4 @@
--- What is written for races of a script. All of it is our own: docs/ORDERS.md, 'Races of a script'.
+-- What is written for races of a script. All of it is our own: docs/COMMANDS.md#race-statistics.
 --     IsRunCount         how many races there may be
 --     times              how often a text came
 --     came_text          an outcome that came so often

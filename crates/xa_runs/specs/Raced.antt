@@ -1,4 +1,4 @@
--- Lines of several sessions that raced. All of it is our own: docs/ORDERS.md, 'Races of a script'.
+-- Lines of several sessions that raced. All of it is our own: docs/COMMANDS.md#race-statistics.
 --     statements_of      what a session gives
 --     line_text          what is written for a line that was answered so
 --     laid_texts         what is written for each line

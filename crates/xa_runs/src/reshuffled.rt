@@ -23,7 +23,7 @@ impl ReshuffledGate {
     /// A gate whose first race has this seed, in `[0, 2^64)`.
     ///
     /// Takes no memory. Doesn't wait.
-    /// Own rule: docs/ORDERS.md, 'Races of a script'.
+    /// Own rule: docs/COMMANDS.md#race-statistics.
     pub fn new(seed: u64) -> ReshuffledGate {
         ReshuffledGate {
             together: TogetherGate::new(),

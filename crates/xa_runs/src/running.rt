@@ -42,7 +42,7 @@ fn write_came<O: PieceWriter>(writer: &mut O, came: &Came) -> Result<Ended, Scri
 /// `NoMemory`; `Full`, which comes only where it doesn't renew, `GateShut` and `ThreadRefused` as the first race with a fault tells
 /// them; `Write` where a write failed or took nothing. After `Write` a prefix of the text was written, after any other nothing.
 /// May answer `NoMemory`. Waits for its threads.
-/// Own rule: docs/ORDERS.md, 'Races of a script'.
+/// Own rule: docs/COMMANDS.md#race-statistics.
 pub fn runs_script<I: PieceReader, O: PieceWriter, G: Gate + Sync, R: Threads + Wait + Sync>(
     rt: &R,
     alloc: Global,

@@ -268,7 +268,7 @@ fn job_by<'a, S: AsStr>(command: &mut Command<'a>, words: &'a [S]) -> Result<Job
 /// `[1, 1_000_000]`, and 100,000; a number of runs in `[1, 1_000_000]`. Where a race has a seed, its schedule is `Shuffled`.
 /// Errors: what `clap` says of words that name no job, or that ask for help or the version; out of memory is one of its kinds.
 /// Takes memory. Doesn't wait.
-/// Own rule: docs/BEHAVIOR.md, 'The program'.
+/// Own rule: docs/COMMANDS.md#options-of-every-job.
 pub fn read_command<'a, S: AsStr>(alloc: Global, words: &'a [S]) -> Result<Job, Error>
     ensures job { IfOk result (Names (map S.text words.entry.now)) }
     ensures capacity { IfOk result CanBeDone }

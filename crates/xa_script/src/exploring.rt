@@ -31,7 +31,7 @@ pub fn status_of_end(ended: Ended) -> u8
 /// A limit is in `[1, 1_000_000]`.
 /// Errors: those of `explore_script`. After `Write` a prefix of the text was written, after any other nothing.
 /// May answer `NoMemory`. Doesn't wait, unless the reader or the writer does.
-/// Own rule: docs/ORDERS.md.
+/// Own rule: docs/COMMANDS.md#explore.
 pub fn explore_within<R: Read, W: Write>(
     alloc: Global,
     reader: &mut R,

@@ -60,7 +60,7 @@ pub fn asked(limit: u64, explains: bool, json: bool) -> Asked
 /// A limit is in `[1, 1_000_000]`.
 /// Errors: those of `judge_record`. After `Write` a prefix of the text was written, after any other nothing.
 /// May answer `NoMemory`. Doesn't wait, unless the reader, the writer or who is told of the progress does.
-/// Own rule: docs/BEHAVIOR.md, 'The program'.
+/// Own rule: docs/COMMANDS.md#options-of-every-job.
 pub fn judge_within<R: Read, W: Write, P: Progress>(
     alloc: Global,
     reader: &mut R,

@@ -10,7 +10,7 @@ use xa_xid::laws::literals_are_read_as_spelled;
 /// A text in quotes is a literal of its bytes wherever no quote stands behind it, and what is written for a word that is a literal is read as the same bytes.
 ///
 /// Takes no memory. Doesn't wait.
-/// Own rule: docs/BEHAVIOR.md, 'The program'.
+/// Own rule: docs/COMMANDS.md#options-of-every-job.
 pub fn texts_are_read_back()
     ensures spelled { (bytes rest : List ℕ) → StartsNo (λ byte. byte == 39) rest → LiteralAt (quoted bytes ++ rest) bytes rest }
     ensures word { (word : List ℕ) (text : Text) → literal_ahead word ≡ Ok (text, []) → literal_ahead (word_text word) ≡ Ok (text, []) }

@@ -65,7 +65,7 @@ fn manner_by<'a, S: AsStr>(command: &mut Command<'a>, words: &'a [S]) -> Result<
 /// How the words of a command line want its job done. The first word is the program's own name.
 ///
 /// Errors: those of `read_command`. Takes memory. Doesn't wait.
-/// Own rule: docs/BEHAVIOR.md, 'The program'.
+/// Own rule: docs/COMMANDS.md#options-of-every-job.
 pub fn read_manner<'a, S: AsStr>(alloc: Global, words: &'a [S]) -> Result<Manner<'a>, Error>
     ensures { IfOk result (HasManner (map S.text words.entry.now)) }
 {

@@ -40,7 +40,7 @@ fn run_behind<I: Read, O: Write, G: Gate + Sync, R: Alloc<A = Global> + Threads 
 /// A capacity is in `[1, 1024]`, and runs are in `[1, 1_000_000]`.
 /// Errors: those of `runs_script`. After `Write` a prefix of the text was written, after any other nothing.
 /// May answer `NoMemory`. Waits.
-/// Own rule: docs/ORDERS.md.
+/// Own rule: docs/COMMANDS.md#explore.
 pub fn run_by<I: Read, O: Write, R: Alloc<A = Global> + Threads + Wait + Sync>(
     rt: &R,
     input: &mut I,

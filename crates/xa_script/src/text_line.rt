@@ -120,7 +120,7 @@ impl TextLine {
 /// A line with its literals of printable bytes as texts in quotes.
 ///
 /// None where there is no room for it. Takes no memory. Doesn't wait.
-/// Own rule: docs/BEHAVIOR.md, 'The program'.
+/// Own rule: docs/COMMANDS.md#options-of-every-job.
 pub fn text_line(line: &[u8]) -> Option<Room>
     ensures { IfSome result (λ text. text.items ≡ with_texts line.now) }
 {

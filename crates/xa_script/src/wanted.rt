@@ -84,7 +84,7 @@ fn joined(alloc: Global, names: &[&str]) -> Result<String, NoMemory> {
 /// What is wanted at a place of a text: the tokens with which some statement goes on there.
 ///
 /// Error: `NoMemory`. Doesn't wait.
-/// Own rule: docs/BEHAVIOR.md, 'The program'.
+/// Own rule: docs/COMMANDS.md#options-of-every-job.
 pub fn wanted_at(alloc: Global, text: &[u8], at: usize) -> Result<String, NoMemory> {
     let front = &text[..at.min(text.len())];
     let names = names_behind(alloc, front)?;

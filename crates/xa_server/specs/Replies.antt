@@ -25,7 +25,7 @@ abbrev pub refused_if : Bool → XaError → Reply → Reply
 refused_if true error reply = Refused error
 refused_if false error reply = reply
 
--- One line a row and column of docs/BEHAVIOR.md, 'Replies', in its order. `own` is the branch that the session has open.
+-- One line a row and column of docs/STATEMENTS.md#replies, in its order. `own` is the branch that the session has open.
 -- Which statement is allowed in which state is the manual's ('XA Transaction States') and C193's; the order of the refusals,
 -- what answers an identifier that isn't the session's, ONE PHASE of a PREPARED branch, and the rows are our own rules.
 unfoldable pub table : State → Association → Statement → Reply

@@ -117,7 +117,7 @@ impl Server {
     /// Errors: `NoMemory`, after which the server is as before, for an `XA START`, `PUT`, `DEL` or `GET` that makes a record.
     ///
     /// May answer `NoMemory`. Doesn't wait.
-    /// Source: docs/BEHAVIOR.md, 'Branches', which says line by line what is the manual's, C193's or our own.
+    /// Source: docs/STATEMENTS.md#branches, which says line by line what is the manual's, C193's or our own.
     pub fn accept(&mut self, session: SessionNo, statement: &Statement) -> Result<(), NoMemory>
         requires { is_refused (reply_to self.old session statement.now) ≡ false }
         ensures ok { OnOk result (self.new ≡ after self.old session statement.now) }
@@ -131,7 +131,7 @@ impl Server {
     ///
     /// May answer `NoMemory`, after which the server is as before: for `XA RECOVER`, and for an `XA START`, `PUT`, `DEL` or
     /// `GET` that makes a record. What ends a branch takes no memory, so it succeeds. Doesn't wait.
-    /// Source: docs/BEHAVIOR.md, 'Replies' and 'Branches', which say line by line what is the manual's, C193's or our own.
+    /// Source: docs/STATEMENTS.md#replies and 'Branches', which say line by line what is the manual's, C193's or our own.
     pub fn apply(&mut self, session: SessionNo, statement: &Statement) -> Result<Reply, NoMemory>
         ensures step { IfOk result (λ reply. Step self.old session statement.now reply self.new) }
         ensures unchanged { OnErr result (self.new ≡ self.old) }

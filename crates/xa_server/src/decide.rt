@@ -217,7 +217,7 @@ impl Server {
     /// The server that answers keeps the lock law, as every server does.
     ///
     /// May answer `NoMemory` for `XA RECOVER`, whose reply is a list, and for no other statement. Doesn't wait.
-    /// Source: docs/BEHAVIOR.md, 'Replies', which says line by line what is the manual's, C193's or our own.
+    /// Source: docs/STATEMENTS.md#replies, which says line by line what is the manual's, C193's or our own.
     #[tactic(auto, unfolding(crate::specs::Replies::reply_to, crate::specs::Step::enters))]
     pub fn reply(
         &self,

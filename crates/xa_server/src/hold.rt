@@ -13,7 +13,7 @@ use xa_xid::{Bytes, Key, NoMemory, Xid, copy_of};
 
 /// How a branch holds a row, until it ends.
 ///
-/// Own rule: docs/BEHAVIOR.md, 'Rows'.
+/// Own rule: docs/STATEMENTS.md#rows-and-locks.
 #[derive(Debug, Drop, PartialEq, Eq)]
 pub enum Hold {
     /// In share, as others may too.

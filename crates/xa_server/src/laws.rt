@@ -34,7 +34,7 @@ pub fn same_states(left: &BranchState, right: &BranchState) -> bool
 
 /// A refused statement changes nothing, in any state.
 ///
-/// Takes no memory. Doesn't wait. Own rule: docs/BEHAVIOR.md, 'Replies'.
+/// Takes no memory. Doesn't wait. Own rule: docs/STATEMENTS.md#replies.
 pub fn refused_statement_changes_nothing()
     ensures { (state : State) (session : ℕ) (statement : Statement)
         → is_refused (reply_to state session statement) ≡ true
@@ -43,7 +43,7 @@ pub fn refused_statement_changes_nothing()
 
 /// A statement that doesn't enter the history changes nothing, in any state.
 ///
-/// Takes no memory. Doesn't wait. Own rule: docs/BEHAVIOR.md, 'Sessions'.
+/// Takes no memory. Doesn't wait. Own rule: docs/RATTLE.md#sessions.
 pub fn statement_outside_history_changes_nothing()
     ensures { (state : State) (session : ℕ) (statement : Statement) → enters state session statement ≡ false → after state session statement ≡ state }
 {}
@@ -63,7 +63,7 @@ pub fn prepared_branch_finishes_once()
 /// In each state that keeps the lock law, a statement of one session leaves what another session has open: which branch it
 /// owns, and that branch's phase, writes and locks.
 ///
-/// Takes no memory. Doesn't wait. Own rule: docs/BEHAVIOR.md, 'Branches'.
+/// Takes no memory. Doesn't wait. Own rule: docs/STATEMENTS.md#branches.
 pub fn statement_leaves_other_sessions()
     ensures { (state : State)
         → LockLaw state
@@ -84,7 +84,7 @@ pub fn recovered_list_is_exact()
 /// exclusively is held by no other, a session owns at most one branch, exactly the PREPARED branches are nobody's, and a branch
 /// writes only rows that it holds exclusively.
 ///
-/// Takes no memory. Doesn't wait. Own rule: docs/BEHAVIOR.md, 'Rows'.
+/// Takes no memory. Doesn't wait. Own rule: docs/STATEMENTS.md#rows-and-locks.
 pub fn lock_law_is_kept()
     ensures empty { LockLaw no_state }
     ensures step { (state : State) (session : ℕ) (statement : Statement) → LockLaw state → LockLaw (after state session statement) }

@@ -69,7 +69,7 @@ impl Server {
 
     /// Every branch, once, ascending by identifier.
     ///
-    /// May answer `NoMemory`. Doesn't wait. Own rule: docs/BEHAVIOR.md, 'Showing'.
+    /// May answer `NoMemory`. Doesn't wait. Own rule: docs/COMMANDS.md#show.
     pub fn branches(&self, alloc: Global) -> Result<Vec<BranchEntry>, NoMemory>
         ensures { IfOk result (λ branches. branches.items ≡ branches_of self.now) }
     {
@@ -78,7 +78,7 @@ impl Server {
 
     /// The rows that the branch of this identifier holds, each once, ascending by key; none, where there is no such branch.
     ///
-    /// Looks at every row of the server. May answer `NoMemory`, where the branch holds a row. Doesn't wait. Own rule: docs/BEHAVIOR.md,
+    /// Looks at every row of the server. May answer `NoMemory`, where the branch holds a row. Doesn't wait. Own rule: docs/STATEMENTS.md,
     /// 'Showing'.
     pub fn rows_of(&self, alloc: Global, xid: &Xid) -> Result<Vec<HeldRow>, NoMemory>
         ensures listed { IfOk result (λ rows. rows.items ≡ rows_of_branch self.now xid.now) }
@@ -92,7 +92,7 @@ impl Server {
 
     /// The value of a row that all sessions see, where it has one.
     ///
-    /// Takes no memory. Doesn't wait. Own rule: docs/BEHAVIOR.md, 'Rows'.
+    /// Takes no memory. Doesn't wait. Own rule: docs/STATEMENTS.md#rows-and-locks.
     pub fn value_of(&self, key: &Key) -> Option<Bytes>
         ensures { result ≡ committed_value_of self.now key.now }
     {
@@ -124,7 +124,7 @@ impl Server {
     /// `XA ROLLBACK` those of all rows that the branch holds; of `DISCONNECT` those of all rows that the session's branch holds; of
     /// another statement none. Whether the statement would be refused doesn't matter.
     ///
-    /// May answer `NoMemory`, where there is such a row. Doesn't wait. Own rule: docs/BEHAVIOR.md, 'Showing'.
+    /// May answer `NoMemory`, where there is such a row. Doesn't wait. Own rule: docs/COMMANDS.md#show.
     #[tactic(auto, unfolding(crate::specs::Overview::keys_about))]
     pub fn keys_about(
         &self,

@@ -103,7 +103,7 @@ impl Server {
     /// Every server keeps the lock law: a row that one branch holds exclusively is held by no other, a session owns at most one
     /// branch, exactly the PREPARED branches are nobody's, and a branch writes only rows that it holds exclusively.
     ///
-    /// Takes no memory. Doesn't wait. Own rule: docs/BEHAVIOR.md, 'Rows'.
+    /// Takes no memory. Doesn't wait. Own rule: docs/STATEMENTS.md#rows-and-locks.
     pub fn keeps_lock_law(&self)
         ensures { LockLaw self.now }
     {

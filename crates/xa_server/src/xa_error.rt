@@ -38,7 +38,7 @@ impl fmt::Display for BranchState {
 /// refusal is printed.
 ///
 /// Source: MySQL 8.0 Reference Manual, 'Server Error Message Reference', for numbers, SQLSTATEs and names; X/Open C193, the return codes of
-/// `xa_start()` and its kin. Own rule for the texts: docs/BEHAVIOR.md, 'Scripts'. When each is answered: docs/BEHAVIOR.md, 'Replies'.
+/// `xa_start()` and its kin. Own rule for the texts: docs/COMMANDS.md#scripts. When each is answered: docs/STATEMENTS.md#replies.
 #[derive(Clone, Copy, Debug, PartialEq, Eq)]
 pub enum XaError {
     /// 1397 XAER_NOTA: the identifier isn't that of a branch that the statement could mean.

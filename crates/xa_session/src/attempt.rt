@@ -17,7 +17,7 @@ impl<'a, L: DecisionLog> Session<'a, L> {
     /// behind what the attempt saw when it looked. After an error nothing of the statement stands in the history, and the session may have seen and replayed more.
     ///
     /// May answer `NoMemory`, and never after an add. Doesn't wait.
-    /// Own rule: docs/BEHAVIOR.md, 'Sessions'.
+    /// Own rule: docs/RATTLE.md#sessions.
     #[tactic(auto, using(crate::proofs::Attempts::found_answers))]
     pub fn attempt(&mut self, statement: &Statement) -> Result<Answer, Fault>
         ensures stays { Stays self.old self.new }

@@ -19,7 +19,7 @@ impl<'a, L: DecisionLog> Session<'a, L> {
     /// Errors: `Full` and `NoMemory`, as those of `attempt`: of its last try, and never of one that was lost.
     ///
     /// May answer `NoMemory`, and never after an add. May wait: no number of tries is promised.
-    /// Own rule: docs/BEHAVIOR.md, 'Sessions'.
+    /// Own rule: docs/RATTLE.md#sessions.
     pub fn execute<R: Wait>(&mut self, rt: &R, statement: &Statement) -> Result<Answer, Fault>
         ensures stays { Stays self.old self.new }
         ensures answers { Answers statement.now result self.old self.new }
@@ -41,7 +41,7 @@ impl<'a, L: DecisionLog> Session<'a, L> {
     /// Errors: those of `execute`, with the session as it is after them.
     ///
     /// May answer `NoMemory`. May wait: no number of tries is promised.
-    /// Own rule: docs/BEHAVIOR.md, 'Sessions'.
+    /// Own rule: docs/RATTLE.md#sessions.
     pub fn disconnect<R: Wait>(mut self, rt: &R) -> Result<L::Pass, (Session<'a, L>, Fault)>
         ensures belongs { IfOk result (λ pass. L.belongs_to pass ≡ L.belongs_to self.entry.pass) }
         ensures answered { IfOk result

@@ -30,7 +30,7 @@ impl Fault {
     /// The fault's number, in `[1, 4]`.
     ///
     /// Takes no memory. Doesn't wait.
-    /// Own rule: docs/BEHAVIOR.md, 'Faults of a session'.
+    /// Own rule: docs/RATTLE.md#faults-of-a-session.
     pub fn number(&self) -> u64
         ensures { result ≡ number_of_fault self.now }
     {

@@ -10,7 +10,7 @@ impl<'a, L: DecisionLog> Session<'a, L> {
     /// The session's pass and replica, from which `resume` makes it again. The store isn't told: an open branch stays open, with its locks.
     ///
     /// Takes no memory. Doesn't wait.
-    /// Own rule: docs/BEHAVIOR.md, 'Sessions'.
+    /// Own rule: docs/RATTLE.md#sessions.
     pub fn pause(self) -> (L::Pass, Replica)
         ensures pass { result.0 ≡ self.entry.pass }
         ensures replica { result.1 ≡ self.entry.replica }
@@ -23,7 +23,7 @@ impl<'a, L: DecisionLog> Session<'a, L> {
     /// The session of a pass of this log and of a replica that stands for what the pass has seen, as `pause` gives both. Nothing is replayed.
     ///
     /// Takes no memory. Doesn't wait.
-    /// Own rule: docs/BEHAVIOR.md, 'Sessions'.
+    /// Own rule: docs/RATTLE.md#sessions.
     pub fn resume(log: &'a L, pass: L::Pass, base: &'a Server, replica: Replica) -> Session<'a, L>
         requires belongs { L.belongs_to pass ≡ L.identity log.now }
         requires stands { Stands base.now (L.known pass).seen replica }

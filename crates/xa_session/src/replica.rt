@@ -23,7 +23,7 @@ impl Replica {
     /// The server that the replayed entries leave.
     ///
     /// Takes no memory. Doesn't wait.
-    /// Own rule: docs/BEHAVIOR.md, 'Sessions'.
+    /// Own rule: docs/RATTLE.md#sessions.
     pub fn server(&self) -> &Server
         ensures { result.now ≡ self.now.server }
     {
@@ -33,7 +33,7 @@ impl Replica {
     /// How many entries were replayed.
     ///
     /// Takes no memory. Doesn't wait.
-    /// Own rule: docs/BEHAVIOR.md, 'Sessions'.
+    /// Own rule: docs/RATTLE.md#sessions.
     pub fn replayed(&self) -> u64
         ensures { result ≡ self.now.replayed }
     {

@@ -32,7 +32,7 @@ impl<'a, L: DecisionLog> Session<'a, L> {
     /// Errors: `NoMemory`, with the pass as it was.
     ///
     /// May answer `NoMemory`. Doesn't wait.
-    /// Own rule: docs/BEHAVIOR.md, 'Sessions'.
+    /// Own rule: docs/RATTLE.md#sessions.
     pub fn connect(
         log: &'a L,
         pass: L::Pass,
@@ -58,7 +58,7 @@ impl<'a, L: DecisionLog> Session<'a, L> {
     /// The state in which the history begins keeps the lock law, as every server's does.
     ///
     /// Takes no memory. Doesn't wait.
-    /// Own rule: docs/BEHAVIOR.md, 'Rows'.
+    /// Own rule: docs/STATEMENTS.md#rows-and-locks.
     pub fn base_keeps_lock_law(&self)
         ensures { LockLaw self.now.base.now }
     {
@@ -68,7 +68,7 @@ impl<'a, L: DecisionLog> Session<'a, L> {
     /// The session's number.
     ///
     /// Takes no memory. Doesn't wait.
-    /// Own rule: docs/BEHAVIOR.md, 'Sessions'.
+    /// Own rule: docs/RATTLE.md#sessions.
     pub fn number(&self) -> SessionNo
         ensures { result ≡ (L.known self.now.pass).number }
     {
@@ -78,7 +78,7 @@ impl<'a, L: DecisionLog> Session<'a, L> {
     /// How many entries of the history the session has seen.
     ///
     /// Takes no memory. Doesn't wait.
-    /// Own rule: docs/BEHAVIOR.md, 'Sessions'.
+    /// Own rule: docs/RATTLE.md#sessions.
     pub fn seen(&self) -> u64
         ensures { result ≡ length (L.known self.now.pass).seen }
     {
@@ -89,7 +89,7 @@ impl<'a, L: DecisionLog> Session<'a, L> {
     /// answer it is at least the answer's place.
     ///
     /// Takes no memory. Doesn't wait.
-    /// Own rule: docs/BEHAVIOR.md, 'Sessions'.
+    /// Own rule: docs/RATTLE.md#sessions.
     pub fn folded(&self) -> u64
         ensures replayed { result ≡ self.now.replica.replayed }
         ensures within { result ≤ length (L.known self.now.pass).seen }
@@ -101,7 +101,7 @@ impl<'a, L: DecisionLog> Session<'a, L> {
     /// Sees the whole history, as it is at one step of the call. The answer is its length. The replica stays.
     ///
     /// Takes no memory. Doesn't wait.
-    /// Own rule: docs/BEHAVIOR.md, 'Sessions'.
+    /// Own rule: docs/RATTLE.md#sessions.
     pub fn look(&mut self) -> u64
         ensures belongs { L.belongs_to self.new.pass ≡ L.belongs_to self.old.pass }
         ensures base { self.new.base.now ≡ self.old.base.now }
@@ -115,7 +115,7 @@ impl<'a, L: DecisionLog> Session<'a, L> {
     /// The entry at `at`, in `[0, seen)`.
     ///
     /// Takes no memory. Doesn't wait.
-    /// Own rule: docs/BEHAVIOR.md, 'Sessions'.
+    /// Own rule: docs/RATTLE.md#sessions.
     pub fn entry(&mut self, at: u64) -> Entry
         requires { at < length (L.known self.old.pass).seen }
         ensures belongs { L.belongs_to self.new.pass ≡ L.belongs_to self.old.pass }
@@ -130,7 +130,7 @@ impl<'a, L: DecisionLog> Session<'a, L> {
     /// Two sessions of one log meet: what this one has seen begins what the other has seen afterwards. Both replicas stay.
     ///
     /// Takes no memory. Doesn't wait.
-    /// Own rule: docs/BEHAVIOR.md, 'Sessions'.
+    /// Own rule: docs/RATTLE.md#sessions.
     pub fn meet(&mut self, other: &mut Session<'_, L>)
         requires { L.belongs_to self.old.pass ≡ L.belongs_to other.old.pass }
         ensures belongs { (L.belongs_to self.new.pass ≡ L.belongs_to self.old.pass) × (L.belongs_to other.new.pass ≡ L.belongs_to other.old.pass) }
@@ -145,7 +145,7 @@ impl<'a, L: DecisionLog> Session<'a, L> {
     /// Gives the pass back. The store isn't told: an open branch stays open, with its locks.
     ///
     /// Takes no memory. Doesn't wait.
-    /// Own rule: docs/BEHAVIOR.md, 'Sessions'.
+    /// Own rule: docs/RATTLE.md#sessions.
     pub fn leave(self) -> L::Pass
         ensures { result ≡ self.entry.pass }
     {

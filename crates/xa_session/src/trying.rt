@@ -134,7 +134,7 @@ impl Replica {
     /// Answers a statement as `Session::attempt` does, which is of this pass, base and replica.
     ///
     /// May answer `NoMemory`, and never after an add. Doesn't wait.
-    /// Own rule: docs/BEHAVIOR.md, 'Sessions'.
+    /// Own rule: docs/RATTLE.md#sessions.
     pub fn attempt<L: DecisionLog>(
         &mut self,
         log: &L,

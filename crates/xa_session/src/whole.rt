@@ -12,7 +12,7 @@ use xa_xid::NoMemory;
 /// Errors: `NoMemory`, with the pass's lists as they were.
 ///
 /// May answer `NoMemory`. Doesn't wait.
-/// Own rule: docs/BEHAVIOR.md, 'Sessions'.
+/// Own rule: docs/RATTLE.md#sessions.
 pub fn replayed<L: DecisionLog>(
     log: &L,
     base: &Server,

@@ -16,7 +16,7 @@ use xa_xid::{Statement, skip_blanks};
 /// Error: `SyntaxFault`, only where the grammar spells no statement so; its place is that of the first token with
 /// which no statement's tokens begin, or the text's length. Takes no memory. Doesn't wait.
 /// Source: MySQL 8.0 Reference Manual, 'XA Transaction SQL Statements'; places and row statements are our own:
-/// docs/STATEMENTS.md, 'Grammar' and 'Fault places'.
+/// docs/STATEMENTS.md#grammar and 'Fault places'.
 pub fn read_statement(text: &[u8]) -> Result<Statement, SyntaxFault>
     ensures value { result ≡ seen_of (read_of text.now) }
     ensures spelled { IfOk result (Spells text.now) }

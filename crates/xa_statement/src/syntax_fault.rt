@@ -4,7 +4,7 @@ use thiserror::Error;
 
 /// The text isn't a statement.
 ///
-/// Own rule: docs/STATEMENTS.md, 'Fault places'.
+/// Own rule: docs/STATEMENTS.md#fault-places.
 #[derive(Clone, Copy, Debug, Drop, PartialEq, Eq, Error)]
 #[error("syntax fault at byte {at}")]
 pub struct SyntaxFault {

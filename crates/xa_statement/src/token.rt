@@ -9,7 +9,7 @@ use xa_xid::{ByteClass, Bytes, literal_of, number_of};
 /// A word of the grammar.
 ///
 /// Source: MySQL 8.0 Reference Manual, 'XA Transaction SQL Statements'; the last four are our own:
-/// docs/STATEMENTS.md, 'Grammar'.
+/// docs/STATEMENTS.md#grammar.
 #[derive(Clone, Copy, Debug, PartialEq, Eq)]
 pub enum Keyword {
     Xa,

@@ -9,7 +9,7 @@ use xa_xid::{Key, NoMemory, Statement, Xid, with_part, with_xid};
 /// The canonical text of a statement: capitals, one space between tokens, each literal in hexadecimal digits, no `;`.
 ///
 /// The statement isn't `Unsupported`. May answer `NoMemory`. Doesn't wait.
-/// Own rule: docs/STATEMENTS.md, 'Canonical form'.
+/// Own rule: docs/STATEMENTS.md#canonical-form.
 #[tactic(auto, unfolding(crate::specs::Canonical::statement_text))]
 pub fn write_statement(alloc: Global, statement: &Statement) -> Result<Vec<u8>, NoMemory>
     requires { statement.now ≢ Statement.Unsupported }

@@ -1,4 +1,4 @@
--- What a script of calls says, and what is written for it. All of it is our own: docs/COORDINATOR.md, 'Every stop'.
+-- What a script of calls says, and what is written for it. All of it is our own: docs/COORDINATOR.md#stops.
 --     calls_of         the calls of a script, one of each line
 --     faults_text      what is written for the lines that are refused
 --     IsStopsText      what is written for a script, and how that ends

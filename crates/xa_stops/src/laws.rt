@@ -17,7 +17,7 @@ ghost use Rattle.xa_stops.specs.Stops.{IsStopText, IsShown};
 /// Behind calls, none of them `RECOVER`, and a recovery that came to its end, everything that the coordinator ever added to a store goes with
 /// the decisions as they stand then, and none of its branches is prepared.
 ///
-/// Own rule: docs/COORDINATOR.md, 'Every stop'.
+/// Own rule: docs/COORDINATOR.md#stops.
 pub fn recovery_keeps_to_decisions()
     ensures { (stores : ℕ) (told : List Call) (responses : List Response) (report : Report) (last : Managing) → All IsPlain told
         → IsRun stores (told ++ Recover ∷ []) (responses ++ Recovered (Ok report) ∷ []) last
@@ -28,7 +28,7 @@ pub fn recovery_keeps_to_decisions()
 /// decided in none, or by ONE PHASE in the only store in which it has one. The condition is that no call has another client end a branch of
 /// the coordinator's naming.
 ///
-/// Own rule: docs/COORDINATOR.md, 'Every stop'.
+/// Own rule: docs/COORDINATOR.md#stops.
 pub fn transactions_stand_whole_or_not_at_all()
     ensures { (stores : ℕ) (told : List Call) (responses : List Response) (report : Report) (last : Managing) → All IsPlain told
         → All LeavesBranches told
@@ -38,7 +38,7 @@ pub fn transactions_stand_whole_or_not_at_all()
 
 /// So it is behind each stop that is shown of a script, and behind all its lines, wherever `RECOVERED` is written.
 ///
-/// Own rule: docs/COORDINATOR.md, 'Every stop'.
+/// Own rule: docs/COORDINATOR.md#stops.
 pub fn each_stop_leaves_all_or_none()
     ensures stop { (stores : ℕ) (script : List ℕ) (made : List (List ℕ)) (stop : Stop) (text : List ℕ) → All LeavesBranches (calls_of script)
         → (shown : IsStopText stores (calls_of script) made stop text)
@@ -48,7 +48,7 @@ pub fn each_stop_leaves_all_or_none()
 
 /// In a store's history nothing changes a committed value but commits, and writes of sessions that have no branch open.
 ///
-/// Own rule: docs/BEHAVIOR.md, 'Rows'.
+/// Own rule: docs/STATEMENTS.md#rows-and-locks.
 pub fn commits_change_rows()
     ensures { (counted : CountedStore) (place : ℕ) (entry : Entry) → slice_get (history_of counted.store) place ≡ Some entry → KeepsRowsOr counted place entry }
 {}

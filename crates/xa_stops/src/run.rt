@@ -171,7 +171,7 @@ fn write_told<W: PieceWriter>(writer: &mut W, told: &Told) -> Result<Ended, Scri
 /// where a write failed or took nothing. After `Write` a prefix of the text was written, after any other nothing. A reader or a
 /// writer that failed isn't called again.
 /// May answer `NoMemory`. Doesn't wait, unless the reader or the writer does.
-/// Own rule: docs/COORDINATOR.md, 'Every stop'.
+/// Own rule: docs/COORDINATOR.md#stops.
 pub fn stops_script<H: Wait, R: PieceReader, W: PieceWriter>(
     rt: &H,
     alloc: Global,

@@ -38,7 +38,7 @@ impl Store {
     /// Errors: `NoMemory`, with the store and the passes, whose lists are as they were.
     ///
     /// May answer `NoMemory`. Doesn't wait. Takes time for the rows of the base and for the history.
-    /// Own rule: docs/BEHAVIOR.md, 'Stores'.
+    /// Own rule: docs/RATTLE.md#stores.
     pub fn carry_over(
         self,
         alloc: Global,

@@ -16,7 +16,7 @@ impl Store {
     /// The session of a pass of this store and of a replica, as `Session::pause` gives both. Nothing is replayed.
     ///
     /// Takes no memory. Doesn't wait.
-    /// Own rule: docs/BEHAVIOR.md, 'Sessions'.
+    /// Own rule: docs/RATTLE.md#sessions.
     pub fn resume(&self, pass: Pass, replica: Replica) -> Session<'_, Log>
         requires belongs { log_of pass ≡ identity_of self.now.log }
         requires stands { Stands self.now.base (known_of pass).seen replica }
@@ -30,7 +30,7 @@ impl Store {
     /// Answers a statement as `Session::attempt` does, of a pass of this store and of a replica, as `Session::pause` gives both.
     ///
     /// May answer `NoMemory`, and never after an add. Doesn't wait.
-    /// Own rule: docs/BEHAVIOR.md, 'Sessions'.
+    /// Own rule: docs/RATTLE.md#sessions.
     pub fn attempt(
         &self,
         pass: &mut Pass,
@@ -52,7 +52,7 @@ impl Store {
     /// Whether the pass has seen as many entries as the store's history can have. Then nobody adds to that history any more.
     ///
     /// Takes no memory. Doesn't wait.
-    /// Own rule: docs/BEHAVIOR.md, 'Stores'.
+    /// Own rule: docs/RATTLE.md#stores.
     pub fn has_seen_all(&self, pass: &Pass) -> bool
         requires { log_of pass.now ≡ identity_of self.now.log }
         ensures { IsTrue result ↔ (length (known_of pass.now).seen ≡ (identity_of self.now.log).capacity) }
@@ -67,7 +67,7 @@ impl Store {
     /// Errors: `NoMemory`.
     ///
     /// May answer `NoMemory`. Doesn't wait. Takes time for the rows of the base and for the history.
-    /// Own rule: docs/BEHAVIOR.md, 'Stores'.
+    /// Own rule: docs/RATTLE.md#stores.
     pub fn following(&self, alloc: Global, full: &mut Pass) -> Result<(Store, Vec<Pass>), NoMemory>
         requires belongs { log_of full.old ≡ identity_of self.now.log }
         requires full { length (known_of full.old).seen ≡ (identity_of self.now.log).capacity }
@@ -86,7 +86,7 @@ impl Store {
     /// Errors: `NoMemory`.
     ///
     /// May answer `NoMemory`. Doesn't wait. Takes time for the rows, and for the history where the replica lags behind it.
-    /// Own rule: docs/BEHAVIOR.md, 'Stores'.
+    /// Own rule: docs/RATTLE.md#stores.
     pub fn following_replica(
         &self,
         alloc: Global,

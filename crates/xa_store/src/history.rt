@@ -18,7 +18,7 @@ impl Store {
     /// Errors: `NoMemory`, after which sessions may have seen more, and nothing else has changed.
     ///
     /// May answer `NoMemory`. Doesn't wait.
-    /// Own rule: docs/BEHAVIOR.md, 'Stores'.
+    /// Own rule: docs/RATTLE.md#stores.
     pub fn history(
         &self,
         alloc: Global,

@@ -35,7 +35,7 @@ impl Store {
     /// Errors: `NoMemory`, with the sessions, which may have seen more.
     ///
     /// May answer `NoMemory`. Doesn't wait.
-    /// Own rule: docs/BEHAVIOR.md, 'Stores'.
+    /// Own rule: docs/RATTLE.md#stores.
     pub fn close<'s>(
         &self,
         alloc: Global,

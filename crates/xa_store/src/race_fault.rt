@@ -36,7 +36,7 @@ pub enum RaceFault {
 impl RaceFault {
     /// The fault's number, from 1 to 4.
     ///
-    /// Takes no memory. Doesn't wait. Own rule: docs/BEHAVIOR.md, 'Races'.
+    /// Takes no memory. Doesn't wait. Own rule: docs/RATTLE.md#races.
     pub fn number(&self) -> u64
         ensures { result ≡ number_of_race_fault self.now }
     {

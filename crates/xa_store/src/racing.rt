@@ -80,7 +80,7 @@ pub(crate) fn count_speakers(runs: &[Run]) -> u64
 /// a fault went on to their end, and what was answered stands in the store's history.
 ///
 /// May answer `NoMemory`. Waits for its threads, which may wait: no number of tries is promised.
-/// Own rule: docs/BEHAVIOR.md, 'Races'.
+/// Own rule: docs/RATTLE.md#races.
 pub fn race<G: Gate + Sync, R: Threads + Wait + Sync>(
     rt: &R,
     alloc: Global,

@@ -154,7 +154,7 @@ fn hold_all<G: Gate + Sync, R: Threads + Wait + Sync>(
 ///
 /// The store that comes back is that of the last round, and so are the passes, as `renew` and `carry_over` take them.
 /// May answer `NoMemory`. Waits for its threads, which may wait: no number of tries, and none of rounds, is promised.
-/// Own rule: docs/BEHAVIOR.md, 'Races in rounds'.
+/// Own rule: docs/RATTLE.md#races-in-rounds.
 pub fn race_in_rounds<G: Gate + Sync, R: Threads + Wait + Sync>(
     rt: &R,
     alloc: Global,

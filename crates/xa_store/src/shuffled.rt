@@ -22,7 +22,7 @@ impl ShuffledGate {
     /// A gate of a seed, in `[0, 2^64)`, at which nobody stands.
     ///
     /// Takes no memory. Doesn't wait.
-    /// Own rule: docs/BEHAVIOR.md, 'Races'.
+    /// Own rule: docs/RATTLE.md#races.
     pub fn new(seed: u64) -> ShuffledGate
         ensures { result.seed ≡ seed }
     {

@@ -30,7 +30,7 @@ impl Store {
     /// Errors, in the order of test: `CapacityOutOfRange`, `SessionsOutOfRange`, `NoMemory`.
     ///
     /// May answer `NoMemory`. Doesn't wait.
-    /// Own rule: docs/BEHAVIOR.md, 'Stores'.
+    /// Own rule: docs/RATTLE.md#stores.
     pub fn open(
         alloc: Global,
         capacity: u64,
@@ -52,7 +52,7 @@ impl Store {
     /// Errors: `NoMemory`, with the pass as it was.
     ///
     /// May answer `NoMemory`. Doesn't wait.
-    /// Own rule: docs/BEHAVIOR.md, 'Stores'.
+    /// Own rule: docs/RATTLE.md#stores.
     pub fn connect(&self, pass: Pass) -> Result<Session<'_, Log>, (Pass, NoMemory)>
         requires { ⟦<Log as DecisionLog>⟧.belongs_to pass ≡ ⟦<Log as DecisionLog>⟧.identity self.now.log }
         ensures pass { IfOk result (λ session. session.pass ≡ pass) }

@@ -25,7 +25,7 @@ impl TogetherGate {
     /// A gate at which nobody stands.
     ///
     /// Takes no memory. Doesn't wait.
-    /// Own rule: docs/BEHAVIOR.md, 'Races'.
+    /// Own rule: docs/RATTLE.md#races.
     pub fn new() -> TogetherGate {
         TogetherGate {
             awaited: AtomicU64::new(0),

@@ -36,12 +36,12 @@ fn statements_and_literals(rt: HostRuntime) -> Result<(), Fail> {
     read_as(&rt, rt.alloc(), &faults, LITERALS)
 }
 
-/// docs/BEHAVIOR.md, 'Scripts'.
+/// docs/COMMANDS.md#scripts.
 const PLACES: &str = "syntax fault at byte 0
 syntax fault at byte 18446744073709551615
 ";
 
-/// docs/STATEMENTS.md, 'Literals'.
+/// docs/STATEMENTS.md#literals.
 const LITERALS: &str = "no literal begins there
 the closing quote is missing
 an odd number of hexadecimal digits
@@ -73,19 +73,19 @@ fn logs_and_sessions(rt: HostRuntime) -> Result<(), Fail> {
     read_as(&rt, rt.alloc(), &unanswered, UNANSWERED)
 }
 
-/// docs/BEHAVIOR.md, 'Stores'.
+/// docs/RATTLE.md#stores.
 const UNOPENED: &str = "the capacity is not from 1 to 1024
 the number of sessions is not from 1 to 16
 out of memory
 ";
 
-/// docs/LOG.md, 'What a log promises'.
+/// docs/INTERNALS.md#what-a-log-promises.
 const UNADDED: &str = "others have added: 1024 entries are seen now
 log full
 another pass has the turn
 ";
 
-/// docs/BEHAVIOR.md, 'Faults of a session'; docs/COORDINATOR.md, 'At the command line'.
+/// docs/RATTLE.md#faults-of-a-session; docs/COORDINATOR.md#calls.
 const UNANSWERED: &str = "others have added: 1024 entries are seen now
 log full
 out of memory
@@ -123,14 +123,14 @@ fn races_and_scripts(rt: HostRuntime) -> Result<(), Fail> {
     read_as(&rt, rt.alloc(), &faults, SCRIPTS)
 }
 
-/// docs/BEHAVIOR.md, 'Races'.
+/// docs/RATTLE.md#races.
 const RACES: &str = "gate shut for session 16 at its statement 0
 log full for session 16 at its statement 4999
 out of memory
 thread refused
 ";
 
-/// docs/BEHAVIOR.md, 'The program'.
+/// docs/COMMANDS.md#options-of-every-job.
 const SCRIPTS: &str = "read fault
 script too long
 write fault
@@ -168,22 +168,22 @@ fn coordinators(rt: HostRuntime) -> Result<(), Fail> {
     read_as(&rt, rt.alloc(), &unrecovered, UNRECOVERED)
 }
 
-/// docs/BEHAVIOR.md, 'Faults of a coordinator'.
+/// docs/COORDINATOR.md#faults.
 const SPENT: &str = "all 1,000,000 numbers were given\nout of memory\n";
 
-/// docs/COORDINATOR.md, 'Decisions'.
+/// docs/COORDINATOR.md#decisions.
 const CLOSED: &str = "the transaction's number is closed, or was never given\n";
 
-/// A cause is a session's fault or a refusal: docs/COORDINATOR.md, 'The vote'.
+/// A cause is a session's fault or a refusal: docs/COORDINATOR.md#votes.
 const CAUSES: &str = "log full\nXAER_NOTA unknown xid\n";
 
-/// docs/COORDINATOR.md, 'Work'.
+/// docs/COORDINATOR.md#work.
 const UNWORKED: &str = "log full
 XAER_NOTA unknown xid
 this coordinator has no open branch of the transaction in the store
 ";
 
-/// docs/COORDINATOR.md, 'Recovery'.
+/// docs/COORDINATOR.md#recovery.
 const UNRECOVERED: &str = "store 15: out of memory
 store 0: another branch of this coordinator was prepared meanwhile
 out of memory

@@ -127,7 +127,7 @@ fn statement_of(kind: u64, format_id: u64, first: Bytes, second: Bytes) -> Optio
 /// The entry that these words are the words of, or `None` where there is none.
 ///
 /// Takes no memory. Doesn't wait.
-/// Own rule: docs/LOG.md, 'The words of an entry'.
+/// Own rule: docs/INTERNALS.md#words-of-an-entry.
 pub fn decode(words: &[u64; WORDS]) -> Option<Entry>
     ensures read { IfSome result (λ entry. words.now ≡ words_of entry) }
     ensures every { (entry : Entry) → IsEntry entry → words.now ≡ words_of entry → result ≡ Some entry }

@@ -9,7 +9,7 @@ use crate::layout::{Parts, WORDS, text_words};
 /// The words of an entry.
 ///
 /// Takes no memory. Doesn't wait.
-/// Own rule: docs/LOG.md, 'The words of an entry'.
+/// Own rule: docs/INTERNALS.md#words-of-an-entry.
 pub fn encode(entry: &Entry) -> [u64; WORDS]
     ensures words { result ≡ words_of entry.now }
     ensures entry { IsEntry entry.now }

@@ -10,7 +10,7 @@ use xa_xid::{SessionNo, Statement};
 ///
 /// A contract sees it as the record of a session's number and a statement.
 ///
-/// Own rule: docs/LOG.md, 'An entry'.
+/// Own rule: docs/INTERNALS.md#entries.
 #[derive(Debug, Drop, PartialEq, Eq)]
 pub struct Entry {
     session: SessionNo,

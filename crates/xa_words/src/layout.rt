@@ -138,7 +138,7 @@ pub(crate) fn text_words(text: &[u8]) -> [u64; 8]
 /// Whether the word of an entry at `index`, in `[0, 20]`, is 0 since its text ends before it, as the words before it tell.
 ///
 /// Takes no memory. Doesn't wait.
-/// Own rule: docs/LOG.md, 'The words of an entry'.
+/// Own rule: docs/INTERNALS.md#words-of-an-entry.
 pub fn is_behind_text(words: &[u64; WORDS], index: usize) -> bool
     requires { index < 21 }
     ensures behind { IsTrue result → 4 < index }

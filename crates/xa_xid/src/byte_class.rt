@@ -4,7 +4,7 @@ ghost use Rattle.xa_xid.specs.Bytes.{belongs, front, behind, unblank};
 
 /// A kind of bytes that a text is cut by.
 ///
-/// Own rule: docs/STATEMENTS.md, 'Tokens'.
+/// Own rule: docs/STATEMENTS.md#tokens.
 #[derive(Clone, Copy, Debug, PartialEq, Eq)]
 pub enum ByteClass {
     /// Space, tab, line feed and carriage return.

@@ -15,7 +15,7 @@ use std::marker::Model;
 ///
 /// Keys are ordered as texts are, by their bytes and a prefix before what it begins.
 ///
-/// Own rule: docs/BEHAVIOR.md, 'Rows'.
+/// Own rule: docs/STATEMENTS.md#rows-and-locks.
 #[derive(Debug, Drop)]
 pub struct Key {
     /// The head of the bytes: a look at it tells most keys apart, and a search among rows is mostly such looks.

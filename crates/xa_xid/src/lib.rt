@@ -36,7 +36,7 @@ pub type NoMemory = AllocError;
 /// A text of 0 to 64 bytes, kept in the value itself: a gtrid, a bqual or a row's value.
 ///
 /// Source: the lengths of gtrid and bqual are X/Open C193's, which the MySQL 8.0 Reference Manual repeats.
-/// The length of a value is our own rule: docs/BEHAVIOR.md, 'Rows'.
+/// The length of a value is our own rule: docs/STATEMENTS.md#rows-and-locks.
 pub type Bytes = ArrayVec<u8, 64>;
 
 /// A copy of a text.

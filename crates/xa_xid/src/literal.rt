@@ -17,7 +17,7 @@ use arrayvec::ArrayVec;
 /// `at` is in `[0, length]`. Errors: `Unclosed`, `TooLong`, `NotALiteral` or `OddHex`, whichever the table of
 /// faults names first. Takes no memory. Doesn't wait.
 /// Source: MySQL 8.0 Reference Manual, 'String Literals' and 'Hexadecimal Literals'; the faults are our own:
-/// docs/STATEMENTS.md, 'Literals'.
+/// docs/STATEMENTS.md#literals.
 pub fn read_literal(text: &[u8], at: usize) -> Result<(Bytes, usize), LiteralFault>
     requires { at ≤ length text.now }
     ensures value { result ≡ literal_from text.now at }

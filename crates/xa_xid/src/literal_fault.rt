@@ -6,7 +6,7 @@ use thiserror::Error;
 
 /// Why a literal or a formatID wasn't read.
 ///
-/// Own rule: docs/STATEMENTS.md, 'Literals'.
+/// Own rule: docs/STATEMENTS.md#literals.
 #[derive(Clone, Copy, Debug, Drop, PartialEq, Eq, Error)]
 pub enum LiteralFault {
     /// No literal begins there; or, for a formatID, no number.
@@ -30,7 +30,7 @@ impl LiteralFault {
     /// The fault's number, in `[1, 5]`.
     ///
     /// Takes no memory. Doesn't wait.
-    /// Own rule: docs/STATEMENTS.md, 'Literals'.
+    /// Own rule: docs/STATEMENTS.md#literals.
     pub fn number(&self) -> u64
         ensures { result ≡ number_of_literal_fault self.now }
     {

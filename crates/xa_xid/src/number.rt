@@ -14,7 +14,7 @@ use crate::{ByteClass, LiteralFault};
 ///
 /// `at` is in `[0, length]`. Errors: `NotALiteral` where the run there isn't a number; `NumberTooLarge` where it
 /// is one above 2^64-1. Takes no memory. Doesn't wait.
-/// Own rule: docs/STATEMENTS.md, 'Literals'.
+/// Own rule: docs/STATEMENTS.md#literals.
 pub fn read_number(text: &[u8], at: usize) -> Result<(u64, usize), LiteralFault>
     requires { at ≤ length text.now }
     ensures value { result ≡ number_from text.now at }
@@ -29,7 +29,7 @@ pub fn read_number(text: &[u8], at: usize) -> Result<(u64, usize), LiteralFault>
 /// The number that a text begins with, and the text behind it.
 ///
 /// Errors: those of `read_number`. Takes no memory. Doesn't wait.
-/// Own rule: docs/STATEMENTS.md, 'Literals'.
+/// Own rule: docs/STATEMENTS.md#literals.
 #[tactic(auto, unfolding(crate::specs::Number::number_ahead))]
 pub fn number_of(text: &[u8]) -> Result<(u64, &[u8]), LiteralFault>
     ensures value { MatchResult result

@@ -7,7 +7,7 @@ use crate::{Bytes, Key, Xid, copy_of};
 /// A statement that a session gives to a server.
 ///
 /// Source: MySQL 8.0 Reference Manual, 'XA Transaction SQL Statements', for those that begin `XA`; the others
-/// are our own: docs/BEHAVIOR.md, 'Rows' and 'Sessions'.
+/// are our own: docs/STATEMENTS.md#rows-and-locks and 'Sessions'.
 #[derive(Clone, Debug, Drop, PartialEq, Eq)]
 pub enum Statement {
     /// `XA START xid` or `XA BEGIN xid`: starts a branch.

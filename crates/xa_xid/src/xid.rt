@@ -9,7 +9,7 @@ use crate::{Bytes, copy_of};
 /// ordered by formatID, then gtrid, then bqual, texts by their bytes and a prefix before what it begins.
 ///
 /// Source: MySQL 8.0 Reference Manual, 'XA Transaction SQL Statements'; X/Open C193, the structure `XID`.
-/// The range of formatID, the empty gtrid and the order are our own: docs/BEHAVIOR.md, 'Identifiers'.
+/// The range of formatID, the empty gtrid and the order are our own: docs/STATEMENTS.md#identifiers.
 #[derive(Clone, Debug, Drop, PartialEq, Eq, PartialOrd, Ord)]
 pub struct Xid {
     /// Which convention the two texts follow, in `[0, 2^64)`; 1 where a statement doesn't say.

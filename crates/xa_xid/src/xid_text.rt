@@ -25,7 +25,7 @@ type Parse<'a> = Result<(Xid, &'a [u8]), (LiteralFault, &'a [u8])>;
 /// `at` is in `[0, length]`. Errors: the fault of the first token that isn't what stands in its place, and the place
 /// where that token begins, which is the text's length where none is left. Takes no memory. Doesn't wait.
 /// Source: MySQL 8.0 Reference Manual, 'XA Transaction SQL Statements'; the places are our own:
-/// docs/STATEMENTS.md, 'Identifiers'.
+/// docs/STATEMENTS.md#identifiers.
 #[tactic(auto, unfolding(crate::specs::XidText::xid_ahead))]
 pub fn read_xid(text: &[u8], at: usize) -> Result<(Xid, usize), (LiteralFault, usize)>
     requires { at ≤ length text.now }
@@ -126,7 +126,7 @@ fn after_comma(text: &[u8]) -> Option<&[u8]>
 /// The canonical text of the identifier: gtrid, bqual and formatID with commas between them and no blanks.
 ///
 /// May answer `NoMemory`. Doesn't wait.
-/// Own rule: docs/STATEMENTS.md, 'Canonical form'.
+/// Own rule: docs/STATEMENTS.md#canonical-form.
 pub fn write_xid(alloc: Global, xid: &Xid) -> Result<Vec<u8>, NoMemory>
     ensures { IfOk result (λ text. text.items ≡ xid_text xid.now) }
 {
@@ -151,7 +151,7 @@ pub fn with_xid(text: Vec<u8>, xid: &Xid) -> Result<Vec<u8>, NoMemory>
 /// A text with the canonical text of a gtrid, a bqual, a key or a value at its end.
 ///
 /// `bytes` are at most 64. May answer `NoMemory`, and the text is then dropped. Doesn't wait.
-/// Own rule: docs/STATEMENTS.md, 'Canonical form'.
+/// Own rule: docs/STATEMENTS.md#canonical-form.
 pub fn with_part(mut text: Vec<u8>, bytes: &[u8]) -> Result<Vec<u8>, NoMemory>
     requires { length bytes.now ≤ text_bytes }
     ensures { IfOk result (λ longer. longer.items ≡ text.items ++ part_text bytes.now) }

@@ -1,4 +1,4 @@
-/* The table of docs/BEHAVIOR.md, 'Replies', cell by cell: what a session that is free, has an ACTIVE or an IDLE branch is answered. */
+/* The table of docs/STATEMENTS.md#replies, cell by cell: what a session that is free, has an ACTIVE or an IDLE branch is answered. */
 #include "nigbaru.h"
 
 #include "check.h"

@@ -94,7 +94,7 @@ static void mixed_up(void) {
   SAME(nigbaru_close(&store), NIGBARU_OK);
 }
 
-/* Texts that spell no statement: each with the first byte that doesn't fit (docs/STATEMENTS.md, 'Fault places'). */
+/* Texts that spell no statement: each with the first byte that doesn't fit (docs/STATEMENTS.md#fault-places). */
 static void no_statements(void) {
   static const struct { const char *text; uint64_t place; } bad[] = {
       {"", 0}, {"XA RECOVER now", 11}, {"XA START ", 9}, {"XA START 'a','',18446744073709551616", 16}, {"GET ''", 4}, {"PUT 'k' 'v'", 8}, {"SELECT 1", 0},

@@ -1,4 +1,4 @@
-"""Writes what a store was asked and answered as a record (docs/JUDGE.md).
+"""Writes what a store was asked and answered as a record (docs/HISTORIES.md).
 
 Each call stands directly before its return, in the order in which the store answered. That is narrower than what clients saw, who called before it and had the answer after it: an order
 that explains this record explains theirs.

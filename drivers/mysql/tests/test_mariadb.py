@@ -10,7 +10,7 @@ from wire import Client
 
 STAYS = "a prepared branch is listed"  # MariaDB's stays with its session, whose flag says so until the end
 LONG = "'" + "x" * 65 + "'"
-# Each case: who says what. Rules in which the two differ are in docs/JUDGE.md, 'Records of MariaDB'; none of these meets one.
+# Each case: who says what. Rules in which the two differ are in docs/HISTORIES.md#records-of-mariadb; none of these meets one.
 CASES = {
     "a branch in one phase": ["1 XA START 'a'", "1 XA END 'a'", "1 XA COMMIT 'a' ONE PHASE", "1 XA RECOVER"],
     "a branch that is rolled back": ["1 XA BEGIN 'a','b',7", "1 XA END 'a','b',7", "1 XA ROLLBACK 'a','b',7"],

@@ -1,4 +1,4 @@
-"""The lines of a record, as docs/JUDGE.md has them."""
+"""The lines of a record, as docs/HISTORIES.md has them."""
 import re
 from dataclasses import dataclass
 from typing import Optional

@@ -1,4 +1,4 @@
-"""What the page cites of docs/BEHAVIOR.md: the table of replies, that of the refusals, and what is said elsewhere of an error."""
+"""What the page cites of docs/STATEMENTS.md: the table of replies, that of the refusals, and what is said elsewhere of an error."""
 import re
 
 
@@ -31,5 +31,5 @@ def notes_in(text):
 
 
 def tables(root):
-    text = (root / "docs/BEHAVIOR.md").read_text(encoding="utf-8")
+    text = (root / "docs/STATEMENTS.md").read_text(encoding="utf-8")
     return {**dict(zip(["replies", "refusals"], tables_in(text, "Replies"))), "notes": notes_in(text)}

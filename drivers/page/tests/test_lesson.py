@@ -1,4 +1,4 @@
-"""The lesson of docs/CLASSROOM.md, step by step, by keys alone: what it says is what is seen."""
+"""The lesson of drivers/page/README.md#a-lesson-of-half-an-hour, step by step, by keys alone: what it says is what is seen."""
 import unittest
 
 from selenium.webdriver.common.keys import Keys

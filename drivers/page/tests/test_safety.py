@@ -76,7 +76,7 @@ class WhoIsServed(unittest.TestCase):
                 self.assertNotRegex(found, r"https?://|@import|innerHTML|outerHTML|insertAdjacentHTML|document\.write|\beval\(", path.name)
 
     def test_the_rules_that_are_cited_are_those_of_the_document(self):
-        text = (ROOT / "docs/BEHAVIOR.md").read_text()
+        text = (ROOT / "docs/STATEMENTS.md").read_text()
         found = json.loads(self.get("/api/tables", ("Host", f"127.0.0.1:{self.port}"))[2])
         for row in [*found["replies"], *found["refusals"]]:
             self.assertIn("| " + " | ".join(row) + " |\n", text)

@@ -161,7 +161,7 @@ class Sessions(View):
         self.assertEqual(self.browser.text("#given mark.fault"), "C")
 
     def test_a_refusal_says_its_rule_in_the_words_of_the_table(self):
-        table = (ROOT / "docs/BEHAVIOR.md").read_text()
+        table = (ROOT / "docs/STATEMENTS.md").read_text()
         unknown, wrong_state = "the identifier isn't that of a branch that the statement could mean", "the statement can't be given in that state"
         wanted = [
             ("1 XA COMMIT 'a'", unknown, "XA COMMIT, Free: 1397 where the branch isn't PREPARED; else OK"),

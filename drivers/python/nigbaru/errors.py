@@ -49,7 +49,7 @@ class NotSupportedError(DatabaseError):
     """A clause that the server recognises and doesn't support."""
 
 
-# number: class, XA code (docs/BEHAVIOR.md, 'Replies')
+# number: class, XA code (docs/STATEMENTS.md#replies)
 KINDS: Dict[int, Tuple[Type[Error], Optional[int]]] = {
     1037: (OperationalError, None),
     1064: (ProgrammingError, None),

@@ -12,7 +12,7 @@ from .errors import Error, InterfaceError, OperationalError, ProgrammingError, r
 from .pipe import Deadline, Pipe
 
 SESSIONS = range(1, 17)
-LONGEST = 65536  # bytes of a line (docs/BEHAVIOR.md, 'Serving')
+LONGEST = 65536  # bytes of a line (docs/COMMANDS.md#serve)
 Word = Union[str, "os.PathLike[str]"]
 # What to pass is said in every error about a command.
 ADVICE = "pass program=PATH of xa_script, set NIGBARU_PROGRAM to it, or have it on PATH"

@@ -17,7 +17,7 @@ impl TurnLog {
     /// Errors, in the order of test: `CapacityOutOfRange`, `SessionsOutOfRange`, `NoMemory`.
     ///
     /// May answer `NoMemory`. Doesn't wait.
-    /// Own rule: docs/LOG.md, 'A log with a turn'.
+    /// Own rule: docs/INTERNALS.md#the-log-with-a-turn.
     pub fn open(
         alloc: Global,
         capacity: u64,

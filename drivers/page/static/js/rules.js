@@ -1,4 +1,4 @@
-// Which line of docs/BEHAVIOR.md's tables refused a statement: the tables come from the server, which reads them there.
+// Which line of docs/STATEMENTS.md's tables refused a statement: the tables come from the server, which reads them there.
 import { fetched } from "./api.js";
 
 let tables = { replies: [[]], refusals: [[]], notes: {} };
