@@ -1,0 +1,25 @@
+# Thin targets over the scripts of this repository. `make` lists them. docs/CONTRIBUTING.md#tests has what each test does.
+PROGRAM := crates/xa_script/out/xa_script
+
+help: ## list the targets
+	@awk -F ': .*## ' '/^[a-z]+:.*## / { printf "make %-7s %s\n", $$1, $$2 }' $(MAKEFILE_LIST)
+
+try: ## run a first script before any proof: needs rt
+	cd crates/xa_script && rt try -- run < ../../examples/branch.script
+
+build: ## prove and build the program: needs rt
+	scripts/build
+
+test: ## run the whole gate, proofs and tests: needs rt, a C compiler, Python, apt-get
+	.ci/run
+
+server: $(PROGRAM) ## serve MySQL's protocol on 127.0.0.1:3306: needs a built program
+	drivers/mysql/serve $(PROGRAM)
+
+page: ## open the classroom on http://127.0.0.1:8400/: needs a built program
+	drivers/page/serve
+
+$(PROGRAM):
+	scripts/build
+
+.PHONY: help try build test server page
