@@ -2,24 +2,27 @@
 PROGRAM := crates/xa_script/out/xa_script
 
 help: ## list the targets
-	@awk -F ': .*## ' '/^[a-z]+:.*## / { printf "make %-7s %s\n", $$1, $$2 }' $(MAKEFILE_LIST)
+	@awk -F ':.*## ' '/^[a-z]+:.*## / { printf "make %-7s %s\n", $$1, $$2 }' $(MAKEFILE_LIST)
 
-try: ## run a first script before any proof: needs rt
+try: rt ## run a first script before any proof: needs rt
 	cd crates/xa_script && rt try -- run < ../../examples/branch.script
 
-build: ## prove and build the program: needs rt
+build: rt ## prove and build the program: needs rt
 	scripts/build
 
-test: ## run the whole gate, proofs and tests: needs rt, a C compiler, Python, apt-get
+test: rt ## run the whole gate, proofs and tests: needs rt, a C compiler, Python, apt-get
 	.ci/run
 
 server: $(PROGRAM) ## serve MySQL's protocol on 127.0.0.1:3306: needs a built program
 	drivers/mysql/serve $(PROGRAM)
 
-page: ## open the classroom on http://127.0.0.1:8400/: needs a built program
+page: $(PROGRAM) ## open the classroom on http://127.0.0.1:8400/: needs a built program
 	drivers/page/serve
 
 $(PROGRAM):
-	scripts/build
+	@$(MAKE) --no-print-directory build
 
-.PHONY: help try build test server page
+rt:
+	@command -v rt > /dev/null || { echo "there is no rt on the path: README.md says in 'Quick start' where it comes from" >&2; exit 1; }
+
+.PHONY: help try build test server page rt
