@@ -13,10 +13,10 @@ build: rt ## prove and build the program: needs rt
 test: rt ## run the whole gate, proofs and tests: needs rt, a C compiler, Python, apt-get
 	.ci/run
 
-server: $(PROGRAM) ## serve MySQL's protocol on 127.0.0.1:3306: needs a built program
+server: $(PROGRAM) ## serve MySQL's protocol on 127.0.0.1:3306: builds the program if it is missing
 	drivers/mysql/serve $(PROGRAM)
 
-page: $(PROGRAM) ## open the classroom on http://127.0.0.1:8400/: needs a built program
+page: $(PROGRAM) ## open the classroom on http://127.0.0.1:8400/: builds the program if it is missing
 	drivers/page/serve
 
 $(PROGRAM):
