@@ -1,10 +1,10 @@
--- Kinds of bytes, and how a text is cut where a kind ends.
+-- Kinds of bytes, and how a text is cut after the last byte of a kind.
 --     belongs kind byte      whether the byte is of the kind
---     front p text           the bytes from the front on that pass
---     behind p text          what stands behind them
---     only p text            whether all pass
+--     front p text           the longest beginning of bytes that pass
+--     behind p text          the rest of the text after them
+--     only p text            whether all bytes pass
 --     unblank text           the text from its first byte on that isn't a blank
---     run text, after_run text      the word bytes that a text begins with, and what stands behind them
+--     run text, after_run text      the word bytes that a text begins with, and the rest after them
 --     StartsNo p text        the text is empty, or its first byte doesn't pass
 use Rattle.std.specs.Prelude.{◌≡◌, ℕ, Bool, false, ◌==◌, ◌||◌, ◌&&◌, nat_le, if◌then◌else◌, List, [], ◌∷◌, length}
 use Rattle.std.specs.Char.{is_digit}
@@ -27,12 +27,12 @@ belongs Word byte = is_word byte
 belongs Decimal byte = is_digit byte 10
 belongs Hexadecimal byte = is_digit byte 16
 
--- the bytes from the front on that pass
+-- the longest beginning of bytes that pass
 unfoldable pub front : (ℕ → Bool) → List ℕ → List ℕ
 front p [] = []
 front p (byte ∷ text) = if p byte then byte ∷ front p text else []
 
--- what stands behind them
+-- the rest of the text after them
 unfoldable pub behind : (ℕ → Bool) → List ℕ → List ℕ
 behind p [] = []
 behind p (byte ∷ text) = if p byte then behind p text else byte ∷ text
@@ -49,11 +49,11 @@ unblank text = behind (belongs Blank) text
 abbrev pub run : List ℕ → List ℕ
 run text = front (belongs Word) text
 
--- what stands behind them
+-- the rest of the text after them
 abbrev pub after_run : List ℕ → List ℕ
 after_run text = behind (belongs Word) text
 
--- no byte that passes stands first
+-- the text doesn't begin with a byte that passes
 abbrev pub StartsNo : (ℕ → Bool) → List ℕ → Type 0
 StartsNo p [] = Unit {0}
 StartsNo p (byte ∷ text) = p byte ≡ false

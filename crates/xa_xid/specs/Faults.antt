@@ -1,7 +1,7 @@
 -- Why a text begins with no literal, no number or no identifier: the table of faults, a constructor for each row.
 --     number_of_literal_fault       the number of a fault
 --     FaultyLiteral text fault      the text begins with no literal of at most `text_bytes` bytes, and this is the first fault that holds
---     NumeralAt text value rest     the text begins with the digits of a number, of any size, and `rest` stands behind them
+--     NumeralAt text value rest     the text begins with the digits of a number, of any size, and `rest` comes after them
 --     FaultyNumber text fault       the text begins with no number below 2^64, for this reason
 --     FaultyXid text fault rest     the text begins with no identifier, for this reason; `rest` is the text from the faulty token on
 use Rattle.std.specs.Prelude.{◌≡◌, ◌≢◌, ℕ, ◌<◌, ◌≤◌, ◌%◌, ◌^◌, false, IsTrue, List, ◌∷◌, ◌++◌, length}
@@ -16,7 +16,7 @@ use Rattle.xa_xid.specs.declared.byte_class.ByteClass.TheVariants.{Word, Decimal
 use Rattle.xa_xid.specs.declared.literal_fault.LiteralFault.{LiteralFault}
 use Rattle.xa_xid.specs.declared.literal_fault.LiteralFault.TheVariants.{NotALiteral, Unclosed, OddHex, TooLong, NumberTooLarge}
 
--- the numbers by which faults are told (own rule)
+-- the numbers by which faults are reported (own rule)
 abbrev pub number_of_literal_fault : LiteralFault → ℕ
 number_of_literal_fault NotALiteral = 1
 number_of_literal_fault Unclosed = 2
@@ -24,11 +24,11 @@ number_of_literal_fault OddHex = 3
 number_of_literal_fault TooLong = 4
 number_of_literal_fault NumberTooLarge = 5
 
--- hexadecimal digits alone, maybe none
+-- only hexadecimal digits, maybe none
 abbrev pub AreHex : List ℕ → Type 0
 AreHex digits = IsTrue (only (belongs Hexadecimal) digits)
 
--- `0x` and one or more hexadecimal digits stand first, and then no word byte
+-- the text begins with `0x` and one or more hexadecimal digits, and then comes no word byte
 pub data HexRunAt : List ℕ → List ℕ → List ℕ → Type 0 where
   hex_run_at : (digit : ℕ) (digits rest : List ℕ) → AreHex (digit ∷ digits) → StartsNo (belongs Word) rest
       → HexRunAt (48 ∷ 120 ∷ digit ∷ digits ++ rest) (digit ∷ digits) rest
@@ -50,7 +50,7 @@ pub data FaultyLiteral : List ℕ → LiteralFault → Type 0 where
   no_form : (text : List ℕ) → opens_text text ≡ false → opens_hex text ≡ false
       → ((digits rest : List ℕ) → HexRunAt text digits rest → ⊥) → FaultyLiteral text NotALiteral
 
--- decimal digits alone, or `0x` and one or more hexadecimal digits
+-- only decimal digits, or `0x` and one or more hexadecimal digits
 pub data NumeralAt : List ℕ → ℕ → List ℕ → Type 0 where
   decimal_numeral : (digit : ℕ) (digits rest : List ℕ) → IsTrue (only (belongs Decimal) (digit ∷ digits)) → StartsNo (belongs Word) rest
       → NumeralAt (digit ∷ digits ++ rest) (digits_value 10 (digit ∷ digits)) rest
@@ -61,7 +61,7 @@ pub data FaultyNumber : List ℕ → LiteralFault → Type 0 where
   no_number : (text : List ℕ) → ((value : ℕ) (rest : List ℕ) → NumeralAt text value rest → ⊥) → FaultyNumber text NotALiteral
   too_large : (text : List ℕ) (value : ℕ) (rest : List ℕ) → NumeralAt text value rest → 2 ^ 64 ≤ value → FaultyNumber text NumberTooLarge
 
--- the gtrid, the bqual or the formatID is faulty, and what stands before it isn't (own rule)
+-- the gtrid, the bqual or the formatID is faulty, and no token before it is (own rule)
 pub data FaultyXid : List ℕ → LiteralFault → List ℕ → Type 0 where
   faulty_gtrid : (text : List ℕ) (fault : LiteralFault) → FaultyLiteral (unblank text) fault → FaultyXid text fault (unblank text)
   faulty_bqual : (text second third : List ℕ) (gtrid : Text) (fault : LiteralFault) → TextAt (unblank text) gtrid second

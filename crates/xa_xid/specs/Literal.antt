@@ -1,9 +1,9 @@
 -- Literals: a text literal, hexadecimal digits in quotes, and a run of hexadecimal digits.
---     LiteralAt text bytes rest      the text begins with a literal of the bytes, and `rest` stands behind it
+--     LiteralAt text bytes rest      the text begins with a literal of the bytes, and `rest` comes after it
 --     TextAt text found rest         the same of a literal of at most `text_bytes` bytes
---     Between Spelled text at value next     what stands in the text from `at` up to `next` is spelled so
---     literal_ahead text             the literal that a text begins with, and what stands behind it, or its fault
---     literal_from text at           the same at a place, and the place behind the literal
+--     Between Spelled text at value next     the text from `at` up to `next` is spelled so
+--     literal_ahead text             the literal that a text begins with, and the text after it, or its fault
+--     literal_from text at           the same at a place, and the place after the literal
 --     evened digits                  an odd number of digits with a 0 in front
 use Rattle.std.specs.Prelude.{◌≡◌, ℕ, ◌-◌, ◌≤◌, ◌%◌, Bool, false, ◌==◌, ◌||◌, ◌&&◌, not, nat_le, nat_lt, if◌then◌else◌, IsTrue, List, [], ◌∷◌, ◌++◌, length}
 use Rattle.std.specs.Prelude.{drop, slice_index, Option, Some, None, Result, Ok, Err}
@@ -17,7 +17,7 @@ use Rattle.xa_xid.specs.declared.quoted.Mode.TheVariants.{Plain}
 use Rattle.xa_xid.specs.declared.literal_fault.LiteralFault.{LiteralFault}
 use Rattle.xa_xid.specs.declared.literal_fault.LiteralFault.TheVariants.{NotALiteral, Unclosed, OddHex, TooLong}
 
--- what was read and what stands behind it, or the fault
+-- what was read and the text after it, or the fault
 abbrev pub Reading : Type 0 → Type 0
 Reading Value = Result (Value × List ℕ) LiteralFault
 
@@ -29,17 +29,17 @@ is_quote byte = byte == 39 || byte == 34
 abbrev pub is_x : ℕ → Bool
 is_x byte = byte == 88 || byte == 120
 
--- a quote stands first
+-- the text begins with a quote
 abbrev pub opens_text : List ℕ → Bool
 opens_text [] = false
 opens_text (first ∷ _) = is_quote first
 
--- an X and a ' stand first
+-- the text begins with an X and a '
 abbrev pub opens_hex : List ℕ → Bool
 opens_hex (first ∷ second ∷ _) = is_x first && second == 39
 opens_hex _ = false
 
--- an odd number of digits is read as if a 0 stood in front (manual, 'Hexadecimal Literals')
+-- an odd number of digits is read as if a 0 came first (manual, 'Hexadecimal Literals')
 abbrev pub evened : List ℕ → List ℕ
 evened digits = if length digits % 2 == 1 then 48 ∷ digits else digits
 
@@ -58,7 +58,7 @@ pub record TextAt (text : List ℕ) (found : Text) (rest : List ℕ) : Type 0 wh
   pub literal : LiteralAt text found.items rest
   pub fits : length found.items ≤ text_bytes
 
--- a spelling said of two places in one text
+-- a spelling, between two places in one text
 pub record Between {Value : Type 0} (Spelled : List ℕ → Value → List ℕ → Type 0) (text : List ℕ) (at : ℕ) (value : Value) (next : ℕ) : Type 0 where
   pub within : next ≤ length text
   pub spelled : Spelled (drop at text) value (drop next text)
@@ -67,12 +67,12 @@ pub record Between {Value : Type 0} (Spelled : List ℕ → Value → List ℕ �
 unfoldable pub kept : List ℕ → Option Text
 kept bytes = if nat_le (length bytes) text_bytes then Some (record { items = bytes }) else None
 
--- bytes that were read, where they are few enough
+-- bytes that were read, if they are few enough
 abbrev pub sized : Option Text → List ℕ → Reading Text
 sized None rest = Err TooLong
 sized (Some text) rest = Ok (text, rest)
 
--- a text literal behind its opening quote
+-- a text literal after its opening quote
 abbrev pub text_literal_of : Option (List ℕ × List ℕ) → Reading Text
 text_literal_of None = Err Unclosed
 text_literal_of (Some (bytes, rest)) = sized (kept bytes) rest
@@ -81,7 +81,7 @@ text_literal_of (Some (bytes, rest)) = sized (kept bytes) rest
 abbrev pub decoded : List ℕ → List ℕ → Reading Text
 decoded digits rest = elim (decode_of digits) [ Ok bytes ↦ Ok (record { items = bytes }, rest) | Err _ ↦ Err NotALiteral ]
 
--- the digits behind `X'`, and what stands behind them; the first fault that holds
+-- the digits after `X'`, and the text after them; or the first fault that holds
 abbrev pub hex_in_quotes_of : List ℕ → List ℕ → Reading Text
 hex_in_quotes_of digits [] = Err Unclosed
 hex_in_quotes_of digits (byte ∷ rest) =
@@ -96,7 +96,7 @@ hex_digits_of (zero_digit ∷ letter ∷ digit ∷ digits) =
     if zero_digit == 48 && letter == 120 && only (belongs Hexadecimal) (digit ∷ digits) then Some (digit ∷ digits) else None
 hex_digits_of _ = None
 
--- such a run as a literal, and what stands behind it
+-- such a run as a literal, and the text after it
 abbrev pub hex_run_of : Option (List ℕ) → List ℕ → Reading Text
 hex_run_of None rest = Err NotALiteral
 hex_run_of (Some digits) rest = if nat_lt text_digits (length digits) then Err TooLong else decoded (evened digits) rest
@@ -108,11 +108,11 @@ literal_ahead text =
     if opens_hex text then hex_in_quotes_of (front (belongs Hexadecimal) (drop 2 text)) (behind (belongs Hexadecimal) (drop 2 text)) else
     hex_run_of (hex_digits_of (run text)) (after_run text)
 
--- what stands at a place is read, and the place behind it is told
+-- what was read at a place, and the place after it
 abbrev pub placed : {Value : Type 0} → List ℕ → Reading Value → Result (Value × ℕ) LiteralFault
 placed text (Ok (value, rest)) = Ok (value, length text - length rest)
 placed text (Err fault) = Err fault
 
--- the literal at a place, and the place behind it
+-- the literal at a place, and the place after it
 abbrev pub literal_from : List ℕ → ℕ → Result (Text × ℕ) LiteralFault
 literal_from text at = placed text (literal_ahead (drop at text))

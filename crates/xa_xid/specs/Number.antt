@@ -1,8 +1,8 @@
 -- Numbers: decimal digits, or `0x` and hexadecimal digits.
---     NumberAt text value rest     the text begins with a number of the value, and `rest` stands behind it
+--     NumberAt text value rest     the text begins with a number of the value, and `rest` comes after it
 --     number_in run        the value of a run that is a number
---     number_ahead text    the number that a text begins with, and what stands behind it, or its fault
---     number_from text at  the same at a place, and the place behind it
+--     number_ahead text    the number that a text begins with, and the text after it, or its fault
+--     number_from text at  the same at a place, and the place after it
 use Rattle.std.specs.Prelude.{◌≡◌, ℕ, ◌^◌, ◌<◌, ◌==◌, ◌&&◌, nat_lt, not, if◌then◌else◌, IsTrue, List, ◌∷◌, ◌++◌, length, drop, Option, Some, None, Result, Ok}
 use Rattle.std.specs.Prelude.{Err}
 use Rattle.std.specs.Str.Parse.{digits_value}
@@ -12,7 +12,7 @@ use Rattle.xa_xid.specs.declared.byte_class.ByteClass.TheVariants.{Word, Decimal
 use Rattle.xa_xid.specs.declared.literal_fault.LiteralFault.{LiteralFault}
 use Rattle.xa_xid.specs.declared.literal_fault.LiteralFault.TheVariants.{NotALiteral, NumberTooLarge}
 
--- which number a text begins with: digits of a value below 2^64, no word byte behind them (own rule)
+-- which number a text begins with: digits of a value below 2^64, no word byte after them (own rule)
 pub data NumberAt : List ℕ → ℕ → List ℕ → Type 0 where
   decimal_digits : (digit : ℕ) (digits : List ℕ) {value : ℕ} {rest : List ℕ} → IsTrue (only (belongs Decimal) (digit ∷ digits))
       → digits_value 10 (digit ∷ digits) ≡ value → value < 2 ^ 64 → StartsNo (belongs Word) rest
@@ -30,7 +30,7 @@ abbrev pub hex_number_of : Option (List ℕ) → Result ℕ LiteralFault
 hex_number_of None = Err NotALiteral
 hex_number_of (Some digits) = fitting (digits_value 16 digits)
 
--- one or more decimal digits alone, or `0x` and one or more hexadecimal digits (own rule)
+-- only one or more decimal digits, or `0x` and one or more hexadecimal digits (own rule)
 abbrev pub number_in : List ℕ → Result ℕ LiteralFault
 number_in run =
     if not (length run == 0) && only (belongs Decimal) run then fitting (digits_value 10 run) else hex_number_of (hex_digits_of run)
@@ -39,6 +39,6 @@ number_in run =
 unfoldable pub number_ahead : List ℕ → Reading ℕ
 number_ahead text = elim (number_in (run text)) [ Ok value ↦ Ok (value, after_run text) | Err fault ↦ Err fault ]
 
--- the number at a place, and the place behind it
+-- the number at a place, and the place after it
 abbrev pub number_from : List ℕ → ℕ → Result (ℕ × ℕ) LiteralFault
 number_from text at = placed text (number_ahead (drop at text))

@@ -1,7 +1,7 @@
--- Text literals: what stands between two quotes, and the bytes that it stands for.
+-- Text literals: what is written between two quotes, and the bytes that it stands for.
 --     escaped letter         what a backslash and the letter stand for
 --     Quoted quote written bytes     `written`, up to and with the closing quote, stands for `bytes`
---     QuotedAt quote text bytes rest     the same of the beginning of a text, and `rest` stands behind it
+--     QuotedAt quote text bytes rest     the same of the beginning of a text, and `rest` comes after it
 --     read_in_quotes quote mode text  how it is read, byte by byte
 use Rattle.std.specs.Prelude.{◌≡◌, ◌≢◌, ℕ, ◌==◌, if◌then◌else◌, List, [], ◌∷◌, ◌++◌, Option, Some, None}
 use Rattle.xa_xid.specs.Bytes.{StartsNo}
@@ -28,7 +28,7 @@ pub data Quoted (quote : ℕ) : List ℕ → List ℕ → Type 0 where
   escape : (letter : ℕ) {written bytes : List ℕ} → Quoted quote written bytes → Quoted quote (92 ∷ letter ∷ written) (escaped letter ++ bytes)
   plain : (byte : ℕ) {written bytes : List ℕ} → byte ≢ quote → byte ≢ 92 → Quoted quote written bytes → Quoted quote (byte ∷ written) (byte ∷ bytes)
 
--- where it ends in a longer text: the closing quote isn't the first of a doubled one
+-- how it ends in a longer text: the closing quote isn't the first of two
 pub record QuotedAt (quote : ℕ) (text bytes rest : List ℕ) : Type 0 where
   pub written : List ℕ
   pub form : Quoted quote written bytes
@@ -40,7 +40,7 @@ abbrev pub onto : List ℕ → Option (List ℕ × List ℕ) → Option (List �
 onto first None = None
 onto first (Some (bytes, rest)) = Some (first ++ bytes, rest)
 
--- the bytes and what stands behind the closing quote; none where no quote closes
+-- the bytes and the text after the closing quote; none if no quote closes
 unfoldable pub read_in_quotes : ℕ → Mode → List ℕ → Option (List ℕ × List ℕ)
 read_in_quotes quote Plain [] = None
 read_in_quotes quote Plain (byte ∷ text) =

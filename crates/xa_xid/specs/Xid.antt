@@ -3,7 +3,7 @@
 --     bytes_cmp       the order of two lists of bytes
 --     xid_cmp         the order of two identifiers
 --     same_xid        whether two identifiers are one
---     coded_text, coded_xid      how they are stored in finite maps
+--     coded_text, coded_xid      how they are encoded in finite maps
 use Rattle.std.specs.Prelude.{ℕ, Bool, List, refl}
 use Rattle.std.specs.declared.cmp.Ordering.{Ordering}
 use Rattle.std.specs.Ordering.{nat_cmp, ordering_then, eq_by_cmp}
@@ -16,7 +16,7 @@ use Rattle.xa_xid.specs.declared.xid.Xid.{Xid}
 abbrev pub Text : Type 0
 Text = ArrayVec ℕ
 
--- by the first byte that differs, a prefix before what it begins (own rule)
+-- by the first byte that differs; if one begins the other, the shorter is first (own rule)
 abbrev pub bytes_cmp : List ℕ → List ℕ → Ordering
 bytes_cmp = slice_cmp nat_cmp
 

@@ -1,7 +1,7 @@
 -- The spelling of an identifier: gtrid [, bqual [, formatID]], blanks before each token.
---     XidAt text xid rest    the text begins with the identifier, and `rest` stands behind its last token
---     xid_ahead text         the identifier that a text begins with and what stands behind it, or its fault and where it stands
---     xid_from text at       the same at a place, with places
+--     XidAt text xid rest    the text begins with the identifier, and `rest` comes after its last token
+--     xid_ahead text         the identifier that a text begins with and the text after it, or its fault and the text from there
+--     xid_from text at       the same at a place, with places for texts
 --     part_text, xid_text    the canonical text of a gtrid or bqual, and of an identifier
 use Rattle.std.specs.Prelude.{◌≡◌, ℕ, ◌-◌, ◌≤◌, ◌<◌, ◌^◌, ◌==◌, if◌then◌else◌, List, [], ◌∷◌, ◌++◌, length, drop, codes, decimal, Option, Some, None, Result}
 use Rattle.std.specs.Prelude.{Ok, Err}
@@ -22,16 +22,16 @@ no_text = record { items = [] }
 abbrev pub xid_of : Text → Text → ℕ → Xid
 xid_of gtrid bqual format_id = record { format_id = format_id; gtrid = gtrid; bqual = bqual }
 
--- a comma stands first
+-- the text begins with a comma
 abbrev pub CommaAt : List ℕ → List ℕ → Type 0
 CommaAt text rest = text ≡ 44 ∷ rest
 
--- no comma stands first
+-- the text doesn't begin with a comma
 abbrev pub NoCommaAt : List ℕ → Type 0
 NoCommaAt text = StartsNo (λ byte. byte == 44) text
 
 -- which identifier a text begins with, blanks before each token skipped (manual, 'XA Transaction SQL Statements'):
--- bqual or formatID is left out only where what stands behind the part before it, blanks skipped, isn't a comma
+-- bqual or formatID is left out only if no comma comes after the part before it, blanks skipped
 pub data XidAt : List ℕ → Xid → List ℕ → Type 0 where
   gtrid_alone : (gtrid : Text) {text rest : List ℕ} → TextAt (unblank text) gtrid rest → NoCommaAt (unblank rest)
       → XidAt text (xid_of gtrid no_text 1) rest
@@ -43,35 +43,35 @@ pub data XidAt : List ℕ → Xid → List ℕ → Type 0 where
       → NumberAt (unblank fifth) format_id rest
       → XidAt text (xid_of gtrid bqual format_id) rest
 
--- what was read and what stands behind it, or the fault and the text from the faulty token on
+-- what was read and the text after it, or the fault and the text from the faulty token on
 abbrev pub Parse : Type 0
 Parse = Result (Xid × List ℕ) (LiteralFault × List ℕ)
 
--- what stands behind a comma that the text begins with
+-- the text after a comma that the text begins with
 abbrev pub comma_next : List ℕ → Option (List ℕ)
 comma_next [] = None
 comma_next (byte ∷ text) = if byte == 44 then Some text else None
 
--- a formatID behind the second comma
+-- a formatID after the second comma
 abbrev pub format_id_next : Text → Text → List ℕ → Parse
 format_id_next gtrid bqual text = elim (number_ahead text) [
   | Ok found ↦ Ok (xid_of gtrid bqual found.0, found.1)
   | Err fault ↦ Err (fault, text)
 ]
 
--- after the bqual: its formatID where a comma stands next, else 1
+-- after the bqual: its formatID if a comma comes next, else 1
 abbrev pub after_bqual : Text → Text → List ℕ → Option (List ℕ) → Parse
 after_bqual gtrid bqual rest None = Ok (xid_of gtrid bqual 1, rest)
 after_bqual gtrid bqual rest (Some text) = format_id_next gtrid bqual (unblank text)
 
--- a bqual behind the first comma
+-- a bqual after the first comma
 abbrev pub bqual_next : Text → List ℕ → Parse
 bqual_next gtrid text = elim (literal_ahead text) [
   | Ok found ↦ after_bqual gtrid found.0 found.1 (comma_next (unblank found.1))
   | Err fault ↦ Err (fault, text)
 ]
 
--- after the gtrid: its bqual where a comma stands next, else none
+-- after the gtrid: its bqual if a comma comes next, else none
 abbrev pub after_gtrid : Text → List ℕ → Option (List ℕ) → Parse
 after_gtrid gtrid rest None = Ok (xid_of gtrid no_text 1, rest)
 after_gtrid gtrid rest (Some text) = bqual_next gtrid (unblank text)
@@ -92,11 +92,11 @@ abbrev pub places : List ℕ → Parse → Result (Xid × ℕ) (LiteralFault × 
 places text (Ok (xid, rest)) = Ok (xid, length text - length rest)
 places text (Err (fault, rest)) = Err (fault, length text - length rest)
 
--- the identifier at a place, and the place behind its last token; or the fault and the place of the faulty token
+-- the identifier at a place, and the place after its last token; or the fault and the place of the faulty token
 abbrev pub xid_from : List ℕ → ℕ → Result (Xid × ℕ) (LiteralFault × ℕ)
 xid_from text at = places text (xid_ahead (drop at text))
 
--- a gtrid or bqual: `X''` where it is empty, else `0x` and two small digits for each byte (own rule)
+-- a gtrid or bqual: `X''` if it is empty, else `0x` and two small digits for each byte (own rule)
 abbrev pub part_text : List ℕ → List ℕ
 part_text [] = codes "X''"
 part_text (byte ∷ bytes) = codes "0x" ++ encode_lower (byte ∷ bytes)
@@ -105,7 +105,7 @@ part_text (byte ∷ bytes) = codes "0x" ++ encode_lower (byte ∷ bytes)
 abbrev pub xid_text : Xid → List ℕ
 xid_text xid = part_text xid.gtrid.items ++ (44 ∷ (part_text xid.bqual.items ++ (44 ∷ decimal xid.format_id)))
 
--- the parts are bytes, and few enough: every identifier of a program is such
+-- the parts are bytes, and few enough; this holds of every identifier of a program
 pub record IsWritable (xid : Xid) : Type 0 where
   pub gtrid_bytes : IsBytes xid.gtrid.items
   pub gtrid_fits : length xid.gtrid.items ≤ text_bytes

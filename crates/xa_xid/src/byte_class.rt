@@ -1,15 +1,15 @@
-//! Kinds of bytes, and how a text is cut where a kind ends.
+//! Kinds of bytes, and how a text is cut after the last byte of a kind.
 ghost use Rattle.std.specs.Prelude.{◌≡◌, ◌+◌, ◌≤◌, length, drop};
 ghost use Rattle.xa_xid.specs.Bytes.{belongs, front, behind, unblank};
 
-/// A kind of bytes that a text is cut by.
+/// A kind of byte by which a text is cut.
 ///
 /// Own rule: docs/STATEMENTS.md#tokens.
 #[derive(Clone, Copy, Debug, PartialEq, Eq)]
 pub enum ByteClass {
     /// Space, tab, line feed and carriage return.
     Blank,
-    /// Letters, digits, `_`, `$` and the bytes from 128 on.
+    /// Letters, digits, `_`, `$` and the bytes from 128 to 255.
     Word,
     /// `0` to `9`.
     Decimal,
@@ -18,7 +18,7 @@ pub enum ByteClass {
 }
 
 impl ByteClass {
-    /// Whether the byte is of this kind.
+    /// Returns whether the byte is of this kind.
     ///
     /// Takes no memory. Doesn't wait.
     #[tactic(auto, unfolding(crate::specs::Bytes::belongs))]
@@ -35,11 +35,14 @@ impl ByteClass {
         }
     }
 
-    /// The bytes from the front on that are of this kind, and the text behind them.
+    /// Cuts a text in two: the longest beginning of bytes of this kind, and the rest.
     ///
     /// Takes no memory. Doesn't wait.
     pub fn split(self, text: &[u8]) -> (&[u8], &[u8])
+        // Proved (statements, cut-by-kind): A text is cut after the longest beginning whose bytes are all
+        //   of one kind.
         ensures front { result.0.now ≡ front (belongs self) text.now }
+        // Proved (statements, cut-by-kind)
         ensures behind { result.1.now ≡ behind (belongs self) text.now }
         ensures lengths { length result.0.now + length result.1.now ≡ length text.now }
     {
@@ -52,7 +55,7 @@ impl ByteClass {
     }
 }
 
-/// The text from its first byte on that isn't a blank.
+/// Returns the text without the blanks at its beginning.
 ///
 /// Takes no memory. Doesn't wait.
 pub fn skip_blanks(text: &[u8]) -> &[u8]
@@ -62,7 +65,7 @@ pub fn skip_blanks(text: &[u8]) -> &[u8]
     ByteClass::Blank.split(text).1
 }
 
-/// The text from a place on.
+/// Returns the text from a place on.
 ///
 /// `at` is in `[0, length]`. Takes no memory. Doesn't wait.
 pub(crate) fn text_from(text: &[u8], at: usize) -> &[u8]

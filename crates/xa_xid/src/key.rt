@@ -13,12 +13,13 @@ use std::marker::Model;
 
 /// The key of a row: 1 to 64 bytes. A contract sees it as the list of its bytes.
 ///
-/// Keys are ordered as texts are, by their bytes and a prefix before what it begins.
+/// Keys are ordered by their bytes; if one key begins another, the shorter one comes first.
 ///
 /// Own rule: docs/STATEMENTS.md#rows-and-locks.
 #[derive(Debug, Drop)]
 pub struct Key {
-    /// The head of the bytes: a look at it tells most keys apart, and a search among rows is mostly such looks.
+    /// The first eight bytes as one number. It decides most comparisons, and a search among rows is mostly
+    /// these.
     head: u64,
     bytes: Bytes,
 }
@@ -34,14 +35,15 @@ impl Model for Key {
     ghost invariant = { λ k. (0 < length k.bytes.items) × (k.head ≡ head_of k.bytes.items) };
 }
 
-/// The byte at a place of a text, or 0 past its end.
+/// Returns the byte at a place of a text, or 0 past its end.
 fn byte_or_zero(text: &[u8], place: usize) -> u8
     ensures { result ≡ slice_index text.now place }
 {
     if place < text.len() { text[place] } else { 0 }
 }
 
-/// The first eight bytes of a text as one number, the first byte highest, zeros past its end.
+/// Returns the first eight bytes of a text as one number: the first byte is the highest, missing bytes are
+/// zeros.
 #[tactic(auto, unfolding(crate::specs::Head::head_of))]
 fn head_of(text: &[u8]) -> u64
     ensures { result ≡ head_of text.now }
@@ -58,7 +60,7 @@ fn head_of(text: &[u8]) -> u64
     ])
 }
 
-/// How two texts of one head stand. Where one ends within the head, the shorter begins the longer.
+/// Compares two texts of one head. If one ends within the head, the shorter begins the longer.
 fn order_behind(left: &[u8], right: &[u8]) -> Ordering
     requires { head_of left.now ≡ head_of right.now }
     ensures { result ≡ bytes_cmp left.now right.now }
@@ -74,7 +76,7 @@ fn order_behind(left: &[u8], right: &[u8]) -> Ordering
     left.cmp(right)
 }
 
-/// How two texts of these heads stand.
+/// Compares two texts with these heads.
 fn order_of(left_head: u64, left: &[u8], right_head: u64, right: &[u8]) -> Ordering
     requires left { left_head ≡ head_of left.now }
     requires right { right_head ≡ head_of right.now }
@@ -90,11 +92,14 @@ fn order_of(left_head: u64, left: &[u8], right_head: u64, right: &[u8]) -> Order
 }
 
 impl Key {
-    /// The key of these bytes, or `None` where there are none.
+    /// Makes a key of these bytes, or returns `None` if there are none.
     ///
     /// Takes no memory. Doesn't wait.
     pub fn of(bytes: Bytes) -> Option<Key>
+        // Proved (statements, keys): A key is made of exactly the texts that aren't empty. Its bytes are
+        //   the ones that it was made of, 1 to 64.
         ensures not_empty { IsSome result ↔ (0 < length bytes.items) }
+        // Proved (statements, keys)
         ensures bytes { IfSome result (λ key. key ≡ bytes.items) }
     {
         if bytes.is_empty() {
@@ -105,21 +110,25 @@ impl Key {
         }
     }
 
-    /// The bytes, at least one and at most 64.
+    /// Returns the bytes, at least one and at most 64.
     ///
     /// Takes no memory. Doesn't wait.
     pub fn as_slice(&self) -> &[u8]
+        // Proved (statements, keys)
         ensures value { result.now ≡ self.now }
+        // Proved (statements, keys)
         ensures not_empty { 0 < length result.now }
+        // Proved (statements, keys)
         ensures fits { length result.now ≤ text_bytes }
     {
         self.bytes.as_slice()
     }
 
-    /// A copy of the key.
+    /// Returns a copy of the key.
     ///
     /// Takes no memory. Doesn't wait.
     pub fn copy(&self) -> Key
+        // Proved (statements, copies)
         ensures { result ≡ self.now }
     {
         Key {

@@ -1,7 +1,10 @@
-//! The words of the protocol: transaction branch identifiers, session numbers, row keys and statements, and how
-//! literals and identifiers are spelled.
+//! The words of the protocol: identifiers of transaction branches (`Xid`), texts (`Bytes`), keys of rows
+//! (`Key`), numbers of sessions (`SessionNo`) and statements (`Statement`). It also reads and writes how
+//! these are spelled. The tables of forms and faults are in docs/STATEMENTS.md.
 //!
-//! Nothing here waits, and only `write_xid`, `with_xid` and `with_part` take memory.
+//! Read first: specs/Xid.antt, specs/Literal.antt with specs/Quoted.antt, specs/Number.antt,
+//! specs/XidText.antt and specs/Faults.antt, then src/laws.rt. Only `write_xid`, `with_xid` and `with_part`
+//! take memory, and nothing waits.
 #![tactic(auto)]
 
 ghost use Rattle.std.specs.Prelude.{◌≡◌};
@@ -30,19 +33,23 @@ use std::alloc::AllocError;
 pub use xid::Xid;
 pub use xid_text::{read_xid, with_part, with_xid, write_xid};
 
-/// The allocator's error: there was no memory.
+/// The allocator's error: no memory is left.
 pub type NoMemory = AllocError;
 
 /// A text of 0 to 64 bytes, kept in the value itself: a gtrid, a bqual or a row's value.
 ///
-/// Source: the lengths of gtrid and bqual are X/Open C193's, which the MySQL 8.0 Reference Manual repeats.
+/// A contract names its bytes as `text.items`.
+/// Source: the lengths of gtrid and bqual are from X/Open C193; the MySQL 8.0 Reference Manual repeats
+/// them.
 /// The length of a value is our own rule: docs/STATEMENTS.md#rows-and-locks.
 pub type Bytes = ArrayVec<u8, 64>;
 
-/// A copy of a text.
+/// Returns a copy of a text.
 ///
 /// Takes no memory. Doesn't wait.
 pub fn copy_of(text: &Bytes) -> Bytes
+    // Proved (statements, copies): A copy of a text, an identifier, a key or a statement equals its
+    //   original.
     ensures { result ≡ text.now }
 {
     let mut copy = Bytes::new();

@@ -12,26 +12,32 @@ use crate::quoted::text_literal;
 use crate::{ByteClass, Bytes, LiteralFault};
 use arrayvec::ArrayVec;
 
-/// The literal that begins at `at`, and the place behind it.
+/// Reads the literal that begins at `at`, and returns its bytes with the place after it.
 ///
-/// `at` is in `[0, length]`. Errors: `Unclosed`, `TooLong`, `NotALiteral` or `OddHex`, whichever the table of
-/// faults names first. Takes no memory. Doesn't wait.
-/// Source: MySQL 8.0 Reference Manual, 'String Literals' and 'Hexadecimal Literals'; the faults are our own:
-/// docs/STATEMENTS.md#literals.
+/// `at` is in `[0, length]`. Errors: `Unclosed`, `TooLong`, `NotALiteral` or `OddHex`; if several hold, the
+/// first in the table of faults. Takes no memory. Doesn't wait.
+/// Source: MySQL 8.0 Reference Manual, 'String Literals' and 'Hexadecimal Literals'.
+/// The faults are our own rule: docs/STATEMENTS.md#literals.
 pub fn read_literal(text: &[u8], at: usize) -> Result<(Bytes, usize), LiteralFault>
     requires { at ≤ length text.now }
     ensures value { result ≡ literal_from text.now at }
+    // Proved (statements, tokens-are-read-as-spelled): A literal of at most 64 bytes, the number of a
+    //   formatID, or an identifier is read exactly if the text spells it at that place. Its bytes, its
+    //   value or its three parts are returned, with the place after it.
     ensures spelled { IfOk result (λ found. Between TextAt text.now at found.0 found.1) }
+    // Proved (statements, tokens-are-read-as-spelled)
     ensures complete { (bytes : Text) (next : ℕ) → Between TextAt text.now at bytes next → result ≡ Ok (bytes, next) }
+    // Proved (statements, literal-and-number-faults): A literal or a number is refused with a fault exactly
+    //   if that is the first fault in the table of faults that holds.
     ensures faulty { (fault : LiteralFault) → (result ≡ Err fault) ↔ FaultyLiteral (drop at text.now) fault }
 {
     let (bytes, rest) = literal_of(text_from(text, at))?;
     Ok((bytes, text.len() - rest.len()))
 }
 
-/// The literal that a text begins with, and the text behind it.
+/// Reads the literal that a text begins with, and returns its bytes with the rest of the text.
 ///
-/// Errors: those of `read_literal`. Takes no memory. Doesn't wait.
+/// Errors: as for `read_literal`. Takes no memory. Doesn't wait.
 /// Source: as for `read_literal`.
 #[tactic(auto, unfolding(crate::specs::Literal::literal_ahead))]
 pub fn literal_of(text: &[u8]) -> Result<(Bytes, &[u8]), LiteralFault>
@@ -49,7 +55,7 @@ pub fn literal_of(text: &[u8]) -> Result<(Bytes, &[u8]), LiteralFault>
     }
 }
 
-/// Whether a quote stands first.
+/// Returns whether the text begins with a quote.
 fn begins_text(text: &[u8]) -> bool
     ensures value { result ≡ opens_text text.now }
     ensures some { IsTrue result → 1 ≤ length text.now }
@@ -57,7 +63,7 @@ fn begins_text(text: &[u8]) -> bool
     !text.is_empty() && (text[0] == b'\'' || text[0] == b'"')
 }
 
-/// Whether an X and a quote stand first.
+/// Returns whether the text begins with an X and a quote.
 fn begins_hex(text: &[u8]) -> bool
     ensures value { result ≡ opens_hex text.now }
     ensures some { IsTrue result → 2 ≤ length text.now }
@@ -65,7 +71,7 @@ fn begins_hex(text: &[u8]) -> bool
     text.len() >= 2 && (text[0] == b'X' || text[0] == b'x') && text[1] == b'\''
 }
 
-/// Hexadecimal digits behind `X'`, up to the closing quote.
+/// Reads the hexadecimal digits after `X'`, up to the closing quote.
 fn hex_in_quotes(body: &[u8]) -> Result<(Bytes, &[u8]), LiteralFault>
     ensures value { let digits = front (belongs ByteClass.Hexadecimal) body.now in
         let rest = behind (belongs ByteClass.Hexadecimal) body.now in
@@ -88,7 +94,7 @@ fn hex_in_quotes(body: &[u8]) -> Result<(Bytes, &[u8]), LiteralFault>
     }
 }
 
-/// A run that is `0x` and hexadecimal digits.
+/// Reads a run of word bytes that is `0x` and hexadecimal digits.
 fn hex_run(text: &[u8]) -> Result<(Bytes, &[u8]), LiteralFault>
     ensures value { let digits = hex_digits_of (run text.now) in
         MatchResult result
@@ -109,7 +115,7 @@ fn hex_run(text: &[u8]) -> Result<(Bytes, &[u8]), LiteralFault>
     }
 }
 
-/// The digits of a run that is `0x` and one or more hexadecimal digits.
+/// Returns the digits of a run that is `0x` and one or more hexadecimal digits.
 pub(crate) fn hex_digits(run: &[u8]) -> Option<&[u8]>
     ensures { option_copied result ≡ hex_digits_of run.now }
 {
@@ -124,7 +130,7 @@ pub(crate) fn hex_digits(run: &[u8]) -> Option<&[u8]>
     }
 }
 
-/// An odd number of digits with a 0 in front.
+/// Puts a 0 in front of an odd number of digits.
 fn even_digits(digits: &[u8]) -> ArrayVec<u8, 128>
     requires { length digits.now ≤ text_digits }
     ensures { result.items ≡ evened digits.now }
@@ -137,7 +143,7 @@ fn even_digits(digits: &[u8]) -> ArrayVec<u8, 128>
     even
 }
 
-/// The bytes of an even number of hexadecimal digits, with the text behind the literal.
+/// Returns the bytes of an even number of hexadecimal digits, with the text after the literal.
 fn bytes_of<'a>(digits: &[u8], rest: &'a [u8]) -> Result<(Bytes, &'a [u8]), LiteralFault>
     requires { length digits.now ≤ text_digits }
     ensures value { MatchResult result

@@ -1,4 +1,4 @@
-//! Why a token isn't what stands in its place.
+//! Why a token isn't the one that is expected at its place.
 ghost use Rattle.std.specs.Prelude.{◌≡◌};
 ghost use Rattle.xa_xid.specs.Faults.{number_of_literal_fault};
 
@@ -9,13 +9,13 @@ use thiserror::Error;
 /// Own rule: docs/STATEMENTS.md#literals.
 #[derive(Clone, Copy, Debug, Drop, PartialEq, Eq, Error)]
 pub enum LiteralFault {
-    /// No literal begins there; or, for a formatID, no number.
+    /// No literal begins there. For a formatID: no number begins there.
     #[error("no literal begins there")]
     NotALiteral,
     /// The closing quote is missing.
     #[error("the closing quote is missing")]
     Unclosed,
-    /// An odd number of digits stands between `X'` and `'`.
+    /// There is an odd number of digits between `X'` and `'`.
     #[error("an odd number of hexadecimal digits")]
     OddHex,
     /// The literal stands for more than 64 bytes.
@@ -27,11 +27,13 @@ pub enum LiteralFault {
 }
 
 impl LiteralFault {
-    /// The fault's number, in `[1, 5]`.
+    /// Returns the fault's number, in `[1, 5]`.
     ///
     /// Takes no memory. Doesn't wait.
     /// Own rule: docs/STATEMENTS.md#literals.
     pub fn number(&self) -> u64
+        // Proved (statements, fault-numbers): Each fault of a literal has the number that the table of
+        //   faults gives it.
         ensures { result ≡ number_of_literal_fault self.now }
     {
         match self {

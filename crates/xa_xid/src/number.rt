@@ -1,4 +1,4 @@
-//! Numbers, as a formatID is written.
+//! Numbers, as in a formatID.
 ghost use Rattle.std.specs.Prelude.{◌≡◌, ◌↔◌, ℕ, ◌≤◌, ◌<◌, ◌^◌, length, drop, MatchResult, MatchOption, IfOk};
 ghost use Rattle.std.specs.Char.{digit_value};
 ghost use Rattle.std.specs.Str.Parse.{digits_value};
@@ -10,25 +10,28 @@ use crate::byte_class::text_from;
 use crate::literal::hex_digits;
 use crate::{ByteClass, LiteralFault};
 
-/// The number that begins at `at`, and the place behind it.
+/// Reads the number that begins at `at`, and returns its value with the place after it.
 ///
-/// `at` is in `[0, length]`. Errors: `NotALiteral` where the run there isn't a number; `NumberTooLarge` where it
-/// is one above 2^64-1. Takes no memory. Doesn't wait.
+/// `at` is in `[0, length]`. Errors: `NotALiteral` if the run of word bytes there isn't a number;
+/// `NumberTooLarge` if it is a number above 2^64-1. Takes no memory. Doesn't wait.
 /// Own rule: docs/STATEMENTS.md#literals.
 pub fn read_number(text: &[u8], at: usize) -> Result<(u64, usize), LiteralFault>
     requires { at ≤ length text.now }
     ensures value { result ≡ number_from text.now at }
+    // Proved (statements, tokens-are-read-as-spelled)
     ensures spelled { IfOk result (λ found. Between NumberAt text.now at found.0 found.1) }
+    // Proved (statements, tokens-are-read-as-spelled)
     ensures complete { (number next : ℕ) → Between NumberAt text.now at number next → result ≡ Ok (number, next) }
+    // Proved (statements, literal-and-number-faults)
     ensures faulty { (fault : LiteralFault) → (result ≡ Err fault) ↔ FaultyNumber (drop at text.now) fault }
 {
     let (number, rest) = number_of(text_from(text, at))?;
     Ok((number, text.len() - rest.len()))
 }
 
-/// The number that a text begins with, and the text behind it.
+/// Reads the number that a text begins with, and returns its value with the rest of the text.
 ///
-/// Errors: those of `read_number`. Takes no memory. Doesn't wait.
+/// Errors: as for `read_number`. Takes no memory. Doesn't wait.
 /// Own rule: docs/STATEMENTS.md#literals.
 #[tactic(auto, unfolding(crate::specs::Number::number_ahead))]
 pub fn number_of(text: &[u8]) -> Result<(u64, &[u8]), LiteralFault>
@@ -42,7 +45,7 @@ pub fn number_of(text: &[u8]) -> Result<(u64, &[u8]), LiteralFault>
     Ok((number, rest))
 }
 
-/// The value of a run.
+/// Returns the value of a run of word bytes.
 fn value_of_run(run: &[u8]) -> Result<u64, LiteralFault>
     ensures { result ≡ number_in run.now }
 {
@@ -55,7 +58,7 @@ fn value_of_run(run: &[u8]) -> Result<u64, LiteralFault>
     }
 }
 
-/// The value of digits in a base of 1 to 36.
+/// Returns the value of digits in a base of 1 to 36.
 #[tactic(auto, using(crate::proofs::Numbers::fitting_small, crate::proofs::Numbers::fitting_large))]
 fn fitting_value(digits: &[u8], base: u64) -> Result<u64, LiteralFault>
     requires positive { 1 ≤ base }
@@ -68,7 +71,7 @@ fn fitting_value(digits: &[u8], base: u64) -> Result<u64, LiteralFault>
     }
 }
 
-/// The value of digits in a base of 1 to 36, where it is below 2^64.
+/// Returns the value of digits in a base of 1 to 36, if it is below 2^64.
 fn value_in(digits: &[u8], base: u64) -> Option<u64>
     requires positive { 1 ≤ base }
     requires small { base ≤ 36 }
@@ -85,7 +88,7 @@ fn value_in(digits: &[u8], base: u64) -> Option<u64>
     Some(value)
 }
 
-/// The value of a digit or a letter, and 36 for another byte.
+/// Returns the value of a digit or a letter, and 36 for another byte.
 fn value_of_digit(byte: u8) -> u64
     ensures value { result ≡ digit_value byte }
     ensures small { result ≤ 36 }

@@ -1,4 +1,4 @@
-//! Text literals, read byte by byte from the opening quote on.
+//! Text literals, read byte by byte after the opening quote.
 ghost use Rattle.std.specs.Prelude.{◌≡◌, ◌++◌, ◌∷◌, ◌≤◌, List, [], length, ℕ, MatchResult, IfOk};
 ghost use Rattle.xa_xid.specs.Literal.{text_literal_of, kept, sized};
 ghost use Rattle.xa_xid.specs.Quoted.{read_in_quotes, escaped};
@@ -6,7 +6,7 @@ ghost use Rattle.xa_xid.specs.Quoted.{read_in_quotes, escaped};
 use crate::byte_class::text_from;
 use crate::{Bytes, LiteralFault};
 
-/// What the bytes before the next one were.
+/// What the bytes before the next one are.
 #[derive(Clone, Copy, Drop)]
 pub enum Mode {
     /// Anything that is complete.
@@ -17,7 +17,7 @@ pub enum Mode {
     Quote,
 }
 
-/// The bytes that a literal stands for so far, or that they are more than 64.
+/// The bytes that a literal stands for so far; `None` if they are more than 64.
 #[derive(Drop)]
 struct Kept {
     bytes: Option<Bytes>,
@@ -32,7 +32,7 @@ impl Kept {
         }
     }
 
-    /// One byte more.
+    /// Adds one byte.
     fn add(&mut self, byte: u8)
         ensures { (xs : List ℕ) → self.old.bytes ≡ kept xs → self.new.bytes ≡ kept (xs ++ byte ∷ []) }
     {
@@ -45,7 +45,7 @@ impl Kept {
         }
     }
 
-    /// The bytes, with the text behind the literal.
+    /// Returns the bytes, with the text after the literal.
     fn end(self, rest: &[u8]) -> Result<(Bytes, &[u8]), LiteralFault>
         ensures value { MatchResult result
             (λ found. sized self.bytes rest.now ≡ Ok (found.0, found.1.now))
@@ -58,7 +58,7 @@ impl Kept {
         }
     }
 
-    /// What a backslash and a letter stand for.
+    /// Adds what a backslash and a letter stand for.
     #[tactic(auto, unfolding(crate::specs::Quoted::escaped))]
     fn add_escaped(&mut self, letter: u8)
         ensures { (xs : List ℕ) → self.old.bytes ≡ kept xs → self.new.bytes ≡ kept (xs ++ escaped letter) }
@@ -83,9 +83,10 @@ impl Kept {
     }
 }
 
-/// The bytes of a text literal whose opening quote stands before `body`, and the text behind its closing quote.
+/// Reads a text literal whose opening quote comes before `body`; returns its bytes and the text after its
+/// closing quote.
 ///
-/// Goes on past 64 bytes, since a quote that is missing is told before a length. Takes no memory.
+/// It reads on after 64 bytes, since a missing quote is reported before the length. Takes no memory.
 pub fn text_literal(quote: u8, body: &[u8]) -> Result<(Bytes, &[u8]), LiteralFault>
     ensures value { MatchResult result
         (λ found. text_literal_of (read_in_quotes quote Mode.Plain body.now) ≡ Ok (found.0, found.1.now))

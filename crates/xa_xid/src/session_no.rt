@@ -25,11 +25,14 @@ impl SessionNo {
     /// The greatest session number.
     pub const MAX: u64 = 16;
 
-    /// The session of this number, or `None` where the number isn't in `[1, 16]`.
+    /// Returns the session of this number, or `None` if the number isn't in `[1, 16]`.
     ///
     /// Takes no memory. Doesn't wait.
     pub fn of(number: u64) -> Option<SessionNo>
+        // Proved (statements, session-numbers): A session's number is from 1 to 16, and each such number
+        //   has a session.
         ensures in_range { IsSome result ↔ ((1 ≤ number) × (number ≤ 16)) }
+        // Proved (statements, session-numbers)
         ensures number { IfSome result (λ session. session ≡ number) }
     {
         if 1 <= number && number <= Self::MAX {
@@ -41,11 +44,13 @@ impl SessionNo {
         }
     }
 
-    /// The number, in `[1, 16]`.
+    /// Returns the number, in `[1, 16]`.
     ///
     /// Takes no memory. Doesn't wait.
     pub fn get(&self) -> u64
+        // Proved (statements, session-numbers)
         ensures value { result ≡ self.now }
+        // Proved (statements, session-numbers)
         ensures in_range { (1 ≤ result) × (result ≤ 16) }
     {
         self.number as u64

@@ -6,37 +6,39 @@ use crate::{Bytes, Key, Xid, copy_of};
 
 /// A statement that a session gives to a server.
 ///
-/// Source: MySQL 8.0 Reference Manual, 'XA Transaction SQL Statements', for those that begin `XA`; the others
-/// are our own: docs/STATEMENTS.md#rows-and-locks and 'Sessions'.
+/// Source: MySQL 8.0 Reference Manual, 'XA Transaction SQL Statements', for the statements that begin with
+/// `XA`.
+/// The others are our own: docs/STATEMENTS.md#rows-and-locks and docs/STATEMENTS.md#branches.
 #[derive(Clone, Debug, Drop, PartialEq, Eq)]
 pub enum Statement {
     /// `XA START xid` or `XA BEGIN xid`: starts a branch.
     Start(Xid),
     /// `XA END xid`: ends the work of the session's branch.
     End(Xid),
-    /// `XA PREPARE xid`: votes for commit, and detaches the branch from its session.
+    /// `XA PREPARE xid`: makes the branch ready to commit, and detaches it from its session.
     Prepare(Xid),
     /// `XA COMMIT xid`, and with `one_phase` also `ONE PHASE`.
     Commit {
         /// The branch.
         xid: Xid,
-        /// Whether the branch is to be committed without having been prepared.
+        /// Whether the branch is committed without having been prepared.
         one_phase: bool,
     },
     /// `XA ROLLBACK xid`.
     Rollback(Xid),
     /// `XA RECOVER`, and with `convert` also `CONVERT XID`: lists the prepared branches.
     Recover {
-        /// Whether the identifiers are to be printed in hexadecimal digits.
+        /// Whether the identifiers are printed in hexadecimal digits.
         convert: bool,
     },
-    /// A statement of the manual that is recognised and not supported: one with `JOIN`, `RESUME` or `SUSPEND`.
+    /// A statement of the manual that is recognised but not supported: one with `JOIN`, `RESUME` or
+    /// `SUSPEND`.
     Unsupported,
     /// `GET key`: reads a row.
     Get(Key),
     /// `PUT key,value`: gives a row a value.
     Put(Key, Bytes),
-    /// `DEL key`: takes a row's value away.
+    /// `DEL key`: removes a row's value.
     Del(Key),
     /// `DISCONNECT`: ends the session.
     Disconnect,
@@ -44,28 +46,28 @@ pub enum Statement {
 
 // An arm of `copy` with a large value is a function of its own, so that only the arm that is taken has a place to fill.
 
-/// A copy of `XA START`.
+/// Copies `XA START`.
 fn start_of(xid: &Xid) -> Statement
     ensures { result ≡ Start xid.now }
 {
     Statement::Start(xid.copy())
 }
 
-/// A copy of `XA END`.
+/// Copies `XA END`.
 fn end_of(xid: &Xid) -> Statement
     ensures { result ≡ End xid.now }
 {
     Statement::End(xid.copy())
 }
 
-/// A copy of `XA PREPARE`.
+/// Copies `XA PREPARE`.
 fn prepare_of(xid: &Xid) -> Statement
     ensures { result ≡ Prepare xid.now }
 {
     Statement::Prepare(xid.copy())
 }
 
-/// A copy of `XA COMMIT`.
+/// Copies `XA COMMIT`.
 fn commit_of(xid: &Xid, one_phase: bool) -> Statement
     ensures { result ≡ Commit xid.now one_phase }
 {
@@ -75,28 +77,28 @@ fn commit_of(xid: &Xid, one_phase: bool) -> Statement
     }
 }
 
-/// A copy of `XA ROLLBACK`.
+/// Copies `XA ROLLBACK`.
 fn rollback_of(xid: &Xid) -> Statement
     ensures { result ≡ Rollback xid.now }
 {
     Statement::Rollback(xid.copy())
 }
 
-/// A copy of `GET`.
+/// Copies `GET`.
 fn get_of(key: &Key) -> Statement
     ensures { result ≡ Get key.now }
 {
     Statement::Get(key.copy())
 }
 
-/// A copy of `PUT`.
+/// Copies `PUT`.
 fn put_of(key: &Key, value: &Bytes) -> Statement
     ensures { result ≡ Put key.now value.now }
 {
     Statement::Put(key.copy(), copy_of(value))
 }
 
-/// A copy of `DEL`.
+/// Copies `DEL`.
 fn del_of(key: &Key) -> Statement
     ensures { result ≡ Del key.now }
 {
@@ -104,10 +106,11 @@ fn del_of(key: &Key) -> Statement
 }
 
 impl Statement {
-    /// A copy of the statement.
+    /// Returns a copy of the statement.
     ///
     /// Takes no memory. Doesn't wait.
     pub fn copy(&self) -> Statement
+        // Proved (statements, copies)
         ensures { result ≡ self.now }
     {
         match self {

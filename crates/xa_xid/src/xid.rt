@@ -3,16 +3,17 @@ ghost use Rattle.std.specs.Prelude.{◌≡◌, Ok};
 
 use crate::{Bytes, copy_of};
 
-/// The identifier of a transaction branch: which global transaction, and which branch of it.
+/// The identifier of a transaction branch: it names the global transaction, and the branch of it.
 ///
-/// Two identifiers are the same where all three parts are, so `'ab','c'` and `'a','bc'` differ. They are
-/// ordered by formatID, then gtrid, then bqual, texts by their bytes and a prefix before what it begins.
+/// Two identifiers are the same if all three parts are, so `'ab','c'` and `'a','bc'` differ. They are
+/// ordered by formatID, then gtrid, then bqual. Texts are ordered by their bytes; if one begins the other,
+/// the shorter is first.
 ///
 /// Source: MySQL 8.0 Reference Manual, 'XA Transaction SQL Statements'; X/Open C193, the structure `XID`.
-/// The range of formatID, the empty gtrid and the order are our own: docs/STATEMENTS.md#identifiers.
+/// The range of formatID, the empty gtrid and the order are our own rule: docs/STATEMENTS.md#identifiers.
 #[derive(Clone, Debug, Drop, PartialEq, Eq, PartialOrd, Ord)]
 pub struct Xid {
-    /// Which convention the two texts follow, in `[0, 2^64)`; 1 where a statement doesn't say.
+    /// The convention that the two texts follow, in `[0, 2^64)`; 1 if a statement doesn't give it.
     pub format_id: u64,
     /// The global transaction, 0 to 64 bytes.
     pub gtrid: Bytes,
@@ -21,10 +22,11 @@ pub struct Xid {
 }
 
 impl Xid {
-    /// A copy of the identifier.
+    /// Returns a copy of the identifier.
     ///
     /// Takes no memory. Doesn't wait.
     pub fn copy(&self) -> Xid
+        // Proved (statements, copies)
         ensures { result ≡ self.now }
     {
         Xid {

@@ -1,4 +1,4 @@
-//! Identifiers, read at a place in a text and written in their canonical form.
+//! Identifiers: reading one at a place in a text, and writing its canonical text.
 ghost use Rattle.std.specs.Prelude.{◌≡◌, ℕ, ◌≤◌, ◌++◌, length, MatchResult, IfOk, IfErr, IfSome, option_copied};
 ghost use Rattle.hex.specs.Hex.{encode_lower};
 ghost use Rattle.xa_xid.specs.Bytes.{unblank};
@@ -16,23 +16,28 @@ use arrayvec::ArrayVec;
 use itoa::Buffer;
 use std::alloc::Global;
 
-/// An identifier and the text behind it, or the fault and the text from the faulty token on.
+/// An identifier and the text after it, or the fault and the text from the faulty token on.
 type Parse<'a> = Result<(Xid, &'a [u8]), (LiteralFault, &'a [u8])>;
 
-/// The identifier that is spelled from `at` on, blanks before each of its tokens skipped, and the place behind its
-/// last token.
+/// Reads the identifier that begins at `at`, and returns it with the place after its last token.
 ///
-/// `at` is in `[0, length]`. Errors: the fault of the first token that isn't what stands in its place, and the place
-/// where that token begins, which is the text's length where none is left. Takes no memory. Doesn't wait.
-/// Source: MySQL 8.0 Reference Manual, 'XA Transaction SQL Statements'; the places are our own:
-/// docs/STATEMENTS.md#identifiers.
+/// `at` is in `[0, length]`. Blanks before each token are skipped. Errors: the fault of the first token
+/// that isn't the one expected, and the place where that token begins. If no token is left, the place is
+/// the text's length. Takes no memory. Doesn't wait.
+/// Source: MySQL 8.0 Reference Manual, 'XA Transaction SQL Statements'.
+/// The places of faults are our own rule: docs/STATEMENTS.md#identifiers.
 #[tactic(auto, unfolding(crate::specs::XidText::xid_ahead))]
 pub fn read_xid(text: &[u8], at: usize) -> Result<(Xid, usize), (LiteralFault, usize)>
     requires { at ≤ length text.now }
     ensures value { result ≡ xid_from text.now at }
+    // Proved (statements, tokens-are-read-as-spelled)
     ensures spelled { IfOk result (λ found. Between XidAt text.now at found.0 found.1) }
+    // Proved (statements, tokens-are-read-as-spelled)
     ensures complete { (xid : Xid) (next : ℕ) → Between XidAt text.now at xid next → result ≡ Ok (xid, next) }
+    // Proved (statements, xid-faults): An identifier is refused with a fault and a place exactly if the
+    //   token at that place is the first faulty one, and has this fault.
     ensures faulty { IfErr result (λ found. Between FaultyXid text.now at found.0 found.1) }
+    // Proved (statements, xid-faults)
     ensures told { (fault : LiteralFault) (place : ℕ) → Between FaultyXid text.now at fault place → result ≡ Err (fault, place) }
 {
     match read_gtrid(skip_blanks(text_from(text, at))) {
@@ -110,7 +115,7 @@ fn read_format_id(gtrid: Bytes, bqual: Bytes, text: &[u8]) -> Parse<'_>
     }
 }
 
-/// The text behind a comma that stands next.
+/// Returns the text after a comma, if the next token is one.
 fn after_comma(text: &[u8]) -> Option<&[u8]>
     ensures value { option_copied result ≡ comma_next (unblank text.now) }
     ensures within { IfSome result (λ next. length next.now ≤ length text.now) }
@@ -123,20 +128,23 @@ fn after_comma(text: &[u8]) -> Option<&[u8]>
     }
 }
 
-/// The canonical text of the identifier: gtrid, bqual and formatID with commas between them and no blanks.
+/// Writes the canonical text of the identifier: gtrid, bqual and formatID with commas between them and no
+/// blanks.
 ///
-/// May answer `NoMemory`. Doesn't wait.
+/// May return `NoMemory`. Doesn't wait.
 /// Own rule: docs/STATEMENTS.md#canonical-form.
 pub fn write_xid(alloc: Global, xid: &Xid) -> Result<Vec<u8>, NoMemory>
+    // Proved (statements, canonical-xid): The text that is written for an identifier is its canonical text.
     ensures { IfOk result (λ text. text.items ≡ xid_text xid.now) }
 {
     with_xid(Vec::new(alloc), xid)
 }
 
-/// A text with the canonical text of an identifier at its end.
+/// Appends the canonical text of an identifier to a text.
 ///
-/// May answer `NoMemory`, and the text is then dropped. Doesn't wait.
+/// May return `NoMemory`; the text is then dropped. Doesn't wait.
 pub fn with_xid(text: Vec<u8>, xid: &Xid) -> Result<Vec<u8>, NoMemory>
+    // Proved (statements, canonical-xid)
     ensures { IfOk result (λ longer. longer.items ≡ text.items ++ xid_text xid.now) }
 {
     let mut longer = with_part(text, xid.gtrid.as_slice())?;
@@ -148,9 +156,9 @@ pub fn with_xid(text: Vec<u8>, xid: &Xid) -> Result<Vec<u8>, NoMemory>
     Ok(longer)
 }
 
-/// A text with the canonical text of a gtrid, a bqual, a key or a value at its end.
+/// Appends the canonical text of a gtrid, a bqual, a key or a value to a text.
 ///
-/// `bytes` are at most 64. May answer `NoMemory`, and the text is then dropped. Doesn't wait.
+/// `bytes` are at most 64. May return `NoMemory`; the text is then dropped. Doesn't wait.
 /// Own rule: docs/STATEMENTS.md#canonical-form.
 pub fn with_part(mut text: Vec<u8>, bytes: &[u8]) -> Result<Vec<u8>, NoMemory>
     requires { length bytes.now ≤ text_bytes }
@@ -165,7 +173,7 @@ pub fn with_part(mut text: Vec<u8>, bytes: &[u8]) -> Result<Vec<u8>, NoMemory>
     Ok(text)
 }
 
-/// Two small hexadecimal digits for each byte.
+/// Returns two lower-case hexadecimal digits for each byte.
 fn small_digits(bytes: &[u8]) -> ArrayVec<u8, 128>
     requires { length bytes.now ≤ text_bytes }
     ensures { result.items ≡ encode_lower bytes.now }
