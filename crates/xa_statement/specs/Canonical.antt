@@ -6,7 +6,7 @@ use Rattle.xa_xid.specs.XidText.{part_text, xid_text}
 use Rattle.xa_xid.specs.declared.statement.Statement.{Statement}
 use Rattle.xa_xid.specs.declared.statement.Statement.TheVariants.{Start, End, Prepare, Commit, Rollback, Recover, Unsupported, Get, Put, Del, Disconnect}
 
--- nothing is written for what isn't supported
+-- nothing is written for an unsupported statement
 unfoldable pub statement_text : Statement → List ℕ
 statement_text (Start xid) = codes "XA START " ++ xid_text xid
 statement_text (End xid) = codes "XA END " ++ xid_text xid
@@ -22,7 +22,7 @@ statement_text (Put key value) = codes "PUT " ++ (part_text key ++ (44 ∷ part_
 statement_text (Del key) = codes "DEL " ++ part_text key
 statement_text Disconnect = codes "DISCONNECT"
 
--- a key is some bytes, and few enough: every key of a program is such
+-- a key is some bytes, and few enough; this holds of every key of a program
 pub record IsKey (key : List ℕ) : Type 0 where
   pub some : 0 < length key
   pub all : IsBytes key

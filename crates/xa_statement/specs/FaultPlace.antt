@@ -1,4 +1,4 @@
--- Where a text stops being a statement.
+-- The place where a text stops being a statement.
 --     FaultAt text place     no statement is spelled, and this is the place of the fault
 use Rattle.std.specs.Prelude.{◌≡◌, ℕ, ◌+◌, List, [], ◌∷◌, ◌++◌, length}
 use Rattle.xa_xid.specs.declared.statement.Statement.{Statement}
@@ -6,7 +6,7 @@ use Rattle.xa_statement.specs.declared.token.Token.{Token}
 use Rattle.xa_statement.specs.Grammar.{Spells, MayGoOn}
 use Rattle.xa_statement.specs.Token.{Piece, tokens_of, bare}
 
--- the first token with which no statement's tokens begin; or the text ends too soon (own rule)
+-- the first token with which no statement can go on; or the end of a text that ends too soon (own rule)
 pub data FaultAt (text : List ℕ) : ℕ → Type 0 where
   at_token : (place left : ℕ) (front back : List Piece) (token : Token) → tokens_of text ≡ front ++ (token, left) ∷ back
       → MayGoOn (bare front) → (MayGoOn (bare front ++ token ∷ []) → ⊥) → place + left ≡ length text → FaultAt text place

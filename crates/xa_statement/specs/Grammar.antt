@@ -1,7 +1,7 @@
--- The grammar of statements, one constructor a row of the table in docs/STATEMENTS.md.
+-- The grammar of statements, one constructor for each row of the table in docs/STATEMENTS.md#grammar.
 --     XidTokens tokens xid       the tokens are an identifier
 --     Row tokens statement       the tokens are a row of the table
---     Says tokens statement      the same, with at most one ; behind it
+--     Says tokens statement      the same, with at most one ; after it
 --     Spells text statement      the text is blanks and such tokens
 --     MayGoOn tokens             a statement's tokens begin with these
 use Rattle.std.specs.Prelude.{ℕ, true, false, ◌<◌, Option, Some, List, [], ◌∷◌, ◌++◌, length}
@@ -67,7 +67,7 @@ pub data Row : List Token → Statement → Type 0 where
   del : (key : Text) (number : Option ℕ) → 0 < length key.items → Row (Word DEL ∷ Literal key number ∷ []) (Del key.items)
   disconnect : Row (Word DISCONNECT ∷ []) Disconnect
 
--- a row, behind which one ; may stand
+-- a row, after which one ; may come
 pub data Says : List Token → Statement → Type 0 where
   bare_row : {tokens : List Token} {statement : Statement} → Row tokens statement → Says tokens statement
   ended_row : {tokens : List Token} {statement : Statement} → Row tokens statement → Says (tokens ++ Semicolon ∷ []) statement

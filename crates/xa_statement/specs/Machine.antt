@@ -1,6 +1,6 @@
--- How far a statement is read after each token: a machine whose states carry what was read.
---     after_token state token  the state after one token more
---     finish state           the statement, where the tokens so far are one
+-- How far a statement has been read after each token: a machine whose states carry what was read.
+--     after_token state token  the state after one more token
+--     finish state           the statement, if the tokens so far are one
 use Rattle.std.specs.Prelude.{ℕ, true, false, Option, Some, None, List, [], ◌∷◌}
 use Rattle.xa_xid.specs.Xid.{Text}
 use Rattle.xa_xid.specs.XidText.{xid_of, no_text}
@@ -31,7 +31,7 @@ statement_of Prepares xid = Prepare xid
 statement_of Commits xid = Commit xid false
 statement_of RollsBack xid = Rollback xid
 
--- a word behind an xid
+-- a word after an xid
 abbrev pub xid_word : Verb → Xid → Keyword → Option State
 xid_word Starts xid JOIN = Some (Whole Unsupported)
 xid_word Starts xid RESUME = Some (Whole Unsupported)
@@ -76,7 +76,7 @@ after_key Gets key = Whole (Get key)
 after_key Puts key = AfterKey key
 after_key Deletes key = Whole (Del key)
 
--- a literal in the place of a key, which isn't empty
+-- a literal as a key, which isn't empty
 abbrev pub key_state : RowVerb → List ℕ → Option State
 key_state verb [] = None
 key_state verb (byte ∷ bytes) = Some (after_key verb (byte ∷ bytes))
@@ -90,7 +90,7 @@ after_value (WantsKey verb) (Some text) _ = key_state verb text.items
 after_value (WantsValue key) (Some text) _ = Some (Whole (Put key text))
 after_value _ _ _ = None
 
--- the statement behind which a ; may still stand
+-- the statement after which a ; may still come
 abbrev pub unended : State → Option Statement
 unended (AfterGtrid verb gtrid) = Some (statement_of verb (xid_of gtrid no_text 1))
 unended (AfterBqual verb gtrid bqual) = Some (statement_of verb (xid_of gtrid bqual 1))
@@ -105,14 +105,14 @@ abbrev pub ended : Option Statement → Option State
 ended None = None
 ended (Some statement) = Some (Ended statement)
 
--- the state after one token more; none where no statement's tokens go on so
+-- the state after one more token; none if no statement goes on with it
 unfoldable pub after_token : State → Token → Option State
 after_token state (Word word) = after_word state word
 after_token state Comma = after_comma state
 after_token state Semicolon = ended (unended state)
 after_token state (Value literal number) = after_value state literal number
 
--- the statement, where the tokens so far are one
+-- the statement, if the tokens so far are one
 unfoldable pub finish : State → Option Statement
 finish (Ended statement) = Some statement
 finish state = unended state

@@ -1,5 +1,5 @@
 -- A text read as a statement: the statement, or the place of the fault.
---     read_from state pieces     the statement, or how many bytes the text has from the faulty token on
+--     read_from state pieces     the statement, or the number of bytes from the faulty token to the end
 --     read_of text               the statement, or the place of the fault
 --     seen_of                    the same as a program sees it
 use Rattle.std.specs.Prelude.{ℕ, ◌-◌, Option, Some, None, Result, Ok, Err, List, [], ◌∷◌, length}
@@ -10,17 +10,17 @@ use Rattle.xa_statement.specs.declared.syntax_fault.SyntaxFault.{SyntaxFault}
 use Rattle.xa_statement.specs.Machine.{after_token, finish}
 use Rattle.xa_statement.specs.Token.{Piece, tokens_of}
 
--- a statement, or a fault with nothing left
+-- a statement, or a fault at the end of the text
 abbrev pub read_end : Option Statement → Result Statement ℕ
 read_end None = Err 0
 read_end (Some statement) = Ok statement
 
--- the statement, or how many bytes the text has from the faulty token on
+-- the statement, or the number of bytes from the faulty token to the end
 unfoldable pub read_from : State → List Piece → Result Statement ℕ
 read_from state [] = read_end (finish state)
 read_from state (piece ∷ more) = elim (after_token state piece.0) [ None ↦ Err piece.1 | Some next ↦ read_from next more ]
 
--- the place of what is left of a text
+-- the place of the rest of a text
 abbrev pub placed_in : List ℕ → Result Statement ℕ → Result Statement ℕ
 placed_in text (Ok statement) = Ok statement
 placed_in text (Err left) = Err (length text - left)

@@ -1,9 +1,9 @@
 -- Tokens: how a text is cut from the left.
 --     is_word word run       the run is the word, without regard to case
 --     keyword_of run         the word of the grammar that a run is
---     token_at text          the token that a text begins with, and what stands behind it
---     tokens_of text         the tokens of a text, each with how many bytes the text has from it on
---     bare tokens            the tokens alone
+--     token_at text          the token that a text begins with, and the text after it
+--     tokens_of text         the tokens of a text, each with the number of bytes from it to the end
+--     bare tokens            the tokens without these numbers
 use Rattle.std.specs.Prelude.{ℕ, Bool, ◌==◌, ◌||◌, if◌then◌else◌, List, [], ◌∷◌, length, map, codes, zero, suc, Option, Some, None, Ok, Err, bytes_eq}
 use Rattle.std.specs.Char.{to_ascii_lowercase}
 use Rattle.xa_xid.specs.Bytes.{belongs, run, after_run, unblank}
@@ -23,7 +23,7 @@ use Rattle.xa_statement.specs.declared.token.Token.TheVariants.{Word, Comma, Sem
 unfoldable pub is_word : List ℕ → List ℕ → Bool
 is_word word run = bytes_eq (map to_ascii_lowercase run) (map to_ascii_lowercase word)
 
--- the words that begin a statement, or stand behind XA
+-- the words that begin a statement, or come after XA
 unfoldable pub statement_word : List ℕ → Option Keyword
 statement_word run =
     if is_word (codes "XA") run then Some XA else
@@ -39,7 +39,7 @@ statement_word run =
     if is_word (codes "DEL") run then Some DEL else
     if is_word (codes "DISCONNECT") run then Some DISCONNECT else None
 
--- the words of the clauses behind an xid or RECOVER
+-- the words of the clauses after an xid or RECOVER
 unfoldable pub clause_word : List ℕ → Option Keyword
 clause_word run =
     if is_word (codes "JOIN") run then Some JOIN else
@@ -61,12 +61,12 @@ or_else None other = other
 unfoldable pub keyword_of : List ℕ → Option Keyword
 keyword_of run = or_else (statement_word run) (clause_word run)
 
--- what was read, where nothing was faulty
+-- what was read, if nothing was faulty
 abbrev pub part_of : {Answer : Type 0} → Reading Answer → Option Answer
 part_of (Ok (answer, rest)) = Some answer
 part_of (Err fault) = None
 
--- a literal in quotes; where a faulty one ends can't be observed, since no statement has one
+-- a literal in quotes; the end of a faulty one can't be observed, since no statement has one
 abbrev pub quoted_piece : Reading Text → Token × List ℕ
 quoted_piece (Ok (text, rest)) = (Value (Some text) None, rest)
 quoted_piece (Err fault) = (Value None None, [])
@@ -80,11 +80,11 @@ run_token None text = Value (part_of (literal_ahead text)) (part_of (number_ahea
 abbrev pub run_at : List ℕ → Token × List ℕ
 run_at text = (run_token (keyword_of (run text)) text, after_run text)
 
--- a literal in quotes begins
+-- the text begins with a literal in quotes
 abbrev pub opens_quoted : List ℕ → Bool
 opens_quoted text = opens_text text || opens_hex text
 
--- the token that a text begins with, where it begins with no blank
+-- the token that a text begins with, if it doesn't begin with a blank
 unfoldable pub token_at : List ℕ → Token × List ℕ
 token_at [] = (Value None None, [])
 token_at (byte ∷ text) =
@@ -94,16 +94,16 @@ token_at (byte ∷ text) =
     if belongs word_byte byte then run_at (byte ∷ text) else
     (Value None None, [])
 
--- a token with how many bytes the text has from it on
+-- a token with the number of bytes from it to the end
 abbrev pub Piece : Type 0
 Piece = Token × ℕ
 
--- the first token behind blanks, and what stands behind it
+-- the first token after blanks, and the text after it
 abbrev pub first_piece : List ℕ → Option (Piece × List ℕ)
 first_piece [] = None
 first_piece (byte ∷ text) = let cut = token_at (byte ∷ text) in Some ((cut.0, length (byte ∷ text)), cut.1)
 
--- the first so many tokens of a text
+-- the given number of tokens from the beginning of a text
 unfoldable pub pieces : ℕ → List ℕ → List Piece
 pieces zero text = []
 pieces (suc most) text = elim (first_piece (unblank text)) [ None ↦ [] | Some cut ↦ cut.0 ∷ pieces most cut.1 ]
@@ -112,7 +112,7 @@ pieces (suc most) text = elim (first_piece (unblank text)) [ None ↦ [] | Some 
 abbrev pub tokens_of : List ℕ → List Piece
 tokens_of text = pieces (length text) text
 
--- the tokens alone
+-- the tokens without these numbers
 abbrev pub bare : List Piece → List Token
 bare [] = []
 bare (piece ∷ more) = piece.0 ∷ bare more

@@ -1,9 +1,9 @@
--- What reading a part of a text comes to, whatever was read before it.
+-- The result of reading a part of a text, whatever was read before it.
 --     Goes state text next rest      reading `text` from the first state on is reading `rest` from the second one on
---     TakesToken token text rest     the token stands first in the text, and `rest` stands behind it
+--     TakesToken token text rest     the token is the first of the text, and `rest` comes after it
 --     TakesLiteral text found rest   the same of a literal
 --     Leads state text said rest     reading comes to `rest` and a state of a whole statement
---     Ends text                      nothing stands in the text but blanks and at most one ;
+--     Ends text                      the text is only blanks and at most one ;
 use Rattle.std.specs.Prelude.{◌≡◌, ℕ, Bool, false, ◌==◌, not, if◌then◌else◌, List, [], ◌∷◌, Option, Some, Ok}
 use Rattle.xa_xid.specs.Xid.{Text}
 use Rattle.xa_xid.specs.declared.statement.Statement.{Statement}
@@ -18,12 +18,12 @@ use Rattle.xa_statement.specs.Token.{tokens_of}
 abbrev pub plain_in : ℕ → ℕ → Bool
 plain_in quote byte = if byte == quote then false else not (byte == 92)
 
--- the byte stands first
+-- the text begins with the byte
 abbrev pub heads : ℕ → List ℕ → Bool
 heads byte [] = false
 heads byte (first ∷ _) = first == byte
 
--- a quote stands first, and isn't the first of two
+-- the text begins with a quote that isn't the first of two
 abbrev pub Closes : ℕ → List ℕ → List ℕ → Type 0
 Closes quote text rest = (text ≡ quote ∷ rest) × (heads quote rest ≡ false)
 
@@ -31,15 +31,15 @@ Closes quote text rest = (text ≡ quote ∷ rest) × (heads quote rest ≡ fals
 abbrev pub Goes : State → List ℕ → State → List ℕ → Type 0
 Goes state text next rest = read_from state (tokens_of text) ≡ read_from next (tokens_of rest)
 
--- the token stands first, behind blanks
+-- the token comes first, after blanks
 abbrev pub TakesToken : Token → List ℕ → List ℕ → Type 0
 TakesToken token text rest = (state next : State) → after_token state token ≡ Some next → Goes state text next rest
 
--- a literal stands first, whatever number it may be
+-- a literal comes first, whatever number it may be
 abbrev pub TakesLiteral : List ℕ → Text → List ℕ → Type 0
 TakesLiteral text found rest = (number : Option ℕ) × TakesToken (Value (Some found) number) text rest
 
--- a number stands first, whatever literal it may be
+-- a number comes first, whatever literal it may be
 abbrev pub TakesNumber : List ℕ → ℕ → List ℕ → Type 0
 TakesNumber text number rest = (literal : Option Text) × TakesToken (Value literal (Some number)) text rest
 

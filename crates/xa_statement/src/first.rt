@@ -1,4 +1,6 @@
-//! The first token of a text, of the kind that is wanted there.
+//! Functions that take one token of a wanted kind from the front of a text.
+//!
+//! Each returns `None` if another token comes first.
 ghost use Rattle.std.specs.Prelude.{◌≡◌, ◌<◌, ℕ, Option, Some, [], ◌∷◌, None, Ok, length, IfSome, IsTrue};
 ghost use Rattle.xa_xid.specs.Bytes.{front, behind};
 ghost use Rattle.xa_xid.specs.Literal.{literal_ahead, text_literal_of};
@@ -11,7 +13,7 @@ ghost use Rattle.xa_statement.specs.Ways.{TakesToken, TakesLiteral, TakesNumber,
 use crate::token::{Keyword, Token, begins_quoted, number_part, token_of, word_of_run};
 use xa_xid::{ByteClass, Bytes, skip_blanks};
 
-/// The word that stands first, and the text behind it.
+/// Takes a word of the grammar; returns it with the text after it.
 pub(crate) fn first_word(text: &[u8]) -> Option<(Keyword, &[u8])>
     ensures { IfSome result (λ found. TakesToken (Word found.0) text.now found.1.now) }
 {
@@ -19,7 +21,7 @@ pub(crate) fn first_word(text: &[u8]) -> Option<(Keyword, &[u8])>
     Some((word, rest))
 }
 
-/// The same of a text that doesn't begin with a blank.
+/// Does the same for a text that doesn't begin with a blank.
 #[tactic(auto, unfolding(crate::specs::Token::token_at))]
 fn word_in_front(text: &[u8]) -> Option<(Keyword, &[u8])>
     ensures some { IfSome result (λ found. 0 < length text.now) }
@@ -43,7 +45,7 @@ fn word_in_front(text: &[u8]) -> Option<(Keyword, &[u8])>
     }
 }
 
-/// A run of word bytes that is a word of the grammar.
+/// Takes a run of word bytes that is a word of the grammar.
 fn word_run(text: &[u8]) -> Option<(Keyword, &[u8])>
     ensures { IfSome result (λ found. run_at text.now ≡ (Word found.0, found.1.now)) }
 {
@@ -54,7 +56,7 @@ fn word_run(text: &[u8]) -> Option<(Keyword, &[u8])>
     }
 }
 
-/// The number that stands first, and the text behind it.
+/// Takes a number; returns it with the text after it.
 pub(crate) fn first_number(text: &[u8]) -> Option<(u64, &[u8])>
     ensures { IfSome result (λ found. TakesNumber text.now found.0 found.1.now) }
 {
@@ -62,7 +64,7 @@ pub(crate) fn first_number(text: &[u8]) -> Option<(u64, &[u8])>
     Some((number, rest))
 }
 
-/// The same of a text that doesn't begin with a blank.
+/// Does the same for a text that doesn't begin with a blank.
 #[tactic(auto, unfolding(crate::specs::Token::token_at))]
 fn number_in_front(text: &[u8]) -> Option<(u64, &[u8])>
     ensures some { IfSome result (λ found. 0 < length text.now) }
@@ -86,7 +88,7 @@ fn number_in_front(text: &[u8]) -> Option<(u64, &[u8])>
     }
 }
 
-/// A run of word bytes that is a number.
+/// Takes a run of word bytes that is a number.
 fn number_run(text: &[u8]) -> Option<(u64, &[u8])>
     ensures { IfSome result (λ found. run_at text.now ≡ (Value (part_of (literal_ahead text.now)) (Some found.0), found.1.now)) }
 {
@@ -97,7 +99,7 @@ fn number_run(text: &[u8]) -> Option<(u64, &[u8])>
     }
 }
 
-/// The text behind the byte, where that stands first.
+/// Returns the text after the byte, if the text begins with it.
 fn behind_byte(byte: u8, text: &[u8]) -> Option<&[u8]>
     ensures { IfSome result (λ rest. text.now ≡ byte ∷ rest.now) }
 {
@@ -107,7 +109,7 @@ fn behind_byte(byte: u8, text: &[u8]) -> Option<&[u8]>
     }
 }
 
-/// The text behind a comma that stands first.
+/// Returns the text after a comma, if the next token is one.
 pub(crate) fn behind_comma(text: &[u8]) -> Option<&[u8]>
     ensures { IfSome result (λ rest. TakesToken Comma text.now rest.now) }
 {
@@ -115,7 +117,7 @@ pub(crate) fn behind_comma(text: &[u8]) -> Option<&[u8]>
     Some(rest)
 }
 
-/// Whether nothing stands there but blanks and at most one `;`.
+/// Returns whether only blanks and at most one `;` are left.
 pub(crate) fn ends(text: &[u8]) -> bool
     ensures { IsTrue result → Ends text.now }
 {
@@ -126,9 +128,9 @@ pub(crate) fn ends(text: &[u8]) -> bool
     }
 }
 
-/// Puts the literal that stands first into an empty text, and gives the text behind it.
+/// Puts the literal that comes first into an empty text, and returns the text after it.
 ///
-/// Where none stands there the text holds anything.
+/// If no literal comes first, `bytes` holds anything.
 pub(crate) fn take_literal<'a>(bytes: &mut Bytes, text: &'a [u8]) -> Option<&'a [u8]>
     requires { bytes.now.items ≡ [] }
     ensures { IfSome result (λ rest. TakesLiteral text.now bytes.new rest.now) }
@@ -143,7 +145,7 @@ pub(crate) fn take_literal<'a>(bytes: &mut Bytes, text: &'a [u8]) -> Option<&'a 
     }
 }
 
-/// A literal of any form.
+/// Takes a literal of any form.
 fn take_any<'a>(bytes: &mut Bytes, text: &'a [u8]) -> Option<&'a [u8]>
     ensures some { IfSome result (λ rest. 0 < length text.now) }
     ensures token { IfSome result (λ rest. (number : Option ℕ) × (token_at text.now ≡ (Value (Some bytes.new) number, rest.now))) }
@@ -161,7 +163,7 @@ fn take_any<'a>(bytes: &mut Bytes, text: &'a [u8]) -> Option<&'a [u8]>
     }
 }
 
-/// A literal in quotes in which each byte stands for itself.
+/// Takes a literal in quotes in which each byte stands for itself.
 fn take_plain<'a>(bytes: &mut Bytes, text: &'a [u8]) -> Option<&'a [u8]>
     requires { bytes.now.items ≡ [] }
     ensures some { IfSome result (λ rest. 0 < length text.now) }
@@ -180,7 +182,7 @@ fn take_plain<'a>(bytes: &mut Bytes, text: &'a [u8]) -> Option<&'a [u8]>
     }
 }
 
-/// The same from behind the opening quote on.
+/// Does the same after the opening quote.
 fn take_quoted<'a>(quote: u8, bytes: &mut Bytes, body: &'a [u8]) -> Option<&'a [u8]>
     requires { bytes.now.items ≡ [] }
     ensures { IfSome result (λ rest. text_literal_of (read_in_quotes quote Plain body.now) ≡ Ok (bytes.new, rest.now)) }
@@ -193,14 +195,14 @@ fn take_quoted<'a>(quote: u8, bytes: &mut Bytes, body: &'a [u8]) -> Option<&'a [
     }
 }
 
-/// Whether the byte stands for itself between such quotes.
+/// Returns whether the byte stands for itself between such quotes.
 fn is_plain(quote: u8, byte: u8) -> bool
     ensures { result ≡ plain_in quote byte }
 {
     byte != quote && byte != b'\\'
 }
 
-/// The bytes from the front on that stand for themselves, and the text behind them.
+/// Cuts off the bytes at the beginning that stand for themselves.
 fn split_plain(quote: u8, body: &[u8]) -> (&[u8], &[u8])
     ensures front { result.0.now ≡ front (plain_in quote) body.now }
     ensures behind { result.1.now ≡ behind (plain_in quote) body.now }
@@ -213,7 +215,7 @@ fn split_plain(quote: u8, body: &[u8]) -> (&[u8], &[u8])
     body.split_at(body.len())
 }
 
-/// The text behind a quote that isn't the first of two.
+/// Returns the text after a quote that isn't the first of two.
 fn behind_quote(quote: u8, text: &[u8]) -> Option<&[u8]>
     ensures { IfSome result (λ rest. Closes quote text.now rest.now) }
 {
@@ -223,7 +225,7 @@ fn behind_quote(quote: u8, text: &[u8]) -> Option<&[u8]>
     }
 }
 
-/// Whether the byte stands first.
+/// Returns whether the text begins with the byte.
 fn begins_with(byte: u8, text: &[u8]) -> bool
     ensures { result ≡ heads byte text.now }
 {

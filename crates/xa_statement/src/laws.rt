@@ -9,27 +9,32 @@ ghost use Rattle.xa_statement.specs.Reading.{read_of};
 use xa_xid::laws::{are_bytes, is_writable};
 use xa_xid::{Key, Statement};
 
-/// The reading of a text is the grammar's: it is a statement exactly where that is spelled, and a place exactly where
-/// the text stops being one.
+/// States that reading and the grammar agree.
 ///
-/// Takes no memory. Doesn't wait.
+/// A text is read as a statement exactly if the grammar spells it so, and as a place exactly if the text
+/// stops being a statement there. Takes no memory. Doesn't wait.
 pub fn reading_is_the_grammar()
+    // Proved (statements, reading-is-the-grammar): The function by which the transcript reads a text agrees
+    //   with the grammar in both directions, and a text spells at most one statement.
     ensures spelled { (text : List ℕ) (statement : Statement) → (read_of text ≡ Ok statement) ↔ Spells text statement }
+    // Proved (statements, reading-is-the-grammar)
     ensures fault { (text : List ℕ) (place : ℕ) → (read_of text ≡ Err place) ↔ FaultAt text place }
 {}
 
-/// A text spells at most one statement.
+/// States that a text spells at most one statement.
 ///
 /// Takes no memory. Doesn't wait.
 pub fn spelled_statement_is_the_only_one()
+    // Proved (statements, reading-is-the-grammar)
     ensures { (text : List ℕ) (one other : Statement) → Spells text one → Spells text other → one ≡ other }
 {}
 
-/// The canonical text of a statement spells that statement.
+/// States that the canonical text of a statement spells that statement.
 ///
-/// Takes no memory. Doesn't wait.
+/// The statement isn't `Unsupported`. Takes no memory. Doesn't wait.
 pub fn canonical_text_is_spelled(statement: &Statement)
     requires { statement.now ≢ Statement.Unsupported }
+    // Proved (statements, canonical-text)
     ensures { Spells (statement_text statement.now) statement.now }
 {
     match statement {
@@ -50,7 +55,7 @@ pub fn canonical_text_is_spelled(statement: &Statement)
     }
 }
 
-/// A key is 1 to 64 bytes.
+/// States that a key is 1 to 64 bytes.
 fn is_key(key: &Key)
     ensures { IsKey key.now }
 {

@@ -11,23 +11,30 @@ use crate::token::token_of;
 use crate::usual::read_any;
 use xa_xid::{Statement, skip_blanks};
 
-/// The statement that the whole text spells.
+/// Reads the statement that the whole text spells.
 ///
-/// Error: `SyntaxFault`, only where the grammar spells no statement so; its place is that of the first token with
-/// which no statement's tokens begin, or the text's length. Takes no memory. Doesn't wait.
-/// Source: MySQL 8.0 Reference Manual, 'XA Transaction SQL Statements'; places and row statements are our own:
-/// docs/STATEMENTS.md#grammar and 'Fault places'.
+/// Error: `SyntaxFault`, only if the text spells no statement. Its place is the first token with which no
+/// statement can go on, or the text's length if the text ends too soon. Takes no memory. Doesn't wait.
+/// Source: MySQL 8.0 Reference Manual, 'XA Transaction SQL Statements'.
+/// The row statements and the places are our own rule: docs/STATEMENTS.md#grammar,
+/// docs/STATEMENTS.md#fault-places.
 pub fn read_statement(text: &[u8]) -> Result<Statement, SyntaxFault>
     ensures value { result ≡ seen_of (read_of text.now) }
+    // Proved (statements, reading): A text is read as a statement exactly if the grammar spells that
+    //   statement so.
     ensures spelled { IfOk result (Spells text.now) }
+    // Proved (statements, reading)
     ensures complete { (statement : Statement) → Spells text.now statement → result ≡ Ok statement }
+    // Proved (statements, fault-places): Any other text is refused with a fault at the place that the rule
+    //   of fault places gives, and only there.
     ensures fault { IfErr result (λ fault. FaultAt text.now fault.at) }
+    // Proved (statements, fault-places)
     ensures only_fault { (place : ℕ) → FaultAt text.now place → result ≡ Err (record { at = place }) }
 {
     read_any(text)
 }
 
-/// The same, as the machine of states reads.
+/// Reads the same by the machine of states.
 pub(crate) fn read_tokens(text: &[u8]) -> Result<Statement, SyntaxFault>
     ensures { result ≡ seen_of (read_of text.now) }
 {

@@ -1,4 +1,4 @@
-//! How far a statement was read, and what each token leads to.
+//! How far a statement has been read, and the state that each token leads to.
 ghost use Rattle.std.specs.Prelude.{◌≡◌};
 ghost use Rattle.xa_statement.specs.Machine.{after_word, xid_word, after_comma, after_value, after_token, unended, finish, statement_of, after_key};
 ghost use Rattle.xa_xid.specs.XidText.{xid_of};
@@ -24,7 +24,7 @@ pub enum RowVerb {
     Deletes,
 }
 
-/// How far a statement was read, with what was read of it.
+/// How far a statement has been read, with the parts read so far.
 #[derive(Drop)]
 pub enum State {
     /// Nothing yet.
@@ -66,7 +66,7 @@ pub enum State {
 }
 
 impl State {
-    /// The state after one token more, or `None` where no statement's tokens go on so.
+    /// Returns the state after one more token, or `None` if no statement goes on with it.
     #[tactic(auto, unfolding(crate::specs::Machine::after_token))]
     pub fn step(self, token: Token) -> Option<State>
         ensures { result ≡ after_token self token }
@@ -144,7 +144,7 @@ impl State {
         }
     }
 
-    /// The statement that was read, behind which a `;` may still stand.
+    /// Returns the statement that was read; a `;` may still follow it.
     fn unended(self) -> Option<Statement>
         ensures { result ≡ unended self }
     {
@@ -163,7 +163,7 @@ impl State {
         }
     }
 
-    /// The statement, where the tokens so far are one.
+    /// Returns the statement, if the tokens so far are one.
     #[tactic(auto, unfolding(crate::specs::Machine::finish))]
     pub fn finish(self) -> Option<Statement>
         ensures { result ≡ finish self }
@@ -175,7 +175,7 @@ impl State {
     }
 }
 
-/// The word that a statement begins with.
+/// Reads the word that a statement begins with.
 fn first_word(word: Keyword) -> Option<State>
     ensures { result ≡ after_word State.AtFirst word }
 {
@@ -189,7 +189,7 @@ fn first_word(word: Keyword) -> Option<State>
     }
 }
 
-/// The word behind `XA`.
+/// Reads the word after `XA`.
 fn xa_word(word: Keyword) -> Option<State>
     ensures { result ≡ after_word State.AfterXa word }
 {
@@ -204,7 +204,7 @@ fn xa_word(word: Keyword) -> Option<State>
     }
 }
 
-/// A word behind an xid.
+/// Reads a word after an xid.
 fn xid_word(verb: Verb, xid: Xid, word: Keyword) -> Option<State>
     ensures { result ≡ xid_word verb xid word }
 {

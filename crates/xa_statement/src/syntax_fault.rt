@@ -1,4 +1,4 @@
-//! Where a text stops being a statement.
+//! The place where a text stops being a statement.
 
 use thiserror::Error;
 
@@ -8,7 +8,7 @@ use thiserror::Error;
 #[derive(Clone, Copy, Debug, Drop, PartialEq, Eq, Error)]
 #[error("syntax fault at byte {at}")]
 pub struct SyntaxFault {
-    /// The place of the first byte, counted from 0, of the first token with which no statement's tokens begin, or the
-    /// text's length where the text ends too soon.
+    /// The place, counted from 0, of the first byte of the first token with which no statement can go on.
+    /// If the text ends too soon, it is the text's length.
     pub at: u64,
 }

@@ -8,8 +8,8 @@ use xa_xid::{ByteClass, Bytes, literal_of, number_of};
 
 /// A word of the grammar.
 ///
-/// Source: MySQL 8.0 Reference Manual, 'XA Transaction SQL Statements'; the last four are our own:
-/// docs/STATEMENTS.md#grammar.
+/// Source: MySQL 8.0 Reference Manual, 'XA Transaction SQL Statements'.
+/// The last four are our own: docs/STATEMENTS.md#grammar.
 #[derive(Clone, Copy, Debug, PartialEq, Eq)]
 pub enum Keyword {
     Xa,
@@ -44,15 +44,15 @@ pub enum Token {
     Comma,
     /// `;`
     Semicolon,
-    /// What it stands for as a literal and as a formatID: both for `0x41`, and neither for what is no token of a
-    /// statement.
+    /// Its value as a literal and its value as a formatID: both for `0x41`, and neither if no statement has
+    /// such a token.
     Value(Option<Bytes>, Option<u64>),
 }
 
-/// The token that a text begins with, and the text behind it.
+/// Cuts off the token that a text begins with; returns it with the text after it.
 ///
-/// The text isn't empty and begins with no blank. A faulty literal takes the rest of the text: no statement has one,
-/// so nobody can tell.
+/// The text isn't empty and doesn't begin with a blank. A faulty literal takes the rest of the text. No
+/// statement has a faulty literal, so this can't be observed.
 #[tactic(auto, unfolding(crate::specs::Token::token_at))]
 pub(crate) fn token_of(text: &[u8]) -> (Token, &[u8])
     requires { 0 < length text.now }
@@ -73,7 +73,7 @@ pub(crate) fn token_of(text: &[u8]) -> (Token, &[u8])
     }
 }
 
-/// Whether a literal in quotes begins the text.
+/// Returns whether the text begins with a literal in quotes.
 pub(crate) fn begins_quoted(text: &[u8]) -> bool
     requires { 0 < length text.now }
     ensures { result ≡ opens_quoted text.now }
@@ -85,7 +85,7 @@ pub(crate) fn begins_quoted(text: &[u8]) -> bool
     }
 }
 
-/// A literal in quotes.
+/// Cuts off a literal in quotes.
 fn quoted_token(text: &[u8]) -> (Token, &[u8])
     ensures { (result.0, result.1.now) ≡ quoted_piece (literal_ahead text.now) }
 {
@@ -95,7 +95,7 @@ fn quoted_token(text: &[u8]) -> (Token, &[u8])
     }
 }
 
-/// A run of word bytes.
+/// Cuts off a run of word bytes.
 fn run_token(text: &[u8]) -> (Token, &[u8])
     ensures { (result.0, result.1.now) ≡ run_at text.now }
 {
@@ -106,7 +106,7 @@ fn run_token(text: &[u8]) -> (Token, &[u8])
     }
 }
 
-/// What the text begins with as a literal.
+/// Returns the literal that the text begins with, if it begins with one.
 fn literal_part(text: &[u8]) -> Option<Bytes>
     ensures { result ≡ part_of (literal_ahead text.now) }
 {
@@ -116,7 +116,7 @@ fn literal_part(text: &[u8]) -> Option<Bytes>
     }
 }
 
-/// What the text begins with as a number.
+/// Returns the number that the text begins with, if it begins with one.
 pub(crate) fn number_part(text: &[u8]) -> Option<u64>
     ensures { result ≡ part_of (number_ahead text.now) }
 {
@@ -126,7 +126,7 @@ pub(crate) fn number_part(text: &[u8]) -> Option<u64>
     }
 }
 
-/// The word that a run is, without regard to case.
+/// Returns the word of the grammar that a run is, without regard to case.
 #[tactic(auto, unfolding(crate::specs::Token::keyword_of))]
 pub(crate) fn word_of_run(run: &[u8]) -> Option<Keyword>
     ensures { result ≡ keyword_of run.now }
@@ -137,7 +137,7 @@ pub(crate) fn word_of_run(run: &[u8]) -> Option<Keyword>
     }
 }
 
-/// The words that begin a statement, or stand behind `XA`.
+/// Finds a word that begins a statement or follows `XA`.
 #[tactic(auto, unfolding(crate::specs::Token::statement_word))]
 fn first_word(run: &[u8]) -> Option<Keyword>
     ensures { result ≡ statement_word run.now }
@@ -171,7 +171,7 @@ fn first_word(run: &[u8]) -> Option<Keyword>
     }
 }
 
-/// The words of the clauses behind an xid or `RECOVER`.
+/// Finds a word of the clauses after an xid or `RECOVER`.
 #[tactic(auto, unfolding(crate::specs::Token::clause_word))]
 fn later_word(run: &[u8]) -> Option<Keyword>
     ensures { result ≡ clause_word run.now }
@@ -199,7 +199,7 @@ fn later_word(run: &[u8]) -> Option<Keyword>
     }
 }
 
-/// Whether the run is the word, without regard to case.
+/// Returns whether the run is the word, without regard to case.
 fn same_word(word: &[u8], run: &[u8]) -> bool
     ensures { result ≡ is_word word.now run.now }
 {

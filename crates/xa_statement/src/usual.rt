@@ -1,6 +1,7 @@
-//! The usual statements, each read in one go: those of an xid alone, and those of rows.
+//! The usual statements, each read in one go: statements that consist of a verb and an xid, and statements
+//! of rows.
 //!
-//! Where a text is none of them, the machine of states reads it.
+//! The machine of states reads every other text, so this way never returns a fault itself.
 ghost use Rattle.std.specs.Prelude.{◌≡◌, ◌<◌, Some, [], length, IfSome};
 ghost use Rattle.xa_xid.specs.XidText.{xid_of, no_text};
 ghost use Rattle.xa_xid.specs.declared.statement.Statement.TheVariants.{Put};
@@ -18,7 +19,7 @@ use crate::state::{Verb, statement_of};
 use crate::token::Keyword;
 use xa_xid::{Bytes, Key, Statement, Xid};
 
-/// The statement that the whole text spells.
+/// Reads the statement that the whole text spells.
 pub(crate) fn read_any(text: &[u8]) -> Result<Statement, SyntaxFault>
     ensures { result ≡ seen_of (read_of text.now) }
 {
@@ -31,7 +32,7 @@ pub(crate) fn read_any(text: &[u8]) -> Result<Statement, SyntaxFault>
     }
 }
 
-/// What the word behind `XA` does with an xid.
+/// Returns what the word after `XA` does with an xid.
 fn verb_of(word: Keyword) -> Option<Verb>
     ensures { IfSome result (λ verb. after_word AfterXa word ≡ Some (WantsGtrid verb)) }
 {
@@ -45,7 +46,7 @@ fn verb_of(word: Keyword) -> Option<Verb>
     }
 }
 
-/// A text that begins with `XA`.
+/// Reads a text that begins with `XA`.
 fn read_xa(text: &[u8], rest: &[u8]) -> Result<Statement, SyntaxFault>
     requires { Goes AtFirst text.now AfterXa rest.now }
     ensures { result ≡ seen_of (read_of text.now) }
@@ -58,7 +59,7 @@ fn read_xa(text: &[u8], rest: &[u8]) -> Result<Statement, SyntaxFault>
     read_tokens(text)
 }
 
-/// A text in which an xid is wanted.
+/// Reads a text in which an xid comes next.
 fn read_branch(verb: Verb, text: &[u8], rest: &[u8]) -> Result<Statement, SyntaxFault>
     requires { Goes AtFirst text.now (WantsGtrid verb) rest.now }
     ensures { result ≡ seen_of (read_of text.now) }
@@ -74,7 +75,7 @@ fn read_branch(verb: Verb, text: &[u8], rest: &[u8]) -> Result<Statement, Syntax
     }
 }
 
-/// Fills an xid, and gives the text behind it.
+/// Fills an xid, and returns the text after it.
 fn take_xid<'a>(xid: &mut Xid, text: &'a [u8]) -> Option<&'a [u8]>
     requires { xid.now ≡ xid_of no_text no_text 1 }
     ensures { IfSome result (λ rest. (verb : Verb) → Leads (WantsGtrid verb) text.now (statement_of verb xid.new) rest.now) }
@@ -113,7 +114,7 @@ fn take_format_id<'a>(xid: &mut Xid, text: &'a [u8]) -> Option<&'a [u8]>
     Some(rest)
 }
 
-/// A text that begins with `GET`.
+/// Reads a text that begins with `GET`.
 fn read_get(text: &[u8], rest: &[u8]) -> Result<Statement, SyntaxFault>
     requires { Goes AtFirst text.now (WantsKey Gets) rest.now }
     ensures { result ≡ seen_of (read_of text.now) }
@@ -128,7 +129,7 @@ fn read_get(text: &[u8], rest: &[u8]) -> Result<Statement, SyntaxFault>
     }
 }
 
-/// A text that begins with `DEL`.
+/// Reads a text that begins with `DEL`.
 fn read_del(text: &[u8], rest: &[u8]) -> Result<Statement, SyntaxFault>
     requires { Goes AtFirst text.now (WantsKey Deletes) rest.now }
     ensures { result ≡ seen_of (read_of text.now) }
@@ -143,7 +144,7 @@ fn read_del(text: &[u8], rest: &[u8]) -> Result<Statement, SyntaxFault>
     }
 }
 
-/// A text that begins with `PUT`.
+/// Reads a text that begins with `PUT`.
 fn read_put(text: &[u8], rest: &[u8]) -> Result<Statement, SyntaxFault>
     requires { Goes AtFirst text.now (WantsKey Puts) rest.now }
     ensures { result ≡ seen_of (read_of text.now) }
@@ -159,7 +160,7 @@ fn read_put(text: &[u8], rest: &[u8]) -> Result<Statement, SyntaxFault>
     }
 }
 
-/// Fills a key and a value, and gives the text behind them.
+/// Fills a key and a value, and returns the text after them.
 fn take_row<'a>(key: &mut Bytes, value: &mut Bytes, text: &'a [u8]) -> Option<&'a [u8]>
     requires key { key.now.items ≡ [] }
     requires value { value.now.items ≡ [] }

@@ -6,13 +6,16 @@ ghost use Rattle.xa_xid.specs.XidText.{part_text, xid_text};
 use std::alloc::Global;
 use xa_xid::{Key, NoMemory, Statement, Xid, with_part, with_xid};
 
-/// The canonical text of a statement: capitals, one space between tokens, each literal in hexadecimal digits, no `;`.
+/// Writes the canonical text of a statement: capitals, one space between tokens, literals in hexadecimal
+/// digits, no `;`.
 ///
-/// The statement isn't `Unsupported`. May answer `NoMemory`. Doesn't wait.
+/// The statement isn't `Unsupported`. May return `NoMemory`; nothing is kept then. Doesn't wait.
 /// Own rule: docs/STATEMENTS.md#canonical-form.
 #[tactic(auto, unfolding(crate::specs::Canonical::statement_text))]
 pub fn write_statement(alloc: Global, statement: &Statement) -> Result<Vec<u8>, NoMemory>
     requires { statement.now ≢ Statement.Unsupported }
+    // Proved (statements, canonical-text): The text that is written for a statement is its canonical text,
+    //   and that text spells the statement.
     ensures { IfOk result (λ text. text.items ≡ statement_text statement.now) }
 {
     let text = Vec::new(alloc);
@@ -47,7 +50,7 @@ pub fn write_statement(alloc: Global, statement: &Statement) -> Result<Vec<u8>, 
     }
 }
 
-/// A text with words, an xid and words at its end.
+/// Appends words, an xid and words to a text.
 fn xid_statement(text: Vec<u8>, before: &[u8], xid: &Xid, after: &[u8]) -> Result<Vec<u8>, NoMemory>
     ensures { IfOk result (λ longer.
         longer.items ≡ text.items ++ (before.now ++ (xid_text xid.now ++ after.now))) }
@@ -55,14 +58,14 @@ fn xid_statement(text: Vec<u8>, before: &[u8], xid: &Xid, after: &[u8]) -> Resul
     with_text(with_xid(with_text(text, before)?, xid)?, after)
 }
 
-/// A text with words and a key at its end.
+/// Appends words and a key to a text.
 fn key_statement(text: Vec<u8>, before: &[u8], key: &Key) -> Result<Vec<u8>, NoMemory>
     ensures { IfOk result (λ longer. longer.items ≡ text.items ++ (before.now ++ part_text key.now)) }
 {
     with_part(with_text(text, before)?, key.as_slice())
 }
 
-/// A text with words at its end.
+/// Appends words to a text.
 fn with_text(mut text: Vec<u8>, words: &[u8]) -> Result<Vec<u8>, NoMemory>
     ensures { IfOk result (λ longer. longer.items ≡ text.items ++ words.now) }
 {
