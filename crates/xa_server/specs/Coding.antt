@@ -1,4 +1,4 @@
--- How a state is stored where a proof has to tell states apart: each record as the pairs of its fields.
+-- How a state is encoded in finite maps: each record as the pairs of its fields.
 use Rattle.std.specs.Prelude.{◌≡◌, ℕ, Option, Some, None, List, zero, suc, refl}
 use Rattle.std.specs.FinMap as map
 use Rattle.std.specs.Coded.{Coded, code_by, coded×, coded_option, coded_ℕ}
@@ -17,7 +17,7 @@ use Rattle.xa_server.specs.declared.row.RowRecord.{RowRecord}
 use Rattle.xa_server.specs.Rows.{Sharing, write_of}
 use Rattle.xa_server.specs.State.{Write, LockMode, Shared, Exclusive, RowLocks, Branch, State}
 
--- a phase is stored as a number
+-- a phase is encoded as a number
 abbrev pub number_of_phase : Phase → ℕ
 number_of_phase Active = 0
 number_of_phase Idle = 1
@@ -39,7 +39,7 @@ coded_phase = code_by ℕ coded_ℕ number_of_phase phase_of_number phase_back
 abbrev pub coded_key : Coded (List ℕ)
 coded_key = coded_list coded_ℕ
 
--- a lock mode is stored as a number
+-- a lock mode is encoded as a number
 abbrev pub number_of_mode : LockMode → ℕ
 number_of_mode Shared = 0
 number_of_mode Exclusive = 1
@@ -68,7 +68,7 @@ coded_state =
     (coded× (map.code coded_xid coded_branch) (map.code coded_key coded_text))
     (λ s. (s.branches, s.rows)) (λ p. record { branches = p.0; rows = p.1 }) (λ _. refl)
 
--- a list of keys is stored as it is
+-- a list of keys is encoded as it is
 abbrev pub coded_keys : Coded (List (List ℕ))
 coded_keys = coded_list coded_key
 
@@ -80,7 +80,7 @@ coded_branch_record =
 abbrev pub coded_branches : Coded (map.FinMap xid_cmp BranchRecord)
 coded_branches = map.code coded_xid coded_branch_record
 
--- a change is stored as what it writes
+-- a change is encoded as what it writes
 abbrev pub change_of : Write → Change
 change_of (Some value) = Put value
 change_of None = Delete
@@ -92,7 +92,7 @@ change_back Delete = refl
 abbrev pub coded_change : Coded Change
 coded_change = code_by Write (coded_option coded_text) write_of change_of change_back
 
--- a lock is stored as its one holder, if it has one, and its sharers
+-- a lock is encoded as its holder, if it has one, and its sharers
 abbrev pub holder_and_sharers : Lock → Option (Xid × Change) × Sharing
 holder_and_sharers (HeldBy holder change) = (Some (holder, change), set.empty)
 holder_and_sharers (SharedBy sharers) = (None, sharers)

@@ -2,7 +2,7 @@
 -- (own rule).
 --     number_of       the server's error number
 --     sqlstate_of     its five characters
---     xa_code_of      the XA return code, where there is one
+--     xa_code_of      the XA return code, if there is one
 --     state_text      the name of a state
 --     message_of      its text
 use Rattle.std.specs.Prelude.{ℕ, ℤ, negsuc, Option, Some, None, List, ◌++◌, codes}
@@ -39,7 +39,7 @@ state_text Active = codes "ACTIVE"
 state_text Idle = codes "IDLE"
 state_text Prepared = codes "PREPARED"
 
--- the manual's name, where there is one, and then words of our own
+-- the manual's name, if there is one, and then words of our own
 abbrev pub message_of : XaError → List ℕ
 message_of Nota = codes "XAER_NOTA unknown xid"
 message_of Inval = codes "XAER_INVAL clause not supported"

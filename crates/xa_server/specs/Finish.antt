@@ -1,4 +1,4 @@
--- What it is to finish a prepared branch.
+-- Finishing a prepared branch: what it means, and at which places of a history it happens.
 --     Finishes        the statement ends the branch, if it is accepted
 --     FinishesAt      a place of a history at which a prepared branch is finished
 --     PreparesAt      a place at which a branch is prepared
@@ -25,7 +25,7 @@ pub record FinishesAt (base : State) (history : List (ℕ × Statement)) (place 
   pub prepared : is_prepared (after_all base (take place history)) xid ≡ true
   pub accepted : reply_to (after_all base (take place history)) session statement ≡ Accepted
 
--- at this place stands an accepted XA PREPARE of the branch
+-- there is an accepted XA PREPARE of the branch at this place
 pub record PreparesAt (base : State) (history : List (ℕ × Statement)) (place : ℕ) (xid : Xid) : Type 0 where
   pub session : ℕ
   pub entry : slice_get history place ≡ Some (session, Prepare xid)

@@ -1,6 +1,6 @@
--- What the records say of the branches, and of the rows that a branch holds.
+-- The branches, and the rows that a branch holds, by the records.
 --     recorded_entry     a branch without its rows, by its record
---     hold_in            how this branch holds a row, where it does, by the row's lock
+--     hold_in            how this branch holds a row, if it does, by the row's lock
 --     held_among         the rows that this branch holds in a list of records
 use Rattle.std.specs.Prelude.{ℕ, cond, Option, Some, None, List, [], ◌∷◌, map}
 use Rattle.std.specs.Option.{option_map_or}
@@ -28,12 +28,12 @@ recorded_entry named = record { xid = named.0; phase = named.1.phase; owner = na
 abbrev pub recorded_entries : BranchMap → List BranchEntry
 recorded_entries branches = map recorded_entry (fin.entries branches)
 
--- how this branch holds a row, where it does
+-- how this branch holds a row, if it does
 abbrev pub hold_in : Xid → Lock → Option Hold
 hold_in xid (HeldBy holder change) = cond (same_xid holder xid) (Some (hold_of (Some (write_of change)))) None
 hold_in xid (SharedBy sharers) = cond (set.contains sharers xid) (Some Shares) None
 
--- the row, before others, where the branch holds it
+-- the row, before others, if the branch holds it
 abbrev pub with_held : List ℕ → Option Hold → List HeldRow → List HeldRow
 with_held key held rows = option_map_or (λ hold. record { key = key; hold = hold } ∷ rows) held rows
 

@@ -1,5 +1,5 @@
--- What holds of every state and every history.
---     IsPreparedBetween    an accepted XA PREPARE of the branch stands between two places of a history
+-- Words of the laws of every state and every history.
+--     IsPreparedBetween    there is an accepted XA PREPARE of the branch between two places of a history
 --     LeavesSession        what a session has open is as it was
 use Rattle.std.specs.Prelude.{◌≡◌, ℕ, ◌<◌, true, List}
 use Rattle.std.specs.FinMap as map
@@ -8,7 +8,7 @@ use Rattle.xa_xid.specs.declared.statement.Statement.{Statement}
 use Rattle.xa_server.specs.State.{State, owns, own_xid, phase_at, association_of}
 use Rattle.xa_server.specs.Finish.{PreparesAt}
 
--- an accepted XA PREPARE of the branch stands between two places of a history
+-- there is an accepted XA PREPARE of the branch between two places of a history
 pub record IsPreparedBetween (base : State) (history : List (ℕ × Statement)) (first second : ℕ) (xid : Xid) : Type 0 where
   pub place : ℕ
   pub after_first : first < place

@@ -1,5 +1,5 @@
--- Who holds a row against whom, and what every state of a server keeps.
---     lock_at              how the branch holds the row, where it does
+-- The branches that hold a row, and the lock law that every state of a server keeps.
+--     lock_at              how the branch holds the row, if it does
 --     holds, holds_exclusively      whether the branch holds the row, in either way;  exclusively
 --     is_held_against      whether a branch that isn't the session's own holds the row, in either way
 --     is_locked_against    whether such a branch holds it exclusively
@@ -14,7 +14,7 @@ use Rattle.xa_server.specs.declared.association.Association.{Association}
 use Rattle.xa_server.specs.declared.association.Association.TheVariants.{Free, Active, Idle}
 use Rattle.xa_server.specs.State.{State, LockMode, Shared, Exclusive, is_known, is_prepared, owner_at, owns, write_at}
 
--- how the branch holds the row until it ends, where it does (own rule)
+-- how the branch holds the row until it ends, if it does (own rule)
 abbrev pub lock_at : State → Xid → List ℕ → Option LockMode
 lock_at state xid key = option_and_then (λ branch. map.get branch.locks key) (map.get state.branches xid)
 

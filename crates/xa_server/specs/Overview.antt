@@ -39,7 +39,7 @@ held_row branch lock = record { key = lock.0; hold = hold_of (fin.get branch.wri
 abbrev pub rows_held : Branch → List HeldRow
 rows_held branch = map (held_row branch) (fin.entries branch.locks)
 
--- the rows that the branch of this identifier holds, ascending by key; none, where there is no such branch
+-- the rows that the branch of this identifier holds, ascending by key; none, if there is no such branch
 unfoldable pub rows_of : State → Xid → List HeldRow
 rows_of state xid = option_map_or rows_held (fin.get state.branches xid) []
 

@@ -1,4 +1,4 @@
--- What each statement is answered, in each state of a session.
+-- The reply to each statement, in each state of a session.
 --     table      the table of replies, one line for each statement and each state of the session
 --     reply_to   the reply to a session's statement
 use Rattle.std.specs.Prelude.{ℕ, Bool, true, false, not}
@@ -15,19 +15,19 @@ use Rattle.xa_server.specs.declared.association.Association.TheVariants.{Free, A
 use Rattle.xa_server.specs.State.{State, is_known, is_prepared, association_of, committed_value, value_within, prepared_xids}
 use Rattle.xa_server.specs.Locks.{is_held_against, is_locked_against}
 
--- the statement is carried out where the test holds, and else refused
+-- the statement is carried out if the test holds, and else refused
 abbrev pub ok_if : Bool → XaError → Reply
 ok_if true error = Accepted
 ok_if false error = Refused error
 
--- the statement is refused where the test holds, and else answered so
+-- the statement is refused if the test holds, and else has this reply
 abbrev pub refused_if : Bool → XaError → Reply → Reply
 refused_if true error reply = Refused error
 refused_if false error reply = reply
 
 -- One line a row and column of docs/STATEMENTS.md#replies, in its order. `own` is the branch that the session has open.
 -- Which statement is allowed in which state is the manual's ('XA Transaction States') and C193's; the order of the refusals,
--- what answers an identifier that isn't the session's, ONE PHASE of a PREPARED branch, and the rows are our own rules.
+-- the reply to an identifier that isn't the session's, ONE PHASE of a PREPARED branch, and the rows are our own rules.
 unfoldable pub table : State → Association → Statement → Reply
 table state Free (Start xid) = refused_if (is_known state xid) Dupid Accepted
 table state (Active own) (Start xid) = Refused (Rmfail StateActive)

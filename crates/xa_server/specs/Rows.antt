@@ -5,10 +5,10 @@
 --     held_against           a branch that isn't the session's own holds the row, in either way
 --     locked_against         such a branch holds it exclusively
 --     value_seen             the value that the branch sees
---     held_row, shared_row   the record once the branch holds the row exclusively, and does this to it;  once it shares the row
---     with_change            the branch once it holds the row exclusively, and does this to it
---     freed_row, freed       the record once the branch has ended
---     Frees                  all records once the branch has ended
+--     held_row, shared_row   the record after the branch holds the row exclusively, with this change;  after it shares the row
+--     with_change            the branch after it holds the row exclusively, with this change
+--     freed_row, freed       the record after the branch has ended
+--     Frees                  all records after the branch has ended
 use Rattle.std.specs.Prelude.{◌≡◌, ℕ, Bool, false, cond, ◌||◌, is_some, Option, Some, None, List}
 use Rattle.std.specs.List.{list_any}
 use Rattle.std.specs.Ordering.{eq_by_cmp}
@@ -31,14 +31,14 @@ use Rattle.xa_server.specs.Locks.{is_another}
 abbrev pub RowMap : Type 0
 RowMap = map.FinMap bytes_cmp RowRecord
 
--- the branches that share a row; none, where nobody holds it
+-- the branches that share a row; none, if nobody holds it
 abbrev pub Sharing : Type 0
 Sharing = set.FinSet xid_cmp
 
 abbrev pub committed_of : Option RowRecord → Option Text
 committed_of found = option_and_then (λ row. row.committed) found
 
--- who holds a row: nobody, where it has no record
+-- who holds a row: nobody, if it has no record
 abbrev pub lock_of : Option RowRecord → Lock
 lock_of None = SharedBy set.empty
 lock_of (Some row) = row.lock
@@ -56,7 +56,7 @@ write_in xid (SharedBy sharers) = None
 abbrev pub write_by : Xid → RowRecord → Option Write
 write_by xid row = write_in xid row.lock
 
--- how this branch holds the row, where it does
+-- how this branch holds the row, if it does
 abbrev pub mode_in : Xid → Lock → Option LockMode
 mode_in xid (HeldBy holder change) = cond (same_xid holder xid) (Some Exclusive) None
 mode_in xid (SharedBy sharers) = cond (set.contains sharers xid) (Some Shared) None
@@ -86,29 +86,29 @@ locked_against association found = option_map_or (λ row. locked_beside associat
 abbrev pub value_seen : Xid → Option RowRecord → Option Text
 value_seen xid found = unwrap_or (option_and_then (write_by xid) found) (committed_of found)
 
--- the record once the branch holds the row exclusively, and does this to it
+-- the record after the branch holds the row exclusively, with this change
 abbrev pub held_row : Xid → Change → Option RowRecord → RowRecord
 held_row xid change found = record { committed = committed_of found; lock = HeldBy xid change }
 
--- the holders once the branch is one of the sharers; where a branch holds the row exclusively, nobody comes to share it
+-- the holders after the branch is one of the sharers; if a branch holds the row exclusively, nobody is added
 abbrev pub with_sharer : Xid → Lock → Lock
 with_sharer xid (HeldBy holder change) = HeldBy holder change
 with_sharer xid (SharedBy sharers) = SharedBy (set.insert sharers xid)
 
--- the record once the branch shares the row
+-- the record after the branch shares the row
 abbrev pub shared_row : Xid → Option RowRecord → RowRecord
 shared_row xid found = record { committed = committed_of found; lock = with_sharer xid (lock_of found) }
 
--- what it is for a branch to hold the row exclusively and do this to it
+-- a branch after it holds the row exclusively, with this change
 abbrev pub with_change : List ℕ → Change → Branch → Branch
 with_change key change branch = with_own_write key (write_of change) branch
 
--- the holders once the branch has ended
+-- the holders after the branch has ended
 abbrev pub freed_lock : Xid → Lock → Lock
 freed_lock xid (HeldBy holder change) = cond (same_xid holder xid) (SharedBy set.empty) (HeldBy holder change)
 freed_lock xid (SharedBy sharers) = SharedBy (set.remove sharers xid)
 
--- the record once the branch has ended: its write is the committed value if it commits, and it holds the row no more
+-- the record after the branch has ended: its write is the committed value if it commits, and it holds the row no more
 abbrev pub freed_row : Bool → Xid → RowRecord → RowRecord
 freed_row commits xid row = record { committed = cond commits (unwrap_or (write_by xid row) row.committed) row.committed; lock = freed_lock xid row.lock }
 
@@ -116,15 +116,15 @@ freed_row commits xid row = record { committed = cond commits (unwrap_or (write_
 abbrev pub is_needed : RowRecord → Bool
 is_needed row = is_some row.committed || held_beside Free row.lock
 
--- the record that a row keeps, which has none where it has no value and nobody holds it
+-- the record that a row keeps; none, if it has no value and nobody holds it
 abbrev pub kept : RowRecord → Option RowRecord
 kept row = cond (is_needed row) (Some row) None
 
--- the record of a row, where there is one, once the branch has ended
+-- the record of a row, if there is one, after the branch has ended
 abbrev pub freed : Bool → Xid → Option RowRecord → Option RowRecord
 freed commits xid found = option_and_then (λ row. kept (freed_row commits xid row)) found
 
--- the records once the branch has ended, which held the rows of these keys
+-- the records after the end of a branch that held the rows of these keys
 abbrev pub Frees : Bool → Xid → List (List ℕ) → RowMap → RowMap → Type 0
 Frees commits xid keys old new =
     (key : List ℕ) → map.get new key ≡ cond (list_any (eq_by_cmp bytes_cmp key) keys) (freed commits xid (map.get old key)) (map.get old key)

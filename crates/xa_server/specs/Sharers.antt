@@ -1,11 +1,11 @@
 -- The branches that share a row, as its record keeps them.
---     set_of        the set of them
+--     set_of        the set of these branches
 use Rattle.std.specs.FinSet as set
 use Rattle.xa_xid.specs.Xid.{xid_cmp}
 use Rattle.xa_server.specs.declared.sharers.Branches.{Branches}
 use Rattle.xa_server.specs.declared.sharers.Branches.TheVariants.{Nobody, One, Several}
 
--- the set of them
+-- the set of these branches
 abbrev pub set_of : Branches → set.FinSet xid_cmp
 set_of Nobody = set.empty
 set_of (One xid) = set.insert set.empty xid

@@ -77,7 +77,7 @@ owns state session xid = option_map_or (λ owner. owner == session) (owner_at st
 unfoldable pub own_xid : State → ℕ → Option Xid
 own_xid state session = find (owns state session) (map.keys state.branches)
 
--- a session whose branch is in this phase; a branch that is PREPARED is nobody's
+-- a session whose branch is in this phase; a branch that is PREPARED has no owner
 abbrev pub association_in : Option Phase → Xid → Association
 association_in None xid = Free
 association_in (Some PhaseActive) xid = Active xid
@@ -92,7 +92,7 @@ association_of state session = option_map_or (λ xid. association_in (phase_at s
 abbrev pub committed_value : State → List ℕ → Option Text
 committed_value state key = map.get state.rows key
 
--- the branch's own newest write of the row, where it wrote it
+-- the branch's own newest write of the row, if it wrote it
 abbrev pub write_at : State → Xid → List ℕ → Option Write
 write_at state xid key = option_and_then (λ branch. map.get branch.writes key) (map.get state.branches xid)
 

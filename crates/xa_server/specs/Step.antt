@@ -2,7 +2,7 @@
 --     effect          what an accepted statement does to the state
 --     after           the state after a session's statement
 --     Step            state, session, statement, reply and new state belong together
---     enters          whether the statement enters the history
+--     enters          whether the statement is logged
 --     after_all       the state after a history
 --     may_take_memory     carrying the statement out may take memory
 use Rattle.std.specs.Prelude.{◌≡◌, ℕ, Bool, true, false, cond, not, ◌&&◌, ◌||◌, Some, None, List, [], ◌∷◌}
@@ -29,7 +29,7 @@ started_by session = record { phase = PhaseActive; owner = Some session; writes 
 abbrev pub with_branch : State → Xid → Branch → State
 with_branch state xid branch = record state { branches = map.insert state.branches xid branch }
 
--- the state with the branch of this identifier changed, where there is one
+-- the state with the branch of this identifier changed, if there is one
 abbrev pub with_changed : State → Xid → (Branch → Branch) → State
 with_changed state xid change = option_map_or (λ branch. with_branch state xid (change branch)) (map.get state.branches xid) state
 
@@ -53,7 +53,7 @@ committed state xid =
     option_map_or (λ branch. record (without_branch state xid) { rows = with_writes (map.entries branch.writes) state.rows })
     (map.get state.branches xid) state
 
--- the rows once this one is held: in share, where it wasn't held in either way
+-- the rows after this one is held: in share, if it wasn't held before
 abbrev pub with_share : List ℕ → RowLocks → RowLocks
 with_share key locks = cond (map.contains_key locks key) locks (map.insert locks key Shared)
 
@@ -61,7 +61,7 @@ with_share key locks = cond (map.contains_key locks key) locks (map.insert locks
 abbrev pub with_lock : List ℕ → Branch → Branch
 with_lock key branch = record branch { locks = with_share key branch.locks }
 
--- the branch holds the row exclusively, also where it shared it, and writes it
+-- the branch holds the row exclusively, also if it shared it before, and writes it
 abbrev pub with_own_write : List ℕ → Write → Branch → Branch
 with_own_write key write branch = record branch { locks = map.insert branch.locks key Exclusive; writes = map.insert branch.writes key write }
 
@@ -71,7 +71,7 @@ row_written state Free key write = record state { rows = with_write key write st
 row_written state (Active own) key write = with_changed state own (with_own_write key write)
 row_written state (Idle own) key write = state
 
--- what an accepted statement does, one line a statement (the phases are the manual's and C193's; rows and DISCONNECT are our own)
+-- what an accepted statement does, one line for each statement (the phases are the manual's and C193's; rows and DISCONNECT are our own)
 unfoldable pub effect : State → ℕ → Association → Statement → State
 effect state session association (Start xid) = with_branch state xid (started_by session)
 effect state session association (End xid) = with_changed state xid (λ branch. record branch { phase = PhaseIdle })
@@ -89,7 +89,7 @@ effect state session Free Disconnect = state
 effect state session (Active own) Disconnect = without_branch state own
 effect state session (Idle own) Disconnect = without_branch state own
 
--- a refused statement leaves the state
+-- a refused statement leaves the state as it was
 abbrev pub unless_refused : Reply → State → State → State
 unless_refused Accepted old new = new
 unless_refused (Value value) old new = new
@@ -100,7 +100,7 @@ unless_refused (Refused error) old new = old
 unfoldable pub after : State → ℕ → Statement → State
 after state session statement = unless_refused (reply_to state session statement) state (effect state session (association_of state session) statement)
 
--- the statement is answered so, and leaves this state
+-- the statement has this reply, and leaves this state
 abbrev pub Step : State → ℕ → Statement → Reply → State → Type 0
 Step old session statement reply new = (reply ≡ reply_to old session statement) × (new ≡ after old session statement)
 
@@ -115,7 +115,7 @@ abbrev pub is_list : Reply → Bool
 is_list (Recovered xids) = true
 is_list reply = false
 
--- whether the statement, if it is accepted, has a place in the history (own rule)
+-- whether the statement, if it is accepted, is logged (own rule)
 unfoldable pub may_enter : State → Association → Statement → Bool
 may_enter state association (Start xid) = true
 may_enter state association (End xid) = true
@@ -133,11 +133,11 @@ may_enter state Free Disconnect = false
 may_enter state (Active own) Disconnect = true
 may_enter state (Idle own) Disconnect = true
 
--- whether the statement enters the history: it isn't refused, and has a place there
+-- whether the statement is logged: it isn't refused, and is of a kind that is logged
 unfoldable pub enters : State → ℕ → Statement → Bool
 enters state session statement = not (is_refused (reply_to state session statement)) && may_enter state (association_of state session) statement
 
--- the state after a history of statements, each with its session; one that is refused at its place leaves the state
+-- the state after a history of statements, each with its session; one that is refused at its place leaves the state as it was
 abbrev pub after_all : State → List (ℕ × Statement) → State
 after_all state [] = state
 after_all state (entry ∷ entries) = after_all (after state entry.0 entry.1) entries
@@ -147,7 +147,7 @@ abbrev pub is_recover : Statement → Bool
 is_recover (Recover convert) = true
 is_recover statement = false
 
--- the statement makes a record, where it is accepted: of a branch, or of a row that it holds or writes
+-- the statement makes a record, if it is accepted: of a branch, or of a row that it holds or writes
 abbrev pub makes_record : Statement → Bool
 makes_record (Start xid) = true
 makes_record (Get key) = true
@@ -155,6 +155,6 @@ makes_record (Put key value) = true
 makes_record (Del key) = true
 makes_record statement = false
 
--- carrying the statement out may take memory: XA RECOVER, and of what enters XA START and the row statements (own rule)
+-- carrying the statement out may take memory: XA RECOVER, and of what is logged XA START and the row statements (own rule)
 abbrev pub may_take_memory : State → ℕ → Statement → Bool
 may_take_memory state session statement = is_recover statement || (enters state session statement && makes_record statement)

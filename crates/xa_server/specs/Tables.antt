@@ -1,11 +1,11 @@
 -- The records of branches and rows as finite maps.
 --     BranchMap, RowMap      the records by identifier, by key
 --     owner_of               the session that owns the branch of an identifier
---     phase_in               how far the branch of an identifier has come
+--     phase_in               the phase of the branch of an identifier
 --     opened_at              what a session has open, by the index
 --     named_in               the branch that an association names
---     idle_of                an association once its branch's work has ended
---     with_record            the records with one changed, where there is one
+--     idle_of                an association after its branch's work has ended
+--     with_record            the records with one changed, if there is one
 --     without_last           a list without its last element
 --     prepared_keys          the identifiers of the PREPARED branches in a list of records
 --     prepared_among         the identifiers of the PREPARED branches, ascending
@@ -28,7 +28,7 @@ BranchMap = map.FinMap xid_cmp BranchRecord
 abbrev pub owner_of : BranchMap → Xid → Option ℕ
 owner_of branches xid = option_and_then (λ branch. branch.owner) (map.get branches xid)
 
--- how far the branch of this identifier has come
+-- the phase of the branch of this identifier
 abbrev pub phase_in : BranchMap → Xid → Option Phase
 phase_in branches xid = option_map (λ branch. branch.phase) (map.get branches xid)
 
@@ -42,7 +42,7 @@ named_in Free = None
 named_in (Active own) = Some own
 named_in (Idle own) = Some own
 
--- an association once its branch's work has ended
+-- an association after its branch's work has ended
 abbrev pub idle_of : Association → Association
 idle_of Free = Free
 idle_of (Active own) = Idle own
@@ -56,7 +56,7 @@ pub record IsIndexed (opened : List Association) (nothing : Association) (branch
   pub listed : (session : ℕ) (xid : Xid) → owner_of branches xid ≡ Some session → named_in (opened_at opened session) ≡ Some xid
   pub phased : (session : ℕ) (xid : Xid) → owner_of branches xid ≡ Some session → opened_at opened session ≡ association_in (phase_in branches xid) xid
 
--- the records with that of this identifier changed, where there is one
+-- the records with the one of this identifier changed, if there is one
 abbrev pub with_record : BranchMap → Xid → (BranchRecord → BranchRecord) → BranchMap
 with_record branches xid change = option_map_or (λ branch. map.insert branches xid (change branch)) (map.get branches xid) branches
 

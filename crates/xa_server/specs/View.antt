@@ -1,7 +1,7 @@
 -- How the records of branches and rows stand for a state.
 --     gather               the map of what is found in each record
 --     mapped               the map with each value changed
---     branch_seen          a branch's record, with what the rows say of it
+--     branch_seen          a branch's record, with its writes and locks from the rows' records
 --     state_of             the state that the records stand for
 --     times_listed         how often a branch's record lists a row
 --     is_holder            a row's record says that the branch holds the row
@@ -38,7 +38,7 @@ module _ {K V W : Type 0} {R : K → K → Ordering} where
   unfoldable pub mapped : (K → V → W) → map.FinMap R V → map.FinMap R W
   mapped change records = map.from_sorted (map_values change (map.entries records))
 
--- a branch's record, with what the rows say of it
+-- a branch's record, with its writes and locks from the rows' records
 abbrev pub branch_seen : RowMap → Xid → BranchRecord → Branch
 branch_seen rows xid branch = record { phase = branch.phase; owner = branch.owner; writes = gather (write_by xid) rows; locks = gather (lock_by xid) rows }
 
@@ -60,7 +60,7 @@ is_holder rows xid key = is_some (option_and_then (lock_by xid) (map.get rows ke
 
 -- what the records keep
 pub record IsWhole (branches : BranchMap) (rows : RowMap) : Type 0 where
-  -- exactly the PREPARED branches are nobody's
+  -- exactly the PREPARED branches have no owner
   pub attached : (xid : Xid) (branch : BranchRecord) → map.get branches xid ≡ Some branch → is_none branch.owner ≡ is_prepared_phase branch.phase
   -- a session owns at most one branch
   pub one_owned : (session : ℕ) (xid other : Xid) → owner_of branches xid ≡ Some session → owner_of branches other ≡ Some session → xid ≡ other

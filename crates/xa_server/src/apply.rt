@@ -1,4 +1,4 @@
-//! What an accepted statement does.
+//! The effect of an accepted statement.
 ghost use Rattle.std.specs.Prelude.{◌≡◌, ℕ, true, false, IfOk, OnOk, OnErr};
 ghost use Rattle.xa_server.specs.Replies.{table, reply_to};
 ghost use Rattle.xa_server.specs.State.{association_of};
@@ -12,7 +12,8 @@ use crate::{Reply, Server};
 use xa_xid::{Bytes, Key, NoMemory, SessionNo, Statement};
 
 impl Server {
-    /// Has the session's branch share a row that it reads, where it doesn't hold it yet. After `NoMemory` the server is as before.
+    /// Makes the session's branch share a row that it reads, if it doesn't hold it yet. After `NoMemory`
+    /// the server is unchanged.
     #[tactic(auto, unfolding(crate::specs::Step::effect, crate::specs::Step::may_enter))]
     fn lock_row(&mut self, session: SessionNo, key: &Key) -> Result<(), NoMemory>
         requires { is_refused (reply_to self.old session (Get key.now)) ≡ false }
@@ -30,7 +31,8 @@ impl Server {
         self.share(&own, key)
     }
 
-    /// Gives a row a value: at once, or in the session's branch. After `NoMemory` the server is as before.
+    /// Gives a value to a row: at once, or in the session's branch. After `NoMemory` the server is
+    /// unchanged.
     #[tactic(auto, unfolding(crate::specs::Step::effect))]
     fn put(&mut self, session: SessionNo, key: &Key, value: &Bytes) -> Result<(), NoMemory>
         requires { is_refused (reply_to self.old session (Put key.now value.now)) ≡ false }
@@ -48,7 +50,8 @@ impl Server {
         }
     }
 
-    /// Takes the value of a row away: at once, or in the session's branch. After `NoMemory` the server is as before.
+    /// Removes the value of a row: at once, or in the session's branch. After `NoMemory` the server is
+    /// unchanged.
     #[tactic(auto, unfolding(crate::specs::Step::effect))]
     fn delete(&mut self, session: SessionNo, key: &Key) -> Result<(), NoMemory>
         requires { is_refused (reply_to self.old session (Del key.now)) ≡ false }
@@ -86,8 +89,8 @@ impl Server {
         }
     }
 
-    /// Carries out a statement that the table of replies accepts. After `NoMemory` the server is as before. Only the row
-    /// statements and `DISCONNECT` need what the session has open.
+    /// Carries out a statement that the table of replies accepts. After `NoMemory` the server is unchanged.
+    /// Only the row statements and `DISCONNECT` need what the session has open.
     #[tactic(auto, unfolding(crate::specs::Step::effect, crate::specs::Step::may_enter))]
     fn carry_out(&mut self, session: SessionNo, statement: &Statement) -> Result<(), NoMemory>
         requires { is_refused (reply_to self.old session statement.now) ≡ false }
@@ -112,29 +115,40 @@ impl Server {
         Ok(())
     }
 
-    /// Carries out a session's statement that `reply` accepts, without answering it again.
+    /// Carries out a session's statement that `reply` accepts, without making the reply again.
     ///
-    /// Errors: `NoMemory`, after which the server is as before, for an `XA START`, `PUT`, `DEL` or `GET` that makes a record.
-    ///
-    /// May answer `NoMemory`. Doesn't wait.
-    /// Source: docs/STATEMENTS.md#branches, which says line by line what is the manual's, C193's or our own.
+    /// Error: `NoMemory`, only for an `XA START`, `PUT`, `DEL` or `GET` that makes a record. The server is
+    /// then unchanged. Doesn't wait.
+    /// Source: docs/STATEMENTS.md#branches, which names the source of each rule.
     pub fn accept(&mut self, session: SessionNo, statement: &Statement) -> Result<(), NoMemory>
         requires { is_refused (reply_to self.old session statement.now) ≡ false }
+        // Proved (server, accepted-statement): A statement that `reply` accepts is carried out as `apply`
+        //   would carry it out.
         ensures ok { OnOk result (self.new ≡ after self.old session statement.now) }
+        // Proved (server, no-memory-changes-nothing)
         ensures unchanged { OnErr result (self.new ≡ self.old) }
+        // Proved (server, memory-at-statements)
         ensures memory { OnErr result (may_take_memory self.old session statement.now ≡ true) }
     {
         self.carry_out(session, statement)
     }
 
-    /// Answers a session's statement and carries it out. A refused statement changes nothing.
+    /// Replies to a session's statement and carries it out. A refused statement changes nothing.
     ///
-    /// May answer `NoMemory`, after which the server is as before: for `XA RECOVER`, and for an `XA START`, `PUT`, `DEL` or
-    /// `GET` that makes a record. What ends a branch takes no memory, so it succeeds. Doesn't wait.
-    /// Source: docs/STATEMENTS.md#replies and 'Branches', which say line by line what is the manual's, C193's or our own.
+    /// Error: `NoMemory`, only for `XA RECOVER`, and for an `XA START`, `PUT`, `DEL` or `GET` that makes a
+    /// record. The server is then unchanged. A statement that ends a branch takes no memory, so it
+    /// succeeds. Doesn't wait.
+    /// Source: docs/STATEMENTS.md#replies and docs/STATEMENTS.md#branches, which name the source of each
+    /// rule.
     pub fn apply(&mut self, session: SessionNo, statement: &Statement) -> Result<Reply, NoMemory>
+        // Proved (server, reply-and-effect): A statement's reply is that of the table of replies. The new
+        //   state is that of the statement's effect, or after a refusal the old one.
+        // Proved (server, recovered-list)
         ensures step { IfOk result (λ reply. Step self.old session statement.now reply self.new) }
+        // Proved (server, no-memory-changes-nothing): After `NoMemory` the server is unchanged.
         ensures unchanged { OnErr result (self.new ≡ self.old) }
+        // Proved (server, memory-at-statements): `NoMemory` is returned only for `XA RECOVER`, and for an
+        //   `XA START`, `GET`, `PUT` or `DEL` that is logged. So a statement that ends a branch succeeds.
         ensures memory { OnErr result (may_take_memory self.old session statement.now ≡ true) }
     {
         let association = self.association(session);

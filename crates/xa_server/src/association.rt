@@ -1,4 +1,4 @@
-//! What a session has open.
+//! The branch that a session has open.
 ghost use Rattle.std.specs.Prelude.{◌≡◌};
 ghost use Rattle.std.specs.Ordering.{eq_by_cmp};
 ghost use Rattle.xa_xid.specs.Xid.{bytes_cmp, same_xid};
@@ -7,7 +7,7 @@ use crate::shared_xid::SharedXid;
 use std::alloc::AllocError;
 use xa_xid::Xid;
 
-/// What a session has open. A session that owns no branch is free.
+/// The branch that a session has open. A session that owns no branch is free.
 ///
 /// Source: MySQL 8.0 Reference Manual, 'XA Transaction States'.
 #[derive(Drop)]
@@ -32,14 +32,14 @@ impl Clone for Association {
     }
 }
 
-/// Whether two texts have the same bytes.
+/// Returns whether two texts have the same bytes.
 fn is_same_bytes(left: &[u8], right: &[u8]) -> bool
     ensures { result ≡ eq_by_cmp bytes_cmp left.now right.now }
 {
     left == right
 }
 
-/// Whether two identifiers are one. That two are is told sooner than how they are ordered.
+/// Returns whether two identifiers are equal. This is quicker than to compare their order.
 pub fn is_same(left: &Xid, right: &Xid) -> bool
     ensures { result ≡ same_xid left.now right.now }
 {
@@ -52,7 +52,7 @@ impl Association {
     ghost use Rattle.xa_server.specs.Locks.{is_another as is_another_of};
     ghost use Rattle.xa_server.specs.Tables.{idle_of};
 
-    /// What it is once the branch's work has ended.
+    /// Returns the association after the branch's work has ended.
     pub fn ended(self) -> Association
         ensures { result ≡ idle_of self }
     {
@@ -63,7 +63,7 @@ impl Association {
         }
     }
 
-    /// Whether the branch isn't the session's own.
+    /// Returns whether the branch isn't the session's own.
     pub fn is_another(&self, xid: &Xid) -> bool
         ensures { result ≡ is_another_of self.now xid.now }
     {

@@ -7,7 +7,7 @@ use crate::keys::Keys;
 use std::alloc::AllocError;
 use xa_xid::SessionNo;
 
-/// How far a transaction branch has come.
+/// The phase of a transaction branch.
 ///
 /// Source: MySQL 8.0 Reference Manual, 'XA Transaction States'; X/Open C193, the branch states.
 #[derive(Clone, Copy, Debug, PartialEq, Eq)]
@@ -16,18 +16,18 @@ pub enum Phase {
     Active,
     /// After `XA END`: its work has ended.
     Idle,
-    /// After `XA PREPARE`: it has voted for commit, and any free session may end it.
+    /// After `XA PREPARE`: it is ready to commit, and any free session may finish it.
     Prepared,
 }
 
-/// What the server keeps of a transaction branch, beside the records of the rows that it holds.
+/// The server's record of a transaction branch. The records of rows have the rest.
 #[derive(Drop)]
 pub struct BranchRecord {
-    /// How far it has come.
+    /// Its phase.
     pub phase: Phase,
     /// The session that started it, until it is prepared.
     pub owner: Option<SessionNo>,
-    /// The rows that it holds, in share or exclusively, each once: so its end visits no others.
+    /// The rows that it holds, in share or exclusively, each once. So its end visits no other rows.
     pub held: Keys,
 }
 
@@ -43,7 +43,7 @@ impl Clone for BranchRecord {
     }
 }
 
-/// Whether two sessions are the same, or neither is there.
+/// Returns whether two sessions are the same, or both are missing.
 fn is_same_owner(left: Option<SessionNo>, right: Option<SessionNo>) -> bool
     ensures { result ≡ true → left ≡ right }
 {
@@ -57,7 +57,7 @@ fn is_same_owner(left: Option<SessionNo>, right: Option<SessionNo>) -> bool
 }
 
 impl BranchRecord {
-    /// Whether both say the same of a branch, and list the rows that it holds in one order.
+    /// Returns whether both records are the same, with the rows in the same order.
     pub fn is_same(&self, other: &BranchRecord) -> bool
         ensures { result ≡ true → self.now ≡ other.now }
     {
@@ -67,7 +67,7 @@ impl BranchRecord {
     }
 }
 
-/// Whether a branch in this phase, where there is one, is PREPARED.
+/// Returns whether a branch in this phase, if there is one, is PREPARED.
 pub fn is_prepared(phase: Option<Phase>) -> bool
     ensures { result ≡ option_map_or is_prepared_phase phase false }
 {

@@ -23,9 +23,9 @@ use xa_xid::{Key, NoMemory, SessionNo, Xid};
 #[derive(Drop)]
 pub struct BranchTable {
     by_xid: BTreeMap<Xid, BranchRecord>,
-    /// At each session's number what it has open. A session past the end has nothing open.
+    /// What each session has open, at the place of its number. A session past the end has nothing open.
     opened: Vec<Association>,
-    /// Nothing open, which is lent for a session past the end.
+    /// Nothing open: lent for a session past the end.
     nothing: Association,
     alloc: Global,
 }
@@ -45,14 +45,14 @@ impl Model for BranchTable {
     ghost invariant = { λ table. IsIndexed table.opened.items table.nothing (map.from_entries {R = xid_cmp} table.by_xid.entries) };
 }
 
-/// The place of a session in the index.
+/// Returns the place of a session in the index.
 fn place_of(session: SessionNo) -> usize
     ensures { result ≡ session }
 {
     session.get() as usize
 }
 
-/// What a session has open, by the index. Past its end it is `nothing`.
+/// Returns what a session has open, by the index. Past its end it is `nothing`.
 fn opened_at<'a>(
     opened: &'a [Association],
     nothing: &'a Association,
@@ -67,7 +67,7 @@ fn opened_at<'a>(
     }
 }
 
-/// Gives a session a place in the index. After `NoMemory` too, each session has open what it had.
+/// Makes a place in the index for a session. Each session has open what it had, also after `NoMemory`.
 fn make_place(opened: &mut Vec<Association>, session: SessionNo) -> Result<(), NoMemory>
     ensures same { (at : ℕ) → opened_in opened.new.items at ≡ opened_in opened.old.items at }
     ensures there { OnOk result (session < length opened.new.items) }
@@ -78,7 +78,7 @@ fn make_place(opened: &mut Vec<Association>, session: SessionNo) -> Result<(), N
     Ok(())
 }
 
-/// Sets what a session has open, which has a place in the index.
+/// Sets what a session has open. The session has a place in the index.
 fn set_place(opened: &mut Vec<Association>, session: SessionNo, association: Association)
     requires { session < length opened.old.items }
     ensures { opened.new.items ≡ slice_set opened.old.items session association }
@@ -86,7 +86,7 @@ fn set_place(opened: &mut Vec<Association>, session: SessionNo, association: Ass
     opened[place_of(session)] = association;
 }
 
-/// Says of what a session has open, which has a place in the index, that its work has ended.
+/// Marks the work of what a session has open as ended. The session has a place in the index.
 fn end_place(opened: &mut Vec<Association>, session: SessionNo)
     requires { session < length opened.old.items }
     ensures { opened.new.items ≡ slice_set opened.old.items session (idle_of (opened_in opened.old.items session)) }
@@ -95,7 +95,7 @@ fn end_place(opened: &mut Vec<Association>, session: SessionNo)
     *open = std::mem::replace(open, Association::Free).ended();
 }
 
-/// Sets the phase of a branch to IDLE, where there is one, and answers who owns it.
+/// Sets the phase of a branch to IDLE, if there is one. Returns its owner.
 fn set_idle(by_xid: &mut BTreeMap<Xid, BranchRecord>, xid: &Xid) -> Option<SessionNo>
     ensures changed { MatchOption (tree.get xid_cmp by_xid.old xid.now) (by_xid.new ≡ by_xid.old)
         (λ branch. tree.Updates xid_cmp by_xid.old by_xid.new xid.now (Some (record branch { phase = Phase.Idle }))) }
@@ -106,7 +106,8 @@ fn set_idle(by_xid: &mut BTreeMap<Xid, BranchRecord>, xid: &Xid) -> Option<Sessi
     branch.owner
 }
 
-/// Detaches a branch and sets its phase to PREPARED, where there is one, and answers who owned it.
+/// Sets the phase of a branch to PREPARED and removes its owner, if there is such a branch. Returns the
+/// owner.
 fn set_prepared(by_xid: &mut BTreeMap<Xid, BranchRecord>, xid: &Xid) -> Option<SessionNo>
     ensures changed { MatchOption (tree.get xid_cmp by_xid.old xid.now) (by_xid.new ≡ by_xid.old)
         (λ branch. tree.Updates xid_cmp by_xid.old by_xid.new xid.now (Some (record branch { phase = Phase.Prepared; owner = None }))) }
@@ -117,7 +118,7 @@ fn set_prepared(by_xid: &mut BTreeMap<Xid, BranchRecord>, xid: &Xid) -> Option<S
     branch.owner.take()
 }
 
-/// Adds a key to those that a branch holds, where there is such a branch.
+/// Adds a key to those that a branch holds, if there is such a branch.
 fn list_key(by_xid: &mut BTreeMap<Xid, BranchRecord>, xid: &Xid, key: &Key) -> Result<(), NoMemory>
     ensures ok { OnOk result (MatchOption (tree.get xid_cmp by_xid.old xid.now) (by_xid.new ≡ by_xid.old)
         (λ branch. tree.Updates xid_cmp by_xid.old by_xid.new xid.now (Some (record branch { held = branch.held ++ key.now ∷ [] })))) }
@@ -130,7 +131,7 @@ fn list_key(by_xid: &mut BTreeMap<Xid, BranchRecord>, xid: &Xid, key: &Key) -> R
     }
 }
 
-/// Takes the last key out of those that a branch holds, where there is such a branch.
+/// Removes the last key of those that a branch holds, if there is such a branch.
 fn unlist_key(by_xid: &mut BTreeMap<Xid, BranchRecord>, xid: &Xid)
     ensures { MatchOption (tree.get xid_cmp by_xid.old xid.now) (by_xid.new ≡ by_xid.old)
         (λ branch. tree.Updates xid_cmp by_xid.old by_xid.new xid.now (Some (record branch { held = without_last branch.held }))) }
@@ -140,7 +141,7 @@ fn unlist_key(by_xid: &mut BTreeMap<Xid, BranchRecord>, xid: &Xid)
     }
 }
 
-/// The identifiers of the records of PREPARED branches, in order.
+/// Lists the identifiers of the records of PREPARED branches, in order.
 fn prepared_in(alloc: Global, by_xid: &BTreeMap<Xid, BranchRecord>) -> Result<Vec<Xid>, NoMemory>
     ensures listed { IfOk result (λ xids. xids.items ≡ prepared_keys by_xid.now.entries) }
     ensures ordered { tree.IsOrdered xid_cmp by_xid.now }
@@ -154,7 +155,7 @@ fn prepared_in(alloc: Global, by_xid: &BTreeMap<Xid, BranchRecord>) -> Result<Ve
     Ok(xids)
 }
 
-/// Whether the same branches have the same records.
+/// Returns whether the same branches have the same records.
 fn has_same_records(
     by_xid: &BTreeMap<Xid, BranchRecord>,
     others: &BTreeMap<Xid, BranchRecord>,
@@ -171,7 +172,7 @@ fn has_same_records(
     rest.next().is_none()
 }
 
-/// A copy of the records.
+/// Copies the records.
 fn copy_of_records(
     by_xid: &BTreeMap<Xid, BranchRecord>,
 ) -> Result<BTreeMap<Xid, BranchRecord>, NoMemory>
@@ -180,7 +181,7 @@ fn copy_of_records(
     by_xid.clone()
 }
 
-/// A copy of an index.
+/// Copies an index.
 fn copy_of_places(opened: &Vec<Association>) -> Result<Vec<Association>, NoMemory>
     ensures { IfOk result (λ copy. copy.items ≡ opened.now.items) }
 {
@@ -191,7 +192,7 @@ impl BranchTable {
     ghost use Rattle.xa_server.specs.Held.{recorded_entries};
     ghost use Rattle.xa_server.specs.Tables.{named_in, owner_of, phase_in, prepared_among, with_record};
 
-    /// No branches.
+    /// Makes a table without branches.
     pub fn new(alloc: Global) -> BranchTable
         ensures { result ≡ map.empty }
     {
@@ -203,14 +204,14 @@ impl BranchTable {
         }
     }
 
-    /// Whether both are the same records.
+    /// Returns whether both have the same records.
     pub fn is_same(&self, other: &BranchTable) -> bool
         ensures { result ≡ true → self.now ≡ other.now }
     {
         has_same_records(&self.by_xid, &other.by_xid)
     }
 
-    /// A copy of the records.
+    /// Copies the records.
     pub fn copy(&self) -> Result<BranchTable, NoMemory>
         ensures { IfOk result (λ copy. copy ≡ self.now) }
     {
@@ -222,7 +223,7 @@ impl BranchTable {
         })
     }
 
-    /// How far the branch of this identifier has come, where there is one.
+    /// Returns the phase of the branch of this identifier, if there is one.
     pub fn phase_of(&self, xid: &Xid) -> Option<Phase>
         ensures { result ≡ option_map (λ branch. branch.phase) (map.get self.now xid.now) }
     {
@@ -232,7 +233,7 @@ impl BranchTable {
         }
     }
 
-    /// What the session has open.
+    /// Returns what the session has open.
     pub fn opened(&self, session: SessionNo) -> &Association
         ensures named { (xid : XidSeen) → named_in result.now ≡ Some xid → owner_of self.now xid ≡ Some session }
         ensures owned { (xid : XidSeen) → owner_of self.now xid ≡ Some session → result.now ≡ association_in (phase_in self.now xid) xid }
@@ -240,21 +241,21 @@ impl BranchTable {
         opened_at(self.opened.as_slice(), &self.nothing, session)
     }
 
-    /// The identifiers of the PREPARED branches, ascending.
+    /// Lists the identifiers of the PREPARED branches, ascending.
     pub fn prepared(&self) -> Result<Vec<Xid>, NoMemory>
         ensures { IfOk result (λ xids. xids.items ≡ prepared_among self.now) }
     {
         prepared_in(self.alloc, &self.by_xid)
     }
 
-    /// Every branch without its rows, ascending by identifier.
+    /// Lists every branch without its rows, ascending by identifier.
     pub fn entries(&self, alloc: Global) -> Result<Vec<BranchEntry>, NoMemory>
         ensures { IfOk result (λ branches. branches.items ≡ recorded_entries self.now) }
     {
         entries_in(alloc, &self.by_xid)
     }
 
-    /// Starts a branch for a session. After `NoMemory` the records are as before.
+    /// Starts a branch for a session. After `NoMemory` the records are unchanged.
     pub fn start(&mut self, session: SessionNo, xid: &Xid) -> Result<(), NoMemory>
         requires unknown { map.get self.old xid.now ≡ None }
         requires free { (other : XidSeen) → owner_of self.old other ≢ Some session }
@@ -273,7 +274,7 @@ impl BranchTable {
         Ok(())
     }
 
-    /// Sets the phase of a branch to IDLE, where there is one.
+    /// Sets the phase of a branch to IDLE, if there is one.
     pub fn end_work(&mut self, xid: &Xid)
         ensures { self.new ≡ with_record self.old xid.now (λ branch. record branch { phase = Phase.Idle }) }
     {
@@ -282,7 +283,7 @@ impl BranchTable {
         }
     }
 
-    /// Detaches a branch from its owner and sets its phase to PREPARED, where there is one.
+    /// Removes the owner of a branch and sets its phase to PREPARED, if there is one.
     pub fn detach(&mut self, xid: &Xid)
         ensures { self.new ≡ with_record self.old xid.now (λ branch. record branch { phase = Phase.Prepared; owner = None }) }
     {
@@ -291,7 +292,8 @@ impl BranchTable {
         }
     }
 
-    /// Adds a key to those that a branch holds, where there is such a branch. After `NoMemory` the records are as before.
+    /// Adds a key to those that a branch holds, if there is such a branch. After `NoMemory` the records are
+    /// unchanged.
     pub fn list(&mut self, xid: &Xid, key: &Key) -> Result<(), NoMemory>
         ensures ok { OnOk result (self.new ≡ with_record self.old xid.now (λ branch. record branch { held = branch.held ++ key.now ∷ [] })) }
         ensures err { OnErr result (self.new ≡ self.old) }
@@ -299,14 +301,14 @@ impl BranchTable {
         list_key(&mut self.by_xid, xid, key)
     }
 
-    /// Takes the last key out of those that a branch holds, where there is such a branch.
+    /// Removes the last key of those that a branch holds, if there is such a branch.
     pub fn unlist(&mut self, xid: &Xid)
         ensures { self.new ≡ with_record self.old xid.now (λ branch. record branch { held = without_last branch.held }) }
     {
         unlist_key(&mut self.by_xid, xid);
     }
 
-    /// Takes the record of a branch out, and answers the keys that it holds.
+    /// Removes the record of a branch, and returns the keys that it holds.
     pub fn remove(&mut self, xid: &Xid) -> Option<Keys>
         ensures removed { self.new ≡ map.remove self.old xid.now }
         ensures held { result ≡ option_map (λ branch. branch.held) (map.get self.old xid.now) }

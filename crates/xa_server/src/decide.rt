@@ -1,4 +1,4 @@
-//! What a statement is answered: the table of replies.
+//! The table of replies: the reply to each statement.
 ghost use Rattle.std.specs.Prelude.{◌≡◌, true, Ok, IfOk, OnErr};
 ghost use Rattle.xa_server.specs.Locks.{LockLaw};
 ghost use Rattle.xa_server.specs.Replies.{table, reply_to, ok_if as ok_reply_if};
@@ -10,9 +10,10 @@ use crate::association::{Association, is_same};
 use crate::{BranchState, Reply, Server, XaError};
 use xa_xid::{Key, NoMemory, SessionNo, Statement, Xid};
 
-// Each reply is made as the result that `reply` returns, so that it is moved once and not wrapped behind every call.
+// Each reply is made as the result that `reply` returns, so that it is moved once and not wrapped after
+// each call.
 
-/// Carried out where the test holds, and else refused.
+/// Accepts the statement if the test holds, and else refuses it.
 fn ok_if(holds: bool, error: XaError) -> Result<Reply, NoMemory>
     ensures { result ≡ Ok (ok_reply_if holds error) }
 {
@@ -23,7 +24,7 @@ fn ok_if(holds: bool, error: XaError) -> Result<Reply, NoMemory>
     }
 }
 
-/// A refusal in a state that doesn't allow the statement.
+/// Refuses the statement in a state that doesn't allow it.
 fn rmfail(state: BranchState) -> Result<Reply, NoMemory>
     ensures { result ≡ Ok (Reply.Refused (XaError.Rmfail state)) }
 {
@@ -31,7 +32,7 @@ fn rmfail(state: BranchState) -> Result<Reply, NoMemory>
 }
 
 impl Server {
-    /// The reply to `XA START`.
+    /// Replies to `XA START`.
     #[tactic(auto, unfolding(crate::specs::Replies::table))]
     fn reply_to_start(&self, association: &Association, xid: &Xid) -> Result<Reply, NoMemory>
         ensures { result ≡ Ok (table self.now association.now (Start xid.now)) }
@@ -49,7 +50,7 @@ impl Server {
         }
     }
 
-    /// The reply to `XA END`.
+    /// Replies to `XA END`.
     #[tactic(auto, unfolding(crate::specs::Replies::table))]
     fn reply_to_end(&self, association: &Association, xid: &Xid) -> Result<Reply, NoMemory>
         ensures { result ≡ Ok (table self.now association.now (End xid.now)) }
@@ -61,7 +62,7 @@ impl Server {
         }
     }
 
-    /// The reply to `XA PREPARE`.
+    /// Replies to `XA PREPARE`.
     #[tactic(auto, unfolding(crate::specs::Replies::table))]
     fn reply_to_prepare(&self, association: &Association, xid: &Xid) -> Result<Reply, NoMemory>
         ensures { result ≡ Ok (table self.now association.now (Prepare xid.now)) }
@@ -73,7 +74,7 @@ impl Server {
         }
     }
 
-    /// The reply to `XA COMMIT`.
+    /// Replies to `XA COMMIT`.
     #[tactic(auto, unfolding(crate::specs::Replies::table))]
     fn reply_to_commit(
         &self,
@@ -104,7 +105,7 @@ impl Server {
         }
     }
 
-    /// The reply to `XA ROLLBACK`.
+    /// Replies to `XA ROLLBACK`.
     #[tactic(auto, unfolding(crate::specs::Replies::table))]
     fn reply_to_rollback(&self, association: &Association, xid: &Xid) -> Result<Reply, NoMemory>
         ensures { result ≡ Ok (table self.now association.now (Rollback xid.now)) }
@@ -119,7 +120,7 @@ impl Server {
         }
     }
 
-    /// The reply to `GET`.
+    /// Replies to `GET`.
     #[tactic(auto, unfolding(crate::specs::Replies::table))]
     fn reply_to_get(&self, association: &Association, key: &Key) -> Result<Reply, NoMemory>
         ensures { result ≡ Ok (table self.now association.now (Get key.now)) }
@@ -137,7 +138,7 @@ impl Server {
         }
     }
 
-    /// The reply to `PUT` and `DEL`.
+    /// Replies to `PUT` and `DEL`.
     #[tactic(auto, unfolding(crate::specs::Replies::table))]
     fn reply_to_write(&self, association: &Association, key: &Key) -> Result<Reply, NoMemory>
         ensures put { (value : Text) → result ≡ Ok (table self.now association.now (Put key.now value)) }
@@ -153,7 +154,7 @@ impl Server {
         }
     }
 
-    /// The reply to a statement of a session that has this open.
+    /// Replies to a statement of a session that has this open.
     #[tactic(auto, unfolding(crate::specs::Replies::table))]
     pub(crate) fn decide(
         &self,
@@ -182,7 +183,7 @@ impl Server {
         }
     }
 
-    /// Whether the statement has a place in the history, where it is accepted.
+    /// Returns whether the statement is logged if it is accepted.
     #[tactic(auto, unfolding(crate::specs::Step::may_enter))]
     fn may_enter(&self, association: &Association, statement: &Statement) -> bool
         ensures { result ≡ may_enter_in self.now association.now statement.now }
@@ -213,20 +214,29 @@ impl Server {
         }
     }
 
-    /// The reply to a session's statement, and whether the statement would enter the history. Nothing changes.
-    /// The server that answers keeps the lock law, as every server does.
+    /// Returns the reply to a session's statement, and whether the statement would be logged. Changes
+    /// nothing.
     ///
-    /// May answer `NoMemory` for `XA RECOVER`, whose reply is a list, and for no other statement. Doesn't wait.
-    /// Source: docs/STATEMENTS.md#replies, which says line by line what is the manual's, C193's or our own.
+    /// The server keeps the lock law, as every server does. May return `NoMemory`, only for `XA RECOVER`,
+    /// whose reply is a list. Doesn't wait.
+    /// Source: docs/STATEMENTS.md#replies, which names the source of each rule.
     #[tactic(auto, unfolding(crate::specs::Replies::reply_to, crate::specs::Step::enters))]
     pub fn reply(
         &self,
         session: SessionNo,
         statement: &Statement,
     ) -> Result<(Reply, bool), NoMemory>
+        // Proved (server, reply-beforehand): You can have the reply to a statement, and whether it would be
+        //   logged, before the statement is carried out. Only `XA RECOVER` may need memory for that.
         ensures reply { IfOk result (λ answer. answer.0 ≡ reply_to self.now session statement.now) }
+        // Proved (server, reply-beforehand)
         ensures enters { IfOk result (λ answer. answer.1 ≡ enters self.now session statement.now) }
+        // Proved (server, reply-beforehand)
         ensures memory { OnErr result (is_recover statement.now ≡ true) }
+        // Proved (server, lock-law): Every server keeps the lock law: a row that one branch holds
+        //   exclusively is held by no other, a session owns at most one branch, exactly the PREPARED
+        //   branches have no owner, and a branch writes only rows that it holds exclusively. A statement or
+        //   a history keeps it, if the state before keeps it.
         ensures lock_law { LockLaw self.now }
     {
         let association = self.association(session);

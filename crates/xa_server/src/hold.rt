@@ -1,4 +1,4 @@
-//! How a branch holds a row.
+//! The ways in which a branch holds a row.
 ghost use Rattle.std.specs.Prelude.{◌≡◌, ◌≢◌, [], IfOk, OnErr};
 ghost use Rattle.std.specs.BTreeMap as tree;
 ghost use Rattle.xa_xid.specs.Xid.{bytes_cmp};
@@ -16,11 +16,11 @@ use xa_xid::{Bytes, Key, NoMemory, Xid, copy_of};
 /// Own rule: docs/STATEMENTS.md#rows-and-locks.
 #[derive(Debug, Drop, PartialEq, Eq)]
 pub enum Hold {
-    /// In share, as others may too.
+    /// In share: other branches may share the row too.
     Shared,
-    /// Exclusively: at its commit the row gets this value.
+    /// Exclusively: at the branch's commit the row gets this value.
     Put(Bytes),
-    /// Exclusively: at its commit the row loses its value.
+    /// Exclusively: at the branch's commit the row loses its value.
     Delete,
 }
 
@@ -33,7 +33,7 @@ pub struct HeldRow {
     pub hold: Hold,
 }
 
-/// How this branch holds a row, where it does.
+/// Returns how this branch holds a row, if it holds it.
 fn hold_in(xid: &Xid, lock: &Lock) -> Option<Hold>
     ensures { result ≡ hold_in_lock xid.now lock.now }
 {
@@ -57,7 +57,7 @@ fn hold_in(xid: &Xid, lock: &Lock) -> Option<Hold>
     }
 }
 
-/// The rows that this branch holds, in order.
+/// Lists the rows that this branch holds, in order.
 pub fn held_in(
     alloc: Global,
     by_key: &BTreeMap<Key, RowRecord>,

@@ -20,7 +20,7 @@ impl Model for Keys {
 }
 
 impl Keys {
-    /// No keys.
+    /// Makes an empty list.
     pub fn new(alloc: Global) -> Keys
         ensures { result ≡ [] }
     {
@@ -38,21 +38,21 @@ impl Keys {
         Ok(())
     }
 
-    /// Takes the last key out, if there is one.
+    /// Removes the last key, if there is one.
     pub fn pop(&mut self) -> Option<Key>
         ensures { MatchOption result ((self.old ≡ []) × (self.new ≡ [])) (λ key. self.old ≡ self.new ++ key ∷ []) }
     {
         self.list.pop()
     }
 
-    /// Whether both are the same keys in one order.
+    /// Returns whether both have the same keys in the same order.
     pub fn is_same(&self, other: &Keys) -> bool
         ensures { result ≡ true → self.now ≡ other.now }
     {
         self.list == other.list
     }
 
-    /// A copy of the keys.
+    /// Copies the keys.
     pub fn copy(&self) -> Result<Keys, NoMemory>
         ensures { IfOk result (λ keys. keys ≡ self.now) }
     {

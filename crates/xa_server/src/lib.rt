@@ -1,4 +1,9 @@
-//! The sequential server: transaction branches over rows, one statement after another.
+//! The sequential server: transaction branches over rows in memory, one statement after another. It is the
+//! meaning of everything that is built on it. README.md says how a state is kept, with an example.
+//!
+//! Read first: specs/State.antt, specs/Locks.antt, specs/Replies.antt and specs/Step.antt, in this order;
+//! then src/decide.rt and src/apply.rt, which are only about the state; then src/server.rt, which leads to
+//! the two tables.
 #![tactic(auto)]
 
 mod apply;

@@ -1,4 +1,4 @@
-//! Who holds a row.
+//! The branches that hold a row.
 ghost use Rattle.std.specs.Prelude.{◌≡◌, true, is_some, IfOk, OnOk, OnErr};
 ghost use Rattle.std.specs.FinSet as set;
 ghost use Rattle.std.specs.Option.{option_map};
@@ -11,7 +11,7 @@ use crate::sharers::Sharers;
 use std::alloc::Global;
 use xa_xid::{Bytes, NoMemory, Xid};
 
-/// What a branch that holds a row exclusively does to it at its commit.
+/// What a branch that holds a row exclusively does to the row at its commit.
 #[derive(Drop)]
 pub enum Change {
     /// The row gets this value.
@@ -20,7 +20,7 @@ pub enum Change {
     Delete,
 }
 
-/// Who holds a row.
+/// The branches that hold a row.
 #[derive(Drop)]
 pub enum Lock {
     /// One branch holds it exclusively.
@@ -30,18 +30,18 @@ pub enum Lock {
         /// Its newest write of the row.
         change: Change,
     },
-    /// These branches share it. Where there are none, nobody holds it.
+    /// These branches share it. If there are none, no branch holds the row.
     Shared(Sharers),
 }
 
-/// Whether two identifiers are known to be one.
+/// Returns whether two identifiers are known to be equal.
 pub fn is_same_xid(left: &Xid, right: &Xid) -> bool
     ensures { result ≡ true → left.now ≡ right.now }
 {
     is_same(left, right)
 }
 
-/// Whether two texts have the same bytes.
+/// Returns whether two texts have the same bytes.
 pub fn is_same_text(left: &Bytes, right: &Bytes) -> bool
     ensures { result ≡ true → left.now ≡ right.now }
 {
@@ -49,7 +49,7 @@ pub fn is_same_text(left: &Bytes, right: &Bytes) -> bool
 }
 
 impl Change {
-    /// A copy of the change.
+    /// Copies the change.
     fn copy(&self) -> Result<Change, NoMemory>
         ensures { IfOk result (λ copy. copy ≡ self.now) }
     {
@@ -59,7 +59,7 @@ impl Change {
         }
     }
 
-    /// Whether both do the same to a row.
+    /// Returns whether both do the same to a row.
     pub fn is_same(&self, other: &Change) -> bool
         ensures { result ≡ true → self.now ≡ other.now }
     {
@@ -72,7 +72,7 @@ impl Change {
         }
     }
 
-    /// The value that the row has after it.
+    /// Returns the value that the row has after it.
     pub fn into_value(self) -> Option<SharedText>
         ensures { result ≡ write_of self }
     {
@@ -84,14 +84,14 @@ impl Change {
 }
 
 impl Lock {
-    /// Nobody holds the row.
+    /// Makes the lock of a row that no branch holds.
     pub fn nobodys(alloc: Global) -> Lock
         ensures { result ≡ Lock.Shared set.empty }
     {
         Lock::Shared(Sharers::new(alloc))
     }
 
-    /// A copy of the lock.
+    /// Copies the lock.
     pub fn copy(&self) -> Result<Lock, NoMemory>
         ensures { IfOk result (λ copy. copy ≡ self.now) }
     {
@@ -104,7 +104,7 @@ impl Lock {
         }
     }
 
-    /// Whether both are held by the same branches in the same way.
+    /// Returns whether the same branches hold both in the same way.
     pub fn is_same(&self, other: &Lock) -> bool
         ensures { result ≡ true → self.now ≡ other.now }
     {
@@ -126,7 +126,7 @@ impl Lock {
         }
     }
 
-    /// Whether a branch that isn't the session's own holds the row, in either way.
+    /// Returns whether a branch that isn't the session's own holds the row, in share or exclusively.
     pub fn is_held_beside(&self, association: &Association) -> bool
         ensures { result ≡ held_beside association.now self.now }
     {
@@ -136,7 +136,7 @@ impl Lock {
         }
     }
 
-    /// Whether a branch that isn't the session's own holds the row exclusively.
+    /// Returns whether a branch that isn't the session's own holds the row exclusively.
     pub fn is_locked_beside(&self, association: &Association) -> bool
         ensures { result ≡ locked_beside association.now self.now }
     {
@@ -146,7 +146,7 @@ impl Lock {
         }
     }
 
-    /// Whether this branch holds the row, in either way.
+    /// Returns whether this branch holds the row, in share or exclusively.
     pub fn is_held_by(&self, xid: &Xid) -> bool
         ensures { result ≡ is_some (mode_in xid.now self.now) }
     {
@@ -156,7 +156,8 @@ impl Lock {
         }
     }
 
-    /// Has this branch share a row that no branch holds exclusively. After `NoMemory` the lock is as before.
+    /// Makes this branch share a row that no branch holds exclusively. After `NoMemory` the lock is
+    /// unchanged.
     pub fn share(&mut self, xid: &SharedXid) -> Result<(), NoMemory>
         ensures ok { OnOk result (self.new ≡ with_sharer xid.now self.old) }
         ensures err { OnErr result (self.new ≡ self.old) }
@@ -170,7 +171,8 @@ impl Lock {
         }
     }
 
-    /// The lock without this branch, and what the branch does to the row, where it holds it exclusively.
+    /// Returns the lock without this branch, and the branch's change of the row if the branch held it
+    /// exclusively.
     pub fn without(self, alloc: Global, xid: &Xid) -> (Lock, Option<Change>)
         ensures lock { result.0 ≡ freed_lock xid.now self }
         ensures change { option_map write_of result.1 ≡ write_in xid.now self }

@@ -1,4 +1,4 @@
-//! A server as a person looks at it.
+//! What a server holds, as a person looks at it.
 ghost use Rattle.std.specs.Prelude.{◌≡◌, ◌≢◌, [], ◌∷◌, IfOk, OnErr, map};
 ghost use Rattle.std.specs.BTreeMap as tree;
 ghost use Rattle.xa_xid.specs.Xid.{xid_cmp};
@@ -15,15 +15,15 @@ use xa_xid::{Bytes, Key, NoMemory, SessionNo, Statement, Xid};
 /// A branch, without its rows.
 #[derive(Debug, Drop, PartialEq, Eq)]
 pub struct BranchEntry {
-    /// Its identifier.
+    /// The branch's identifier.
     pub xid: Xid,
-    /// How far it has come.
+    /// Its phase.
     pub phase: Phase,
-    /// The session that owns it, until it is prepared.
+    /// The session that owns it; `None` after it is prepared.
     pub owner: Option<SessionNo>,
 }
 
-/// The branches of the records, in order.
+/// Lists the branches of the records, in order.
 pub fn entries_in(
     alloc: Global,
     by_xid: &BTreeMap<Xid, BranchRecord>,
@@ -42,7 +42,7 @@ pub fn entries_in(
     Ok(branches)
 }
 
-/// The keys of rows, in order.
+/// Lists the keys of rows, in order.
 fn keys_of(alloc: Global, rows: &[HeldRow]) -> Result<Vec<Key>, NoMemory>
     ensures listed { IfOk result (λ keys. keys.items ≡ keys_of_rows rows.now) }
     ensures memory { OnErr result (keys_of_rows rows.now ≢ []) }
@@ -54,7 +54,7 @@ fn keys_of(alloc: Global, rows: &[HeldRow]) -> Result<Vec<Key>, NoMemory>
     Ok(keys)
 }
 
-/// A list of one key.
+/// Makes a list of one key.
 fn one_key(alloc: Global, key: &Key) -> Result<Vec<Key>, NoMemory>
     ensures { IfOk result (λ keys. keys.items ≡ key.now ∷ []) }
 {
@@ -67,21 +67,29 @@ impl Server {
     ghost use Rattle.xa_server.specs.State.{committed_value as committed_value_of, association_of};
     ghost use Rattle.xa_server.specs.Overview.{branches_of, rows_of as rows_of_branch, keys_open as keys_open_at, keys_about as keys_about_statement};
 
-    /// Every branch, once, ascending by identifier.
+    /// Lists every branch, once, ascending by identifier.
     ///
-    /// May answer `NoMemory`. Doesn't wait. Own rule: docs/COMMANDS.md#show.
+    /// May return `NoMemory`. Doesn't wait.
+    /// Own rule: docs/COMMANDS.md#show.
     pub fn branches(&self, alloc: Global) -> Result<Vec<BranchEntry>, NoMemory>
+        // Proved (server, listing): A server lists every branch once, ascending, with its phase and owner.
+        //   It lists the rows that a branch holds, each once, ascending, with what the branch writes to
+        //   each. It returns a row's committed value, and the rows that a statement is about.
         ensures { IfOk result (λ branches. branches.items ≡ branches_of self.now) }
     {
         self.branch_entries(alloc)
     }
 
-    /// The rows that the branch of this identifier holds, each once, ascending by key; none, where there is no such branch.
+    /// Lists the rows that the branch of this identifier holds, each once, ascending by key.
     ///
-    /// Looks at every row of the server. May answer `NoMemory`, where the branch holds a row. Doesn't wait. Own rule: docs/STATEMENTS.md,
-    /// 'Showing'.
+    /// The list is empty if there is no such branch. Looks at every row of the server. May return
+    /// `NoMemory`, only if the branch holds a row. Doesn't wait.
+    /// Own rule: docs/COMMANDS.md#show.
     pub fn rows_of(&self, alloc: Global, xid: &Xid) -> Result<Vec<HeldRow>, NoMemory>
+        // Proved (server, listing)
         ensures listed { IfOk result (λ rows. rows.items ≡ rows_of_branch self.now xid.now) }
+        // Proved (server, memory-for-lists): `NoMemory` is returned only for a list that isn't empty, and
+        //   for a copy of a reply only if that is a list.
         ensures memory { OnErr result (rows_of_branch self.now xid.now ≢ []) }
     {
         if !self.knows(xid) {
@@ -90,16 +98,18 @@ impl Server {
         self.held_rows(alloc, xid)
     }
 
-    /// The value of a row that all sessions see, where it has one.
+    /// Returns the value of a row that all sessions see, or `None` if the row has none.
     ///
-    /// Takes no memory. Doesn't wait. Own rule: docs/STATEMENTS.md#rows-and-locks.
+    /// Takes no memory. Doesn't wait.
+    /// Own rule: docs/STATEMENTS.md#rows-and-locks.
     pub fn value_of(&self, key: &Key) -> Option<Bytes>
+        // Proved (server, listing)
         ensures { result ≡ committed_value_of self.now key.now }
     {
         self.committed_value(key)
     }
 
-    /// The keys of the rows that the session's branch holds.
+    /// Lists the keys of the rows that the session's branch holds.
     fn keys_open(&self, alloc: Global, session: SessionNo) -> Result<Vec<Key>, NoMemory>
         ensures listed { IfOk result (λ keys. keys.items ≡ keys_open_at self.now (association_of self.now session)) }
         ensures memory { OnErr result (keys_open_at self.now (association_of self.now session) ≢ []) }
@@ -111,7 +121,7 @@ impl Server {
         }
     }
 
-    /// The keys of the rows that the branch of this identifier holds.
+    /// Lists the keys of the rows that the branch of this identifier holds.
     fn keys_held(&self, alloc: Global, xid: &Xid) -> Result<Vec<Key>, NoMemory>
         ensures listed { IfOk result (λ keys. keys.items ≡ keys_of_rows (rows_of_branch self.now xid.now)) }
         ensures memory { OnErr result (keys_of_rows (rows_of_branch self.now xid.now) ≢ []) }
@@ -120,11 +130,13 @@ impl Server {
         keys_of(alloc, rows.as_slice())
     }
 
-    /// The keys of the rows that a session's statement is about, ascending: of `GET`, `PUT` and `DEL` the row's; of `XA COMMIT` and
-    /// `XA ROLLBACK` those of all rows that the branch holds; of `DISCONNECT` those of all rows that the session's branch holds; of
-    /// another statement none. Whether the statement would be refused doesn't matter.
+    /// Lists the keys of the rows that a session's statement is about, ascending.
     ///
-    /// May answer `NoMemory`, where there is such a row. Doesn't wait. Own rule: docs/COMMANDS.md#show.
+    /// For `GET`, `PUT` and `DEL` this is the row that they name. For `XA COMMIT` and `XA ROLLBACK` these
+    /// are all rows that the branch holds; for `DISCONNECT`, all rows that the session's branch holds. For
+    /// other statements the list is empty. It doesn't matter whether the statement would be refused. May
+    /// return `NoMemory`, only if there is such a row. Doesn't wait.
+    /// Own rule: docs/COMMANDS.md#show.
     #[tactic(auto, unfolding(crate::specs::Overview::keys_about))]
     pub fn keys_about(
         &self,
@@ -132,7 +144,9 @@ impl Server {
         session: SessionNo,
         statement: &Statement,
     ) -> Result<Vec<Key>, NoMemory>
+        // Proved (server, listing)
         ensures listed { IfOk result (λ keys. keys.items ≡ keys_about_statement self.now session statement.now) }
+        // Proved (server, memory-for-lists)
         ensures memory { OnErr result (keys_about_statement self.now session statement.now ≢ []) }
     {
         match statement {

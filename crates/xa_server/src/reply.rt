@@ -1,16 +1,16 @@
-//! What a statement is answered.
+//! The replies to statements.
 ghost use Rattle.std.specs.Prelude.{◌≡◌, ◌≢◌, true, [], IfOk, OnErr};
 
 use crate::XaError;
 use std::marker::Model;
 use xa_xid::{Bytes, NoMemory, Xid, copy_of};
 
-/// What a statement is answered.
+/// The reply to a statement.
 #[derive(Debug, Drop)]
 pub enum Reply {
     /// The statement was carried out.
     Ok,
-    /// The value of a row, or none.
+    /// The value of a row, or `None` if it has none.
     Value(Option<Bytes>),
     /// The identifiers of the prepared branches, ascending.
     Recovered(XidList),
@@ -21,11 +21,12 @@ pub enum Reply {
 impl Reply {
     ghost use Rattle.xa_server.specs.Step.{is_refused as is_refused_reply, is_list as is_list_reply};
 
-    /// The same reply.
+    /// Copies the reply.
     ///
-    /// May answer `NoMemory`, for a list of identifiers alone. Doesn't wait.
+    /// May return `NoMemory`, only for a list of identifiers. Doesn't wait.
     pub fn copy(&self) -> Result<Reply, NoMemory>
         ensures same { IfOk result (λ copy. copy ≡ self.now) }
+        // Proved (server, memory-for-lists)
         ensures memory { OnErr result (is_list_reply self.now ≡ true) }
     {
         Ok(match self {
@@ -37,7 +38,7 @@ impl Reply {
         })
     }
 
-    /// Whether the statement was refused.
+    /// Returns whether the statement was refused.
     ///
     /// Takes no memory. Doesn't wait.
     pub fn is_refused(&self) -> bool
@@ -72,20 +73,23 @@ impl Model for XidList {
 }
 
 impl XidList {
-    /// The list of these identifiers.
+    /// Makes a list of these identifiers.
     ///
     /// Takes no memory. Doesn't wait.
     pub fn of(xids: Vec<Xid>) -> XidList
+        // Proved (server, lists-are-whole): A list of identifiers returns all identifiers that it was made
+        //   of, in order.
         ensures { result ≡ xids.items }
     {
         XidList { xids }
     }
 
-    /// The same list.
+    /// Copies the list.
     ///
-    /// May answer `NoMemory`, for a list that isn't empty. Doesn't wait.
+    /// May return `NoMemory`, only for a list that isn't empty. Doesn't wait.
     pub fn copy(&self) -> Result<XidList, NoMemory>
         ensures same { IfOk result (λ copy. copy ≡ self.now) }
+        // Proved (server, memory-for-lists)
         ensures memory { OnErr result (self.now ≢ []) }
     {
         if self.xids.is_empty() {
@@ -98,10 +102,11 @@ impl XidList {
         })
     }
 
-    /// The identifiers, in order.
+    /// Returns the identifiers, in order.
     ///
     /// Takes no memory. Doesn't wait.
     pub fn as_slice(&self) -> &[Xid]
+        // Proved (server, lists-are-whole)
         ensures { result.now ≡ self.now }
     {
         self.xids.as_slice()

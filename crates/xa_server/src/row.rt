@@ -9,12 +9,12 @@ use crate::shared_text::SharedText;
 use std::alloc::{AllocError, Global};
 use xa_xid::{Bytes, NoMemory, Xid, copy_of};
 
-/// What the server keeps of a row. A row without a value that nobody holds has no record.
+/// The server's record of a row. A row has no record if it has no value and no branch holds it.
 #[derive(Drop)]
 pub struct RowRecord {
     /// The value that all sessions see.
     pub committed: Option<SharedText>,
-    /// Who holds the row.
+    /// The branches that hold the row.
     pub lock: Lock,
 }
 
@@ -29,7 +29,7 @@ impl Clone for RowRecord {
     }
 }
 
-/// Whether two values are the same, or neither is there.
+/// Returns whether two values are the same, or both are missing.
 fn is_same_value(left: &Option<SharedText>, right: &Option<SharedText>) -> bool
     ensures { result ≡ true → left.now ≡ right.now }
 {
@@ -43,7 +43,7 @@ fn is_same_value(left: &Option<SharedText>, right: &Option<SharedText>) -> bool
 }
 
 impl RowRecord {
-    /// Whether both say the same of a row.
+    /// Returns whether both records are the same.
     pub fn is_same(&self, other: &RowRecord) -> bool
         ensures { result ≡ true → self.now ≡ other.now }
     {
@@ -51,7 +51,7 @@ impl RowRecord {
     }
 }
 
-/// One more owner of a value, where there is one.
+/// Adds an owner of a value, if there is one.
 fn share_of_value(value: &Option<SharedText>) -> Result<Option<SharedText>, NoMemory>
     ensures { IfOk result (λ share. share ≡ value.now) }
 {
@@ -61,7 +61,7 @@ fn share_of_value(value: &Option<SharedText>) -> Result<Option<SharedText>, NoMe
     }
 }
 
-/// A copy of a value, where there is one.
+/// Copies a value, if there is one.
 fn copy_of_value(value: &Option<SharedText>) -> Option<Bytes>
     ensures { result ≡ value.now }
 {
@@ -71,7 +71,7 @@ fn copy_of_value(value: &Option<SharedText>) -> Option<Bytes>
     }
 }
 
-/// The value that all sessions see.
+/// Returns the value that all sessions see.
 pub fn committed_value(row: Option<&RowRecord>) -> Option<Bytes>
     ensures { result ≡ committed_of (option_copied row.entry) }
 {
@@ -81,7 +81,7 @@ pub fn committed_value(row: Option<&RowRecord>) -> Option<Bytes>
     }
 }
 
-/// Whether a branch that isn't the session's own holds the row, in either way.
+/// Returns whether a branch that isn't the session's own holds the row, in share or exclusively.
 pub fn is_held_against(association: &Association, row: Option<&RowRecord>) -> bool
     ensures { result ≡ held_against association.now (option_copied row.entry) }
 {
@@ -91,7 +91,7 @@ pub fn is_held_against(association: &Association, row: Option<&RowRecord>) -> bo
     }
 }
 
-/// Whether a branch that isn't the session's own holds the row exclusively.
+/// Returns whether a branch that isn't the session's own holds the row exclusively.
 pub fn is_locked_against(association: &Association, row: Option<&RowRecord>) -> bool
     ensures { result ≡ locked_against association.now (option_copied row.entry) }
 {
@@ -101,8 +101,8 @@ pub fn is_locked_against(association: &Association, row: Option<&RowRecord>) -> 
     }
 }
 
-/// Ends a branch's hold of a row, where it holds it: what it does to the row is done if it commits.
-/// Answers whether the record is still needed.
+/// Ends a branch's hold of a row, if it holds it; if the branch commits, its change becomes the row's
+/// value. Returns whether the record is still needed.
 pub fn free(row: &mut RowRecord, alloc: Global, xid: &Xid, commits: bool) -> bool
     ensures row { row.new ≡ freed_row commits xid.now row.old }
     ensures needed { result ≡ is_needed row.new }
@@ -118,7 +118,7 @@ pub fn free(row: &mut RowRecord, alloc: Global, xid: &Xid, commits: bool) -> boo
     row.committed.is_some() || row.lock.is_held_beside(&Association::Free)
 }
 
-/// Whether this branch holds the row, in either way.
+/// Returns whether this branch holds the row, in share or exclusively.
 pub fn is_held_by(own: &Xid, row: Option<&RowRecord>) -> bool
     ensures { result ≡ is_some (option_and_then (lock_by own.now) (option_copied row.entry)) }
 {
@@ -128,7 +128,7 @@ pub fn is_held_by(own: &Xid, row: Option<&RowRecord>) -> bool
     }
 }
 
-/// The value that this branch sees.
+/// Returns the value that this branch sees.
 pub fn value_within(own: &Xid, row: Option<&RowRecord>) -> Option<Bytes>
     ensures { result ≡ value_seen own.now (option_copied row.entry) }
 {

@@ -39,7 +39,7 @@ impl Model for RowTable {
     ghost view = { λ table. map.from_entries {R = bytes_cmp} table.by_key.entries };
 }
 
-/// Has a row's record held by a lock, or gives the lock back where the row has no record.
+/// Sets the lock of a row's record, or returns the lock if the row has no record.
 fn set_lock(by_key: &mut BTreeMap<Key, RowRecord>, key: &Key, lock: Lock) -> Option<Lock>
     ensures changed { MatchOption (tree.get bytes_cmp by_key.old key.now) (by_key.new ≡ by_key.old)
         (λ row. tree.Updates bytes_cmp by_key.old by_key.new key.now (Some (record row { lock = lock }))) }
@@ -54,7 +54,7 @@ fn set_lock(by_key: &mut BTreeMap<Key, RowRecord>, key: &Key, lock: Lock) -> Opt
     }
 }
 
-/// Has a branch share a row's record, where there is one, and answers whether there is.
+/// Adds a branch to the sharers of a row's record. Returns whether there is a record.
 fn share_in(
     by_key: &mut BTreeMap<Key, RowRecord>,
     key: &Key,
@@ -75,7 +75,7 @@ fn share_in(
     }
 }
 
-/// Ends a branch's hold of a row's record, where there is one, and answers whether the record is still needed.
+/// Ends a branch's hold of a row's record, if there is one. Returns whether the record is still needed.
 fn free_in(
     by_key: &mut BTreeMap<Key, RowRecord>,
     alloc: Global,
@@ -94,14 +94,14 @@ fn free_in(
     }
 }
 
-/// Takes a row's record out, where there is one.
+/// Removes a row's record, if there is one.
 fn take_out(by_key: &mut BTreeMap<Key, RowRecord>, key: &Key)
     ensures { tree.Updates bytes_cmp by_key.old by_key.new key.now None }
 {
     let _row = by_key.remove(key);
 }
 
-/// Whether the same rows have the same records.
+/// Returns whether the same rows have the same records.
 fn has_same_records(by_key: &BTreeMap<Key, RowRecord>, others: &BTreeMap<Key, RowRecord>) -> bool
     ensures { result ≡ true → by_key.now.entries ≡ others.now.entries }
 {
@@ -115,7 +115,7 @@ fn has_same_records(by_key: &BTreeMap<Key, RowRecord>, others: &BTreeMap<Key, Ro
     rest.next().is_none()
 }
 
-/// A copy of the records.
+/// Copies the records.
 fn copy_of_records(by_key: &BTreeMap<Key, RowRecord>) -> Result<BTreeMap<Key, RowRecord>, NoMemory>
     ensures { IfOk result (λ copy. copy.entries ≡ by_key.now.entries) }
 {
@@ -123,7 +123,7 @@ fn copy_of_records(by_key: &BTreeMap<Key, RowRecord>) -> Result<BTreeMap<Key, Ro
 }
 
 impl RowTable {
-    /// No rows.
+    /// Makes a table without rows.
     pub fn new(alloc: Global) -> RowTable
         ensures { result ≡ map.empty }
     {
@@ -133,19 +133,19 @@ impl RowTable {
         }
     }
 
-    /// Where its memory comes from.
+    /// Returns the allocator.
     pub fn alloc(&self) -> Global {
         self.alloc
     }
 
-    /// Whether both are the same records.
+    /// Returns whether both have the same records.
     pub fn is_same(&self, other: &RowTable) -> bool
         ensures { result ≡ true → self.now ≡ other.now }
     {
         has_same_records(&self.by_key, &other.by_key)
     }
 
-    /// A copy of the records.
+    /// Copies the records.
     pub fn copy(&self) -> Result<RowTable, NoMemory>
         ensures { IfOk result (λ copy. copy ≡ self.now) }
     {
@@ -155,14 +155,14 @@ impl RowTable {
         })
     }
 
-    /// The record of a row, where there is one.
+    /// Returns the record of a row, if there is one.
     pub fn row(&self, key: &Key) -> Option<&RowRecord>
         ensures { option_copied result ≡ map.get self.now key.now }
     {
         self.by_key.get(key)
     }
 
-    /// The rows that this branch holds, ascending by key.
+    /// Lists the rows that this branch holds, ascending by key.
     pub fn held_by(&self, alloc: Global, xid: &Xid) -> Result<Vec<HeldRow>, NoMemory>
         ensures listed { IfOk result (λ rows. rows.items ≡ held_among xid.now (map.entries self.now)) }
         ensures memory { OnErr result (held_among xid.now (map.entries self.now) ≢ []) }
@@ -170,7 +170,7 @@ impl RowTable {
         held_in(alloc, &self.by_key, xid)
     }
 
-    /// Has a branch hold a row exclusively, and do this to it. After `NoMemory` the records are as before.
+    /// Makes a branch hold a row exclusively, with this change. After `NoMemory` the records are unchanged.
     pub fn hold(&mut self, key: &Key, holder: SharedXid, change: Change) -> Result<(), NoMemory>
         ensures ok { OnOk result (self.new ≡ map.insert self.old key.now (held_row holder change (map.get self.old key.now))) }
         ensures err { OnErr result (self.new ≡ self.old) }
@@ -187,7 +187,8 @@ impl RowTable {
         Ok(())
     }
 
-    /// Has a branch share a row that no branch holds exclusively. After `NoMemory` the records are as before.
+    /// Makes a branch share a row that no branch holds exclusively. After `NoMemory` the records are
+    /// unchanged.
     pub fn share(&mut self, key: &Key, xid: &SharedXid) -> Result<(), NoMemory>
         ensures ok { OnOk result (self.new ≡ map.insert self.old key.now (shared_row xid.now (map.get self.old key.now))) }
         ensures err { OnErr result (self.new ≡ self.old) }
@@ -205,7 +206,7 @@ impl RowTable {
         Ok(())
     }
 
-    /// Gives a row that nobody holds a value. After `NoMemory` the records are as before.
+    /// Gives a value to a row that no branch holds. After `NoMemory` the records are unchanged.
     pub fn put(&mut self, key: &Key, value: &Bytes) -> Result<(), NoMemory>
         ensures ok { OnOk result (self.new ≡ map.insert self.old key.now (record { committed = Some value.now; lock = Lock.Shared set.empty })) }
         ensures err { OnErr result (self.new ≡ self.old) }
@@ -218,14 +219,15 @@ impl RowTable {
         Ok(())
     }
 
-    /// Takes the record of a row that nobody holds out.
+    /// Removes the record of a row that no branch holds.
     pub fn delete(&mut self, key: &Key)
         ensures { self.new ≡ map.remove self.old key.now }
     {
         take_out(&mut self.by_key, key);
     }
 
-    /// Ends a branch's hold of a row, where it holds it: what it does to the row is done if it commits.
+    /// Ends a branch's hold of a row, if it holds it; if the branch commits, its change becomes the row's
+    /// value.
     pub fn free(&mut self, key: &Key, xid: &Xid, commits: bool)
         ensures { Frees commits xid.now (key.now ∷ []) self.old self.new }
     {

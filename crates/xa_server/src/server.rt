@@ -1,4 +1,4 @@
-//! The server: its records, and what they say of its state.
+//! The server: its records, and the state that they stand for.
 ghost use Rattle.std.specs.Prelude.{◌≡◌, ◌≢◌, [], true, false, cond, is_some, Some, None, OnOk, OnErr, IfOk};
 ghost use Rattle.std.specs.FinMap as map;
 ghost use Rattle.xa_server.specs.Tables.{with_record, without_last};
@@ -16,10 +16,11 @@ use std::alloc::Global;
 use std::marker::Model;
 use xa_xid::{Bytes, Key, NoMemory, SessionNo, Xid};
 
-/// A resource manager: transaction branches over rows, one statement after another. A contract sees it as a `State`.
+/// A resource manager: transaction branches over rows, one statement after another. A contract sees it as a
+/// `State`.
 ///
-/// It finds a branch by identifier, and a row by key, in logarithmic time, and a session's branch in constant time. Ending
-/// a branch costs what the branch did, whatever else is there, and takes no memory.
+/// It finds a branch by identifier, and a row by key, in logarithmic time, and a session's branch in
+/// constant time. Ending a branch takes no memory, and time only for what the branch did.
 #[derive(Drop)]
 pub struct Server {
     branches: BranchTable,
@@ -37,10 +38,13 @@ impl Model for Server {
 
     ghost view = { λ server. state_of server.branches server.rows };
 
+    // Proved (server, rows-listed-once): A server's record of a branch lists exactly the rows that the
+    //   branch holds, each once (`listed_once` of `IsWhole`). So no row stays listed after a failed
+    //   allocation.
     ghost invariant = { λ server. IsWhole server.branches server.rows };
 }
 
-/// Takes the key back that a branch listed last, where the row's allocation failed.
+/// Removes the key that a branch listed last, if the allocation for the row failed.
 fn unlist_refused(branches: &mut BranchTable, own: &Xid, held: &Result<(), NoMemory>)
     ensures held { OnOk held.now (branches.new ≡ branches.old) }
     ensures refused { OnErr held.now (branches.new ≡ with_record branches.old own.now (λ branch. record branch { held = without_last branch.held })) }
@@ -60,16 +64,17 @@ impl Server {
     ghost use Rattle.xa_server.specs.declared.branch.Phase.TheVariants.{Idle as PhaseIdle, Prepared as PhasePrepared};
     ghost use Rattle.xa_server.specs.declared.association.Association.TheVariants.{Free, Active};
 
-    /// A server with no branches and no rows.
+    /// Makes a server with no branches and no rows.
     ///
     /// Takes no memory. Doesn't wait.
     pub fn new(alloc: Global) -> Server
+        // Proved (server, new-server): A new server has no branches and no rows.
         ensures { result ≡ no_state }
     {
         Server::over_empty(BranchTable::new(alloc), RowTable::new(alloc))
     }
 
-    /// The server over tables without records.
+    /// Makes a server over tables without records.
     fn over_empty(branches: BranchTable, rows: RowTable) -> Server
         requires no_branch { branches ≡ map.empty }
         requires no_row { rows ≡ map.empty }
@@ -78,10 +83,11 @@ impl Server {
         Server { branches, rows }
     }
 
-    /// A server with the same branches and rows.
+    /// Copies the server: the copy has the same branches and rows.
     ///
-    /// May answer `NoMemory`. Doesn't wait.
+    /// May return `NoMemory`. Doesn't wait.
     pub fn copy(&self) -> Result<Server, NoMemory>
+        // Proved (server, copies): A copy of a server has the same branches and rows.
         ensures { IfOk result (λ copy. copy ≡ self.now) }
     {
         Ok(Server {
@@ -90,32 +96,37 @@ impl Server {
         })
     }
 
-    /// Whether both servers are known to have the same branches and rows. Two that have the same may be told apart by the
-    /// order in which a branch came to hold its rows.
+    /// Returns whether both servers are known to have the same branches and rows.
     ///
-    /// Takes no memory. Doesn't wait.
+    /// `true` means that they have. `false` is also returned for two servers that have the same, if a
+    /// branch came to hold its rows in another order. Takes no memory. Doesn't wait.
     pub fn is_same(&self, other: &Server) -> bool
+        // Proved (server, same-servers): Two servers that `is_same` calls the same have the same branches
+        //   and rows.
         ensures { result ≡ true → self.now ≡ other.now }
     {
         self.branches.is_same(&other.branches) && self.rows.is_same(&other.rows)
     }
 
-    /// Every server keeps the lock law: a row that one branch holds exclusively is held by no other, a session owns at most one
-    /// branch, exactly the PREPARED branches are nobody's, and a branch writes only rows that it holds exclusively.
+    /// States that every server keeps the lock law.
     ///
-    /// Takes no memory. Doesn't wait. Own rule: docs/STATEMENTS.md#rows-and-locks.
+    /// The lock law: a row that one branch holds exclusively is held by no other branch; a session owns at
+    /// most one branch; exactly the PREPARED branches have no owner; and a branch writes only rows that it
+    /// holds exclusively. Takes no memory. Doesn't wait.
+    /// Own rule: docs/STATEMENTS.md#rows-and-locks.
     pub fn keeps_lock_law(&self)
+        // Proved (server, lock-law)
         ensures { LockLaw self.now }
     {
         let _branches = &self.branches;
     }
 
-    /// Where its memory comes from.
+    /// Returns the allocator.
     pub(crate) fn alloc(&self) -> Global {
         self.rows.alloc()
     }
 
-    /// What the session has open. Every server keeps the lock law.
+    /// Returns what the session has open. Every server keeps the lock law.
     pub(crate) fn association(&self, session: SessionNo) -> &Association
         ensures association { result.now ≡ association_of self.now session }
         ensures lock_law { LockLaw self.now }
@@ -123,70 +134,70 @@ impl Server {
         self.branches.opened(session)
     }
 
-    /// Whether a branch has this identifier.
+    /// Returns whether a branch has this identifier.
     pub(crate) fn knows(&self, xid: &Xid) -> bool
         ensures { result ≡ is_known self.now xid.now }
     {
         self.branches.phase_of(xid).is_some()
     }
 
-    /// Whether the branch of this identifier is PREPARED.
+    /// Returns whether the branch of this identifier is PREPARED.
     pub(crate) fn has_prepared(&self, xid: &Xid) -> bool
         ensures { result ≡ is_prepared self.now xid.now }
     {
         branch::is_prepared(self.branches.phase_of(xid))
     }
 
-    /// The value of a row that all sessions see.
+    /// Returns the value of a row that all sessions see.
     pub(crate) fn committed_value(&self, key: &Key) -> Option<Bytes>
         ensures { result ≡ committed_value_of self.now key.now }
     {
         row::committed_value(self.rows.row(key))
     }
 
-    /// The value of a row that a branch sees.
+    /// Returns the value of a row that a branch sees.
     pub(crate) fn value_within(&self, own: &Xid, key: &Key) -> Option<Bytes>
         ensures { result ≡ value_within_of self.now own.now key.now }
     {
         row::value_within(own, self.rows.row(key))
     }
 
-    /// Whether a branch that isn't the session's own holds the row, in either way.
+    /// Returns whether a branch that isn't the session's own holds the row, in share or exclusively.
     pub(crate) fn is_held_against(&self, association: &Association, key: &Key) -> bool
         ensures { result ≡ is_held_against_of self.now association.now key.now }
     {
         row::is_held_against(association, self.rows.row(key))
     }
 
-    /// Whether a branch that isn't the session's own holds the row exclusively.
+    /// Returns whether a branch that isn't the session's own holds the row exclusively.
     pub(crate) fn is_locked_against(&self, association: &Association, key: &Key) -> bool
         ensures { result ≡ is_locked_against_of self.now association.now key.now }
     {
         row::is_locked_against(association, self.rows.row(key))
     }
 
-    /// Whether the branch holds the row, in either way.
+    /// Returns whether the branch holds the row, in share or exclusively.
     pub(crate) fn holds(&self, own: &Xid, key: &Key) -> bool
         ensures { result ≡ holds_of self.now own.now key.now }
     {
         row::is_held_by(own, self.rows.row(key))
     }
 
-    /// The identifiers of the PREPARED branches, ascending.
+    /// Lists the identifiers of the PREPARED branches, ascending.
     pub(crate) fn prepared_xids(&self) -> Result<XidList, NoMemory>
         ensures { IfOk result (λ xids. xids ≡ prepared_xids_of self.now) }
     {
         Ok(XidList::of(self.branches.prepared()?))
     }
 
-    /// Every branch without its rows, ascending by identifier.
+    /// Lists every branch without its rows, ascending by identifier.
     pub(crate) fn branch_entries(&self, alloc: Global) -> Result<Vec<BranchEntry>, NoMemory>
         ensures { IfOk result (λ branches. branches.items ≡ branches_of self.now) }
     {
         self.branches.entries(alloc)
     }
 
-    /// The rows that a branch holds, ascending by key.
+    /// Lists the rows that a branch holds, ascending by key.
     pub(crate) fn held_rows(&self, alloc: Global, xid: &Xid) -> Result<Vec<HeldRow>, NoMemory>
         requires { is_known self.now xid.now ≡ true }
         ensures listed { IfOk result (λ rows. rows.items ≡ rows_of self.now xid.now) }
@@ -195,7 +206,8 @@ impl Server {
         self.rows.held_by(alloc, xid)
     }
 
-    /// Starts a branch for a free session, under an identifier that no branch has. After `NoMemory` the server is as before.
+    /// Starts a branch for a free session, under an identifier that no branch has. After `NoMemory` the
+    /// server is unchanged.
     pub(crate) fn start_branch(&mut self, session: SessionNo, xid: &Xid) -> Result<(), NoMemory>
         requires unknown { is_known self.old xid.now ≡ false }
         requires free { association_of self.old session ≡ Free }
@@ -220,8 +232,8 @@ impl Server {
         self.branches.detach(xid);
     }
 
-    /// Has a branch hold a row exclusively that no other branch holds, and do this to it. A share of its own is raised.
-    /// After `NoMemory` the server is as before.
+    /// Makes a branch hold a row exclusively, with this change. No other branch holds the row; its own
+    /// share is upgraded. After `NoMemory` the server is unchanged.
     pub(crate) fn hold(
         &mut self,
         own: &SharedXid,
@@ -244,8 +256,8 @@ impl Server {
         held
     }
 
-    /// Has a branch that doesn't hold a row share it, where no other branch holds it exclusively. After `NoMemory` the server
-    /// is as before.
+    /// Makes a branch share a row that it doesn't hold yet. No other branch holds the row exclusively.
+    /// After `NoMemory` the server is unchanged.
     pub(crate) fn share(&mut self, own: &SharedXid, key: &Key) -> Result<(), NoMemory>
         requires known { is_known self.old own.now ≡ true }
         requires unlocked { is_locked_against_of self.old (Active own.now) key.now ≡ false }
@@ -260,7 +272,7 @@ impl Server {
         shared
     }
 
-    /// Gives a row that nobody holds a value. After `NoMemory` the server is as before.
+    /// Gives a value to a row that no branch holds. After `NoMemory` the server is unchanged.
     pub(crate) fn put_row(&mut self, key: &Key, value: &Bytes) -> Result<(), NoMemory>
         requires { is_held_against_of self.old Free key.now ≡ false }
         ensures ok { OnOk result (self.new ≡ record self.old { rows = with_write key.now (Some value.now) self.old.rows }) }
@@ -269,7 +281,7 @@ impl Server {
         self.rows.put(key, value)
     }
 
-    /// Takes the value of a row that nobody holds away.
+    /// Removes the value of a row that no branch holds.
     pub(crate) fn delete_row(&mut self, key: &Key)
         requires { is_held_against_of self.old Free key.now ≡ false }
         ensures { self.new ≡ record self.old { rows = with_write key.now None self.old.rows } }
@@ -277,7 +289,8 @@ impl Server {
         self.rows.delete(key);
     }
 
-    /// Ends a branch: what it wrote is the committed value if it commits, and else is dropped; its rows are free.
+    /// Ends a branch. If it commits, its writes become the committed values; otherwise they are dropped.
+    /// Its rows are free.
     pub(crate) fn end_branch(&mut self, xid: &Xid, commits: bool)
         requires { is_known self.old xid.now ≡ true }
         ensures { self.new ≡ cond commits (committed self.old xid.now) (without_branch self.old xid.now) }

@@ -14,15 +14,18 @@ use std::collections::BTreeSet;
 use std::marker::Model;
 use xa_xid::{NoMemory, Xid};
 
-/// How many branches the list of a row has room for. A look-up passes them all.
+/// How many branches the list of a row has room for. A look-up passes all of them.
 const FEW: usize = 8;
 
-/// Several branches that share a row. Few take eight bytes each: a branch's session and the rows that it shares own the identifier together.
+/// Several branches that share a row.
+///
+/// The first few take eight bytes each: a branch's session and the rows that it shares own the identifier
+/// together.
 #[derive(Drop)]
 pub struct SeveralSharers {
-    /// Those that came while the list had room.
+    /// Those that were added while the list had room.
     few: Vec<SharedXid>,
-    /// Those that came while it was full. A tree's first node has room for fifteen identifiers.
+    /// Those that were added while it was full. A tree's first node has room for fifteen identifiers.
     many: BTreeSet<Xid>,
 }
 
@@ -38,21 +41,21 @@ impl Model for SeveralSharers {
     ghost view = { λ sharers. set.from_list {R = xid_cmp} (sharers.few.items ++ sharers.many.keys) };
 }
 
-/// Whether the branch is in the list.
+/// Returns whether the branch is in the list.
 fn is_in_list(few: &[SharedXid], xid: &Xid) -> bool
     ensures { result ≡ list_any (same_xid xid.now) few.now }
 {
     few.iter().any(|own| is_same(xid, own.xid()))
 }
 
-/// Whether a branch that isn't the session's own is in the list.
+/// Returns whether a branch that isn't the session's own is in the list.
 fn has_another_in_list(few: &[SharedXid], association: &Association) -> bool
     ensures { result ≡ list_any (is_another_of association.now) few.now }
 {
     few.iter().any(|own| association.is_another(own.xid()))
 }
 
-/// Whether a branch that isn't the session's own is in the set.
+/// Returns whether a branch that isn't the session's own is in the set.
 fn has_another_in(many: &BTreeSet<Xid>, association: &Association) -> bool
     ensures { result ≡ list_any (is_another_of association.now) (keys many.now) }
 {
@@ -64,14 +67,14 @@ fn has_another_in(many: &BTreeSet<Xid>, association: &Association) -> bool
     false
 }
 
-/// Whether each branch of a list shares the row.
+/// Returns whether each branch of a list shares the row.
 fn has_all_in_list(sharers: &Sharers, few: &[SharedXid]) -> bool
     ensures { result ≡ list_all (set.contains sharers.now) few.now }
 {
     few.iter().all(|own| sharers.contains(own.xid()))
 }
 
-/// Whether each branch of a set shares the row.
+/// Returns whether each branch of a set shares the row.
 fn has_all_in(sharers: &Sharers, many: &BTreeSet<Xid>) -> bool
     ensures { result ≡ list_all (set.contains sharers.now) (keys many.now) }
 {
@@ -83,21 +86,22 @@ fn has_all_in(sharers: &Sharers, many: &BTreeSet<Xid>) -> bool
     true
 }
 
-/// A copy of a set.
+/// Copies a set.
 fn copy_of_set(many: &BTreeSet<Xid>) -> Result<BTreeSet<Xid>, NoMemory>
     ensures { IfOk result (λ copy. keys copy ≡ keys many.now) }
 {
     many.clone()
 }
 
-/// Takes a branch out of a list.
+/// Removes a branch from a list.
 fn take_out_of_list(few: &mut Vec<SharedXid>, xid: &Xid)
     ensures { few.new.items ≡ filter (λ own. not (same_xid own xid.now)) few.old.items }
 {
     few.retain(|own| !is_same(own.xid(), xid));
 }
 
-/// Takes a branch out of a set, where it is in it. An empty tree would keep its last node: that goes too.
+/// Removes a branch from a set, if it is there. An empty tree would keep its last node, so that is freed
+/// too.
 fn take_out(many: &mut BTreeSet<Xid>, xid: &Xid)
     ensures { Updates xid_cmp many.old many.new xid.now false }
 {
@@ -108,7 +112,7 @@ fn take_out(many: &mut BTreeSet<Xid>, xid: &Xid)
 }
 
 impl SeveralSharers {
-    /// No branches.
+    /// Makes an empty set.
     pub fn new(alloc: Global) -> SeveralSharers
         ensures { result ≡ set.empty }
     {
@@ -118,21 +122,21 @@ impl SeveralSharers {
         }
     }
 
-    /// Whether there are none.
+    /// Returns whether there are none.
     pub fn is_empty(&self) -> bool
         ensures { IsTrue result ↔ (self.now ≡ set.empty) }
     {
         self.few.is_empty() && self.many.is_empty()
     }
 
-    /// Whether each of them shares the row.
+    /// Returns whether each of them shares the row.
     pub fn is_within(&self, sharers: &Sharers) -> bool
         ensures { result ≡ true → set.is_subset self.now sharers.now ≡ true }
     {
         has_all_in_list(sharers, &self.few) && has_all_in(sharers, &self.many)
     }
 
-    /// A copy of them.
+    /// Copies them.
     pub fn copy(&self) -> Result<SeveralSharers, NoMemory>
         ensures { IfOk result (λ copy. copy ≡ self.now) }
     {
@@ -142,21 +146,21 @@ impl SeveralSharers {
         })
     }
 
-    /// Whether the branch is one of them.
+    /// Returns whether the branch is one of them.
     pub fn contains(&self, xid: &Xid) -> bool
         ensures { result ≡ set.contains self.now xid.now }
     {
         is_in_list(&self.few, xid) || self.many.contains(xid)
     }
 
-    /// Whether a branch that isn't the session's own is one of them. Looks at two of them at most.
+    /// Returns whether a branch that isn't the session's own is one of them. Looks at two of them at most.
     pub fn has_another(&self, association: &Association) -> bool
         ensures { result ≡ list_any (is_another_of association.now) (set.items self.now) }
     {
         has_another_in_list(&self.few, association) || has_another_in(&self.many, association)
     }
 
-    /// Adds a branch. After `NoMemory` they are as before.
+    /// Adds a branch. After `NoMemory` they are unchanged.
     pub fn add(&mut self, xid: &SharedXid) -> Result<(), NoMemory>
         ensures ok { OnOk result (self.new ≡ set.insert self.old xid.now) }
         ensures err { OnErr result (self.new ≡ self.old) }
@@ -169,7 +173,7 @@ impl SeveralSharers {
         Ok(())
     }
 
-    /// Takes a branch out, where it is one of them.
+    /// Removes a branch, if it is one of them.
     pub fn remove(&mut self, xid: &Xid)
         ensures { self.new ≡ set.remove self.old xid.now }
     {
@@ -177,7 +181,7 @@ impl SeveralSharers {
         take_out(&mut self.many, xid);
     }
 
-    /// The only one, which leaves, where it is in the list.
+    /// Removes the only one and returns it, if there is only one and it is in the list.
     pub fn take_only(&mut self) -> Option<SharedXid>
         ensures { MatchOption result (self.new ≡ self.old) (λ only. self.old ≡ set.insert set.empty only) }
     {

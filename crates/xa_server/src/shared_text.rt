@@ -6,8 +6,10 @@ use std::marker::Model;
 use std::sync::Arc;
 use xa_xid::{Bytes, NoMemory, copy_of};
 
-/// A text that several own together: the record of a row, and those of the server's copies. It lies at a place of its own, so that a
-/// record without a value has no room for one. A contract sees the text.
+/// A text that several own together: the record of a row, and the same record in copies of the server.
+///
+/// It has a place of its own in memory, so that a record without a value needs no room for one. A contract
+/// sees the text.
 #[derive(Drop)]
 pub struct SharedText {
     shared: Arc<Bytes>,
@@ -24,7 +26,7 @@ impl Model for SharedText {
 }
 
 impl SharedText {
-    /// A copy of a text, with one owner.
+    /// Copies a text; the copy has one owner.
     pub fn of(alloc: Global, text: &Bytes) -> Result<SharedText, NoMemory>
         ensures { IfOk result (λ shared. shared ≡ text.now) }
     {
@@ -33,7 +35,7 @@ impl SharedText {
         })
     }
 
-    /// One more owner. May answer `NoMemory`, though it takes none, once there are too many to be counted.
+    /// Adds an owner. Takes no memory, but returns `NoMemory` if there are too many owners to be counted.
     pub fn try_clone(&self) -> Result<SharedText, NoMemory>
         ensures { IfOk result (λ shared. shared ≡ self.now) }
     {
@@ -42,7 +44,7 @@ impl SharedText {
         })
     }
 
-    /// The text.
+    /// Returns the text.
     pub fn text(&self) -> &Bytes
         ensures { result.now ≡ self.now }
     {

@@ -6,8 +6,10 @@ use std::marker::Model;
 use std::sync::Arc;
 use xa_xid::{NoMemory, Xid};
 
-/// An identifier that several own together: what its session has open, and the rows that its branch holds exclusively, or was among the
-/// first to share. A contract sees the identifier.
+/// An identifier that several own together.
+///
+/// Its owners are the session that has the branch open, and the rows that the branch holds exclusively, or
+/// was among the first to share. A contract sees the identifier.
 #[derive(Debug, Drop)]
 pub struct SharedXid {
     shared: Arc<Xid>,
@@ -33,9 +35,9 @@ impl Clone for SharedXid {
 }
 
 impl SharedXid {
-    /// An identifier with one owner.
+    /// Copies an identifier; the copy has one owner.
     ///
-    /// May answer `NoMemory`. Doesn't wait.
+    /// May return `NoMemory`. Doesn't wait.
     pub fn of(alloc: Global, xid: &Xid) -> Result<SharedXid, NoMemory>
         ensures { IfOk result (λ name. name ≡ xid.now) }
     {
@@ -44,9 +46,9 @@ impl SharedXid {
         })
     }
 
-    /// One more owner.
+    /// Adds an owner.
     ///
-    /// Takes no memory, but answers `NoMemory` once there are too many owners to be counted. Doesn't wait.
+    /// Takes no memory, but returns `NoMemory` if there are too many owners to be counted. Doesn't wait.
     pub fn try_clone(&self) -> Result<SharedXid, NoMemory>
         ensures { IfOk result (λ name. name ≡ self.now) }
     {
@@ -55,7 +57,7 @@ impl SharedXid {
         })
     }
 
-    /// The identifier.
+    /// Returns the identifier.
     ///
     /// Takes no memory. Doesn't wait.
     pub fn xid(&self) -> &Xid

@@ -13,10 +13,13 @@ use std::alloc::Global;
 use std::marker::Model;
 use xa_xid::{NoMemory, Xid};
 
-/// The branches that share a row. One is found, comes and goes in logarithmic time, and to go takes no memory. The first to come takes
-/// none either: its identifier is the one that its session has open.
+/// The branches that share a row.
+///
+/// Finding, adding and removing one takes logarithmic time. Removing takes no memory. Neither does adding
+/// the first: its identifier is the one that its session has open.
 #[derive(Drop)]
 pub struct Sharers {
+    /// The branches.
     branches: Branches,
     alloc: Global,
 }
@@ -24,11 +27,11 @@ pub struct Sharers {
 /// The branches, by how many there are.
 #[derive(Drop)]
 enum Branches {
-    /// Nobody shares the row.
+    /// No branch.
     Nobody,
-    /// One does.
+    /// One branch.
     One(SharedXid),
-    /// Several do, at a place of their own.
+    /// Several branches, at a place of their own in memory.
     Several(Box<SeveralSharers>),
 }
 
@@ -45,7 +48,7 @@ impl Model for Sharers {
     ghost view = { λ sharers. set_of sharers.branches };
 }
 
-/// A copy of the branches.
+/// Copies the branches.
 fn copy_of_branches(alloc: Global, branches: &Branches) -> Result<Branches, NoMemory>
     ensures { IfOk result (λ copy. set_of copy ≡ set_of branches.now) }
 {
@@ -56,7 +59,7 @@ fn copy_of_branches(alloc: Global, branches: &Branches) -> Result<Branches, NoMe
     }
 }
 
-/// Two branches.
+/// Makes a set of two branches.
 fn both(alloc: Global, one: &SharedXid, other: &SharedXid) -> Result<Branches, NoMemory>
     ensures { IfOk result (λ both. set_of both ≡ set.insert (set.insert set.empty one.now) other.now) }
 {
@@ -66,7 +69,7 @@ fn both(alloc: Global, one: &SharedXid, other: &SharedXid) -> Result<Branches, N
     Ok(Branches::Several(Box::new(alloc, several)?))
 }
 
-/// What is left of several, where it needs no place of its own.
+/// Returns what is left of several branches, if that needs no place of its own.
 fn left_of(several: &mut SeveralSharers) -> Option<Branches>
     ensures { MatchOption result (several.new ≡ several.old) (λ left. set_of left ≡ several.old) }
 {
@@ -79,7 +82,7 @@ fn left_of(several: &mut SeveralSharers) -> Option<Branches>
     }
 }
 
-/// Takes a branch out, where it is one of them, and answers what is to take their place, where something is.
+/// Removes a branch, if it is one of them. Returns what is to take their place, if anything is.
 fn leave(branches: &mut Branches, xid: &Xid) -> Option<Branches>
     ensures { option_map_or set_of result (set_of branches.new) ≡ set.remove (set_of branches.old) xid.now }
 {
@@ -100,7 +103,7 @@ fn leave(branches: &mut Branches, xid: &Xid) -> Option<Branches>
 }
 
 impl Sharers {
-    /// No branches.
+    /// Makes an empty set.
     pub fn new(alloc: Global) -> Sharers
         ensures { result ≡ set.empty }
     {
@@ -110,14 +113,14 @@ impl Sharers {
         }
     }
 
-    /// Whether both are the same set, whichever of them came first.
+    /// Returns whether both are the same set, in whatever order they were added.
     pub fn is_same(&self, other: &Sharers) -> bool
         ensures { result ≡ true → self.now ≡ other.now }
     {
         self.has_all_of(other) && other.has_all_of(self)
     }
 
-    /// Whether each of the others is one of these.
+    /// Returns whether each of the others is one of these.
     fn has_all_of(&self, other: &Sharers) -> bool
         ensures { result ≡ true → set.is_subset other.now self.now ≡ true }
     {
@@ -128,7 +131,7 @@ impl Sharers {
         }
     }
 
-    /// A copy of the set.
+    /// Copies the set.
     pub fn copy(&self) -> Result<Sharers, NoMemory>
         ensures { IfOk result (λ copy. copy ≡ self.now) }
     {
@@ -138,7 +141,7 @@ impl Sharers {
         })
     }
 
-    /// Whether the branch is one of them.
+    /// Returns whether the branch is one of them.
     pub fn contains(&self, xid: &Xid) -> bool
         ensures { result ≡ set.contains self.now xid.now }
     {
@@ -149,7 +152,7 @@ impl Sharers {
         }
     }
 
-    /// Whether a branch that isn't the session's own is one of them. Looks at two of them at most.
+    /// Returns whether a branch that isn't the session's own is one of them. Looks at two of them at most.
     pub fn has_another(&self, association: &Association) -> bool
         ensures { result ≡ list_any (is_another_of association.now) (set.items self.now) }
     {
@@ -160,7 +163,7 @@ impl Sharers {
         }
     }
 
-    /// Adds a branch. After `NoMemory` the set is as before.
+    /// Adds a branch. After `NoMemory` the set is unchanged.
     pub fn add(&mut self, xid: &SharedXid) -> Result<(), NoMemory>
         ensures ok { OnOk result (self.new ≡ set.insert self.old xid.now) }
         ensures err { OnErr result (self.new ≡ self.old) }
@@ -178,7 +181,7 @@ impl Sharers {
         }
     }
 
-    /// Takes a branch out, where it is one of them.
+    /// Removes a branch, if it is one of them.
     pub fn remove(&mut self, xid: &Xid)
         ensures { self.new ≡ set.remove self.old xid.now }
     {

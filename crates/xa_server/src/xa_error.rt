@@ -1,10 +1,10 @@
-//! Why a statement is refused.
+//! The reasons for which a statement is refused.
 ghost use Rattle.std.specs.Prelude.{◌≡◌, Some};
 
 use std::error::Error;
 use std::fmt;
 
-/// What a session has open, as a refusal tells it.
+/// The state of a session or a branch, as a refusal names it.
 ///
 /// Source: MySQL 8.0 Reference Manual, 'XA Transaction States'.
 #[derive(Clone, Copy, Debug, PartialEq, Eq)]
@@ -22,6 +22,8 @@ pub enum BranchState {
 impl fmt::Display for BranchState {
     ghost use Rattle.xa_server.specs.Errors.{state_text};
 
+    // Proved (server, refusal-texts): The text of a refusal, and the name of its state, are those of the
+    //   table of refusals.
     ghost output = { λ state. Some (state_text state) };
 
     fn fmt<W: fmt::Write>(&self, f: &mut fmt::Formatter<W>) -> fmt::Result {
@@ -34,28 +36,31 @@ impl fmt::Display for BranchState {
     }
 }
 
-/// Why a statement is refused. A refused statement changes nothing. Its text is what stands behind the number and the SQLSTATE wherever a
-/// refusal is printed.
+/// The reason for which a statement is refused. A refused statement changes nothing.
 ///
-/// Source: MySQL 8.0 Reference Manual, 'Server Error Message Reference', for numbers, SQLSTATEs and names; X/Open C193, the return codes of
-/// `xa_start()` and its kin. Own rule for the texts: docs/COMMANDS.md#scripts. When each is answered: docs/STATEMENTS.md#replies.
+/// Its text is printed after the number and the SQLSTATE.
+/// Source: MySQL 8.0 Reference Manual, 'Server Error Message Reference', for numbers, SQLSTATEs and names;
+/// X/Open C193, the return codes of `xa_start()` and the other calls.
+/// Own rule: docs/STATEMENTS.md#errors for the texts, docs/STATEMENTS.md#replies for when each is returned.
 #[derive(Clone, Copy, Debug, PartialEq, Eq)]
 pub enum XaError {
-    /// 1397 XAER_NOTA: the identifier isn't that of a branch that the statement could mean.
+    /// 1397 XAER_NOTA: no branch that the statement could mean has this identifier.
     Nota,
-    /// 1398 XAER_INVAL: the statement is recognised and not supported.
+    /// 1398 XAER_INVAL: the statement is recognised but not supported.
     Inval,
-    /// 1399 XAER_RMFAIL: the statement can't be given in this state.
+    /// 1399 XAER_RMFAIL: the statement isn't allowed in this state.
     Rmfail(BranchState),
-    /// 1440 XAER_DUPID: the identifier is that of a branch already.
+    /// 1440 XAER_DUPID: a branch has this identifier already.
     Dupid,
-    /// 3572: another branch holds the row exclusively, or at `PUT` and `DEL` in either way, and nobody waits for it.
+    /// 3572: another branch holds the row exclusively; at `PUT` and `DEL` also if another branch shares it.
+    /// No session waits.
     RowLocked,
 }
 
 impl fmt::Display for XaError {
     ghost use Rattle.xa_server.specs.Errors.{message_of};
 
+    // Proved (server, refusal-texts)
     ghost output = { λ error. Some (message_of error) };
 
     fn fmt<W: fmt::Write>(&self, f: &mut fmt::Formatter<W>) -> fmt::Result {
@@ -74,11 +79,13 @@ impl Error for XaError {}
 impl XaError {
     ghost use Rattle.xa_server.specs.Errors.{number_of, sqlstate_of, xa_code_of};
 
-    /// The server's error number.
+    /// Returns the server's error number.
     ///
     /// Takes no memory. Doesn't wait.
     /// Source: MySQL 8.0 Reference Manual, 'Server Error Message Reference'.
     pub fn number(&self) -> u16
+        // Proved (server, refusal-codes): The number, the SQLSTATE and the XA code of a refusal are those
+        //   of the table of refusals.
         ensures { result ≡ number_of self.now }
     {
         match self {
@@ -90,11 +97,12 @@ impl XaError {
         }
     }
 
-    /// The five characters of the SQLSTATE.
+    /// Returns the five characters of the SQLSTATE.
     ///
     /// Takes no memory. Doesn't wait.
     /// Source: MySQL 8.0 Reference Manual, 'Server Error Message Reference'.
     pub fn sqlstate(&self) -> &'static str
+        // Proved (server, refusal-codes)
         ensures { result.now ≡ sqlstate_of self.now }
     {
         match self {
@@ -106,11 +114,12 @@ impl XaError {
         }
     }
 
-    /// The XA return code, where there is one.
+    /// Returns the XA return code, or `None` if the refusal has none.
     ///
     /// Takes no memory. Doesn't wait.
     /// Source: X/Open C193, the return codes.
     pub fn xa_code(&self) -> Option<i8>
+        // Proved (server, refusal-codes)
         ensures { result ≡ xa_code_of self.now }
     {
         match self {
