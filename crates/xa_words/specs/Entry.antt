@@ -1,9 +1,9 @@
--- Which statements of which session make an entry of the history.
+-- The statements of a session that make a log entry.
 --     Entry           an entry as a contract sees it: a session and a statement
 --     IsText          a text of at most `text_bytes` bytes
 --     IsXid           an identifier within its limits
 --     IsNonEmptyText  a key within its limits
---     may_be_entry    whether the history takes statements of this kind
+--     may_be_entry    whether statements of this kind can be logged
 --     KeepsLimits     the texts and the formatID of a statement are within their limits
 --     IsEntry         the session's number and the statement are those of an entry
 use Rattle.std.specs.Prelude.{ℕ, ◌<◌, ◌≤◌, ◌^◌, Bool, true, false, IsTrue, List, length, slice_index}
@@ -33,13 +33,13 @@ pub record IsNonEmptyText (key : List ℕ) : Type 0 where
   pub not_empty : 0 < length key
   pub text : IsText key
 
--- every kind but XA RECOVER and a statement that isn't supported (own rule)
+-- every kind except XA RECOVER and an unsupported statement (own rule)
 abbrev pub may_be_entry : Statement → Bool
 may_be_entry (Recover convert) = false
 may_be_entry Unsupported = false
 may_be_entry statement = true
 
--- what a statement carries is within the limits of its type
+-- the parts of a statement are within the limits of its type
 abbrev pub KeepsLimits : Statement → Type 0
 KeepsLimits (Start xid) = IsXid xid
 KeepsLimits (End xid) = IsXid xid
@@ -53,7 +53,7 @@ KeepsLimits (Put key value) = IsNonEmptyText key × IsText value.items
 KeepsLimits (Del key) = IsNonEmptyText key
 KeepsLimits Disconnect = Unit {0}
 
--- a session from 1 to 16, and a statement that may enter (own rule)
+-- a session from 1 to 16, and a statement that can be logged (own rule)
 pub record IsEntry (entry : Entry) : Type 0 where
   pub first_session : 1 ≤ entry.session
   pub last_session : entry.session ≤ 16

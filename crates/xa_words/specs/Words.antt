@@ -1,5 +1,5 @@
--- The 21 numbers that an entry is written as.
---     Parts           what the numbers tell of a statement: its kind, its formatID and its two texts
+-- The 21 numbers by which a log entry is written.
+--     Parts           the parts of a statement that the numbers hold: its kind, its formatID and its two texts
 --     parts_of        the table of kinds, one line for each
 --     eight_bytes     eight bytes of a text from a place on, zeros past its end
 --     text_words      a text as eight numbers of eight bytes, the highest byte first
@@ -13,7 +13,7 @@ use Rattle.xa_xid.specs.declared.statement.Statement.{Statement}
 use Rattle.xa_xid.specs.declared.statement.Statement.TheVariants.{Start, End, Prepare, Commit, Rollback, Recover, Unsupported, Get, Put, Del, Disconnect}
 use Rattle.xa_words.specs.Entry.{Entry}
 
--- a kind, a formatID (0 where the kind has none), and two texts (empty where the kind has none)
+-- a kind, a formatID (0 if the kind has none), and two texts (empty if the kind has none)
 pub record Parts : Type 0 where
   pub kind : ℕ
   pub format_id : ℕ
@@ -28,7 +28,7 @@ of_xid kind xid = record { kind = kind; format_id = xid.format_id; first = xid.g
 abbrev pub of_texts : ℕ → List ℕ → List ℕ → Parts
 of_texts kind first second = record { kind = kind; format_id = 0; first = first; second = second }
 
--- the table of kinds; kind 0 is no entry's (own rule)
+-- the table of kinds; no entry has kind 0 (own rule)
 abbrev pub parts_of : Statement → Parts
 parts_of (Start xid) = of_xid 1 xid
 parts_of (End xid) = of_xid 2 xid
@@ -73,7 +73,7 @@ words_of entry = lay_out entry.session (parts_of entry.statement)
 unfoldable pub byte_of : List ℕ → ℕ → ℕ
 byte_of words place = slice_index (to_be_bytes w64 (slice_index words (place / 8))) (place % 8)
 
--- the parts of a row statement or a Disconnect: all but the latter have a key, and Put alone has a second text
+-- the parts of a row statement or a Disconnect: all but Disconnect have a key, and only Put has a second text
 pub record RowParts (parts : Parts) : Type 0 where
   pub low : 6 < parts.kind
   pub high : parts.kind ≤ 10

@@ -1,4 +1,4 @@
-//! Words to an entry.
+//! From words to an entry.
 ghost use Rattle.std.specs.Prelude.{◌≡◌, ◌<◌, ◌≤◌, ◌+◌, ◌++◌, ℕ, List, length, slice_index, Some, IfSome, IfNone, IsTrue};
 ghost use Rattle.xa_xid.specs.Limits.{text_bytes};
 ghost use Rattle.xa_words.specs.Entry.{IsText, IsEntry, KeepsLimits, may_be_entry};
@@ -19,7 +19,7 @@ fn push_word(text: &mut Bytes, word: u64)
     text.try_extend_from_slice(&word.to_be_bytes()).unwrap();
 }
 
-/// The first bytes of eight words, as many as asked for.
+/// Returns the first `size` bytes of eight words.
 fn bytes_of(words: &[u64], size: usize) -> Bytes
     requires length { length words.now ≡ 8 }
     requires fits { size ≤ text_bytes }
@@ -34,7 +34,7 @@ fn bytes_of(words: &[u64], size: usize) -> Bytes
     text
 }
 
-/// The text of this many bytes that eight words hold, or `None` where they hold none.
+/// Returns the text of `size` bytes that eight words hold, or `None` if they hold none.
 fn text_of(words: &[u64], size: u64) -> Option<Bytes>
     requires { length words.now ≡ 8 }
     ensures text { IfSome result (λ text. IsText text.items) }
@@ -52,7 +52,7 @@ fn text_of(words: &[u64], size: u64) -> Option<Bytes>
     Some(text)
 }
 
-/// The statement of a kind with an identifier, or `None` where there is no such kind.
+/// Returns the statement of a kind with an identifier, or `None` if there is no such kind.
 fn with_xid(kind: u64, xid: Xid) -> Option<Statement>
     requires { kind ≤ 6 }
     ensures some { IfSome result (λ statement. IsTrue (may_be_entry statement) × (parts_of statement ≡ of_xid kind xid)) }
@@ -75,7 +75,7 @@ fn with_xid(kind: u64, xid: Xid) -> Option<Statement>
     }
 }
 
-/// The statement of a kind without an identifier, or `None` where there is none of these texts.
+/// Returns the statement of a kind without an identifier, or `None` if none has these texts.
 fn with_texts(kind: u64, first: Bytes, second: Bytes) -> Option<Statement>
     requires { 6 < kind }
     ensures some { IfSome result (λ statement. IsTrue (may_be_entry statement) × (parts_of statement ≡ of_texts kind first.items second.items)) }
@@ -98,7 +98,7 @@ fn with_texts(kind: u64, first: Bytes, second: Bytes) -> Option<Statement>
     }
 }
 
-/// The statement of these parts, or `None` where there is none.
+/// Returns the statement of these parts, or `None` if there is none.
 fn statement_of(kind: u64, format_id: u64, first: Bytes, second: Bytes) -> Option<Statement>
     ensures some { IfSome result
         (λ statement. IsTrue (may_be_entry statement)
@@ -124,12 +124,14 @@ fn statement_of(kind: u64, format_id: u64, first: Bytes, second: Bytes) -> Optio
     }
 }
 
-/// The entry that these words are the words of, or `None` where there is none.
+/// Returns the entry that these words spell, or `None` if they spell none.
 ///
 /// Takes no memory. Doesn't wait.
 /// Own rule: docs/INTERNALS.md#words-of-an-entry.
 pub fn decode(words: &[u64; WORDS]) -> Option<Entry>
+    // Proved (log, one-spelling)
     ensures read { IfSome result (λ entry. words.now ≡ words_of entry) }
+    // Proved (log, one-spelling)
     ensures every { (entry : Entry) → IsEntry entry → words.now ≡ words_of entry → result ≡ Some entry }
 {
     let session = SessionNo::of(words[0])?;

@@ -1,4 +1,4 @@
-//! An entry to words.
+//! From an entry to its words.
 ghost use Rattle.std.specs.Prelude.{◌≡◌};
 ghost use Rattle.xa_words.specs.Entry.{IsEntry};
 ghost use Rattle.xa_words.specs.Words.{words_of};
@@ -6,12 +6,15 @@ ghost use Rattle.xa_words.specs.Words.{words_of};
 use crate::Entry;
 use crate::layout::{Parts, WORDS, text_words};
 
-/// The words of an entry.
+/// Returns the words of an entry.
 ///
 /// Takes no memory. Doesn't wait.
 /// Own rule: docs/INTERNALS.md#words-of-an-entry.
 pub fn encode(entry: &Entry) -> [u64; WORDS]
+    // Proved (log, one-spelling): A log entry has exactly one spelling in 21 words, and no other words are
+    //   an entry.
     ensures words { result ≡ words_of entry.now }
+    // Proved (log, one-spelling)
     ensures entry { IsEntry entry.now }
 {
     let session = entry.session().get();

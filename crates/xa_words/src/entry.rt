@@ -1,4 +1,4 @@
-//! An entry of the history.
+//! A log entry.
 ghost use Rattle.std.specs.Prelude.{◌≡◌, if◌then◌else◌, Some, None, IsTrue};
 ghost use Rattle.xa_words.specs.Entry.{IsEntry, may_be_entry};
 
@@ -6,10 +6,9 @@ use crate::limits;
 use std::marker::Model;
 use xa_xid::{SessionNo, Statement};
 
-/// An entry of the history: a session and a statement of it that may enter.
+/// A log entry: a session, and a statement of it that can be logged.
 ///
 /// A contract sees it as the record of a session's number and a statement.
-///
 /// Own rule: docs/INTERNALS.md#entries.
 #[derive(Debug, Drop, PartialEq, Eq)]
 pub struct Entry {
@@ -30,10 +29,13 @@ impl Model for Entry {
 }
 
 impl Entry {
-    /// The entry of a session and a statement, or `None` for `XA RECOVER` and for a statement that isn't supported.
+    /// Makes an entry of a session and a statement.
     ///
-    /// Takes no memory. Doesn't wait.
+    /// Returns `None` only for `XA RECOVER` and for an unsupported statement. Takes no memory. Doesn't
+    /// wait.
     pub fn of(session: SessionNo, statement: &Statement) -> Option<Entry>
+        // Proved (log, entries): Every session and every statement make an entry, except `XA RECOVER` and
+        //   an unsupported statement.
         ensures { result ≡ (if may_be_entry statement.now then Some (record { session = session; statement = statement.now }) else None) }
     {
         match statement {
@@ -49,7 +51,8 @@ impl Entry {
         }
     }
 
-    /// The entry of a session and a statement that may enter.
+    /// Makes an entry of a session and a statement that can be logged: any but `XA RECOVER` and an
+    /// unsupported one.
     ///
     /// Takes no memory. Doesn't wait.
     pub fn entering(session: SessionNo, statement: Statement) -> Entry
@@ -61,7 +64,7 @@ impl Entry {
         Entry { session, statement }
     }
 
-    /// The session.
+    /// Returns the session.
     ///
     /// Takes no memory. Doesn't wait.
     pub fn session(&self) -> SessionNo
@@ -71,7 +74,7 @@ impl Entry {
         self.session
     }
 
-    /// The statement.
+    /// Returns the statement.
     ///
     /// Takes no memory. Doesn't wait.
     pub fn statement(&self) -> &Statement
@@ -81,7 +84,7 @@ impl Entry {
         &self.statement
     }
 
-    /// A copy of the entry.
+    /// Returns a copy of the entry.
     ///
     /// Takes no memory. Doesn't wait.
     pub fn copy(&self) -> Entry

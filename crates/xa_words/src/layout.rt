@@ -1,17 +1,17 @@
-//! What the words of an entry hold, and where.
+//! The layout of an entry's words.
 ghost use Rattle.std.specs.Prelude.{◌≡◌, ◌<◌, ℕ, length, slice_index, IsTrue};
 ghost use Rattle.xa_words.specs.Entry.{Entry};
 ghost use Rattle.xa_words.specs.Words.{parts_of, text_word, text_words, words_of};
 
 use xa_xid::{Key, Statement, Xid};
 
-/// How many words an entry has.
+/// The number of words of an entry.
 pub const WORDS: usize = 21;
 
-/// How many bytes a text has at most.
+/// The greatest length of a text, in bytes.
 pub(crate) const MOST_BYTES: u64 = 64;
 
-/// What the words tell of a statement: the number of its kind, its formatID and its two texts.
+/// The parts of a statement that the words hold: the number of its kind, its formatID and its two texts.
 pub(crate) struct Parts<'a> {
     pub(crate) kind: u64,
     pub(crate) format_id: u64,
@@ -45,7 +45,7 @@ impl<'a> Parts<'a> {
         }
     }
 
-    /// The parts of a statement; the kind is 0 where it can't enter.
+    /// Returns the parts of a statement. The kind is 0 if the statement can't be logged.
     pub(crate) fn of(statement: &'a Statement) -> Parts<'a>
         ensures kind { result.kind ≡ (parts_of statement.now).kind }
         ensures format_id { result.format_id ≡ (parts_of statement.now).format_id }
@@ -69,14 +69,15 @@ impl<'a> Parts<'a> {
     }
 }
 
-/// The byte at a place of a text, or 0 past its end.
+/// Returns the byte at a place of a text, or 0 past its end.
 fn byte_or_zero(text: &[u8], place: usize) -> u8
     ensures { result ≡ slice_index text.now place }
 {
     if place < text.len() { text[place] } else { 0 }
 }
 
-/// The eight bytes of a text from a place on, as one number. Most texts are short, so most words are past their end.
+/// Returns the eight bytes of a text from a place on, as one number. Most texts are short, so most words
+/// are past their end.
 fn text_word(text: &[u8], place: usize) -> u64
     requires { place < 64 }
     ensures { result ≡ text_word text.now place }
@@ -99,7 +100,7 @@ fn text_word(text: &[u8], place: usize) -> u64
     ])
 }
 
-/// The same of a text that may end among the eight bytes.
+/// Does the same for a text that may end within the eight bytes.
 fn last_word(text: &[u8], place: usize) -> u64
     requires { place < 64 }
     ensures { result ≡ text_word text.now place }
@@ -116,7 +117,7 @@ fn last_word(text: &[u8], place: usize) -> u64
     ])
 }
 
-/// A text as eight words. Most texts fill no more than the first.
+/// Returns a text as eight words. Most texts fill only the first.
 pub(crate) fn text_words(text: &[u8]) -> [u64; 8]
     ensures { result ≡ text_words text.now }
 {
@@ -135,13 +136,15 @@ pub(crate) fn text_words(text: &[u8]) -> [u64; 8]
     ]
 }
 
-/// Whether the word of an entry at `index`, in `[0, 20]`, is 0 since its text ends before it, as the words before it tell.
+/// Returns whether the word of an entry at `index` is 0 because its text ends before it.
 ///
-/// Takes no memory. Doesn't wait.
+/// `index` is in `[0, 20]`. The words before it give the length of the text. Takes no memory. Doesn't wait.
 /// Own rule: docs/INTERNALS.md#words-of-an-entry.
 pub fn is_behind_text(words: &[u64; WORDS], index: usize) -> bool
     requires { index < 21 }
     ensures behind { IsTrue result → 4 < index }
+    // Proved (log, zeros-after-texts): A word that `is_behind_text` reports as after the end of its text is
+    //   0 in every entry that begins with the words before it.
     ensures zero { IsTrue result
         → (entry : Entry)
         → ((place : ℕ) → place < index → slice_index words.now place ≡ slice_index (words_of entry) place)

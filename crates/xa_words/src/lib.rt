@@ -1,6 +1,7 @@
-//! Entries of the shared history, each written as 21 numbers in exactly one way.
+//! Log entries, each written as 21 numbers of 64 bits in exactly one way; no other numbers are an entry.
 //!
-//! Nothing here takes memory or waits.
+//! Read first: docs/INTERNALS.md#words-of-an-entry, then specs/Words.antt (the table of kinds, one line for
+//! each, which both directions use), then src/layout.rt. Nothing here takes memory or waits.
 #![tactic(auto)]
 
 mod decoding;

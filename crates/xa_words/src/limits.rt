@@ -1,4 +1,4 @@
-//! What the types of a statement's parts say of its limits.
+//! The limits of a statement's parts, as their types give them.
 ghost use Rattle.std.specs.Prelude.{◌≤◌, length};
 ghost use Rattle.xa_xid.specs.Limits.{text_bytes};
 ghost use Rattle.xa_words.specs.Entry.{IsText, IsXid, IsNonEmptyText, KeepsLimits};
@@ -10,7 +10,7 @@ fn of_bytes(bytes: &[u8])
     ensures { IsText bytes.now }
 {}
 
-/// A text is of at most 64 bytes.
+/// States that a text has at most 64 bytes.
 pub(crate) fn of_text(text: &Bytes)
     ensures { IsText text.now.items }
 {
@@ -31,7 +31,7 @@ fn of_key(key: &Key)
     of_bytes(key.as_slice());
 }
 
-/// A statement is within the limits of its types.
+/// States that a statement is within the limits of its types.
 pub(crate) fn of_statement(statement: &Statement)
     ensures { KeepsLimits statement.now }
 {
