@@ -1,12 +1,12 @@
 -- A seat at the words of a log, whatever the log is.
 --     KnowsOne        it is a seat at this table, and knows one pass
 --     KnowsTwo        the same with two passes
---     KnowsRest       the same with those that were not issued
+--     KnowsRest       the same with the passes that were not issued
 --     KnowsNone       the same with no pass
 --     identity_at     the identity of a log at a table
 --     belongs_at      of which log the pass at a seat is
---     KeepsSeats      a rule is kept where seats are split and joined, where a pass is issued, and where two passes meet
---     OpensSeats      words of zeros keep a rule where one seat knows all passes, and so does all that follows
+--     KeepsSeats      a rule is kept when seats are split and joined, when a pass is issued, and when two passes meet
+--     OpensSeats      words of zeros keep a rule if one seat knows all passes, and so does all that follows
 use Rattle.std.specs.Prelude.{◌≡◌, ◌<◌, ◌≤◌, ℕ, List, [], length, slice_index}
 use Rattle.atomic_table.specs.Seated.{TableId}
 use Rattle.atomic_table.specs.Table.{State, Allows, Splits, Joins, opening}
@@ -48,7 +48,7 @@ identity_at table_id sizes = record { table = table_id; sessions = sizes.session
 abbrev pub belongs_at : Seat Entry SeatView → LogIdentity
 belongs_at seat = record { table = seat.table_id; sessions = (pass_view seat).sessions; capacity = (pass_view seat).capacity }
 
--- the rule holds after each of these steps where it held before; a pass is issued only while there are numbers left
+-- the rule holds after each of these steps if it held before; a pass is issued only if there is a number left
 pub record KeepsSeats (holds : Sizes → State Entry SeatView → Type 0) (newest : PassView → ℕ) : Type 0 where
   pub split_empty : (sizes : Sizes) (id : ℕ) (pass : PassView) → Splits (holds sizes) id (Single pass) (Single pass) Empty
   pub join : (sizes : Sizes) (id other : ℕ) (first second : PassView) → Joins (holds sizes) id (Single first) other (Single second) (Pair first second) Empty

@@ -1,13 +1,13 @@
 -- One atomic step of a pass on the words of a log, and how the counts of the pass rise by it.
 --     Atomic          a load of a word, a store into it, or an exchange of it
---     AtLoad, AtStore, AtExchange      what a transition tells that has steps of one kind alone
+--     AtLoad, AtStore, AtExchange      a transition whose steps are all of one kind
 --     Does            what the step finds, and the words after it
 --     IsLoad          the step loads this word
 --     IsTry           the step exchanges this word
 --     Counts          `looks` rises by the load of word 0 that sees the history, `tries` by each exchange of one word, and neither by anything else;
 --                     `since` counts the looks from the last try on
---     Tells           what a transition says of a seat that knows one pass
---     Meets           what the load of word 0 says at a seat that knows two
+--     Tells           a transition at a seat that knows one pass
+--     Meets           the load of word 0 at a seat that knows two
 use Rattle.std.specs.Prelude.{◌≡◌, ◌≢◌, ◌⊎◌, ◌<◌, ◌+◌, ℕ, List, length, set, slice_index}
 use mathlib.Core.Option.{Option}
 use Rattle.atomic_table.specs.Table.{Me}
@@ -41,7 +41,7 @@ AtExchange tells (Load word) old found new = ⊥
 AtExchange tells (Store word value) old found new = ⊥
 AtExchange tells (Exchange word from to said) old found new = tells word from to said old found new
 
--- a load and an exchange find what stood there; an exchange leaves it where it isn't what was asked for
+-- a load and an exchange find what was there; an exchange leaves it if it isn't what was asked for
 abbrev pub Does : Atomic → List ℕ → ℕ → List ℕ → Type 0
 Does (Load word) old found new = (found ≡ slice_index old word) × (new ≡ old)
 Does (Store word value) old found new = new ≡ set old word value
@@ -67,11 +67,11 @@ pub record Counts (newest : PassView → ℕ) (tried : ℕ) (step : Atomic) (fou
   pub since : (IsLoad 0 step → new.known.since ≡ old.known.since + 1) × (IsTry tried step → new.known.since ≡ 0)
       × ((IsLoad 0 step → ⊥) → (IsTry tried step → ⊥) → new.known.since ≡ old.known.since)
 
--- the seat knows one pass after the step too, and of that the transition holds
+-- the seat knows one pass after the step too, and the transition holds for that pass
 abbrev pub Tells : (ℕ → PassView → Type 0) → ℕ → Me Entry SeatView → Type 0
 Tells then found me = (pass_view : PassView) × (me ≡ seated pass_view) × then found pass_view
 
--- the first pass stays; where the second had seen less, it has now seen the whole history
+-- the first pass is unchanged; if the second had seen less, it has now seen the whole history
 abbrev pub Meets : (PassView → ℕ) → PassView → PassView → ℕ → Me Entry SeatView → Type 0
 Meets newest first second found me =
     (seen : List Entry) × (me ≡ seated_two first (met second seen)) × (length second.known.seen < length first.known.seen → found ≡ newest (met second seen))

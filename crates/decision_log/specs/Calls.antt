@@ -1,7 +1,7 @@
--- What the calls of a log tell of a pass.
+-- How the calls of a log change what a pass knows.
 --     Looked          a look
---     IsAdded, IsOvertaken, IsBusy      the answers to an add, with those that change nothing but counts
---     Adds            an add, by its answer
+--     IsAdded, IsOvertaken, IsBusy      the results of an append
+--     Adds            an append, by its result
 --     MeetsFirst, MeetsSecond     a meeting of two passes
 use Rattle.std.specs.Prelude.{◌≡◌, ◌<◌, ◌≤◌, ◌+◌, ℕ, Bool, IsTrue, [], ◌∷◌, ◌++◌, length, Result, Ok, Err}
 use Rattle.xa_words.specs.Entry.{Entry}
@@ -10,7 +10,7 @@ use Rattle.decision_log.specs.declared.fault.AddFault.{AddFault}
 use Rattle.decision_log.specs.declared.fault.AddFault.TheVariants.{Overtaken, Full, Busy}
 use Rattle.decision_log.specs.History.{Begins, entries_of}
 
--- what was seen begins what is seen now, and one look more is counted
+-- what was seen begins what is seen now, and one more look is counted
 pub record Looked (old new : Known) : Type 0 where
   pub number : new.number ≡ old.number
   pub seen : Begins old.seen new.seen
@@ -19,7 +19,7 @@ pub record Looked (old new : Known) : Type 0 where
   pub tries : new.tries ≡ old.tries
   pub since : new.since ≡ old.since + 1
 
--- the entry stands behind all that was seen, and nothing else was added
+-- the entry comes after all that was seen, and nothing else was appended
 pub record IsAdded (entry : Entry) (old new : Known) : Type 0 where
   pub number : new.number ≡ old.number
   pub seen : new.seen ≡ old.seen ++ entry ∷ []
@@ -27,7 +27,7 @@ pub record IsAdded (entry : Entry) (old new : Known) : Type 0 where
   pub looks : old.looks ≤ new.looks
   pub tries : new.tries ≡ old.tries + 1
 
--- others were faster: more is seen, and nothing was added
+-- others were faster: more is seen, and nothing was appended
 pub record IsOvertaken (count : ℕ) (old new : Known) : Type 0 where
   pub number : new.number ≡ old.number
   pub seen : Begins old.seen new.seen
@@ -37,7 +37,7 @@ pub record IsOvertaken (count : ℕ) (old new : Known) : Type 0 where
   pub looks : old.looks ≤ new.looks
   pub tries : new.tries ≡ old.tries + 1
 
--- another has the turn: the lists stay, and the pass hasn't looked, as it would have to before it gave a turn of its own back
+-- another pass has the turn: the lists are unchanged, and the pass hasn't looked (it would have to, before it gave its own turn back)
 pub record IsBusy (old new : Known) : Type 0 where
   pub number : new.number ≡ old.number
   pub seen : new.seen ≡ old.seen
@@ -45,7 +45,7 @@ pub record IsBusy (old new : Known) : Type 0 where
   pub looks : new.looks ≡ old.looks
   pub tries : new.tries ≡ old.tries + 1
 
--- an add in a log of a capacity, with a turn or without; at Full nothing changes
+-- an append in a log of a capacity, with a turn or without; at Full nothing changes
 abbrev pub Adds : Bool → ℕ → Entry → Result (Unit {0}) AddFault → Known → Known → Type 0
 Adds turns capacity entry (Ok _) old new = IsAdded entry old new
 Adds turns capacity entry (Err (Overtaken front)) old new = IsOvertaken front old new

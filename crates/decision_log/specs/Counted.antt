@@ -1,4 +1,4 @@
--- How the counts of a pass rise by a transition that has steps of one kind alone: what the laws of transitions are made of.
+-- How the counts of a pass rise by a transition whose steps are all of one kind. The laws of transitions are made of these.
 --     IsCounted       each step of a transition raises the counts as it should
 --     leaves_counts   a step that neither looks nor tries
 --     counts_at_load, counts_at_store, counts_at_exchange      a transition of loads, of stores, of exchanges

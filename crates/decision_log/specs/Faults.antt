@@ -1,6 +1,6 @@
 -- The numbers of the faults.
 --     number_of_open_fault      why a log wasn't opened
---     number_of_add_fault       why an entry wasn't added
+--     number_of_add_fault       why an entry wasn't appended
 use Rattle.std.specs.Prelude.{ℕ}
 use Rattle.decision_log.specs.declared.fault.OpenFault.{OpenFault}
 use Rattle.decision_log.specs.declared.fault.OpenFault.TheVariants.{CapacityOutOfRange, SessionsOutOfRange, NoMemory}
@@ -13,7 +13,7 @@ number_of_open_fault CapacityOutOfRange = 1
 number_of_open_fault SessionsOutOfRange = 2
 number_of_open_fault NoMemory = 3
 
--- lost, full, or another's turn
+-- overtaken, full, or busy
 abbrev pub number_of_add_fault : AddFault → ℕ
 number_of_add_fault (Overtaken front) = 1
 number_of_add_fault Full = 2

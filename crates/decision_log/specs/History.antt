@@ -1,4 +1,4 @@
--- Lists of entries: what it is to begin another, and which entries a session has in one.
+-- Lists of entries: prefixes, and the entries of a session.
 --     Begins front list           `front` is a prefix of `list`
 --     entries_of session list     the entries of a session, in their order
 use Rattle.std.specs.Prelude.{◌≡◌, ℕ, Bool, List, length, take, filter, nat_eq}

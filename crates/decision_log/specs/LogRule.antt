@@ -1,6 +1,6 @@
 -- The rule of a log, which holds between any two steps: what is the same in every log, whatever its words are.
---     KnowsLog        what a pass knows of the log is so
---     LogRule         the rule, where it is told how words spell a history and what a pass knows of them
+--     KnowsLog        what a pass knows of the log is true
+--     LogRule         the rule, given how words spell a history and what a pass knows of them
 use Rattle.std.specs.Prelude.{◌≡◌, ◌<◌, ◌≤◌, ◌+◌, ℕ, List, length, slice_get, Some}
 use Rattle.xa_words.specs.Entry.{Entry, IsEntry}
 use Rattle.decision_log.specs.declared.view.PassView.{PassView}
@@ -19,7 +19,7 @@ pub record KnowsLog (KnowsWords : List ℕ → List Entry → PassView → Type 
   pub part : entries_of pass_view.known.number pass_view.known.seen ≡ pass_view.known.mine
   pub own : KnowsWords words log pass_view
 
--- the words spell a history, whose entries are of sessions that were given out, and what all seats know is so
+-- the words spell a history, whose entries are of sessions that were given out, and what all seats know is true
 pub record LogRule (Spells : Sizes → List ℕ → List Entry → Type 0) (KnowsWords : List ℕ → List Entry → PassView → Type 0) (sizes : Sizes) (words : List ℕ)
     (views : List SeatView) : Type 0 where
   pub log : List Entry

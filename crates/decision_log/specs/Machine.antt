@@ -1,7 +1,7 @@
 -- The log as a machine: one history, which grows at its end, and what each session knows of it.
 --     Seen            what one session knows: a prefix of the history, and its own entries
 --     Machine         a history, a capacity, and what each session knows
---     Event           a session looks, or it adds an entry
+--     Event           a session looks, or it appends an entry
 --     Happens         one event, from one machine to the next
 --     Runs            any list of events
 --     opening_machine  the machine at the start
@@ -34,7 +34,7 @@ pub record Looks (session : ℕ) (old new : Machine) : Type 0 where
   pub mine : (new.knows session).mine ≡ (old.knows session).mine
   pub others : (other : ℕ) → other ≢ session → new.knows other ≡ old.knows other
 
--- the session, which has seen the whole history, puts an entry of its own at the end of a history that isn't full
+-- the session, which has seen the whole history, appends an entry of its own to a history that isn't full
 pub record Appends (session : ℕ) (entry : Entry) (old new : Machine) : Type 0 where
   pub own : entry.session ≡ session
   pub whole : (old.knows session).seen ≡ old.history

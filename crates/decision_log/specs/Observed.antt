@@ -1,4 +1,4 @@
--- What a step that sees the history tells a pass.
+-- What a pass learns from a step by which it sees the history.
 --     HistoryIs       what a pass learns of a history that it sees
 --     MetAt           the same of two passes that meet
 --     met             a pass after a meeting

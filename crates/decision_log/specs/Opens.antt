@@ -1,4 +1,4 @@
--- What opening a log gives, and why it is refused.
+-- The result of opening a log: its passes, or a fault with its cause.
 --     IsCapacity, IsCount, AreSizes      a capacity, a number of sessions, and both, in range
 --     Opens           the passes that a log begins with
 --     Refuses         the only cause of each fault

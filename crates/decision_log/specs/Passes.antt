@@ -16,14 +16,14 @@ use Rattle.decision_log.specs.Reached.{IsReached}
 abbrev pub KnownTo : Machine → PassView → Type 0
 KnownTo machine pass_view = machine.knows pass_view.known.number ≡ record { seen = pass_view.known.seen; mine = pass_view.known.mine }
 
--- each pass that was given out and stands at the seat does
+-- each pass that was given out and is at the seat does
 abbrev pub SeatKnownTo : Machine → SeatView → Type 0
 SeatKnownTo machine Empty = Unit {0}
 SeatKnownTo machine (Single pass_view) = KnownTo machine pass_view
 SeatKnownTo machine (Pair first second) = KnownTo machine first × KnownTo machine second
 SeatKnownTo machine (Unissued pass_view) = Unit {0}
 
--- a state of the machine that has this history and these passes, and that looks and adds of sessions 1 to a number lead to
+-- a state of the machine that has this history and these passes, to which looks and appends of sessions 1 to a number lead
 pub record HasPasses (sessions capacity : ℕ) (log : List Entry) (views : List SeatView) (machine : Machine) : Type 0 where
   pub state : IsState machine
   pub reached : IsReached sessions machine

@@ -1,11 +1,11 @@
--- What it is for a machine to be reached: by looks and adds, from the start.
---     session_of      whose event it is
+-- Machines that are reached from the start by looks and appends.
+--     session_of      the session of an event
 --     EventsOf        each event is of a session from 1 to a number
 --     IsReached       such events lead from the start to the machine's history, and to what these sessions know
 use Rattle.std.specs.Prelude.{◌≡◌, ◌≤◌, ℕ, List, [], ◌∷◌}
 use Rattle.decision_log.specs.Machine.{Machine, Event, Look, Add, Runs, opening_machine}
 
--- the session that looks or adds
+-- the session that looks or appends
 abbrev pub session_of : Event → ℕ
 session_of (Look session) = session
 session_of (Add session entry) = session

@@ -1,5 +1,5 @@
 -- The seats at the table of a log, whatever its words are.
---     pass_view_of    the pass that a seat knows, the first where there are two
+--     pass_view_of    the pass that a seat knows, the first if there are two
 --     second_of       the second of two
 --     pass_view, second  the same of a seat's value
 --     seated, seated_two, seated_rest, spent     a seat that knows one pass, two, the rest, or none
@@ -8,9 +8,9 @@
 --     left_of, right_of    how a seat is split: two passes into one and one, one pass into it and nothing, the rest into the next pass and those after it
 --     both_of         how two seats are joined
 --     IsPass          a pass between two calls, of a number and with so many entries seen
---     Placed          a pass has a number that was given out, and stands at its number's seat
---     Fits            what a seat knows is so
---     Seats           what all seats know is so
+--     Placed          a pass has a number that was given out, and is at its number's seat
+--     Fits            what a seat knows is true
+--     Seats           what all seats know is true
 use Rattle.std.specs.Prelude.{◌≡◌, ◌≢◌, ◌<◌, ◌≤◌, ◌+◌, ℕ, List, [], length}
 use mathlib.Core.Option.{some}
 use lib.ListN.{get_elem?}
@@ -38,14 +38,14 @@ following pass_view = newcomer_view pass_view.sessions pass_view.capacity (pass_
 abbrev pub all_passes : Sizes → SeatView
 all_passes sizes = Unissued (newcomer_view sizes.sessions sizes.capacity 1)
 
--- a seat's pass; any where it knows none
+-- a seat's pass; any, if it knows none
 abbrev pub pass_view_of : SeatView → PassView
 pass_view_of Empty = newcomer_view 0 0 0
 pass_view_of (Single pass_view) = pass_view
 pass_view_of (Pair first second) = first
 pass_view_of (Unissued pass_view) = pass_view
 
--- the second of a seat's two passes; any where it doesn't know two
+-- the second of a seat's two passes; any, if it doesn't know two
 abbrev pub second_of : SeatView → PassView
 second_of Empty = newcomer_view 0 0 0
 second_of (Single pass_view) = pass_view
@@ -76,7 +76,7 @@ seated_rest pass_view = (Unissued pass_view, [])
 abbrev pub spent : Me Entry SeatView
 spent = (Empty, [])
 
--- what a seat keeps where it is split
+-- what a seat keeps when it is split
 abbrev pub left_of : SeatView → SeatView
 left_of Empty = Empty
 left_of (Single pass_view) = Single pass_view
@@ -114,13 +114,13 @@ module _ (fact : PassView → Type 0) (home : ℕ → ℕ) (next : ℕ) where
     pub home_is : home pass_view.known.number ≡ id
     pub fact_is : fact pass_view
 
-  -- what the seat of a number knows is so
+  -- what the seat of a number knows is true
   abbrev pub Fits : ℕ → SeatView → Type 0
   Fits id Empty = Unit {0}
   Fits id (Single pass_view) = Placed id pass_view
   Fits id (Pair first second) = Placed id first × Placed id second × (first.known.number ≢ second.known.number)
   Fits id (Unissued pass_view) = (home 0 ≡ id) × (pass_view.known.number ≡ next) × fact pass_view
 
-  -- what each seat knows is so
+  -- what each seat knows is true
   abbrev pub Seats : List SeatView → Type 0
   Seats views = (id : ℕ) (view : SeatView) → get_elem? views id ≡ some view → Fits id view

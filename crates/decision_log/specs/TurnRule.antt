@@ -1,11 +1,11 @@
 -- The rule of a log with a turn, which holds between any two steps.
---     row_at          where the row of a place begins
---     turn_word       which word names who has the turn
---     count_for       what the count is where a pass has seen the whole history
+--     row_at          the first word of the row of a place
+--     turn_word       the word that names the session that has the turn
+--     count_for       what the count is if a pass has seen the whole history
 --     HasRows         the words spell a history
---     HasTurn         what a pass knows of the turn is so
---     HasDraft        what a pass knows of the words is so
---     Knows           what a pass knows of the log is so
+--     HasTurn         what a pass knows of the turn is true
+--     HasDraft        what a pass knows of the words is true
+--     Knows           what a pass knows of the log is true
 --     TurnRule        the rule
 use Rattle.std.specs.Prelude.{◌≡◌, ◌+◌, ◌*◌, ℕ, List, [], length, slice_get, slice_index, Some}
 use Rattle.xa_words.specs.Entry.{Entry}
@@ -22,7 +22,7 @@ use Rattle.decision_log.specs.LogRule.{KnowsLog, LogRule}
 abbrev pub row_at : ℕ → ℕ
 row_at place = 2 + place * 21
 
--- the word behind the count
+-- the word after the count
 abbrev pub turn_word : ℕ
 turn_word = 1
 
@@ -42,15 +42,15 @@ HasTurn words log pass_view Without = pass_view.draft ≡ []
 HasTurn words log pass_view Won = (pass_view.draft ≡ []) × (slice_index words 1 ≡ pass_view.known.number)
 HasTurn words log pass_view Fresh = (pass_view.known.seen ≡ log) × (slice_index words 1 ≡ pass_view.known.number)
 
--- a pass's draft is in the row behind the history, and what the pass knows of the turn is so
+-- a pass's draft is in the row after the history, and what the pass knows of the turn is true
 pub record HasDraft (words : List ℕ) (log : List Entry) (pass_view : PassView) : Type 0 where
   pub draft : HasWordsAt words (row_at (length log)) pass_view.draft
   pub turn : HasTurn words log pass_view pass_view.turn
 
--- what a pass knows is so
+-- what a pass knows is true
 abbrev pub Knows : Sizes → List ℕ → List Entry → PassView → Type 0
 Knows sizes words log pass_view = KnowsLog HasDraft sizes words log pass_view
 
--- the words spell the log, whose entries are of sessions that were given out, and what all seats know is so
+-- the words spell the log, whose entries are of sessions that were given out, and what all seats know is true
 abbrev pub TurnRule : Sizes → List ℕ → List SeatView → Type 0
 TurnRule sizes words views = LogRule HasRows HasDraft sizes words views

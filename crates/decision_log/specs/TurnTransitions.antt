@@ -1,4 +1,4 @@
--- What each step of a log with a turn does to the pass that takes it, and what it tells.
+-- How each step of a log with a turn changes the pass that takes it, and what the pass learns.
 --     with_look, tried, published, released   the pass after a step
 --     Sees, Reads, Takes, Drafts, Publishes, Releases     the steps, each by its word, its operands, the pass before, what was found and the pass after
 use Rattle.std.specs.Prelude.{◌≡◌, ◌≢◌, ◌<◌, ◌+◌, ◌-◌, ℕ, List, [], ◌∷◌, ◌++◌, length, slice_get, slice_index, Some}
@@ -12,7 +12,7 @@ use Rattle.decision_log.specs.Draft.{drafted}
 use Rattle.decision_log.specs.Observed.{HistoryIs}
 use Rattle.decision_log.specs.TurnRule.{row_at, turn_word}
 
--- who has the turn and has with_look is fresh
+-- a pass that has the turn and looks is fresh
 abbrev pub looked_turn : Turn → Turn
 looked_turn Without = Without
 looked_turn Won = Fresh
@@ -40,7 +40,7 @@ tried h turn = record {
   turn = turn;
 }
 
--- after the entry was added
+-- after the entry was appended
 abbrev pub published : PassView → Entry → PassView
 published h entry = record {
   known =
@@ -67,7 +67,7 @@ abbrev pub Sees : ℕ → PassView → ℕ → PassView → Type 0
 Sees word old found new =
     (word ≡ 0) × (seen : List Entry) × (new ≡ with_look old seen) × (found ≡ length seen) × HistoryIs old seen
 
--- a load of a word behind the count; one of a row that was seen is the entry's there
+-- a load of a word after the count; in a row that was seen, it is the entry's word
 abbrev pub Reads : ℕ → PassView → ℕ → PassView → Type 0
 Reads word old found new =
     (word ≢ 0) × (new ≡ old)

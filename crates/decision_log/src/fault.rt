@@ -1,4 +1,4 @@
-//! Why a log wasn't opened, and why an entry wasn't added.
+//! The reasons for which a log wasn't opened, or an entry wasn't appended.
 ghost use Rattle.std.specs.Prelude.{◌≡◌};
 ghost use Rattle.decision_log.specs.Faults.{number_of_open_fault, number_of_add_fault};
 
@@ -6,6 +6,8 @@ use std::alloc::AllocError;
 use thiserror::Error;
 
 /// Why a log wasn't opened.
+///
+/// Own rule: docs/INTERNALS.md#what-a-log-promises.
 #[derive(Clone, Copy, Debug, Drop, PartialEq, Eq, Error)]
 pub enum OpenFault {
     /// The capacity isn't in `[1, 1024]`.
@@ -14,13 +16,13 @@ pub enum OpenFault {
     /// The number of sessions isn't in `[1, 16]`.
     #[error("the number of sessions is not from 1 to 16")]
     SessionsOutOfRange,
-    /// There was no memory.
+    /// No memory is left.
     #[error("out of memory")]
     NoMemory,
 }
 
 impl OpenFault {
-    /// The fault's number, in `[1, 3]`, in the order of test.
+    /// Returns the fault's number, in `[1, 3]`, in the order of test.
     ///
     /// Takes no memory. Doesn't wait.
     /// Own rule: docs/INTERNALS.md#what-a-log-promises.
@@ -35,10 +37,12 @@ impl OpenFault {
     }
 }
 
-/// Why an entry wasn't added. Nothing of it stands in the history.
+/// Why an entry wasn't appended. The history has nothing of the call.
+///
+/// Own rule: docs/INTERNALS.md#what-a-log-promises.
 #[derive(Clone, Copy, Debug, Drop, PartialEq, Eq, Error)]
 pub enum AddFault {
-    /// The history had more entries than the pass had seen. It has now seen `front` of them.
+    /// The history had more entries than the pass had seen. The pass has now seen `front` of them.
     #[error("others have added: {front} entries are seen now")]
     Overtaken {
         /// How many entries the pass has seen now.
@@ -53,7 +57,7 @@ pub enum AddFault {
 }
 
 impl AddFault {
-    /// The fault's number, in `[1, 3]`.
+    /// Returns the fault's number, in `[1, 3]`.
     ///
     /// Takes no memory. Doesn't wait.
     /// Own rule: docs/INTERNALS.md#what-a-log-promises.

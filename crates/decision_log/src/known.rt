@@ -3,7 +3,7 @@
 use std::collections::LinkedList;
 use xa_words::Entry;
 
-/// What a pass knows. No value of it is made: it is what a contract says of a pass.
+/// What a pass knows. No value of this type is made: contracts use it to describe a pass.
 pub struct Known {
     /// The session's number.
     pub number: u64,
@@ -11,10 +11,11 @@ pub struct Known {
     pub seen: LinkedList<Entry>,
     /// The entries of the history that are of the pass's own number.
     pub mine: LinkedList<Entry>,
-    /// How often the pass has looked. It has no greatest value and isn't kept at run time.
+    /// How often the pass has looked. It has no greatest value, and isn't kept at run time.
     pub looks: u64,
-    /// How often the pass has tried to add. It has no greatest value and isn't kept at run time.
+    /// How often the pass has tried to append. It has no greatest value, and isn't kept at run time.
     pub tries: u64,
-    /// How often the pass has looked since it last tried to add. It has no greatest value and isn't kept at run time.
+    /// How often the pass has looked since it last tried to append. It has no greatest value, and isn't
+    /// kept at run time.
     pub since: u64,
 }

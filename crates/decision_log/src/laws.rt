@@ -1,4 +1,4 @@
-//! What holds of the log as a machine, and of the passes of a log with a turn, as contracts over definitions alone.
+//! Laws of the log as a machine, and of the passes of a log with a turn: contracts over definitions only.
 ghost use Rattle.std.specs.Prelude.{◌≡◌, ◌≢◌, ◌<◌, ◌≤◌, ◌+◌, ℕ, List, [], ◌∷◌, ◌++◌, length, set};
 ghost use mathlib.Core.Option.{Option, some};
 ghost use lib.ListN.{get_elem?};
@@ -17,52 +17,70 @@ ghost use Rattle.decision_log.specs.Passes.{HasPasses};
 ghost use Rattle.decision_log.specs.Atomic.{Atomic, Exchange, Does, Counts};
 ghost use Rattle.decision_log.specs.TurnRule.{row_at, turn_word, count_for, TurnRule};
 
-/// Whatever happens, the entries of a session's number in what it has seen are its own.
+/// States that the entries of a session's number in what it has seen are its own, whatever happens.
 ///
-/// Takes no memory. Doesn't wait. Own rule: docs/INTERNALS.md#what-a-log-promises.
+/// Takes no memory. Doesn't wait.
+/// Own rule: docs/INTERNALS.md#what-a-log-promises.
 pub fn mine_is_the_own_part_of_seen()
+    // Proved (log, own-entries)
     ensures { (capacity : ℕ) (events : List Event) (machine : Machine)
         → Runs events (opening_machine capacity) machine
         → (session : ℕ)
         → entries_of session (machine.knows session).seen ≡ (machine.knows session).mine }
 {}
 
-/// Whatever happens, what each session knows fits the history.
+/// States that what each session knows fits the history, whatever happens.
 ///
-/// Takes no memory. Doesn't wait. Own rule: docs/INTERNALS.md#what-a-log-promises.
+/// Takes no memory. Doesn't wait.
+/// Own rule: docs/INTERNALS.md#what-a-log-promises.
 pub fn what_happens_leads_to_states()
+    // Proved (log, machine-states): Every list of looks and appends leads to a state of the log machine. To
+    //   each state whose entries are all of sessions 1 to S such a list leads, as far as the history and
+    //   sessions 1 to S are concerned.
     ensures { (capacity : ℕ) (events : List Event) (machine : Machine) → Runs events (opening_machine capacity) machine → IsState machine }
 {}
 
-/// What each session knows fits the history only where looks and adds lead there: the other way round, for sessions 1 to a number that all
-/// entries are of.
+/// States the converse: if what each session knows fits the history, looks and appends lead there.
 ///
-/// Takes no memory. Doesn't wait. Own rule: docs/INTERNALS.md#what-a-log-promises.
+/// All entries of the history are of sessions 1 to a number, and so are the looks and appends. Takes no
+/// memory. Doesn't wait.
+/// Own rule: docs/INTERNALS.md#what-a-log-promises.
 pub fn states_are_reached()
+    // Proved (log, machine-states)
     ensures { (sessions : ℕ) (machine : Machine) → IsState machine → AllOf sessions machine.history → IsReached sessions machine }
 {}
 
-/// Whatever words and seats keep the rule of a log with a turn, its history and its passes are a state of the log machine.
+/// States that the history and the passes of a log with a turn are a state of the log machine.
 ///
-/// Takes no memory. Doesn't wait. Own rule: docs/INTERNALS.md#the-log-with-a-turn.
+/// This holds for any words and seats that keep the log's rule. Takes no memory. Doesn't wait.
+/// Own rule: docs/INTERNALS.md#the-log-with-a-turn.
 pub fn passes_are_sessions_of_the_machine()
+    // Proved (log, passes-are-sessions): At any moment the history of a log and what its passes know are a
+    //   state of the log machine, and a list of looks and appends of the log's sessions leads there.
     ensures { (sizes : Sizes) (words : List ℕ) (views : List SeatView) (rule : TurnRule sizes words views)
         → (machine : Machine) × HasPasses sizes.sessions sizes.capacity rule.log views machine }
 {}
 
-/// In a log with a turn, taking the turn and giving it back leave the history as it was.
+/// States that taking the turn and giving it back leave the history unchanged.
 ///
-/// Takes no memory. Doesn't wait. Own rule: docs/INTERNALS.md#the-log-with-a-turn.
+/// Takes no memory. Doesn't wait.
+/// Own rule: docs/INTERNALS.md#the-log-with-a-turn.
 pub fn turn_keeps_the_history()
+    // Proved (log, steps-keep-the-history): No step that changes a word changes an entry of the history or
+    //   removes one. A stored word leaves the history unchanged. A won exchange, or the count that the pass
+    //   with the turn stores, puts one entry at its end.
     ensures { (sizes : Sizes) (words : List ℕ) (views views' : List SeatView) (rule : TurnRule sizes words views) (turn : ℕ)
         (after : TurnRule sizes (set words 1 turn) views')
         → after.log ≡ rule.log }
 {}
 
-/// In a log with a turn, a word that the fresh pass stores into the row behind all that it has seen leaves the history as it was.
+/// States that a word stored by the pass with the turn leaves the history unchanged.
 ///
-/// Takes no memory. Doesn't wait. Own rule: docs/INTERNALS.md#the-log-with-a-turn.
+/// The pass has looked since it took the turn, and the word is in the row after all that it has seen. Takes
+/// no memory. Doesn't wait.
+/// Own rule: docs/INTERNALS.md#the-log-with-a-turn.
 pub fn store_keeps_the_history()
+    // Proved (log, steps-keep-the-history)
     ensures { (sizes : Sizes) (words : List ℕ) (views views' : List SeatView) (rule : TurnRule sizes words views) (id : ℕ) (pass : PassView) (index word : ℕ)
         → get_elem? views id ≡ some (Single pass)
         → pass.turn ≡ Fresh
@@ -73,10 +91,12 @@ pub fn store_keeps_the_history()
         → after.log ≡ rule.log }
 {}
 
-/// In a log with a turn, the count that the fresh pass stores, one higher, puts the entry of its draft at the end of the history.
+/// States that the count stored by the pass with the turn, one higher, appends the entry of its draft.
 ///
-/// Takes no memory. Doesn't wait. Own rule: docs/INTERNALS.md#the-log-with-a-turn.
+/// The pass has looked since it took the turn. Takes no memory. Doesn't wait.
+/// Own rule: docs/INTERNALS.md#the-log-with-a-turn.
 pub fn stored_count_adds_its_entry()
+    // Proved (log, steps-keep-the-history)
     ensures { (sizes : Sizes) (words : List ℕ) (views views' : List SeatView) (rule : TurnRule sizes words views) (id : ℕ) (pass : PassView) (entry : Entry)
         → get_elem? views id ≡ some (Single pass)
         → pass.turn ≡ Fresh
@@ -88,11 +108,15 @@ pub fn stored_count_adds_its_entry()
         → after.log ≡ rule.log ++ entry ∷ [] }
 {}
 
-/// In a log with a turn, a step by which a pass's `looks` rise loads the count and leaves the history as it was, and all of that is
-/// what the pass has seen after it.
+/// States that a step by which a pass's `looks` rise leaves the history unchanged, and the pass has then
+/// seen all of it.
 ///
-/// Takes no memory. Doesn't wait. Own rule: docs/INTERNALS.md#the-log-with-a-turn.
+/// The step loads the count. Takes no memory. Doesn't wait.
+/// Own rule: docs/INTERNALS.md#the-log-with-a-turn.
 pub fn each_look_sees_the_history()
+    // Proved (log, looks-and-tries): A step by which `looks` rises leaves the history unchanged, and the
+    //   pass has then seen all of it. A step by which `tries` rises exchanges the turn's word, or word 0 of
+    //   a chain.
     ensures { (sizes : Sizes) (words words' : List ℕ) (views views' : List SeatView) (before : TurnRule sizes words views)
         (after : TurnRule sizes words' views') (step : Atomic) (found id : ℕ) (old new : PassView)
         → Does step words found words'
@@ -102,10 +126,12 @@ pub fn each_look_sees_the_history()
         → (new.known.seen ≡ after.log) × (after.log ≡ before.log) }
 {}
 
-/// In a log with a turn, a step by which a pass's `tries` rise exchanges the turn's word.
+/// States that a step by which a pass's `tries` rise exchanges the turn's word.
 ///
-/// Takes no memory. Doesn't wait. Own rule: docs/INTERNALS.md#the-log-with-a-turn.
+/// Takes no memory. Doesn't wait.
+/// Own rule: docs/INTERNALS.md#the-log-with-a-turn.
 pub fn each_try_exchanges_the_turn()
+    // Proved (log, looks-and-tries)
     ensures { (step : Atomic) (found : ℕ) (old new : PassView)
         → Counts count_for turn_word step found old new
         → new.known.tries ≢ old.known.tries

@@ -1,4 +1,9 @@
-//! The shared history of entries: what a log promises to a session, and a log with a turn.
+//! The history that threads share. The trait `DecisionLog` is what a log promises to a session; `TurnLog`
+//! is a log in which a pass takes a turn before it appends. README.md has an example, and how to add a log.
+//!
+//! Read first: docs/INTERNALS.md#what-a-log-promises, docs/INTERNALS.md#what-both-logs-share and
+//! docs/INTERNALS.md#the-log-with-a-turn; then src/log.rt, specs/Calls.antt, specs/LogRule.antt,
+//! specs/TurnRule.antt and src/turn_log/calls.rt.
 #![tactic(auto)]
 
 mod fault;

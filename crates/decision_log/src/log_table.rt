@@ -1,6 +1,7 @@
 //! The words of a log, and the only steps that its passes take on them.
 //!
-//! No file but this one and its submodules reaches the table: so a view changes by these steps alone, and its counts as `Counts` says.
+//! No file except this one and its submodules reaches the table. So a view changes by these steps only, and
+//! its counts change as `Counts` says.
 ghost use Rattle.std.specs.Prelude.{◌≡◌, ◌<◌, [], length, IfOk};
 ghost use Rattle.atomic_table.specs.Table.{opening};
 
@@ -13,7 +14,7 @@ use atomic_table::{Seat, Table};
 use std::alloc::{AllocError, Global};
 use xa_words::Entry;
 
-/// The words of a log, shared by its passes, under the log's rule.
+/// The words of a log, which its passes share under the log's rule.
 #[derive(Drop)]
 pub struct LogTable<R: LogWords> {
     inner: Table<Entry, SeatView, Sizes, R, Global>,
@@ -21,9 +22,9 @@ pub struct LogTable<R: LogWords> {
 }
 
 impl<R: LogWords> LogTable<R> {
-    /// The table of these words, and the seat that knows all passes.
+    /// Makes a table of these words, and the seat that knows all passes.
     ///
-    /// May answer `AllocError`. Doesn't wait.
+    /// May return `AllocError`. Doesn't wait.
     pub fn of_words(
         alloc: Global,
         words: &[u64],

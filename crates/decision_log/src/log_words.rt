@@ -1,4 +1,4 @@
-//! What a log says of its own words, and of each step on them.
+//! What a log states about its own words, and about each step on them.
 ghost use Rattle.std.specs.Prelude.{ℕ};
 ghost use Rattle.atomic_table.specs.Table.{State};
 ghost use Rattle.xa_words.specs.Entry.{Entry};
@@ -9,20 +9,21 @@ use crate::{SeatView, Sizes};
 use atomic_table::TableRule;
 use xa_words::Entry;
 
-/// The rule of a log, and which of its words a pass looks at and tries at. It has no value at run time.
+/// The rule of a log, and the words at which a pass looks and tries. It has no value at run time.
 pub trait LogWords: TableRule<Entry, SeatView, Sizes> {
-    // what word 0 is where the pass has seen the whole history
+    // what word 0 is if the pass has seen the whole history
     ghost newest: { PassView → ℕ };
 
-    // the word that a pass exchanges where it tries to add
+    // the word that a pass exchanges when it tries to append
     ghost tried: { ℕ };
 }
 
-/// What one kind of step tells of the pass that takes it. It has no value at run time.
+/// How one kind of step changes what the pass that takes it knows. It has no value at run time.
 pub trait LogTransition<R: LogWords> {
     // of the step, the pass before, the number found (at a store, the number stored) and the pass after
     ghost then: { Atomic → PassView → ℕ → PassView → Type 0 };
 
-    // whatever else it tells, the two counts rise as they should
+    // whatever else changes, the counts rise as they should
+    // Proved (log, counts)
     ghost counts: { (step : Atomic) (old : PassView) (found : ℕ) (new : PassView) → then step old found new → Counts R.newest R.tried step found old new };
 }

@@ -22,9 +22,9 @@ pub trait SeatedPass {
     // what the pass knows
     ghost known: { Self → Known };
 
-    /// The pass of a session, at its seat, before its first call.
+    /// Makes the pass of a session, at its seat, before its first call.
     ///
-    /// May answer `AllocError`. Doesn't wait.
+    /// May return `AllocError`. Doesn't wait.
     fn at_seat(
         alloc: Global,
         seat: Seat<Entry, SeatView>,
@@ -37,11 +37,9 @@ pub trait SeatedPass {
         ensures { IfOk result (λ pass. (belongs_to pass ≡ belongs_at seat) × (known pass ≡ newcomer number)) };
 }
 
-/// So many words, all 0, and the passes of all sessions, in order.
+/// Makes `word_count` words, all 0, and the passes of all sessions, in order.
 ///
-/// Errors: `NoMemory`.
-///
-/// May answer `NoMemory`. Doesn't wait.
+/// Error: `NoMemory`. Doesn't wait.
 /// Own rule: docs/INTERNALS.md#what-both-logs-share.
 pub fn open_seats<R: LogWords, P: SeatedPass + Drop>(
     alloc: Global,
@@ -52,8 +50,10 @@ pub fn open_seats<R: LogWords, P: SeatedPass + Drop>(
     requires sizes { AreSizes sizes.now }
     ensures wide { IfOk result (λ opened. opened.0.inner.shared.table_id.words ≡ word_count) }
     ensures sized { IfOk result (λ opened. opened.0.inner.shared.key ≡ sizes.now) }
+    // Proved (log, opening)
     ensures passes { IfOk result
         (λ opened. Opens P.belongs_to P.known sizes.now.capacity sizes.now.sessions (identity_at opened.0.inner.shared.table_id sizes.now) opened.1.items) }
+    // Proved (log, opening)
     ensures err { IfErr result (λ fault. Refuses sizes.now.capacity sizes.now.sessions fault) }
 {
     let (table, rest) = lay_out(alloc, sizes, word_count)?;
@@ -61,7 +61,7 @@ pub fn open_seats<R: LogWords, P: SeatedPass + Drop>(
     Ok((table, passes))
 }
 
-/// The words, and the seat that knows all passes.
+/// Makes the words, and the seat that knows all passes.
 fn lay_out<R: LogWords>(
     alloc: Global,
     sizes: &Sizes,
@@ -77,7 +77,7 @@ fn lay_out<R: LogWords>(
     LogTable::of_words(alloc, &words, sizes)
 }
 
-/// The passes, in order.
+/// Issues the passes, in order.
 fn deal_all<R: LogWords, P: SeatedPass + Drop>(
     alloc: Global,
     table: &LogTable<R>,

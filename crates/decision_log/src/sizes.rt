@@ -1,11 +1,11 @@
-//! How large a log is.
+//! The sizes of a log.
 ghost use Rattle.std.specs.Prelude.{◌≡◌, IfOk, IfErr};
 ghost use Rattle.decision_log.specs.Opens.{AreSizes, Refuses};
 
 use crate::OpenFault;
 use xa_xid::SessionNo;
 
-/// How large a log is. The rule of a log is told it once, when the log is opened.
+/// The sizes of a log. The rule of a log gets them once, when the log is opened.
 #[derive(Clone, Copy, Debug)]
 pub struct Sizes {
     /// How many sessions it has, in `[1, 16]`.
@@ -14,18 +14,21 @@ pub struct Sizes {
     pub capacity: u64,
 }
 
-/// How many entries a log can have at most.
+/// The greatest capacity of a log, in entries.
 pub const MOST_ENTRIES: u64 = 1024;
 
 impl Sizes {
-    /// The sizes of a log of `capacity` entries, in `[1, 1024]`, and of `sessions` sessions, in `[1, 16]`.
+    /// Returns the sizes of a log of `capacity` entries, in `[1, 1024]`, and of `sessions` sessions, in
+    /// `[1, 16]`.
     ///
-    /// Errors, in the order of test: `CapacityOutOfRange`, `SessionsOutOfRange`.
-    ///
-    /// Takes no memory. Doesn't wait.
+    /// Errors, in the order of test: `CapacityOutOfRange`, `SessionsOutOfRange`. Takes no memory. Doesn't
+    /// wait.
     /// Own rule: docs/INTERNALS.md#what-a-log-promises.
     pub fn of(capacity: u64, sessions: u64) -> Result<Sizes, OpenFault>
+        // Proved (log, opening): A log opens with the passes of sessions 1 to S, in order, with nothing
+        //   seen; or with the first fault, in the order of test, whose cause holds.
         ensures ok { IfOk result (λ sizes. AreSizes sizes × (sizes.capacity ≡ capacity) × (sizes.sessions ≡ sessions)) }
+        // Proved (log, opening)
         ensures err { IfErr result (λ fault. Refuses capacity sessions fault) }
     {
         if capacity < 1 || capacity > MOST_ENTRIES {

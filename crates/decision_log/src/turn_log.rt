@@ -1,4 +1,4 @@
-//! A log with a turn: who adds takes the turn first.
+//! A log with a turn: a pass takes the turn before it appends.
 ghost use Rattle.std.specs.Prelude.{◌≡◌, ◌≤◌};
 ghost use Rattle.decision_log.specs.TurnRule.{row_at};
 
@@ -15,9 +15,10 @@ use crate::LogTable;
 pub use pass::TurnPass;
 pub use rule::Turns;
 
-/// A log with a turn. Who adds takes the turn, looks, writes its entry's words, counts it and gives the turn back.
+/// A log with a turn. To append, a pass takes the turn, looks, writes its entry's words, counts it, and
+/// gives the turn back.
 ///
-/// A pass that stops while it has the turn leaves the others `Busy`.
+/// If a pass stops while it has the turn, the others get `Busy` from then on.
 #[derive(Drop)]
 pub struct TurnLog {
     table: LogTable<Turns>,

@@ -3,13 +3,13 @@
 use crate::Known;
 use std::collections::LinkedList;
 
-/// Whether a pass has the turn. In a log that has no turn every pass is without.
+/// Whether a pass has the turn. In a log that has no turn, no pass has it.
 pub enum Turn {
-    /// Another pass has it, or none.
+    /// Another pass has the turn, or none has.
     Without,
-    /// The pass has it, and hasn't looked since.
+    /// The pass has the turn, and hasn't looked since it took it.
     Won,
-    /// The pass has it, and has looked since: what it has seen is the whole history.
+    /// The pass has the turn, and has looked since it took it. What it has seen is the whole history.
     Fresh,
 }
 
@@ -21,20 +21,20 @@ pub struct PassView {
     pub sessions: u64,
     /// How many entries the log can have.
     pub capacity: u64,
-    /// The words of an entry that the pass has stored and not published, from the first on.
+    /// The first words of an entry, which the pass has stored but not published.
     pub draft: LinkedList<u64>,
-    /// Whether it has the turn.
+    /// Whether the pass has the turn.
     pub turn: Turn,
 }
 
-/// What a seat knows.
+/// The passes that a seat knows.
 pub enum SeatView {
-    /// Nothing.
+    /// None.
     Empty,
     /// One pass.
     Single(PassView),
     /// Two passes that meet.
     Pair(PassView, PassView),
-    /// The numbers that weren't given out, from this pass's on.
+    /// The passes that weren't issued, from this one on.
     Unissued(PassView),
 }

@@ -1,4 +1,4 @@
-//! The steps at which seats are split and joined, and that of two passes which meet. They leave the counts.
+//! The steps that split and join seats, and the step of two passes that meet. They leave the counts.
 ghost use Rattle.std.specs.Prelude.{◌≡◌, ◌<◌, ◌≤◌, List, length};
 ghost use Rattle.xa_words.specs.Entry.{Entry};
 ghost use Rattle.decision_log.specs.AtTable.{KeepsSeats, KnowsNone, KnowsOne, KnowsTwo, KnowsRest};
@@ -22,11 +22,11 @@ impl<R: LogWords> LogTable<R> {
         ensures same { pass_view seat.new ≡ pass_view seat.old }
         ensures empty { KnowsNone self.now.inner.shared.table_id result }
     {
-        // No word is touched: what the seat knows stays as good as it was.
+        // No word is touched: what the seat knows stays true.
         self.inner.shared.split_seat::<Seating>(seat)
     }
 
-    /// Takes in the pass of another seat.
+    /// Takes over the pass of another seat.
     ///
     /// Takes no memory. Doesn't wait.
     pub fn join(&self, seat: &mut Seat<Entry, SeatView>, other: Seat<Entry, SeatView>)
@@ -41,7 +41,7 @@ impl<R: LogWords> LogTable<R> {
         self.inner.shared.join_seat::<Seating>(seat, other);
     }
 
-    /// Loads word 0 at a seat with two passes: the second has then seen all that the first has.
+    /// Loads word 0 at a seat with two passes. The second has then seen all that the first has.
     ///
     /// Takes no memory. Doesn't wait.
     pub fn load_for_pair(&self, seat: &mut Seat<Entry, SeatView>) -> u64
@@ -69,7 +69,7 @@ impl<R: LogWords> LogTable<R> {
         ensures other { KnowsOne self.now.inner.shared.table_id result }
         ensures second { pass_view result ≡ second seat.old }
     {
-        // No word is touched: what the seat knows stays as good as it was.
+        // No word is touched: what the seat knows stays true.
         self.inner.shared.split_seat::<Seating>(seat)
     }
 
@@ -85,11 +85,11 @@ impl<R: LogWords> LogTable<R> {
         ensures pass { KnowsOne self.now.inner.shared.table_id result }
         ensures given { pass_view result ≡ pass_view seat.old }
     {
-        // No word is touched: what the seat knows stays as good as it was.
+        // No word is touched: what the seat knows stays true.
         self.inner.shared.split_seat::<Seating>(seat)
     }
 
-    /// Two passes meet: the second has then seen all that the first has. The answer is word 0.
+    /// Lets two passes meet, and returns word 0. The second has then seen all that the first has.
     ///
     /// Takes no memory. Doesn't wait.
     pub fn meet(&self, first: &mut Seat<Entry, SeatView>, second: &mut Seat<Entry, SeatView>) -> u64

@@ -25,9 +25,12 @@ impl<R: LogWords> LogTable<R> {
         ensures table { seat.new.table_id ≡ seat.old.table_id }
         ensures held { seat.new.me ≡ seated (pass_view seat.new) }
         ensures told { M.then (Load word) (pass_view seat.old) result (pass_view seat.new) }
+        // Proved (log, counts): `looks` rises by one at a load of word 0 by which the pass sees the
+        //   history, `tries` by one at an exchange of the word at which passes try, and neither by any
+        //   other step. This holds whatever else the pass learns.
         ensures counted { Counts R.newest R.tried (Load word) result (pass_view seat.old) (pass_view seat.new) }
     {
-        // Why what was loaded before is still good is said where the log takes this step.
+        // Comments at the log's own steps say why earlier loads still hold.
         self.inner.shared.load::<Loaded<R, M>>(seat, word)
     }
 
@@ -48,13 +51,14 @@ impl<R: LogWords> LogTable<R> {
         ensures table { seat.new.table_id ≡ seat.old.table_id }
         ensures held { seat.new.me ≡ seated (pass_view seat.new) }
         ensures told { M.then (Store word new) (pass_view seat.old) new (pass_view seat.new) }
+        // Proved (log, counts)
         ensures counted { Counts R.newest R.tried (Store word new) new (pass_view seat.old) (pass_view seat.new) }
     {
-        // Why what was loaded before is still good is said where the log takes this step.
+        // Comments at the log's own steps say why earlier loads still hold.
         self.inner.shared.store::<Stored<R, M>>(seat, word, new)
     }
 
-    /// Makes a word `new` where it is `old`. The answer is what it was.
+    /// Makes a word `new` if it is `old`. Returns what it was.
     ///
     /// Takes no memory. Doesn't wait.
     pub fn compare_exchange<M: LogTransition<R>>(
@@ -72,15 +76,16 @@ impl<R: LogWords> LogTable<R> {
         ensures table { seat.new.table_id ≡ seat.old.table_id }
         ensures held { seat.new.me ≡ seated (pass_view seat.new) }
         ensures told { M.then (Exchange word old new none) (pass_view seat.old) result (pass_view seat.new) }
+        // Proved (log, counts)
         ensures counted { Counts R.newest R.tried (Exchange word old new none) result (pass_view seat.old) (pass_view seat.new) }
     {
-        // Why what was loaded before is still good is said where the log takes this step.
+        // Comments at the log's own steps say why earlier loads still hold.
         self.inner
             .shared
             .compare_exchange::<Exchanged<R, M>>(seat, word, old, new)
     }
 
-    /// The same, told the entry that is announced, which is for the proof alone.
+    /// Does the same, and names the entry that is announced, for the proof only.
     ///
     /// Takes no memory. Doesn't wait.
     pub fn compare_exchange_with<M: LogTransition<R>>(
@@ -99,9 +104,10 @@ impl<R: LogWords> LogTable<R> {
         ensures table { seat.new.table_id ≡ seat.old.table_id }
         ensures held { seat.new.me ≡ seated (pass_view seat.new) }
         ensures told { M.then (Exchange word old new (some said.now)) (pass_view seat.old) result (pass_view seat.new) }
+        // Proved (log, counts)
         ensures counted { Counts R.newest R.tried (Exchange word old new (some said.now)) result (pass_view seat.old) (pass_view seat.new) }
     {
-        // Why what was loaded before is still good is said where the log takes this step.
+        // Comments at the log's own steps say why earlier loads still hold.
         self.inner
             .shared
             .compare_exchange_with::<Exchanged<R, M>>(seat, word, old, new, said)

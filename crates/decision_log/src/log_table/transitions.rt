@@ -1,4 +1,4 @@
-//! The transitions of a log, as the table below asks for them: the kind of each step is told here.
+//! The transitions of a log, in the form that the table needs. Each names the kind of its step.
 ghost use Rattle.decision_log.specs.Atomic.{Load, Store, Exchange, Tells, Meets};
 ghost use Rattle.decision_log.specs.Seats.{pass_view_of, second_of};
 

@@ -5,6 +5,8 @@ use crate::{AddFault, DecisionLog};
 use xa_words::Entry;
 use xa_xid::SessionNo;
 
+// Proved (log, logs-keep-their-promises): A `TurnLog` and a `ChainLog` keep all promises of the trait
+//   `DecisionLog`.
 impl DecisionLog for TurnLog {
     ghost use Rattle.std.specs.Prelude.{true};
     ghost use Rattle.decision_log.specs.TurnPass.{identity_of, log_of, known_of};

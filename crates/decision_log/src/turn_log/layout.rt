@@ -1,9 +1,9 @@
-//! Where the words of the log lie.
+//! The layout of the log's words.
 
 /// The word that counts the entries.
 pub(crate) const COUNT: usize = 0;
 
-/// The word that names the session that has the turn, or is 0.
+/// The word with the number of the session that has the turn, or 0.
 pub(crate) const TURN: usize = 1;
 
 /// The first word of the first row.

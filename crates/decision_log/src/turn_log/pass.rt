@@ -7,7 +7,8 @@ use atomic_table::Seat;
 use xa_words::Entry;
 use xa_xid::SessionNo;
 
-/// What one session knows of a log with a turn. At run time it keeps its number and how many entries it has seen.
+/// A session's handle on a log with a turn. At run time it keeps its number and how many entries it has
+/// seen.
 #[derive(Drop)]
 pub struct TurnPass {
     pub(super) seat: Seat<Entry, SeatView>,

@@ -1,4 +1,4 @@
-//! The row of an entry, read and written word by word.
+//! The row of an entry: reading and writing it word by word.
 ghost use Rattle.std.specs.Prelude.{◌≡◌, ◌<◌, ◌≤◌, [], length, slice_get, Some};
 ghost use Rattle.xa_words.specs.Entry.{Entry, IsEntry};
 ghost use Rattle.xa_words.specs.Words.{words_of};
@@ -14,7 +14,7 @@ use atomic_table::Seat;
 use xa_words::{Entry, WORDS, decode, encode};
 
 impl TurnLog {
-    /// The words of the row of an entry that was seen.
+    /// Loads the words of the row of an entry that was seen.
     fn read_row(&self, seat: &mut Seat<Entry, SeatView>, place: u64) -> [u64; WORDS]
         requires seat { IsSeat self.now seat.old }
         requires seen { place < length (pass_view seat.old).known.seen }
@@ -32,7 +32,7 @@ impl TurnLog {
         words
     }
 
-    /// An entry that was seen.
+    /// Reads an entry that was seen.
     pub(super) fn read_entry(&self, seat: &mut Seat<Entry, SeatView>, place: u64) -> Entry
         requires seat { IsSeat self.now seat.old }
         requires seen { place < length (pass_view seat.old).known.seen }

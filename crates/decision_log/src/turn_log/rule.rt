@@ -1,4 +1,4 @@
-//! The rule of the log.
+//! The rule of a log with a turn.
 
 use crate::{LogWords, SeatView, Sizes};
 use atomic_table::TableRule;
@@ -7,6 +7,10 @@ use xa_words::Entry;
 /// The rule of a log with a turn. It holds between any two steps.
 pub struct Turns;
 
+// Proved (log, one-history): Whatever the schedule of threads, what the passes of a log have seen are
+//   prefixes of one history, which grows only at its end. Atomic steps are sequentially consistent. (Each
+//   step keeps the rule: `specs/TurnRule.antt`, `rows`; `specs/ChainRule.antt`, `cells`;
+//   `specs/LogRule.antt`, `seats`.)
 impl TableRule<Entry, SeatView, Sizes> for Turns {
     ghost use Rattle.decision_log.specs.Seats.{all_passes};
     ghost use Rattle.decision_log.specs.TurnRule.{TurnRule};

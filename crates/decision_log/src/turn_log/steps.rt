@@ -1,15 +1,19 @@
 //! The steps of a log with a turn, one function each.
 //!
-//! All are sequentially consistent, and between two steps of a pass any other pass may step. By role:
+//! All steps are sequentially consistent, and between two steps of a pass any other pass may step. By role:
 //!
-//! 1. Who looks loads the count (`load_count`). What the pass has seen stays a prefix of the history, which grows only at its end.
-//! 2. Who reads loads words of a row below the count (`load_word`). Such a row is never written again.
-//! 3. Who adds takes the turn (`take_turn`), loads the count, stores the words of the row at the count (`store_word`), stores the
-//!    count (`store_count`), and gives the turn back (`give_turn`). The count comes after the turn, so no other pass adds between it
-//!    and the store of the count; that store comes after those of the words, so a row below the count is always whole.
-//! 4. Who meets splits off an empty seat, joins two seats, loads the count there, and splits them (`LogTable::meet`). Each pass has
-//!    seen a prefix of one history, so the longer begins with the shorter.
-//! 5. Who opens splits the seat that knows the passes not yet issued, once for each session (`LogTable::issue`).
+//! 1. To look, a pass loads the count (`load_count`). What the pass has seen stays a prefix of the history,
+//!    which grows only at its end.
+//! 2. To read, it loads words of a row below the count (`load_word`). Such a row is never written again.
+//! 3. To append, it takes the turn (`take_turn`), loads the count, stores the words of the row at the count
+//!    (`store_word`), stores the count (`store_count`), and gives the turn back (`give_turn`). The count is
+//!    loaded after the turn is taken, so no other pass appends between that and the store of the count. The
+//!    count is stored after the words, so a row below the count is always whole.
+//! 4. To meet, two passes split off an empty seat, join two seats, load the count there, and split them
+//!    (`LogTable::meet`). Each pass has seen a prefix of one history, so the longer begins with the
+//!    shorter.
+//! 5. To open, the seat that knows the passes not yet issued is split once for each session
+//!    (`LogTable::issue`).
 ghost use Rattle.std.specs.Prelude.{◌≡◌, ◌≢◌, ◌<◌, ◌≤◌, ◌+◌, ℕ, List, length, slice_get, slice_index, Some};
 ghost use Rattle.xa_words.specs.Entry.{Entry, IsEntry};
 ghost use Rattle.xa_words.specs.Words.{words_of};
@@ -29,7 +33,7 @@ use atomic_table::Seat;
 use xa_words::Entry;
 
 impl TurnLog {
-    /// Loads the count: the pass has then seen the whole history.
+    /// Loads the count. The pass has then seen the whole history.
     pub(super) fn load_count(&self, seat: &mut Seat<Entry, SeatView>) -> u64
         requires { IsSeat self.now seat.old }
         ensures seat { IsSeat self.now seat.new }
@@ -38,7 +42,7 @@ impl TurnLog {
             × (result ≡ length seen)
             × HistoryIs (pass_view seat.old) seen }
     {
-        // Nothing was loaded before that this load rests on.
+        // This load relies on no earlier load.
         self.table.load::<SeeAll>(seat, COUNT)
     }
 
@@ -54,11 +58,11 @@ impl TurnLog {
             → slice_get (pass_view seat.old).known.seen place ≡ Some entry
             → IsEntry entry × (result ≡ slice_index (words_of entry) index) }
     {
-        // The row was below the count when the count was loaded, and is so still: it has the same words.
+        // The row was below the count when the count was loaded, and still is: it has the same words.
         self.table.load::<ReadWord>(seat, word)
     }
 
-    /// Tries to take the turn; the answer is who had it, or 0.
+    /// Tries to take the turn. Returns the session that had it, or 0.
     pub(super) fn take_turn(&self, seat: &mut Seat<Entry, SeatView>, number: u64) -> u64
         requires seat { IsSeat self.now seat.old }
         requires number { number ≡ (pass_view seat.old).known.number }
@@ -90,7 +94,7 @@ impl TurnLog {
         self.table.store::<DraftWord>(seat, word, new)
     }
 
-    /// Stores the count: the entry is added.
+    /// Stores the count: the entry is appended.
     pub(super) fn store_count(&self, seat: &mut Seat<Entry, SeatView>, entry: &Entry, new: u64)
         requires seat { IsSeat self.now seat.old }
         requires fresh { (pass_view seat.old).turn ≡ Fresh }
@@ -106,7 +110,7 @@ impl TurnLog {
         self.table.store::<Publish>(seat, COUNT, new)
     }
 
-    /// Stores 0 to the turn.
+    /// Stores 0 to the turn, which frees it.
     pub(super) fn give_turn(&self, seat: &mut Seat<Entry, SeatView>)
         requires seat { IsSeat self.now seat.old }
         requires fresh { (pass_view seat.old).turn ≡ Fresh }
