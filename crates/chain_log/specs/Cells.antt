@@ -1,7 +1,7 @@
--- Where the words of a chain lie. Each row of the history has one cell for each session, and each cell has a name.
---     word_count      how many words a log has
+-- The layout of a chain's words. Each row of the history has one cell for each session, and each cell has a name.
+--     word_count      the number of words of a log
 --     name_at         the name of the cell of a row and a session, from 1 on
---     cell_at         where the cell of a name begins
+--     cell_at         the first word of the cell of a name
 --     session_at      the session of the entry of a row
 --     name_before     the name of the last cell of the entries below a row
 --     newest_of       the name of the last cell of a history
@@ -20,17 +20,17 @@ name_at sessions row session = row * sessions + session
 abbrev pub cell_at : ℕ → ℕ
 cell_at name = 1 + (name - 1) * 22
 
--- whose entry stands in a row; 0 past the end
+-- the session of the entry in a row; 0 past the end
 unfoldable pub session_at : List Entry → ℕ → ℕ
 session_at [] row = 0
 session_at (entry ∷ log) zero = entry.session
 session_at (entry ∷ log) (suc row) = session_at log row
 
--- the cell of the row below, in the column of its entry's session; 0 where no row is below
+-- the cell of the row below, in the column of its entry's session; 0 if no row is below
 unfoldable pub name_before : ℕ → List Entry → ℕ → ℕ
 name_before sessions log zero = 0
 name_before sessions log (suc row) = name_at sessions row (session_at log row)
 
--- the cell of the last entry; 0 where there is none
+-- the cell of the last entry; 0 if there is none
 abbrev pub newest_of : ℕ → List Entry → ℕ
 newest_of sessions log = name_before sessions log (length log)

@@ -1,6 +1,6 @@
 -- The history that the words of a chain spell.
---     Walk            the entries met from a name on, from link to link
---     Chain           the entries from the newest back to the oldest, turned round
+--     Walk            the entries on the way from a name, from link to link
+--     Chain           the entries on the way from the newest cell, reversed
 use Rattle.std.specs.Prelude.{◌≡◌, ◌≢◌, ◌+◌, ℕ, List, [], ◌∷◌, reverse, slice_index}
 use Rattle.xa_words.specs.Entry.{Entry, IsEntry}
 use Rattle.xa_words.specs.Words.{words_of}
@@ -13,6 +13,6 @@ Walk words name [] = name ≡ 0
 Walk words name (entry ∷ older) =
     (name ≢ 0) × IsEntry entry × HasWordsAt words (cell_at name + 1) (words_of entry) × Walk words (slice_index words (cell_at name)) older
 
--- the walk begins at the name in word 0 and meets the newest entry first
+-- the walk begins at the name in word 0, with the newest entry
 abbrev pub Chain : List ℕ → List Entry → Type 0
 Chain words log = Walk words (slice_index words 0) (reverse log)

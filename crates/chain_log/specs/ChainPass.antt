@@ -1,6 +1,6 @@
 -- What a contract sees of a chain, and of its passes.
---     identity_of     which log it is
---     log_of          of which log a pass is
+--     identity_of     the identity of a log
+--     log_of          the identity of a pass's log
 --     known_of        what a pass knows
 use Rattle.decision_log.specs.declared.known.Known.{Known}
 use Rattle.decision_log.specs.Known.{LogIdentity}

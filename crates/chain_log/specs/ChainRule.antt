@@ -1,10 +1,10 @@
 -- The rule of a chain, which holds between any two steps.
---     own_cell        where the pass's own cell begins, in the row behind all that it has seen
---     try_word        which word passes exchange where they try to add
---     newest_for      what that word is where a pass has seen the whole history
+--     own_cell        the first word of the pass's own cell, in the row after all that it has seen
+--     try_word        the word that passes exchange when they try to append
+--     newest_for      what that word is if a pass has seen the whole history
 --     HasCells        the words spell a history
---     HasDraft        what a pass knows of the words is so
---     Knows           what a pass knows of the log is so
+--     HasDraft        what a pass knows of the words is true
+--     Knows           what a pass knows of the log is true
 --     ChainRule       the rule
 use Rattle.std.specs.Prelude.{◌≡◌, ◌<◌, ◌≤◌, ℕ, List, ◌∷◌, length, slice_get, slice_index, Some}
 use Rattle.xa_words.specs.Entry.{Entry}
@@ -16,7 +16,7 @@ use Rattle.decision_log.specs.Draft.{HasWordsAt}
 use Rattle.decision_log.specs.LogRule.{KnowsLog, LogRule}
 use Rattle.chain_log.specs.Cells.{word_count, name_at, cell_at, name_before, newest_of}
 
--- in the pass's own column, in the row behind all that it has seen
+-- in the pass's own column, in the row after all that it has seen
 abbrev pub own_cell : PassView → ℕ
 own_cell pass_view = cell_at (name_at pass_view.sessions (length pass_view.known.seen) pass_view.known.number)
 
@@ -28,7 +28,7 @@ try_word = 0
 abbrev pub newest_for : PassView → ℕ
 newest_for pass_view = newest_of pass_view.sessions pass_view.known.seen
 
--- word 0 names the newest cell, and each entry's cell stands in its row, in its session's column, and links to the cell of the row below
+-- word 0 names the newest cell, and each entry's cell is in its row, in its session's column, and links to the cell of the row below
 pub record HasCells (sizes : Sizes) (words : List ℕ) (log : List Entry) : Type 0 where
   pub wide : length words ≡ word_count sizes.sessions sizes.capacity
   pub newest : slice_index words 0 ≡ newest_of sizes.sessions log
@@ -41,10 +41,10 @@ pub record HasDraft (words : List ℕ) (log : List Entry) (pass_view : PassView)
   pub column : 0 < length pass_view.draft → pass_view.known.number ≤ pass_view.sessions
   pub draft : HasWordsAt words (own_cell pass_view) pass_view.draft
 
--- what a pass knows is so
+-- what a pass knows is true
 abbrev pub Knows : Sizes → List ℕ → List Entry → PassView → Type 0
 Knows sizes words log pass_view = KnowsLog HasDraft sizes words log pass_view
 
--- the words spell the log, whose entries are of sessions that were given out, and what all seats know is so
+-- the words spell the log, whose entries are of sessions that were given out, and what all seats know is true
 abbrev pub ChainRule : Sizes → List ℕ → List SeatView → Type 0
 ChainRule sizes words views = LogRule HasCells HasDraft sizes words views

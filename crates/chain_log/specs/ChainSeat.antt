@@ -14,7 +14,7 @@ use Rattle.chain_log.specs.declared.chain.ChainLog.{ChainLog}
 abbrev pub IsSeat : ChainLog → Seat Entry SeatView → Type 0
 IsSeat log seat = KnowsOne log.table.inner.shared.table_id seat
 
--- what is so of each of the log's passes, also within a call
+-- what holds of each of the log's passes, also within a call
 pub record IsOurs (log : ChainLog) (pass_view : PassView) : Type 0 where
   pub sessions : pass_view.sessions ≡ log.sessions
   pub capacity : pass_view.capacity ≡ log.capacity

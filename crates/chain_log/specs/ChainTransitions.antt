@@ -1,4 +1,4 @@
--- What each step of a chain does to the pass that takes it, and what it tells.
+-- How each step of a chain changes the pass that takes it, and what the pass learns.
 --     with_look, won, lost    the pass after a step
 --     Sees, Reads, Finds, Drafts, Exchanges      the steps, each by its word, its operands, the pass before, what was found and the pass after
 use Rattle.std.specs.Prelude.{◌≡◌, ◌≢◌, ◌<◌, ◌+◌, ◌-◌, ℕ, List, [], ◌∷◌, ◌++◌, length, slice_get, slice_index, Some}
@@ -11,7 +11,7 @@ use Rattle.decision_log.specs.Observed.{HistoryIs}
 use Rattle.chain_log.specs.Cells.{name_at, cell_at, name_before, newest_of}
 use Rattle.chain_log.specs.ChainRule.{own_cell, try_word, newest_for}
 
--- after a look that saw this history: the own cell is another now, and its draft is empty
+-- after a look that saw this history: the own cell is another one now, and its draft is empty
 abbrev pub with_look : PassView → List Entry → PassView
 with_look h seen = record {
   known =
@@ -22,7 +22,7 @@ with_look h seen = record {
   turn = h.turn;
 }
 
--- after an exchange that won: the entry is added
+-- after an exchange that won: the entry is appended
 abbrev pub won : PassView → Entry → PassView
 won h entry = record {
   known =
@@ -71,8 +71,8 @@ Finds word old found new = (word ≢ 0) × (found ≡ 0 → new ≡ drafted old 
 abbrev pub Drafts : ℕ → ℕ → PassView → ℕ → PassView → Type 0
 Drafts word value old found new = new ≡ drafted old (word - own_cell old) value
 
--- an exchange of word 0 from the last name that was seen to the own cell's, which is a try: the announced entry is added only where that name was found, and
--- else more was seen
+-- an exchange of word 0 from the last name that was seen to the own cell's, which is a try: if that name was found, the announced
+-- entry is appended; otherwise more was seen
 abbrev pub Exchanges : ℕ → ℕ → ℕ → Option Entry → PassView → ℕ → PassView → Type 0
 Exchanges word from to none old found new = ⊥
 Exchanges word from to (some entry) old found new =

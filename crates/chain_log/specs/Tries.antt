@@ -1,11 +1,11 @@
--- What an add to a chain tells beyond what every log promises.
---     TriesOnce       an add makes one exchange, but for Full, and never waits for a turn
+-- What an append to a chain promises beyond what every log promises.
+--     TriesOnce       an append makes one exchange, and none at Full; it is never busy
 use Rattle.std.specs.Prelude.{◌≡◌, ◌<◌, ◌+◌, length, Result, Ok, Err}
 use Rattle.decision_log.specs.declared.known.Known.{Known}
 use Rattle.decision_log.specs.declared.fault.AddFault.{AddFault}
 use Rattle.decision_log.specs.declared.fault.AddFault.TheVariants.{Overtaken, Full, Busy}
 
--- one exchange and no look, not even behind it; overtaken only by a longer history, full without an exchange, busy never
+-- one exchange and no look, not even after it; overtaken only by a longer history, full without an exchange, never busy
 abbrev pub TriesOnce : Result (Unit {0}) AddFault → Known → Known → Type 0
 TriesOnce (Ok _) old new = (new.tries ≡ old.tries + 1) × (new.looks ≡ old.looks) × (new.since ≡ 0)
 TriesOnce (Err (Overtaken front)) old new = (new.tries ≡ old.tries + 1) × (new.looks ≡ old.looks) × (new.since ≡ 0) × (length old.seen < length new.seen)

@@ -11,6 +11,10 @@ use decision_log::{AddFault, DecisionLog};
 use xa_words::Entry;
 use xa_xid::SessionNo;
 
+// Proved (log, logs-keep-their-promises)
+// Proved (log, never-busy): A `ChainLog` has no turn, so its `try_add` never returns `Busy`.
+// Proved (log, chain-takes-no-memory): No call of a `ChainLog` except `open` takes memory, and none can
+//   wait. This follows from the signatures of the trait's calls.
 impl DecisionLog for ChainLog {
     ghost use Rattle.std.specs.Prelude.{false};
     ghost use Rattle.chain_log.specs.ChainPass.{identity_of, log_of, known_of};
@@ -63,6 +67,9 @@ impl DecisionLog for ChainLog {
         requires own { entry.now.session ≡ (known_of pass.old).number }
         ensures belongs { log_of pass.new ≡ log_of pass.old }
         ensures added { Adds false (identity_of self.now).capacity entry.now result (known_of pass.old) (known_of pass.new) }
+        // Proved (log, one-exchange): An append to a `ChainLog` makes one exchange, and none at `Full`.
+        // Proved (log, never-busy)
+        // Proved (sessions, one-try)
         ensures once { TriesOnce result (known_of pass.old) (known_of pass.new) }
     {
         let row = pass.count;
@@ -72,7 +79,7 @@ impl DecisionLog for ChainLog {
         }
         let own = cell_name(self.sessions, row, pass.number.get());
         self.write_cell(&mut pass.seat, own, pass.newest, entry);
-        // Others may have added since `pass.newest` was loaded: the exchange tests it.
+        // Others may have appended since `pass.newest` was loaded: the exchange tests it.
         let found = self.exchange(&mut pass.seat, pass.newest, own, entry);
         if found != pass.newest {
             let front = row_count(self.sessions, found);
@@ -91,7 +98,7 @@ impl DecisionLog for ChainLog {
         let newest = self.table.meet(&mut first.seat, &mut second.seat);
         let first_unseen = second.count;
         if first_unseen < first.count {
-            // `newest` was loaded where both passes are known, so what the second has seen ends there.
+            // `newest` was loaded at a seat that knows both passes, so what the second has seen ends there.
             let count = row_count(self.sessions, newest);
             self.fill(
                 &mut second.seat,

@@ -1,4 +1,4 @@
-//! The cells, read and written.
+//! Reading and writing cells.
 ghost use Rattle.std.specs.Prelude.{◌≡◌, ◌<◌, ◌+◌, ℕ, ◌∷◌, length, slice_get, slice_index, Some};
 ghost use Rattle.xa_words.specs.Entry.{Entry, IsEntry};
 ghost use Rattle.xa_words.specs.Words.{words_of};
@@ -13,8 +13,11 @@ use decision_log::SeatView;
 use xa_words::{Entry, WORDS, decode, encode, is_behind_text};
 
 impl ChainLog {
-    /// The entry's word at `index` in the cell of an entry that was seen, where the words before it are known. One behind the end of
-    /// its text isn't loaded: others' cells are far, and most texts are short.
+    /// Returns the entry's word at `index` in the cell of an entry that was seen, if the words before it
+    /// are known.
+    ///
+    /// A word after the end of its text isn't loaded: other sessions' cells are far, and most texts are
+    /// short.
     fn read_word(
         &self,
         seat: &mut Seat<Entry, SeatView>,
@@ -44,7 +47,7 @@ impl ChainLog {
         self.load_word(seat, name, 1 + index)
     }
 
-    /// The entry's words in the cell of an entry that was seen.
+    /// Loads the entry's words in the cell of an entry that was seen.
     fn read_cell(&self, seat: &mut Seat<Entry, SeatView>, name: u64) -> [u64; WORDS]
         requires seat { IsSeat self.now seat.old }
         requires ours { IsOurs self.now (pass_view seat.old) }
@@ -65,7 +68,7 @@ impl ChainLog {
         words
     }
 
-    /// The entry of a row that was seen, from the cell of a name.
+    /// Reads the entry of a row that was seen, from the cell with this name.
     pub(crate) fn read_entry(&self, seat: &mut Seat<Entry, SeatView>, name: u64, row: u64) -> Entry
         requires seat { IsSeat self.now seat.old }
         requires ours { IsOurs self.now (pass_view seat.old) }
@@ -79,7 +82,7 @@ impl ChainLog {
         decode(&words).unwrap()
     }
 
-    /// Writes a link and an entry's words into the own cell, over what was stored there before.
+    /// Writes a link and an entry's words into the pass's own cell, over what was stored there before.
     pub(crate) fn write_cell(
         &self,
         seat: &mut Seat<Entry, SeatView>,

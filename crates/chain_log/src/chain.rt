@@ -5,9 +5,10 @@ ghost use Rattle.chain_log.specs.Cells.{word_count};
 use crate::Links;
 use decision_log::LogTable;
 
-/// A log without a turn. Who adds writes a cell of its own, which links to the newest cell it has seen, and then makes it the newest by one exchange.
+/// A log without a turn. To append, a pass writes its own cell, with a link to the newest cell that it has
+/// seen. One exchange then makes that cell the newest.
 ///
-/// A pass that stops keeps no other from adding: a lost exchange means that the history grew.
+/// A pass that stops doesn't keep others from appending. An exchange is lost only if the history grew.
 #[derive(Drop)]
 pub struct ChainLog {
     pub(crate) table: LogTable<Links>,

@@ -1,4 +1,4 @@
-//! The table of columns: for each row that a pass has seen, in whose column the row's cell stands.
+//! The table of columns: for each row that a pass has seen, the column in which the row's cell is.
 ghost use Rattle.std.specs.Prelude.{◌≡◌, ◌<◌, ◌+◌, List, length};
 ghost use Rattle.xa_words.specs.Entry.{Entry};
 ghost use Rattle.decision_log.specs.Known.{AllOf};
@@ -15,7 +15,7 @@ use decision_log::SeatView;
 use xa_words::Entry;
 
 impl ChainLog {
-    /// The name of the cell in a row that was seen.
+    /// Returns the name of the cell in a row that was seen.
     pub(crate) fn find(&self, pass: &ChainPass, row: u64) -> u64
         requires belongs { log_of pass.now ≡ identity_of self.now }
         requires seen { row < length (known_of pass.now).seen }

@@ -1,4 +1,4 @@
-//! What holds of the words of a chain at any moment, as contracts over its rule alone.
+//! Laws of the words of a chain at any moment, as contracts over its rule only.
 ghost use Rattle.std.specs.Prelude.{◌≡◌, ◌≢◌, ◌<◌, ◌≤◌, ◌+◌, ℕ, List, [], ◌∷◌, ◌++◌, length, set, slice_get, slice_index, Some};
 ghost use mathlib.Core.Option.{Option, some};
 ghost use lib.ListN.{get_elem?};
@@ -15,34 +15,45 @@ ghost use Rattle.chain_log.specs.Cells.{name_at, newest_of};
 ghost use Rattle.chain_log.specs.Chain.{Chain};
 ghost use Rattle.chain_log.specs.ChainRule.{own_cell, try_word, newest_for, Knows, ChainRule};
 
-/// Whatever words and seats keep the rule, the walk from the newest cell along the links spells the rule's history.
+/// States that the walk from the newest cell along the links spells the history.
 ///
-/// Takes no memory. Doesn't wait. Own rule: docs/INTERNALS.md#the-chain.
+/// This holds for any words and seats that keep the rule. Takes no memory. Doesn't wait.
+/// Own rule: docs/INTERNALS.md#the-chain.
 pub fn chain_is_the_history()
+    // Proved (log, chain-is-the-history): The history of a chain is what the walk from the newest cell
+    //   along the links spells, and the words spell no other history.
     ensures { (sizes : Sizes) (words : List ℕ) (views : List SeatView) (rule : ChainRule sizes words views) → Chain words rule.log }
 {}
 
-/// Words spell at most one history.
+/// States that words spell at most one history.
 ///
-/// Takes no memory. Doesn't wait. Own rule: docs/INTERNALS.md#the-chain.
+/// Takes no memory. Doesn't wait.
+/// Own rule: docs/INTERNALS.md#the-chain.
 pub fn one_history_of_its_words()
+    // Proved (log, chain-is-the-history)
     ensures { (words : List ℕ) (one other : List Entry) → Chain words one → Chain words other → one ≡ other }
 {}
 
-/// A pass whose last cell is still the newest has seen the whole history.
+/// States that a pass whose last cell is still the newest has seen the whole history.
 ///
-/// Takes no memory. Doesn't wait. Own rule: docs/INTERNALS.md#the-chain.
+/// Takes no memory. Doesn't wait.
+/// Own rule: docs/INTERNALS.md#the-chain.
 pub fn one_history_of_its_newest_cell()
+    // Proved (log, newest-name-is-enough): A pass whose last cell is still the newest has seen the whole
+    //   history.
     ensures { (sizes : Sizes) (words : List ℕ) (views : List SeatView) (rule : ChainRule sizes words views) (pass : PassView)
         → Knows sizes words rule.log pass
         → slice_index words 0 ≡ newest_of sizes.sessions pass.known.seen
         → pass.known.seen ≡ rule.log }
 {}
 
-/// Behind all that a pass has seen the history has no cell in the pass's own column.
+/// States that the history has no entry of a pass's own number after all that the pass has seen.
 ///
-/// Takes no memory. Doesn't wait. Own rule: docs/INTERNALS.md#the-chain.
+/// Takes no memory. Doesn't wait.
+/// Own rule: docs/INTERNALS.md#the-chain.
 pub fn later_entries_are_of_others()
+    // Proved (log, own-cell-is-free): After all that a pass has seen, the history has no entry of the
+    //   pass's number.
     ensures { (sizes : Sizes) (words : List ℕ) (views : List SeatView) (rule : ChainRule sizes words views) (pass : PassView)
         → Knows sizes words rule.log pass
         → (row : ℕ) (entry : Entry)
@@ -51,18 +62,22 @@ pub fn later_entries_are_of_others()
         → entry.session ≢ pass.known.number }
 {}
 
-/// Whatever words and seats keep the rule, its history and its passes are a state of the log machine.
+/// States that the history and the passes of a chain are a state of the log machine.
 ///
-/// Takes no memory. Doesn't wait. Own rule: docs/INTERNALS.md#the-chain.
+/// This holds for any words and seats that keep the rule. Takes no memory. Doesn't wait.
+/// Own rule: docs/INTERNALS.md#the-chain.
 pub fn passes_are_sessions_of_the_machine()
+    // Proved (log, passes-are-sessions)
     ensures { (sizes : Sizes) (words : List ℕ) (views : List SeatView) (rule : ChainRule sizes words views)
         → (machine : Machine) × HasPasses sizes.sessions sizes.capacity rule.log views machine }
 {}
 
-/// A word that a pass stores into its own cell leaves the history as it was.
+/// States that a word that a pass stores into its own cell leaves the history unchanged.
 ///
-/// Takes no memory. Doesn't wait. Own rule: docs/INTERNALS.md#the-chain.
+/// Takes no memory. Doesn't wait.
+/// Own rule: docs/INTERNALS.md#the-chain.
 pub fn store_keeps_the_history()
+    // Proved (log, steps-keep-the-history)
     ensures { (sizes : Sizes) (words : List ℕ) (views views' : List SeatView) (rule : ChainRule sizes words views) (id : ℕ) (pass : PassView) (index word : ℕ)
         → get_elem? views id ≡ some (Single pass)
         → index ≤ length pass.draft
@@ -72,11 +87,13 @@ pub fn store_keeps_the_history()
         → after.log ≡ rule.log }
 {}
 
-/// An exchange that finds the newest cell's name to be the last that the pass has seen puts the entry of the pass's own cell
-/// at the end of the history.
+/// States that a won exchange appends the entry of the pass's own cell to the history.
 ///
-/// Takes no memory. Doesn't wait. Own rule: docs/INTERNALS.md#the-chain.
+/// An exchange is won if the newest cell's name is the last that the pass has seen. Takes no memory.
+/// Doesn't wait.
+/// Own rule: docs/INTERNALS.md#the-chain.
 pub fn won_exchange_adds_its_entry()
+    // Proved (log, steps-keep-the-history)
     ensures { (sizes : Sizes) (words : List ℕ) (views views' : List SeatView) (rule : ChainRule sizes words views) (id : ℕ) (pass : PassView) (entry : Entry)
         → get_elem? views id ≡ some (Single pass)
         → slice_index words 0 ≡ newest_of pass.sessions pass.known.seen
@@ -88,11 +105,13 @@ pub fn won_exchange_adds_its_entry()
         → after.log ≡ rule.log ++ entry ∷ [] }
 {}
 
-/// A step by which a pass's `looks` rise loads the newest cell's name and leaves the history as it was, and all of that is what the pass
-/// has seen after it.
+/// States that a step by which a pass's `looks` rise leaves the history unchanged, and the pass has then
+/// seen all of it.
 ///
-/// Takes no memory. Doesn't wait. Own rule: docs/INTERNALS.md#the-chain.
+/// The step loads the newest cell's name. Takes no memory. Doesn't wait.
+/// Own rule: docs/INTERNALS.md#the-chain.
 pub fn each_look_sees_the_history()
+    // Proved (log, looks-and-tries)
     ensures { (sizes : Sizes) (words words' : List ℕ) (views views' : List SeatView) (before : ChainRule sizes words views)
         (after : ChainRule sizes words' views') (step : Atomic) (found id : ℕ) (old new : PassView)
         → Does step words found words'
@@ -102,10 +121,12 @@ pub fn each_look_sees_the_history()
         → (new.known.seen ≡ after.log) × (after.log ≡ before.log) }
 {}
 
-/// A step by which a pass's `tries` rise exchanges the newest cell's name.
+/// States that a step by which a pass's `tries` rise exchanges the newest cell's name.
 ///
-/// Takes no memory. Doesn't wait. Own rule: docs/INTERNALS.md#the-chain.
+/// Takes no memory. Doesn't wait.
+/// Own rule: docs/INTERNALS.md#the-chain.
 pub fn each_try_exchanges_the_newest_cell()
+    // Proved (log, looks-and-tries)
     ensures { (step : Atomic) (found : ℕ) (old new : PassView)
         → Counts newest_for try_word step found old new
         → new.known.tries ≢ old.known.tries

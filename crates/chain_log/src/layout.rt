@@ -1,4 +1,4 @@
-//! Where the words of a chain lie.
+//! The layout of a chain's words.
 ghost use Rattle.std.specs.Prelude.{◌≡◌, ◌<◌, ◌≤◌, ℕ, List, length};
 ghost use Rattle.xa_words.specs.Entry.{Entry};
 ghost use Rattle.decision_log.specs.Known.{AllOf};
@@ -6,13 +6,13 @@ ghost use Rattle.chain_log.specs.Cells.{word_count, name_at, cell_at, newest_of}
 
 use xa_words::WORDS;
 
-/// The word that names the newest cell, or is 0.
+/// The word with the name of the newest cell, or 0.
 pub(crate) const NEWEST: usize = 0;
 
-/// How many words a cell has: its link, and an entry's.
+/// The number of words of a cell: its link, and an entry's.
 pub(crate) const CELL: usize = 1 + WORDS;
 
-/// How many words a log has.
+/// Returns the number of words of a log.
 pub(crate) fn count_words(sessions: u64, capacity: u64) -> usize
     requires sessions { sessions ≤ 16 }
     requires capacity { capacity ≤ 1024 }
@@ -21,7 +21,7 @@ pub(crate) fn count_words(sessions: u64, capacity: u64) -> usize
     1 + capacity as usize * sessions as usize * CELL
 }
 
-/// The name of the cell of a row and a session.
+/// Returns the name of the cell of a row and a session.
 pub(crate) fn cell_name(sessions: u64, row: u64, session: u64) -> u64
     requires sessions { sessions ≤ 16 }
     requires row { row < 1024 }
@@ -31,7 +31,7 @@ pub(crate) fn cell_name(sessions: u64, row: u64, session: u64) -> u64
     row * sessions + session
 }
 
-/// The session in whose column the cell of a name stands.
+/// Returns the session in whose column the cell with this name is.
 pub(crate) fn cell_column(sessions: u64, name: u64) -> u8
     requires some { 1 ≤ sessions }
     requires few { sessions ≤ 16 }
@@ -41,7 +41,7 @@ pub(crate) fn cell_column(sessions: u64, name: u64) -> u8
     ((name - 1) % sessions + 1) as u8
 }
 
-/// The first word of the cell of a name.
+/// Returns the first word of the cell with this name.
 pub(crate) fn cell_start(name: u64) -> usize
     requires low { 1 ≤ name }
     requires high { name ≤ 16384 }
@@ -50,7 +50,7 @@ pub(crate) fn cell_start(name: u64) -> usize
     1 + (name as usize - 1) * CELL
 }
 
-/// How many entries a history has whose newest cell has this name: its row, and one.
+/// Returns how many entries a history has whose newest cell has this name: its row plus one.
 pub(crate) fn row_count(sessions: u64, newest: u64) -> u64
     requires { 1 ≤ sessions }
     ensures { (seen : List Entry) → AllOf sessions seen → newest ≡ newest_of sessions seen → result ≡ length seen }
@@ -61,7 +61,7 @@ pub(crate) fn row_count(sessions: u64, newest: u64) -> u64
     (newest - 1) / sessions + 1
 }
 
-/// The same where it is known for another name, which most often is the same name.
+/// Returns the same, if the count for another name is known. Most often it is the same name.
 pub(crate) fn count_from(sessions: u64, known: u64, count: u64, newest: u64) -> u64
     requires sessions { 1 ≤ sessions }
     requires counted { (seen : List Entry) → AllOf sessions seen → known ≡ newest_of sessions seen → count ≡ length seen }

@@ -1,4 +1,9 @@
-//! A chain of cells in place of the turn: a log that no session holds up by stopping.
+//! The history that threads share, without a turn: `ChainLog` is a `DecisionLog` in which a pass appends by
+//! one exchange, and no session that stops holds up another. README.md has an example.
+//!
+//! Read first: docs/INTERNALS.md#what-a-log-promises and docs/INTERNALS.md#the-chain; then
+//! specs/ChainRule.antt, specs/Chain.antt, src/calls.rt, src/steps.rt and src/columns.rt.
+//! proofs/ChainStores.antt shows why stores and exchanges keep the rule.
 #![tactic(auto)]
 
 mod calls;

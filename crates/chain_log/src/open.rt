@@ -12,18 +12,19 @@ use xa_words::Entry;
 use xa_xid::SessionNo;
 
 impl ChainLog {
-    /// An empty log of `capacity` entries, in `[1, 1024]`, and the passes of sessions 1 to `sessions`, in `[1, 16]`.
+    /// Opens an empty log of `capacity` entries, in `[1, 1024]`, with the passes of sessions 1 to
+    /// `sessions`, in `[1, 16]`.
     ///
-    /// Errors, in the order of test: `CapacityOutOfRange`, `SessionsOutOfRange`, `NoMemory`.
-    ///
-    /// May answer `NoMemory`. Doesn't wait.
+    /// Errors, in the order of test: `CapacityOutOfRange`, `SessionsOutOfRange`, `NoMemory`. Doesn't wait.
     /// Own rule: docs/INTERNALS.md#the-chain.
     pub fn open(
         alloc: Global,
         capacity: u64,
         sessions: u64,
     ) -> Result<(ChainLog, Vec<ChainPass>), OpenFault>
+        // Proved (log, opening)
         ensures ok { IfOk result (λ opened. Opens log_of known_of capacity sessions (identity_of opened.0) opened.1.items) }
+        // Proved (log, opening)
         ensures err { IfErr result (λ fault. Refuses capacity sessions fault) }
     {
         let sizes = Sizes::of(capacity, sessions)?;

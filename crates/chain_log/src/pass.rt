@@ -9,8 +9,10 @@ use decision_log::SeatView;
 use xa_words::Entry;
 use xa_xid::SessionNo;
 
-/// What one session knows of a chain. At run time it keeps its number, the name of the last cell it has seen, 0 for none, how many
-/// entries it has seen, and a table that says for each row that it has seen in whose column the row's cell stands.
+/// A session's handle on a chain.
+///
+/// At run time it keeps its number, the name of the last cell that it has seen (0 for none), and how many
+/// entries it has seen. A table gives the column of the cell in each row that it has seen.
 #[derive(Drop)]
 pub struct ChainPass {
     pub(crate) seat: Seat<Entry, SeatView>,
@@ -18,10 +20,12 @@ pub struct ChainPass {
     pub(crate) newest: u64,
     /// How many entries it has seen.
     pub(crate) count: u64,
-    /// A byte for each row that the log can have; those of rows that weren't seen mean nothing.
+    /// A byte for each row that the log can have. The bytes of rows that weren't seen mean nothing.
     pub(crate) columns: Vec<u8>,
     ghost held: { seat.me ≡ seated (pass_view_of seat.me.0) },
     ghost state: { IsPass number count (pass_view_of seat.me.0) },
     ghost named: { newest ≡ newest_of (pass_view_of seat.me.0).sessions (pass_view_of seat.me.0).known.seen },
+    // Proved (log, table-of-columns): Between any two calls a pass has a table with the session of each
+    //   entry that it has seen.
     ghost kept: { HasColumns (pass_view_of seat.me.0).capacity (length (pass_view_of seat.me.0).known.seen) (pass_view_of seat.me.0).known.seen columns.items },
 }

@@ -1,4 +1,4 @@
-//! The rule of the log.
+//! The rule of a chain.
 
 use atomic_table::TableRule;
 use decision_log::{LogWords, SeatView, Sizes};
@@ -7,6 +7,7 @@ use xa_words::Entry;
 /// The rule of a chain. It holds between any two steps.
 pub struct Links;
 
+// Proved (log, one-history)
 impl TableRule<Entry, SeatView, Sizes> for Links {
     ghost use Rattle.decision_log.specs.Seats.{all_passes};
     ghost use Rattle.chain_log.specs.ChainRule.{ChainRule};

@@ -1,20 +1,25 @@
 //! The steps of a chain on its words, one function each.
 //!
-//! All are sequentially consistent, and between two steps of a pass any other pass may step. By role:
+//! All steps are sequentially consistent, and between two steps of a pass any other pass may step. By role:
 //!
-//! 1. Who looks loads word 0 (`load_newest`). What the pass has seen stays a prefix of the history, which grows only at its end. The
-//!    draft is given up, since the own cell may be another from then on.
-//! 2. Who has seen more, by a look, a lost exchange or a meeting, loads the link of each cell that is new to it, from the newest back
-//!    (`fill`, by `load_word`). A name that was seen once leads to the same cell ever after.
-//! 3. Who reads loads words of a cell whose name it found before (`load_word`). A cell of the history is never written again: its
-//!    session stores in later rows alone, and no other session stores in its column.
-//! 4. Who adds writes its own cell (`put_word`): it stores each word (`store_word`), but loads one that is to be 0 first
-//!    (`find_blank`), and leaves it where it is 0 already. Then it exchanges word 0 from the last name it has seen to its own
-//!    (`exchange`). The cell was whole before it became the newest. A name has one row and one column, so an equal name in word 0
-//!    means that exactly what the pass has seen is the history; the exchange tests it and adds at one step.
-//! 5. Who meets splits off an empty seat, joins two seats, loads word 0 there, and splits them (`LogTable::meet`). Each pass has seen
-//!    a prefix of one history, so the longer begins with the shorter.
-//! 6. Who opens splits the seat that knows the passes not yet issued, once for each session (`LogTable::issue`).
+//! 1. To look, a pass loads word 0 (`load_newest`). What the pass has seen stays a prefix of the history,
+//!    which grows only at its end. The draft is given up, since the own cell may be another from then on.
+//! 2. After it has seen more, by a look, a lost exchange or a meeting, it loads the link of each cell that
+//!    is new to it, from the newest back (`fill`, by `load_word`). A name that was seen once always leads
+//!    to the same cell.
+//! 3. To read, it loads words of a cell whose name it found before (`load_word`). A cell of the history is
+//!    never written again: its session stores only in later rows, and no other session stores in its
+//!    column.
+//! 4. To append, it writes its own cell (`put_word`). It stores each word (`store_word`), but a word that
+//!    is to be 0 it loads first (`find_blank`), and leaves it if it is 0 already. Then it exchanges word 0
+//!    from the last name it has seen to its own (`exchange`). The cell was whole before it became the
+//!    newest. A name has one row and one column, so an equal name in word 0 means that exactly what the
+//!    pass has seen is the history. The exchange tests this and appends in one step.
+//! 5. To meet, two passes split off an empty seat, join two seats, load word 0 there, and split them
+//!    (`LogTable::meet`). Each pass has seen a prefix of one history, so the longer begins with the
+//!    shorter.
+//! 6. To open, the seat that knows the passes not yet issued is split once for each session
+//!    (`LogTable::issue`).
 ghost use Rattle.std.specs.Prelude.{◌≡◌, ◌≢◌, true, false, ◌<◌, ◌≤◌, ◌+◌, ℕ, List, ◌∷◌, length, slice_get, slice_index, Some};
 ghost use Rattle.xa_words.specs.Entry.{Entry, IsEntry};
 ghost use Rattle.xa_words.specs.Words.{words_of};
@@ -33,7 +38,7 @@ use decision_log::SeatView;
 use xa_words::Entry;
 
 impl ChainLog {
-    /// Loads the newest cell's name: the pass has then seen the whole history.
+    /// Loads the newest cell's name. The pass has then seen the whole history.
     pub(crate) fn load_newest(&self, seat: &mut Seat<Entry, SeatView>) -> u64
         requires { IsSeat self.now seat.old }
         ensures seat { IsSeat self.now seat.new }
@@ -42,11 +47,11 @@ impl ChainLog {
             × (result ≡ newest_of (pass_view seat.old).sessions seen)
             × HistoryIs (pass_view seat.old) seen }
     {
-        // Nothing was loaded before that this load rests on.
+        // This load relies on no earlier load.
         self.table.load::<SeeAll>(seat, NEWEST)
     }
 
-    /// Loads a word of the cell of an entry that was seen: its link at 0, and the entry's words behind it.
+    /// Loads a word of the cell of an entry that was seen: its link at 0, and the entry's words after it.
     pub(crate) fn load_word(&self, seat: &mut Seat<Entry, SeatView>, name: u64, index: usize) -> u64
         requires seat { IsSeat self.now seat.old }
         requires ours { IsOurs self.now (pass_view seat.old) }
@@ -66,7 +71,7 @@ impl ChainLog {
         self.table.load::<ReadWord>(seat, word)
     }
 
-    /// Loads a word of the own cell that is to be 0. The answer is whether it is.
+    /// Loads a word of the own cell that is to be 0, and returns whether it is.
     fn find_blank(&self, seat: &mut Seat<Entry, SeatView>, name: u64, index: usize) -> bool
         requires seat { IsSeat self.now seat.old }
         requires ours { IsOurs self.now (pass_view seat.old) }
@@ -95,11 +100,13 @@ impl ChainLog {
         ensures stored { pass_view seat.new ≡ drafted (pass_view seat.old) index new }
     {
         let word = cell_start(name) + index;
-        // The own cell is in no history yet: what was added since is in other columns, and no other pass stores in this one.
+        // The own cell isn't in the history: later entries are in other columns, and no other pass stores
+        // here.
         self.table.store::<DraftWord>(seat, word, new)
     }
 
-    /// Writes a word of the own cell. A 0 that stands there already isn't stored again: a load costs much less than a store.
+    /// Writes a word of the own cell. A 0 that is there already isn't stored again: a load costs much less
+    /// than a store.
     pub(crate) fn put_word(
         &self,
         seat: &mut Seat<Entry, SeatView>,
@@ -126,7 +133,7 @@ impl ChainLog {
         self.store_word(seat, name, index, 0);
     }
 
-    /// Makes the own cell the newest, if the one that was seen last still is. The answer is the newest before.
+    /// Makes the own cell the newest, if the last cell seen is still the newest. Returns the newest before.
     pub(crate) fn exchange(
         &self,
         seat: &mut Seat<Entry, SeatView>,
@@ -151,7 +158,8 @@ impl ChainLog {
             × (length (pass_view seat.old).known.seen < length seen) }
     {
         let _session = entry.session();
-        // The exchange itself tests whether `old` is still the newest, and with it whether all that was seen is the history.
+        // The exchange itself tests whether `old` is still the newest, and so whether what was seen is the
+        // history.
         self.table
             .compare_exchange_with::<Publish>(seat, NEWEST, old, own, entry)
     }

@@ -1,4 +1,4 @@
-//! Where the words of a chain lie, and a pass that stops before its exchange.
+//! The layout of a chain's words, and a pass that stops before its exchange.
 
 ghost use Rattle.std.specs.Prelude.{◌≡◌, []};
 ghost use Rattle.chain_log.specs.ChainPass.{identity_of, log_of, known_of};
@@ -24,7 +24,7 @@ fn cells_lie_row_by_row(rt: HostRuntime) {
     assert_eq!(rt; cell_start(cell_name(2, 3, 2)) + 22, 177);
 }
 
-/// Adds an entry of the pass's number, where the statement may enter.
+/// Appends an entry of the pass's number, if the statement can be logged.
 fn adds(log: &ChainLog, pass: &mut ChainPass, statement: &Statement) -> bool
     requires belongs { log_of pass.old ≡ identity_of log.now }
     ensures belongs { log_of pass.new ≡ log_of pass.old }

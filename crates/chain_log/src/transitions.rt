@@ -1,4 +1,4 @@
-//! What each step tells. These types are for the proofs alone.
+//! How each step changes what the pass knows. These types are only for proofs.
 ghost use Rattle.decision_log.specs.Atomic.{AtLoad, AtStore, AtExchange};
 ghost use Rattle.chain_log.specs.ChainTransitions.{Sees, Reads, Finds, Drafts, Exchanges};
 ghost use Rattle.chain_log.specs.ChainCounts.{see_counts, read_counts, find_counts, draft_counts, exchange_counts};
@@ -42,7 +42,7 @@ impl LogTransition<Links> for DraftWord {
     ghost counts = { draft_counts };
 }
 
-/// An exchange of the newest cell's name, told the entry that the own cell has.
+/// An exchange of the newest cell's name, with the entry of the own cell.
 pub(crate) struct Publish;
 
 impl LogTransition<Links> for Publish {
