@@ -97,6 +97,7 @@ pub fn recovered_list_is_exact()
     //   ascending.
     ensures ascending { (state : State) → IsStrictlySortedBy xid_cmp (prepared_xids state) }
     // Proved (server, recovered-list)
+    // Proved (sessions, recover-at-a-prefix)
     ensures exact { (state : State) (xid : Xid) → list_any (same_xid xid) (prepared_xids state) ≡ is_prepared state xid }
 {}
 

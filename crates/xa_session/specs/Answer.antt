@@ -1,15 +1,15 @@
--- What a session's answer and its faults mean. They speak of what the session knows before a call and after it.
+-- The meaning of a session's answer and of its faults, in words of what the session knows before and after a call.
 --     entry_of         a session's statement as an entry
 --     AnswersAt        a reply at a place of a history
---     Advances         what no call takes back
---     IsEntered        the statement was added behind its answer's place
---     IsOutside        the statement was not added, and was answered from all that is seen
+--     Advances         what no call undoes
+--     IsEntered        the statement was appended right after its answer's place
+--     IsOutside        the statement was not appended, and was answered from all that is seen
 --     IsAnswered       a statement was answered
---     IsUnanswered     nothing of the statement was added
---     IsFull           there is no room for a statement that enters
---     Fails            why a statement was not answered
+--     IsUnanswered     nothing of the statement was appended
+--     IsFull           there is no room for a statement that is logged
+--     Fails            the cause for which a statement was not answered
 --     IsFinal          trying again is of no use
---     FullAfter        Full comes only once the replica stands for all that is seen
+--     FullAfter        at Full the replica has replayed all that is seen
 --     IsKept           an answered statement has been replayed
 --     WantsMemory      the only causes of NoMemory
 use Rattle.std.specs.Prelude.{◌≡◌, ◌<◌, ◌≤◌, ℕ, Bool, true, false, IsTrue, ◌⊎◌, List, [], ◌∷◌, ◌++◌, length, take, slice_get, Some}
@@ -32,7 +32,7 @@ use Rattle.xa_session.specs.declared.fault.Fault.TheVariants.{Overtaken, Full, N
 abbrev pub entry_of : ℕ → Statement → Entry
 entry_of session statement = record { session = session; statement = statement }
 
--- the reply is the server's after a prefix of the history, and a statement that enters there stands next in the history
+-- the reply is the server's after a prefix of the history, and a statement that is logged there is the next entry
 pub record AnswersAt (base : State) (history : List Entry) (session : ℕ) (statement : Statement) (place : ℕ) (reply : Reply) : Type 0 where
   pub within : place ≤ length history
   pub reply_is : reply ≡ reply_to (state_at base history place) session statement
@@ -45,12 +45,12 @@ pub record Advances (old new : Known) : Type 0 where
   pub looks : old.looks ≤ new.looks
   pub tries : old.tries ≤ new.tries
 
--- the entry stands right behind the answer's place, as the last that is seen, and is the session's newest
+-- the entry comes right after the answer's place, as the last that is seen, and is the session's newest
 pub record IsEntered (entry : Entry) (place : ℕ) (old new : Known) : Type 0 where
   pub seen : new.seen ≡ take place new.seen ++ entry ∷ []
   pub mine : new.mine ≡ old.mine ++ entry ∷ []
 
--- the answer's place is the end of all that is seen, and the session has added nothing
+-- the answer's place is the end of all that is seen, and the session has appended nothing
 pub record IsOutside (place : ℕ) (old new : Known) : Type 0 where
   pub whole : length new.seen ≡ place
   pub mine : new.mine ≡ old.mine
@@ -64,25 +64,25 @@ pub record IsAnswered (base : State) (statement : Statement) (answer : Answer) (
   pub entered : enters (state_at base new.seen answer.place) old.number statement ≡ true → IsEntered (entry_of old.number statement) answer.place old new
   pub outside : enters (state_at base new.seen answer.place) old.number statement ≡ false → IsOutside answer.place old new
 
--- nothing of the statement was added
+-- nothing of the statement was appended
 pub record IsUnanswered (old new : Known) : Type 0 where
   pub advances : Advances old new
   pub mine : new.mine ≡ old.mine
 
--- the statement enters, and as much is seen as the log can have
+-- the statement would be logged, and as much is seen as the log can have
 pub record IsFull (base : State) (capacity : ℕ) (statement : Statement) (old new : Known) : Type 0 where
   pub unanswered : IsUnanswered old new
   pub enters : enters (state_after base new.seen) old.number statement ≡ true
   pub full : length new.seen ≡ capacity
 
--- why a statement was not answered, in a log of a capacity, with a turn or without
+-- the cause for which a statement was not answered, in a log of a capacity, with a turn or without
 abbrev pub Fails : Bool → ℕ → State → Statement → Fault → Known → Known → Type 0
 Fails turns capacity base statement (Overtaken front) old new = IsOvertaken front old new
 Fails turns capacity base statement Full old new = IsFull base capacity statement old new
 Fails turns capacity base statement NoMemory old new = IsUnanswered old new
 Fails turns capacity base statement Busy old new = IsTrue turns × IsUnanswered old new
 
--- only Full and NoMemory outlast a second try
+-- only Full and NoMemory aren't tried again
 abbrev pub IsFinal : Fault → Type 0
 IsFinal (Overtaken front) = ⊥
 IsFinal Full = Unit {0}
@@ -96,7 +96,7 @@ FullAfter Full replica known = replica.replayed ≡ length known.seen
 FullAfter NoMemory replica known = Unit {0}
 FullAfter Busy replica known = Unit {0}
 
--- all that is seen has been replayed, an added statement too, but for one that may take memory there
+-- all that is seen has been replayed, an appended statement too, unless it may take memory there
 abbrev pub IsKept : State → Statement → Answer → Replica → Known → Type 0
 IsKept base statement answer replica known =
     (replica.replayed ≡ length known.seen) ⊎ (may_take_memory (state_at base known.seen answer.place) known.number statement ≡ true)

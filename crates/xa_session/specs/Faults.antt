@@ -1,6 +1,6 @@
--- A session's faults: their numbers, and those that an add comes to.
---     number_of_fault       why a statement wasn't answered
---     fault_of              why an entry wasn't added, as why its statement wasn't answered
+-- A session's faults: their numbers, and the faults that correspond to those of an append.
+--     number_of_fault       the number of a fault
+--     fault_of              the session's fault for a fault of an append
 use Rattle.std.specs.Prelude.{ℕ}
 use Rattle.decision_log.specs.declared.fault.AddFault.{AddFault}
 use Rattle.decision_log.specs.declared.fault.AddFault.TheVariants.{Overtaken as IsOvertaken, Full as IsFull, Busy as IsBusy}

@@ -1,8 +1,8 @@
 -- How a session's call for a statement ends.
 --     HasAnswered      the statement was answered
 --     HasFailed        it wasn't, for a cause of this fault
---     Answers          the one after Ok, the other after Err
---     Finds            the same of a replica, and of what its pass knew and knows
+--     Answers          HasAnswered after Ok, HasFailed after Err
+--     Finds            the same for a replica, and for what its pass knew and knows
 use Rattle.std.specs.Prelude.{◌≤◌, ℕ, Bool, Result, Ok, Err}
 use Rattle.decision_log.specs.declared.known.Known.{Known}
 use Rattle.decision_log.specs.declared.log.DecisionLog.{Ghosts as LogOf}
@@ -20,18 +20,18 @@ pub record HasAnswered {Log Pass : Type 0} {log : LogOf Log Pass} (statement : S
   pub replayed : answer.place ≤ new.replica.replayed
   pub kept : IsKept old.base.now statement answer new.replica (log.known new.pass)
 
--- the fault has its cause, the replica had replayed all that is seen at Full, and nothing but the list or the replica wants memory
+-- the fault has its cause, the replica had replayed all that is seen at Full, and only the list or the replica needs memory
 pub record HasFailed {Log Pass : Type 0} {log : LogOf Log Pass} (statement : Statement) (fault : Fault) (old new : Session Log Pass log) : Type 0 where
   pub fails : Fails log.TURNS (log.belongs_to old.pass).capacity old.base.now statement fault (log.known old.pass) (log.known new.pass)
   pub replayed : FullAfter fault new.replica (log.known new.pass)
   pub memory : WantsMemory statement fault new.replica (log.known new.pass)
 
--- the statement was answered, or it wasn't for a cause
+-- the statement was answered, or it has a fault with its cause
 abbrev pub Answers : {Log Pass : Type 0} {log : LogOf Log Pass} → Statement → Result Answer Fault → Session Log Pass log → Session Log Pass log → Type 0
 Answers statement (Ok answer) old new = HasAnswered statement answer old new
 Answers statement (Err fault) old new = HasFailed statement fault old new
 
--- the same of a replica that is of no session, in a log with a turn or without, of a capacity
+-- the same for a replica that is in no session, in a log with a turn or without, of a capacity
 abbrev pub Finds : Bool → ℕ → State → Statement → Result Answer Fault → Replica → Known → Known → Type 0
 Finds turns capacity base statement (Ok answer) replica old new =
     IsAnswered base statement answer old new × (answer.place ≤ replica.replayed) × IsKept base statement answer replica new

@@ -1,4 +1,4 @@
--- What a history of entries leaves of the state that it begins in.
+-- The state after a history of entries, from the state in which it begins.
 --     call_of          an entry as the server's definitions take it
 --     state_after      the state after a history
 --     state_at         the state after a prefix of a history
@@ -18,11 +18,11 @@ call_of entry = (entry.session, entry.statement)
 unfoldable pub state_after : State → List Entry → State
 state_after base history = after_all base (map call_of history)
 
--- the state after the first so many entries of a history
+-- the state after the given number of entries of a history
 abbrev pub state_at : State → List Entry → ℕ → State
 state_at base history place = state_after base (take place history)
 
--- the replica has replayed so many of the entries that were seen, and is the server that they leave
+-- the replica has replayed no more entries than were seen, and is the server after them
 pub record Stands (base : State) (seen : List Entry) (replica : Replica) : Type 0 where
   pub within : replica.replayed ≤ length seen
   pub state : replica.server ≡ state_at base seen replica.replayed

@@ -1,11 +1,11 @@
--- What becomes of a replica that is to replay entries.
+-- A replica before and after it replays entries.
 --     ReplaysOne       it has replayed the next entry, or is as before
---     CatchesUp        it has replayed all that is seen, or lacks some of it
+--     CatchesUp        it has replayed all that is seen, or some entries are left
 use Rattle.std.specs.Prelude.{◌≡◌, ◌<◌, ◌+◌, length, Result, Ok, Err}
 use Rattle.decision_log.specs.declared.known.Known.{Known}
 use Rattle.xa_session.specs.declared.replica.Replica.{Replica}
 
--- one entry more is replayed, or the replica is as before
+-- one more entry is replayed, or the replica is as before
 abbrev pub ReplaysOne : {E : Type 0} → Result (Unit {0}) E → Replica → Replica → Type 0
 ReplaysOne (Ok _) old new = new.replayed ≡ old.replayed + 1
 ReplaysOne (Err _) old new = new ≡ old

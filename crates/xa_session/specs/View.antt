@@ -1,6 +1,6 @@
--- What a contract sees of a session, or of whatever else answers statements as one.
---     SessionView      the log that it is of, whether the log has turns, the state in which its history begins, what it knows, and what sessions beside it know
---     StaysOfLog       it is of the log that it was of, and was alone with it
+-- What a contract sees of a session, or of any other value that answers statements as one.
+--     SessionView      its log, whether the log has turns, the state in which its history begins, what it knows, and what sessions that it holds besides know
+--     StaysOfLog       it is of the same log, and no other session of the value spoke
 use Rattle.std.specs.Prelude.{◌≡◌, Bool, List}
 use Rattle.xa_server.specs.State.{State}
 use Rattle.decision_log.specs.Known.{LogIdentity}
@@ -14,7 +14,7 @@ pub record SessionView : Type 0 where
   pub known : Known
   pub beside : List Known
 
--- the log is the same, its history begins in the same state, and sessions that one value holds beside it know what they knew
+-- the log is the same, its history begins in the same state, and sessions that the value holds besides know what they knew
 pub record StaysOfLog (old new : SessionView) : Type 0 where
   pub identity : new.identity ≡ old.identity
   pub turns : new.turns ≡ old.turns

@@ -1,4 +1,4 @@
-//! Why a statement wasn't answered.
+//! The reasons for which a statement wasn't answered.
 ghost use Rattle.std.specs.Prelude.{◌≡◌};
 ghost use Rattle.xa_session.specs.Faults.{number_of_fault};
 
@@ -6,19 +6,21 @@ use decision_log::AddFault;
 use std::alloc::AllocError;
 use thiserror::Error;
 
-/// Why a statement wasn't answered. Nothing of it stands in the history.
+/// Why a statement wasn't answered. The history has nothing of the statement.
+///
+/// Own rule: docs/RATTLE.md#faults-of-a-session.
 #[derive(Clone, Copy, Debug, Drop, PartialEq, Eq, Error)]
 pub enum Fault {
-    /// Another session's entry was added first. The session has now seen `front` entries.
+    /// Another session appended an entry first. The session has now seen `front` entries.
     #[error("others have added: {front} entries are seen now")]
     Overtaken {
         /// How many entries the session has seen now.
         front: u64,
     },
-    /// The statement enters the history, which has as many entries as its log can have.
+    /// The statement would be logged, and the history has as many entries as its log can have.
     #[error("log full")]
     Full,
-    /// There was no memory. The session may have seen and replayed more.
+    /// No memory is left. The session may have seen and replayed more.
     #[error("out of memory")]
     NoMemory,
     /// Another session has the turn, in a log with turns.
@@ -27,11 +29,13 @@ pub enum Fault {
 }
 
 impl Fault {
-    /// The fault's number, in `[1, 4]`.
+    /// Returns the fault's number, in `[1, 4]`.
     ///
     /// Takes no memory. Doesn't wait.
     /// Own rule: docs/RATTLE.md#faults-of-a-session.
     pub fn number(&self) -> u64
+        // Proved (sessions, fault-numbers): Each fault of a session has the number that the table of faults
+        //   gives it.
         ensures { result ≡ number_of_fault self.now }
     {
         match self {

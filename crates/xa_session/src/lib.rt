@@ -1,4 +1,10 @@
-//! Sessions over a shared history: each statement is answered by a replica, and what changes the server is added to the history.
+//! Sessions over a history that threads share. A session has a pass of a log and a replica of the server,
+//! which it keeps between statements. It looks, replays the new entries on its replica, finds the reply
+//! there, and appends the statement to the history if it is logged. `attempt` tries once; `execute` tries
+//! until it has an answer.
+//!
+//! Read first: docs/PROOF.md#the-session-theorem; then specs/Answer.antt, specs/Outcome.antt,
+//! src/trying.rt, specs/Replay.antt and src/session.rt.
 #![tactic(auto)]
 
 mod answer;

@@ -1,4 +1,4 @@
-//! A session without its borrows, so that it can be kept beside what it is of.
+//! A session without its borrows, so that it can be kept together with its log.
 ghost use Rattle.std.specs.Prelude.{◌≡◌};
 ghost use Rattle.xa_session.specs.Replay.{Stands};
 
@@ -7,28 +7,35 @@ use decision_log::DecisionLog;
 use xa_server::Server;
 
 impl<'a, L: DecisionLog> Session<'a, L> {
-    /// The session's pass and replica, from which `resume` makes it again. The store isn't told: an open branch stays open, with its locks.
+    /// Returns the session's pass and replica, from which `resume` makes the session again.
     ///
-    /// Takes no memory. Doesn't wait.
+    /// Nothing is logged: an open branch stays open, with its locks. Takes no memory. Doesn't wait.
     /// Own rule: docs/RATTLE.md#sessions.
     pub fn pause(self) -> (L::Pass, Replica)
+        // Proved (sessions, pause-and-resume): A paused session resumes as it was.
         ensures pass { result.0 ≡ self.entry.pass }
+        // Proved (sessions, pause-and-resume)
         ensures replica { result.1 ≡ self.entry.replica }
+        // Proved (sessions, pause-and-resume)
         ensures stands { Stands self.entry.base.now (L.known result.0).seen result.1 }
     {
         let Session { pass, replica, .. } = self;
         (pass, replica)
     }
 
-    /// The session of a pass of this log and of a replica that stands for what the pass has seen, as `pause` gives both. Nothing is replayed.
+    /// Makes the session of a pass of this log and of a replica of what the pass has seen, as `pause`
+    /// returns both.
     ///
-    /// Takes no memory. Doesn't wait.
+    /// Nothing is replayed. Takes no memory. Doesn't wait.
     /// Own rule: docs/RATTLE.md#sessions.
     pub fn resume(log: &'a L, pass: L::Pass, base: &'a Server, replica: Replica) -> Session<'a, L>
         requires belongs { L.belongs_to pass ≡ L.identity log.now }
         requires stands { Stands base.now (L.known pass).seen replica }
+        // Proved (sessions, pause-and-resume)
         ensures pass { result.pass ≡ pass }
+        // Proved (sessions, pause-and-resume)
         ensures base { result.base.now ≡ base.now }
+        // Proved (sessions, pause-and-resume)
         ensures replica { result.replica ≡ replica }
     {
         base.keeps_lock_law();

@@ -12,7 +12,8 @@ use xa_server::Server;
 use xa_words::Entry;
 use xa_xid::{NoMemory, SessionNo, Statement};
 
-/// The server that a session has for itself: what a prefix of the history leaves of the state that the history begins in.
+/// A session's own server: the state after a prefix of the history, from the state in which the history
+/// begins.
 #[derive(Drop)]
 pub struct Replica {
     pub(crate) server: Server,
@@ -20,29 +21,32 @@ pub struct Replica {
 }
 
 impl Replica {
-    /// The server that the replayed entries leave.
+    /// Returns the server after the replayed entries.
     ///
     /// Takes no memory. Doesn't wait.
     /// Own rule: docs/RATTLE.md#sessions.
     pub fn server(&self) -> &Server
+        // Proved (sessions, replica-without-session): A paused session's replica lends its server, returns how many
+        //   entries it has replayed, and attempts a statement as the session does.
         ensures { result.now ≡ self.now.server }
     {
         &self.server
     }
 
-    /// How many entries were replayed.
+    /// Returns how many entries were replayed.
     ///
     /// Takes no memory. Doesn't wait.
     /// Own rule: docs/RATTLE.md#sessions.
     pub fn replayed(&self) -> u64
+        // Proved (sessions, replica-without-session)
         ensures { result ≡ self.now.replayed }
     {
         self.replayed
     }
 
-    /// The replica that has replayed nothing.
+    /// Makes a replica that has replayed nothing.
     ///
-    /// May answer `NoMemory`.
+    /// May return `NoMemory`.
     pub(crate) fn of(base: &Server) -> Result<Replica, NoMemory>
         ensures stands { IfOk result (λ replica. (seen : List EntryValue) → Stands base.now seen replica) }
         ensures first { IfOk result (λ replica. replica.replayed ≡ 0) }
@@ -55,7 +59,7 @@ impl Replica {
 
     /// Replays the next entry.
     ///
-    /// May answer `NoMemory`, after which the replica is as before.
+    /// May return `NoMemory`; the replica is then unchanged.
     pub(crate) fn replay(&mut self, entry: &Entry) -> Result<(), NoMemory>
         requires { self.old.replayed + 1 < 2 ^ 64 }
         ensures ok { OnOk result
@@ -72,7 +76,7 @@ impl Replica {
 
     /// Replays the next entry, which is this statement of this session and was accepted here already.
     ///
-    /// May answer `NoMemory`, after which the replica is as before.
+    /// May return `NoMemory`; the replica is then unchanged.
     pub(crate) fn accept(
         &mut self,
         session: SessionNo,

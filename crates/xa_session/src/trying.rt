@@ -1,4 +1,4 @@
-//! One try of a replica and a pass, which needn't be a session's then.
+//! A single try by a replica and a pass, which needn't be in a session then.
 ghost use Rattle.std.specs.Prelude.{◌≡◌, ◌⊎◌, ◌<◌, ◌≤◌, ◌^◌, true, length, slice_get, Some, IfOk, IfErr, OnOk, OnErr};
 ghost use Rattle.decision_log.specs.Calls.{Looked, Adds};
 ghost use Rattle.xa_server.specs.Step.{enters, may_take_memory};
@@ -15,7 +15,7 @@ use xa_words::Entry;
 use xa_xid::{NoMemory, SessionNo, Statement};
 
 impl Replica {
-    /// Replays the entry behind those that it has replayed.
+    /// Replays the entry after those that were replayed.
     fn replay_next<L: DecisionLog>(
         &mut self,
         log: &L,
@@ -35,7 +35,7 @@ impl Replica {
         self.replay(&entry)
     }
 
-    /// Has it stand for all that is seen, so many entries: it replays those that it hasn't replayed.
+    /// Replays all entries that are seen and weren't replayed. `count` is how many are seen.
     fn catch_up<L: DecisionLog>(
         &mut self,
         log: &L,
@@ -58,7 +58,7 @@ impl Replica {
         Ok(())
     }
 
-    /// Looks, and has it stand for all that is seen then. The answer is how many entries that is.
+    /// Looks, and replays all that is seen then. Returns how many entries that is.
     fn observe<L: DecisionLog>(
         &mut self,
         log: &L,
@@ -79,7 +79,8 @@ impl Replica {
         Ok(count)
     }
 
-    /// Has it carry out the entry that it has to replay next, a statement of the pass's own that enters there.
+    /// Carries out the entry that is to be replayed next: a statement of the pass's own session that is
+    /// logged.
     fn keep<L: DecisionLog>(
         &mut self,
         log: &L,
@@ -101,8 +102,8 @@ impl Replica {
         self.accept(session, statement)
     }
 
-    /// Adds a statement that enters where all that is seen has been replayed, and has it carried out. Where there is no memory for
-    /// that, it is replayed later.
+    /// Appends a statement that is logged, after all that is seen was replayed, and carries it out. If
+    /// there is no memory for that, it is replayed later.
     fn add<L: DecisionLog>(
         &mut self,
         log: &L,
@@ -131,9 +132,9 @@ impl Replica {
         Ok(())
     }
 
-    /// Answers a statement as `Session::attempt` does, which is of this pass, base and replica.
+    /// Answers a statement as `Session::attempt` does for a session of this pass, base and replica.
     ///
-    /// May answer `NoMemory`, and never after an add. Doesn't wait.
+    /// Errors: as for `Session::attempt`. `NoMemory` is never returned after an append. Doesn't wait.
     /// Own rule: docs/RATTLE.md#sessions.
     pub fn attempt<L: DecisionLog>(
         &mut self,
@@ -145,10 +146,15 @@ impl Replica {
         requires belongs { L.belongs_to pass.old ≡ L.identity log.now }
         requires stands { Stands base.now (L.known pass.old).seen self.old }
         ensures belongs { L.belongs_to pass.new ≡ L.belongs_to pass.old }
+        // Proved (sessions, replica-without-session)
         ensures stands { Stands base.now (L.known pass.new).seen self.new }
+        // Proved (sessions, replica-without-session)
         ensures folds { self.old.replayed ≤ self.new.replayed }
+        // Proved (sessions, replica-without-session)
         ensures answers { Finds L.TURNS (L.belongs_to pass.old).capacity base.now statement.now result self.new (L.known pass.old) (L.known pass.new) }
+        // Proved (sessions, replica-without-session)
         ensures once { TriesOnce result (L.known pass.old) (L.known pass.new) }
+        // Proved (sessions, replica-without-session)
         ensures leaves { IfErr result (λ fault. Leaves fault self.new (L.known pass.old) (L.known pass.new)) }
     {
         let place = self.observe(log, pass, base)?;

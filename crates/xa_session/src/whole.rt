@@ -7,11 +7,10 @@ use decision_log::DecisionLog;
 use xa_server::Server;
 use xa_xid::NoMemory;
 
-/// The server that the history leaves of `base`, as far as the pass has seen it. No session has to be open.
+/// Makes the server that the history leaves of `base`, as far as the pass has seen it. No session has to be
+/// open.
 ///
-/// Errors: `NoMemory`, with the pass's lists as they were.
-///
-/// May answer `NoMemory`. Doesn't wait.
+/// Error: `NoMemory`; what the pass has seen is unchanged. Doesn't wait.
 /// Own rule: docs/RATTLE.md#sessions.
 pub fn replayed<L: DecisionLog>(
     log: &L,

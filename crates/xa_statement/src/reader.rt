@@ -25,8 +25,8 @@ pub fn read_statement(text: &[u8]) -> Result<Statement, SyntaxFault>
     ensures spelled { IfOk result (Spells text.now) }
     // Proved (statements, reading)
     ensures complete { (statement : Statement) → Spells text.now statement → result ≡ Ok statement }
-    // Proved (statements, fault-places): Any other text is refused with a fault at the place that the rule
-    //   of fault places gives, and only there.
+    // Proved (statements, fault-places): A text is refused exactly if the rule of fault places gives a
+    //   place for it, and the fault is at that place.
     ensures fault { IfErr result (λ fault. FaultAt text.now fault.at) }
     // Proved (statements, fault-places)
     ensures only_fault { (place : ℕ) → FaultAt text.now place → result ≡ Err (record { at = place }) }
