@@ -26,8 +26,8 @@ impl Replica {
     /// Takes no memory. Doesn't wait.
     /// Own rule: docs/RATTLE.md#sessions.
     pub fn server(&self) -> &Server
-        // Proved (sessions, replica-without-session): A paused session's replica lends its server, returns how many
-        //   entries it has replayed, and attempts a statement as the session does.
+        // Proved (sessions, replica-without-session): The replica of a paused session lends its server,
+        //   returns how many entries it has replayed, and attempts a statement as the session does.
         ensures { result.now ≡ self.now.server }
     {
         &self.server
