@@ -22,8 +22,8 @@ pub enum BranchState {
 impl fmt::Display for BranchState {
     ghost use Rattle.xa_server.specs.Errors.{state_text};
 
-    // Proved (server, refusal-texts): The text of a refusal, and the name of its state, are those of the
-    //   table of refusals.
+    // Proved (server, refusal-texts): The printed text of a refusal, and the name of the state in it, are
+    //   those of the table of printed replies.
     ghost output = { λ state. Some (state_text state) };
 
     fn fmt<W: fmt::Write>(&self, f: &mut fmt::Formatter<W>) -> fmt::Result {
@@ -41,7 +41,8 @@ impl fmt::Display for BranchState {
 /// Its text is printed after the number and the SQLSTATE.
 /// Source: MySQL 8.0 Reference Manual, 'Server Error Message Reference', for numbers, SQLSTATEs and names;
 /// X/Open C193, the return codes of `xa_start()` and the other calls.
-/// Own rule: docs/STATEMENTS.md#errors for the texts, docs/STATEMENTS.md#replies for when each is returned.
+/// Own rule: docs/COMMANDS.md#printed-replies for the texts.
+/// When each is returned: docs/STATEMENTS.md#replies.
 #[derive(Clone, Copy, Debug, PartialEq, Eq)]
 pub enum XaError {
     /// 1397 XAER_NOTA: no branch that the statement could mean has this identifier.
@@ -85,7 +86,7 @@ impl XaError {
     /// Source: MySQL 8.0 Reference Manual, 'Server Error Message Reference'.
     pub fn number(&self) -> u16
         // Proved (server, refusal-codes): The number, the SQLSTATE and the XA code of a refusal are those
-        //   of the table of refusals.
+        //   of the table of errors.
         ensures { result ≡ number_of self.now }
     {
         match self {
