@@ -80,9 +80,8 @@ class WhoIsServed(unittest.TestCase):
         found = json.loads(self.get("/api/tables", ("Host", f"127.0.0.1:{self.port}"))[2])
         for row in [*found["replies"], *found["refusals"]]:
             self.assertIn("| " + " | ".join(row) + " |\n", text)
-        self.assertEqual([row[0] for row in found["refusals"][1:]], ["1397", "1398", "1399", "1440", "3572", "1064"])
-        self.assertIn(found["notes"]["1037"], " ".join(text.split()))
-        self.assertTrue(found["notes"]["1037"].startswith("A statement for which memory is refused is answered"))
+        self.assertEqual(found["replies"][0], ["Statement", "Free", "ACTIVE", "IDLE"])
+        self.assertEqual([row[0] for row in found["refusals"][1:]], ["1397", "1398", "1399", "1440", "3572", "1064", "1037"])
 
     def test_no_other_file_is_sent(self):
         host = ("Host", f"127.0.0.1:{self.port}")

@@ -162,22 +162,23 @@ class Sessions(View):
 
     def test_a_refusal_says_its_rule_in_the_words_of_the_table(self):
         table = (ROOT / "docs/STATEMENTS.md").read_text()
-        unknown, wrong_state = "the identifier isn't that of a branch that the statement could mean", "the statement can't be given in that state"
+        unknown = "the statement can't mean any branch of this identifier"
+        wrong_state = "the session isn't in a state that allows this statement; the message names the state"
         wanted = [
-            ("1 XA COMMIT 'a'", unknown, "XA COMMIT, Free: 1397 where the branch isn't PREPARED; else OK"),
-            ("1 xa commit 'a' one phase;", unknown, "XA COMMIT .. ONE PHASE, Free: 1397 where the branch isn't PREPARED; else 1399 PREPARED"),
+            ("1 XA COMMIT 'a'", unknown, "XA COMMIT, Free: 1397 if the branch isn't PREPARED, else OK"),
+            ("1 xa commit 'a' one phase;", unknown, "XA COMMIT .. ONE PHASE, Free: 1397 if the branch isn't PREPARED, else 1399 PREPARED"),
             ("1 XA END 'a'", wrong_state, "XA END, Free: 1399 NON-EXISTING"),
             ("1 XA BEGIN 'a'", None, None),
-            ("2 XA BEGIN 'a'", "a branch has the identifier already", "XA START, Free: 1440 where a branch has the identifier; else OK"),
+            ("2 XA BEGIN 'a'", "a branch has the identifier already", "XA START, Free: 1440 if a branch has the identifier, else OK"),
             ("1 XA PREPARE'a'", wrong_state, "XA PREPARE, ACTIVE: 1399 ACTIVE"),
-            ("1 XA END 'b'", unknown, "XA END, ACTIVE: 1397 where not own; else OK"),
+            ("1 XA END 'b'", unknown, "XA END, ACTIVE: 1397 if not own, else OK"),
             ("1 XA END 'a'", None, None),
             ("1 GET 'k'", wrong_state, "GET, IDLE: 1399 IDLE"),
-            ("1 XA ROLLBACK 'b'", wrong_state, "XA ROLLBACK, IDLE: 1399 IDLE where not own; else OK"),
-            ("1 XA START 'a' JOIN", "the clause isn't supported", "JOIN, RESUME, SUSPEND, IDLE: 1398"),
+            ("1 XA ROLLBACK 'b'", wrong_state, "XA ROLLBACK, IDLE: 1399 IDLE if not own, else OK"),
+            ("1 XA START 'a' JOIN", "the statement has a clause that isn't supported", "JOIN, RESUME, SUSPEND, IDLE: 1398"),
             ("3 XA START 'c'", None, None),
             ("3 PUT 'k','v'", None, None),
-            ("2 DEL 'k'", "another branch holds the row exclusively, or at PUT and DEL in either way", "PUT, DEL, Free: 3572 where held; else OK"),
+            ("2 DEL 'k'", "another branch has an exclusive lock on the row, or for PUT and DEL any lock", "PUT, DEL, Free: 3572 if held, else OK"),
             ("4 what", "the text isn't a statement", None),
         ]
         self.open(script="\n".join(line for line, _, _ in wanted))

@@ -1,7 +1,7 @@
 // Which line of docs/STATEMENTS.md's tables refused a statement: the tables come from the server, which reads them there.
 import { fetched } from "./api.js";
 
-let tables = { replies: [[]], refusals: [[]], notes: {} };
+let tables = { replies: [[]], refusals: [[]] };
 
 export async function load() {
   tables = await fetched("tables");
@@ -31,11 +31,8 @@ function replyRule(number, statement, state) {
   return row ? { statement: row[0], state, cell: row[column] } : null;
 }
 
-// {where, rule}: when the number comes, as the table of refusals or else a list has it, and the row of the table of replies where there is one.
+// {where, rule}: when the number is returned, as the table of errors has it, and the row of the table of replies if there is one.
 export function ruleOf(refusal, statement, state) {
   const row = tables.refusals.slice(1).find((it) => it[0] === refusal.number);
-  const note = tables.notes[refusal.number];
-  if (!row) return note ? { where: note, rule: null } : null;
-  const rule = refusal.number === "1064" ? null : replyRule(refusal.number, statement, state);
-  return { where: row.at(-1), rule };
+  return row ? { where: row.at(-1), rule: replyRule(refusal.number, statement, state) } : null;
 }
