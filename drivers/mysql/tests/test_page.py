@@ -3,14 +3,25 @@ import os
 import re
 import signal
 import subprocess
+import sys
 import tempfile
-import textwrap
 from pathlib import Path
 
-from support import HERE, PYTHON, Case, wait_for
+from support import HERE, PROGRAM, PYTHON, Case, wait_for
 
-PAGE = (HERE.parents[2] / "docs" / "CLIENTS.md").read_text()
-BLOCKS = [textwrap.dedent(block) for block in re.findall(r"(?:^    .*\n(?:\n(?=    ))?)+", PAGE, re.MULTILINE)]
+sys.path.insert(0, str(HERE.parent))
+from gateway import faults  # noqa: E402
+
+ROOT = HERE.parents[2]
+PAGE = (ROOT / "docs" / "CLIENTS.md").read_text()
+BLOCKS = re.findall(r"^```\w+\n(.*?)^```$", PAGE, re.MULTILINE | re.DOTALL)
+DRIVER = "/usr/share/java/mariadb-java-client.jar"
+
+
+def block(beginning):
+    """The one block that begins so."""
+    (found,) = [text for text in BLOCKS if text.startswith(beginning)]
+    return found
 
 
 class Page(Case):
@@ -18,37 +29,58 @@ class Page(Case):
         super().setUp()
         self.folder = Path(self.ends.enter_context(tempfile.TemporaryDirectory()))
 
-    def block(self, beginning, gateway):
-        """The block that begins so, with the gateway's ports."""
-        (found,) = [block for block in BLOCKS if block.startswith(beginning)]
-        for usual, port in zip(("3306", "3307"), gateway.ports):
-            found = found.replace(usual, str(port))
-        return found
+    def write(self, name, gateway=None):
+        """Writes the block that is a file of this name, with the gateway's ports."""
+        text = block(f"{'//' if name.endswith('.java') else '#'} {name}\n")
+        for usual, port in zip(("3306", "3307"), gateway.ports if gateway else ()):
+            text = text.replace(usual, str(port))
+        (self.folder / name).write_text(text)
 
-    def write(self, name, gateway):
-        sign = "//" if name.endswith(".java") else "#"
-        (self.folder / name).write_text(self.block(f"{sign} {name}\n", gateway))
-
-    def run_here(self, *words, text=None):
-        ran = subprocess.run(words, cwd=self.folder, input=text, stdout=subprocess.PIPE, stderr=subprocess.STDOUT, text=True, timeout=120)
+    def run_here(self, *words, text=None, **more):
+        ran = subprocess.run(words, cwd=self.folder, input=text, stdout=subprocess.PIPE, stderr=subprocess.STDOUT, text=True, timeout=120, env={**os.environ, **more})
         self.assertEqual(ran.returncode, 0, ran.stdout)
         return ran.stdout
 
+    def test_start(self):
+        """Two stores, and what the gateway says of them."""
+        says = block("store 1 listens on 127.0.0.1:3306\n")
+        gateway = self.gateway(stores=2)
+        for usual, port in zip(("3306", "3307"), gateway.ports):
+            says = says.replace(usual, str(port))
+        self.assertEqual("".join(f"{line}\n" for line in gateway.log), says)
+
+    def test_java(self):
+        """The program starts a gateway of its own, from the folder that NIGBARU names."""
+        home = self.folder / "nigbaru"
+        program = home / "crates/xa_script/out/xa_script"
+        program.parent.mkdir(parents=True)
+        program.symlink_to(Path(PROGRAM).resolve())
+        (home / "drivers").symlink_to(ROOT / "drivers")
+        self.write("XaTest.java")
+        said = self.run_here(*block("java -cp ").split(), NIGBARU=str(home))
+        self.assertTrue(said.endswith(block("3 tests passed")), said)
+
     def test_command_line(self):
         gateway = self.gateway()
-        said = self.run_here(*self.block("mariadb --no-defaults", gateway).split("\n")[0].split(), text=self.block("mariadb --no-defaults", gateway).partition("\n\n")[2])
-        self.assertIn("1\t8\t5\ttransferdebit", said)
+        words = block("mariadb --no-defaults").replace("3306", str(gateway.port)).split()
+        self.assertEqual(self.run_here(*words, text=block("XA START 'transfer'")), block("formatID\t"))
         self.assertEqual(self.value(self.client(gateway), "alice"), b"90")
 
     def test_pymysql(self):
         gateway = self.gateway()
         self.write("branch.py", gateway)
         self.assertEqual(self.run_here(PYTHON, "branch.py"), "(b'80',)\n")
+        self.assertIn("It prints `(b'80',)`", PAGE)
+
+    def test_driver_in_python(self):
+        self.write("two_stores.py")
+        said = self.run_here(PYTHON, "two_stores.py", PYTHONPATH=str(ROOT / "drivers/python"), NIGBARU_PROGRAM=str(Path(PROGRAM).resolve()))
+        self.assertEqual(said, "b'90' b'10'\n")
+        self.assertIn("It prints `b'90' b'10'`", PAGE)
 
     def test_bitronix(self):
         """A commit; and then the crash and the recovery, as the page tells them."""
-        fault = self.block("STORE 1 XA COMMIT 2 stall 600", self.gateway(stores=2)).strip()
-        gateway = self.gateway(stores=2, faults=[fault])
+        gateway = self.gateway(stores=2, faults=[block("STORE 1 XA COMMIT 2 stall 600").strip()])
         for name in ("Transfer.java", "run.sh"):
             self.write(name, gateway)
         self.assertEqual(self.run_here("sh", "run.sh", "90"), "recovered: 0 committed, 0 rolled back\ncommitted\n")
@@ -62,3 +94,12 @@ class Page(Case):
         self.assertEqual(self.run_here("sh", "run.sh"), "recovered: 1 committed, 0 rolled back\n")
         self.assertEqual((self.value(one, "alice"), self.value(two, "bob")), (b"80", b"80"))
         self.assertEqual(one.ask("XA RECOVER").rows, [])
+
+    def test_crash_points(self):
+        """Each line of the page that names a fault is one that the gateway takes, and each kind of fault has one."""
+        part = PAGE.partition("\n## Crash points\n")[2].partition("\n## ")[0]
+        lines = [it for row in part.split("\n") if row.startswith("| ") for it in re.findall(r"`([A-Z][A-Z0-9 ]* [0-9]+ [a-z][^`]*)`", row)]
+        kinds = {fault.what for line in lines for fault in faults.read(line, 2)[1]}
+        self.assertEqual(kinds, set(faults.WHAT))
+        for kind in faults.KINDS:
+            self.assertIn(f"`{kind}`", part)
