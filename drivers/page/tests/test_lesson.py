@@ -1,10 +1,25 @@
 """The lesson of drivers/page/README.md#a-lesson-of-half-an-hour, step by step, by keys alone: what it says is what is seen."""
+import re
 import unittest
+from pathlib import Path
 
 from selenium.webdriver.common.keys import Keys
 from views import View
 
 RUNS = 50
+ROOT = Path(__file__).resolve().parents[3]
+PAGE = (ROOT / "drivers/page/README.md").read_text(encoding="utf-8")
+LESSON = PAGE.partition("\n## A lesson of half an hour\n")[2].partition("\n## ")[0]
+# what the page tells a teacher to choose, to type and to see, and what the steps below do
+NAMED = ["`two phase commit`", "At line 5 ", "After line 8 ", "Run to line 10.", "`GET 'alice'`", "`GET 'bob'`", "session 3: `VALUE '90'` and `NONE`", "`lock conflict`, and run to line 4.",
+         "`two writers`", f"race it {RUNS} times", "`transfer`", "`17.0`", "`PREPARE 1`", "`19.0`", "`DECIDE 1`", "`FINISH`", "`SHOW`", "`STOP`", "`RECOVER`", "`dirty read`",
+         "`lost while committing`"]
+
+
+class Text(unittest.TestCase):
+    def test_names(self):
+        for words in NAMED:
+            self.assertIn(" ".join(words.split()), " ".join(LESSON.split()))
 
 
 class Lesson(View):
@@ -51,7 +66,9 @@ class Lesson(View):
         self.assertEqual(self.browser.texts("#given .rule"), [])
         self.browser.push('#sessions [data-do="step"]')
         self.until(lambda: self.given("sessions") == 5, "line 5")
-        self.assertEqual(self.browser.text("#given li:last-child .rule .table"), "PUT, DEL, ACTIVE: 3572 where held; else OK")
+        cell = re.search(r"^\| PUT, DEL \|[^|]*\| ([^|]*) \|", (ROOT / "docs/STATEMENTS.md").read_text(encoding="utf-8"), re.MULTILINE)[1]
+        self.assertTrue(cell.startswith("3572 "), cell)
+        self.assertEqual(self.browser.text("#given li:last-child .rule .table"), f"PUT, DEL, ACTIVE: {cell}")
 
     def test_one_history(self):
         self.browser.go(f"{self.page.address}#race")
