@@ -1,4 +1,4 @@
--- What the sessions of a race leave, once they have met.
+-- What the sessions of a race leave after they have met.
 --     HasLeft         a session's pass, before it met the others and after it left
 --     HasClosed       the history and the passes that all of them leave
 use Rattle.std.specs.Prelude.{◌≡◌, ◌<◌, List, length, map}
@@ -15,7 +15,7 @@ pub record HasLeft (history : List Entry) (old new : Pass) : Type 0 where
   pub adds_nothing : AddsNothing (known_of old) (known_of new)
   pub taken_in : IsTakenIn history (known_of new)
 
--- the history is what the last pass has seen, and the passes are as a renewed store takes them in
+-- the history is what the last pass has seen, and the passes are as a renewal takes them
 pub record HasClosed (identity : LogIdentity) (old : List Pass) (history : List Entry) (new : List Pass) : Type 0 where
   pub left : AllZip (HasLeft history) old new
   pub last : history ≡ (last_known (map known_of new)).seen

@@ -1,5 +1,5 @@
 -- The numbers of the faults of a race.
---     number_of_race_fault       why a race gave nothing
+--     number_of_race_fault       the number of a fault
 use Rattle.std.specs.Prelude.{ℕ}
 use Rattle.xa_store.specs.declared.race_fault.RaceFault.{RaceFault}
 use Rattle.xa_store.specs.declared.race_fault.RaceFault.TheVariants.{GateShut, Full, NoMemory, ThreadRefused}

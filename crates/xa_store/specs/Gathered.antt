@@ -1,6 +1,7 @@
--- What one session has seen and others have, once they have met.
---     IsTakenIn       a history has what a session has seen, and just the entries that it knows as its own
---     AddsNothing     what a session still has: it may have seen more
+-- What sessions have seen after they have met.
+--     IsTakenIn       a history has all that a session has seen, and exactly the session's own entries of its
+--     number
+--     AddsNothing     a session has added nothing; it may have seen more
 --     last_known      what the last session of a list knows
 use Rattle.std.specs.Prelude.{◌≡◌, ◌≤◌, List, [], ◌∷◌}
 use Rattle.xa_words.specs.Entry.{Entry}
@@ -21,7 +22,7 @@ pub record AddsNothing (old new : Known) : Type 0 where
   pub looks : old.looks ≤ new.looks
   pub tries : new.tries ≡ old.tries
 
--- what the last knows; nothing where there is none
+-- what the last session of the list knows; nothing if the list is empty
 abbrev pub last_known : List Known → Known
 last_known [] = newcomer 0
 last_known (known ∷ []) = known

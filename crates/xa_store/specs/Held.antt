@@ -1,6 +1,6 @@
 -- From one round of a race to the next.
 --     IsRound         what one round gives
---     AddsRound       one round more behind the rounds so far
+--     AddsRound       one more round after the rounds so far
 --     CarriesOver     the store is carried over, and the next round can begin
 --     CanBegin        the first round can begin
 --     AreHeld         all rounds, from the first to the last
@@ -22,7 +22,8 @@ use Rattle.xa_store.specs.declared.progress.Progress.{Progress}
 use Rattle.xa_store.specs.declared.run.Run.{Run}
 use Rattle.xa_store.specs.declared.store.Store.{Store}
 
--- so many entries behind those of earlier rounds: the round's history, what each session was answered in it, and why it ends there
+-- after so many entries of earlier rounds: the round's history, each session's answers in it, and why it ends
+-- there
 pub record IsRound (base : State) (identity : LogIdentity) (before : ℕ) (old : List Progress) (history : List Entry) (passes : List Pass) (new : List Progress)
     : Type 0 where
   pub gains : AllGain base before history 1 old new
@@ -33,7 +34,7 @@ pub record IsRound (base : State) (identity : LogIdentity) (before : ℕ) (old :
   pub numbers : AreNumbered 1 passes
   pub ended : EachFrom (λ session before after. HasEnded base identity.capacity history session after) 1 old new
 
--- the store is the same, and the round's history stands behind that of the rounds before
+-- the store is the same, and the round's history comes after that of the rounds before
 pub record AddsRound (old new : Held) : Type 0 where
   pub store : new.store ≡ old.store
   pub round : List Entry
@@ -59,7 +60,8 @@ pub record CanBegin (held : Held) : Type 0 where
   pub none : All (λ one. one.answers.items ≡ []) held.progress.items
   pub empty : held.history.items ≡ []
 
--- each statement was answered, and one history explains all answers; the log has its sizes, and each session a pass
+-- each statement was answered, and one history explains all answers; the log has the first one's sizes, and
+-- each session a pass
 pub record AreHeld (first last : Held) : Type 0 where
   pub legal : AllLegalSoFar first.store.base last.history.items 1 (map (λ one. one.lines.items) first.progress.items) last.progress.items
   pub done : All (λ one. length one.lines.items ≤ length one.answers.items) last.progress.items

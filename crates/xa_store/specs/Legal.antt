@@ -1,22 +1,22 @@
--- What the answers of sessions that ran side by side are: one history explains them all.
---     next_place      where the answer after this one can stand
+-- What makes the answers of sessions that ran at the same time legal: one history explains them all.
+--     next_place      the first place at which the next answer can be
 --     Answered        statements were answered in order, each after a prefix of the history
---     entered         those of them that entered, as entries
+--     entered         those of them that are logged, as entries
 --     IsLegal         one session's answers
 --     Legal           the answers of all runs
---     IsReturned      a run's pass, as it is afterwards
+--     IsReturned      a run's pass after the race
 --     IsOutcome       what a race gives
---     LetsIn          a gate can let a session give its statements
+--     LetsIn          a gate can let a session give its first statements
 --     Halts           why a session's statement isn't answered
---     fault_at        a session's fault, as a race tells it
+--     fault_at        the fault of a race for a session's fault
 --     IsLetIn         a session's statement is answered
---     EndsOne         the one or the other
---     IsReachedInRun  the statements in front of a place were answered
---     GoesNoFurther   a run has done nothing behind the statement at which it stops
---     IsShutAt        the gate can shut a run at a statement
+--     EndsOne         the statement is answered, or the run stops at it
+--     IsReachedInRun  the statements before a line were answered
+--     GoesNoFurther   a run has done nothing after the statement at which it stops
+--     IsShutAt        the gate can stop a run at a statement
 --     IsFullAt        a run's statement has no room in the history
 --     Stops           why a run stops
---     Blames          why a race gives nothing
+--     Blames          why a race fails
 use Rattle.std.specs.Prelude.{◌≡◌, ◌<◌, ◌≤◌, ◌+◌, ℕ, Bool, true, false, cond, List, [], ◌∷◌, ◌++◌, length, map, take, slice_get, Some, Result, Ok, Err}
 use Rattle.std.specs.List.{AllZip}
 use Rattle.xa_xid.specs.declared.statement.Statement.{Statement}
@@ -38,11 +38,12 @@ use Rattle.xa_store.specs.declared.race_fault.RaceFault.{RaceFault}
 use Rattle.xa_store.specs.declared.race_fault.RaceFault.TheVariants.{GateShut, Full, NoMemory, ThreadRefused}
 
 module _ (base : State) (history : List Entry) (session : ℕ) where
-  -- behind an entry that was added, else not before the same place
+  -- after the entry if one was added, else from the same place on
   abbrev pub next_place : Statement → Answer → ℕ
   next_place statement answer = cond (enters (state_at base history answer.place) session statement) (answer.place + 1) answer.place
 
-  -- one answer for each statement, in order; none stands before a place, nor one before what those in front of it have added
+  -- one answer for each statement, in order; no place is before an earlier one, nor before what earlier
+  -- statements have added
   abbrev pub Answered : ℕ → List Statement → List Answer → Type 0
   Answered from [] [] = Unit {0}
   Answered from [] (answer ∷ answers) = ⊥
@@ -50,7 +51,7 @@ module _ (base : State) (history : List Entry) (session : ℕ) where
   Answered from (statement ∷ statements) (answer ∷ answers) =
       (from ≤ answer.place) × AnswersAt base history session statement answer.place answer.reply × Answered (next_place statement answer) statements answers
 
-  -- the statements that entered where they were answered
+  -- the statements that are logged at the places of their answers
   abbrev pub entered : List Statement → List Answer → List Entry
   entered [] answers = []
   entered (statement ∷ statements) [] = []
@@ -58,7 +59,8 @@ module _ (base : State) (history : List Entry) (session : ℕ) where
       cond (enters (state_at base history answer.place) session statement) (entry_of session statement ∷ entered statements answers)
       (entered statements answers)
 
--- the history begins with what the session had seen, explains its answers, and has of its number what it had and what has entered, in order
+-- the history begins with what the session had seen and explains its answers; its entries of the session's
+-- number are the old ones and then those that were logged, in order
 pub record IsLegal (base : State) (history : List Entry) (before : Known) (statements : List Statement) (answers : List Answer) : Type 0 where
   pub seen : Begins before.seen history
   pub answered : Answered base history before.number (length before.seen) statements answers
@@ -80,23 +82,24 @@ pub record IsOutcome (base : State) (runs : List Run) (outcome : Outcome) : Type
   pub passes : AllZip (IsReturned outcome.history.items) runs outcome.passes.items
   pub history : outcome.history.items ≡ (last_known (map known_of outcome.passes.items)).seen
 
--- the gate can let the session go on at each of its first so many statements
+-- the gate can let the session go on at each of its first `count` statements
 abbrev pub LetsIn : (ℕ → ℕ → Bool → Type 0) → ℕ → ℕ → Type 0
 LetsIn gate session count = (line : ℕ) → line < count → gate session line true
 
--- the gate can shut this line, and the session has done nothing for it
+-- the gate can stop the session at this line, and the session has done nothing for it
 pub record IsTurnedAway (gate : ℕ → ℕ → Bool → Type 0) (session line : ℕ) (old new : Known) : Type 0 where
   pub shut : gate session line false
   pub same : new ≡ old
 
--- the fault names the session, and the statement that isn't answered: the gate was shut, or the history is full
+-- the fault names the session and the statement that isn't answered: the gate stopped the run, or the history
+-- is full
 abbrev pub Halts : (ℕ → ℕ → Bool → Type 0) → State → ℕ → Statement → ℕ → RaceFault → Known → Known → Type 0
 Halts gate base capacity statement place (GateShut session line) old new = (session ≡ old.number) × (line ≡ place) × IsTurnedAway gate session line old new
 Halts gate base capacity statement place (Full session line) old new = (session ≡ old.number) × (line ≡ place) × IsFull base capacity statement old new
 Halts gate base capacity statement place NoMemory old new = Unit {0}
 Halts gate base capacity statement place ThreadRefused old new = ⊥
 
--- a full history is told with the statement that has no room, and every other fault as NoMemory
+-- a full history is returned with the statement that has no room, every other fault as NoMemory
 abbrev pub fault_at : ℕ → ℕ → Fault → RaceFault
 fault_at session line (Overtaken front) = NoMemory
 fault_at session line NoRoom = Full session line
@@ -113,27 +116,29 @@ abbrev pub EndsOne : (ℕ → ℕ → Bool → Type 0) → State → ℕ → Sta
 EndsOne gate base capacity statement place (Ok answer) old new = IsLetIn gate base statement place answer old new
 EndsOne gate base capacity statement place (Err fault) old new = Halts gate base capacity statement place fault old new
 
--- the run is this session's, and its statements in front of this line, but not this one, were answered as the history explains
+-- the run is this session's, and its statements before this line were answered as the history explains
 pub record IsReachedInRun (base : State) (history : List Entry) (before : Known) (statements : List Statement) (session line : ℕ) : Type 0 where
   pub number : session ≡ before.number
   pub below : line < length statements
   pub answers : List Answer
   pub legal : IsLegal base history before (take line statements) answers
 
--- in all that the session has seen in the end, the statements in front of the one that the fault names were answered, and none behind them
+-- in all that the session has seen in the end, the statements before the named one were answered, and none
+-- after it
 abbrev pub GoesNoFurther : State → Known → List Statement → RaceFault → Known → Type 0
 GoesNoFurther base before statements (GateShut session line) after = IsReachedInRun base after.seen before statements session line
 GoesNoFurther base before statements (Full session line) after = IsReachedInRun base after.seen before statements session line
 GoesNoFurther base before statements NoMemory after = Unit {0}
 GoesNoFurther base before statements ThreadRefused after = ⊥
 
--- once the statements in front of this one were answered, the gate can shut the run
+-- after the statements before this one were answered, the gate can stop the run
 pub record IsShutAt (gate : ℕ → ℕ → Bool → Type 0) (base : State) (before : Known) (statements : List Statement) (session line : ℕ) : Type 0 where
   pub history : List Entry
   pub reached : IsReachedInRun base history before statements session line
   pub shut : gate session line false
 
--- once the statements in front of this one were answered, it enters a history that is as long as the log can be
+-- after the statements before this one were answered, it is to be logged in a history that is as long as the
+-- log can be
 pub record IsFullAt (base : State) (capacity : ℕ) (before : Known) (statements : List Statement) (session line : ℕ) : Type 0 where
   pub history : List Entry
   pub reached : IsReachedInRun base history before statements session line
@@ -149,14 +154,14 @@ Stops gate base capacity before statements (Full session line) = IsFullAt base c
 Stops gate base capacity before statements NoMemory = Unit {0}
 Stops gate base capacity before statements ThreadRefused = ⊥
 
--- one of the runs stops so
+-- one of the runs stops with this fault
 pub record IsBlamed (gate : ℕ → ℕ → Bool → Type 0) (base : State) (runs : List Run) (fault : RaceFault) : Type 0 where
   pub index : ℕ
   pub run : Run
   pub found : slice_get runs index ≡ Some run
   pub stops : Stops gate base (log_of run.pass).capacity (known_of run.pass) run.lines.items fault
 
--- a gate that shut, and a full history, are those of a run
+-- a fault that names a session is one of a run
 abbrev pub Blames : (ℕ → ℕ → Bool → Type 0) → State → List Run → RaceFault → Type 0
 Blames gate base runs (GateShut session line) = IsBlamed gate base runs (GateShut session line)
 Blames gate base runs (Full session line) = IsBlamed gate base runs (Full session line)

@@ -1,14 +1,14 @@
--- Which fault of a race is told: that of the lowest session that has one.
+-- Which fault of a race is returned: that of the lowest session that has one.
 --     speaks          a run has a statement
 --     IsOwn           the fault of a session's task
 --     IsOutside       a fault that no task has
---     Joins           what is told where one more task is taken back
+--     Joins           the fault that is returned after one more task has ended
 --     IsOfLowest      the fault of the lowest session that has one
 --     IsOfNone        no task has a fault
---     IsTold          the one or the other
+--     IsTold          one of these two
 --     IsRunThrough    a run was answered to its end
---     AreRunThrough   the runs of all lower sessions were
---     TellsLowest     the same of what a race tells
+--     AreRunThrough   the runs of all lower sessions were answered to their ends
+--     TellsLowest     the fault that a race returns is that of the lowest session
 use Rattle.std.specs.Prelude.{◌≡◌, ◌<◌, ◌≤◌, ◌==◌, ◌⊎◌, ℕ, Bool, not, List, length, slice_get, Some, Result, Ok, Err, vec_len}
 use Rattle.xa_server.specs.State.{State}
 use Rattle.decision_log.specs.declared.known.Known.{Known}
@@ -34,13 +34,13 @@ pub record IsOutside (told : FirstFault) : Type 0 where
   pub above : 16 < told.session
   pub memory : told.fault ≡ NoMemory
 
--- of two faults that of the lower session is told
+-- of two faults that of the lower session is returned
 pub record IsLower (other : FirstFault) (number : ℕ) (fault : RaceFault) (told : FirstFault) : Type 0 where
   pub either : (told ≡ other) ⊎ IsOwn number fault told
   pub below_other : told.session ≤ other.session
   pub below_own : told.session ≤ number
 
--- a task of this number is taken back behind others; memory can run out only where none of them has a fault
+-- a task of this number ends after the others; memory can run out only if none of them has a fault
 abbrev pub Joins : {A B : Type 0} → Result A FirstFault → ℕ → Result B RaceFault → FirstFault → Type 0
 Joins (Ok all) number (Ok gain) told = IsOutside told
 Joins (Ok all) number (Err fault) told = IsOwn number fault told
@@ -62,7 +62,8 @@ pub record IsOfNone {Task Gain : Type 0} (gains : Task → Gain → Type 0) (tas
   pub outside : IsOutside told
   pub all : (place : ℕ) (other : Task) → slice_get tasks place ≡ Some other → (gain : Gain) × gains other gain
 
--- the fault is that of the lowest session, and want of memory outside the tasks is told only where none has a fault
+-- the fault is that of the lowest session; want of memory outside of the tasks is returned only if none has a
+-- fault
 abbrev pub IsTold : {Task Gain : Type 0} → (Task → ℕ) → (Task → Gain → Type 0) → (Task → RaceFault → Type 0) → List Task → FirstFault → Type 0
 IsTold number gains stops tasks told = IsOfLowest number gains stops tasks told ⊎ IsOfNone gains tasks told
 
@@ -72,7 +73,7 @@ pub record IsRunThrough (gate : ℕ → ℕ → Bool → Type 0) (base : State) 
   pub answers : List Answer
   pub answered : HasAnswered gate base (known_of run.pass) known run.lines.items answers
 
--- so were all statements of the runs of lower sessions
+-- all statements of the runs of lower sessions were answered
 abbrev pub AreRunThrough : (ℕ → ℕ → Bool → Type 0) → State → List Run → ℕ → Type 0
 AreRunThrough gate base runs session =
     (place : ℕ) (run : Run) → slice_get runs place ≡ Some run → (known_of run.pass).number < session → IsRunThrough gate base run

@@ -1,4 +1,5 @@
--- What a contract sees of a store's passes, in the words of the store's log. With another log this file changes, and no clause does.
+-- What a contract sees of a store's passes, in the words of its log. Only this file changes with another log,
+-- and no clause does.
 --     Pass            a pass of the log
 --     identity_of     which log it is
 --     log_of          of which log a pass is

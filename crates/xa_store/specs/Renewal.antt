@@ -1,7 +1,7 @@
--- What a store begins with once it is renewed.
---     disconnected    the state once sessions 1 to the last have disconnected, in order
+-- What a store begins with after it is renewed.
+--     disconnected    the state after sessions 1 to the last have disconnected, in order
 --     renewed         the state that a renewed store's history begins in
---     AreGathered     passes whose history a renewed store's base takes in
+--     AreGathered     passes that a renewal takes
 use Rattle.std.specs.Prelude.{◌≡◌, ◌<◌, ℕ, zero, suc, List, length, map}
 use Rattle.std.specs.List.{All}
 use Rattle.xa_words.specs.Entry.{Entry}
@@ -13,7 +13,7 @@ use Rattle.decision_log.specs.Known.{LogIdentity}
 use Rattle.xa_store.specs.Passes.{Pass, log_of, known_of}
 use Rattle.xa_store.specs.Gathered.{IsTakenIn, last_known}
 
--- the state once sessions 1 to the last have disconnected, in order
+-- the state after sessions 1 to the last have disconnected, in order
 abbrev pub disconnected : ℕ → State → State
 disconnected zero state = state
 disconnected (suc sessions) state = after (disconnected sessions state) (suc sessions) Disconnect

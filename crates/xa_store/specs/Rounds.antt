@@ -1,26 +1,26 @@
 -- Races in rounds: each round has a log of its own, and one history explains the answers of all rounds.
 --     later           an answer whose place counts over all rounds
---     Gains           what a session was answered in one round
---     AreLegalAtLast  the same of what its pass knows, before the round and after it
---     HasGoneOn       the same of a session that is on the log and the base that it was on
+--     Gains           the answers that a session got in one round
+--     AreLegalAtLast  Gains, in what the session has seen after the round
+--     HasGoneOn       AreLegalAtLast, with the same log and the same base
 --     HasBeenLetIn    a gate can let a session give some of its statements
 --     HasNoRoom       a session's next statement has no room in the history
 --     HasEnded        no statement is left, or there is no room for the next
 --     EndsItsRound    how a session's round ends, and that the gate can have let it in
---     EachFrom        the same of each session, from a number on
+--     EachFrom        a relation holds of each session, from a number on
 --     AllLetIn        the gate can have let all sessions in, in one round
---     AreLetInSoFar   the same of all rounds so far
+--     AreLetInSoFar   the gate can have let all sessions in, in all rounds so far
 --     AreNumbered     passes of one session after another
 --     GoesOn          a session has a statement left
---     AllGain         what the sessions, each of which knew nothing at first, were answered in one round
---     AllLegalSoFar   what they were answered so far
---     AllAnswered     all that they were answered
+--     AllGain         the answers of one round, of sessions each of which knew nothing at first
+--     AllLegalSoFar   all answers so far
+--     AllAnswered     all answers, after the last round
 --     AreFresh        the passes of the sessions 1 to the last, none of which knows anything
---     CanShut         a gate can shut a session's statement
+--     CanShut         a gate can stop a session at a statement
 --     StopsInRound    why a session gives no more statements
---     WhereShut       what is so where the gate shut a statement
---     ShutsOne        a gate can shut a statement of one of the sessions
---     BlamesRounds    why a race in rounds gives nothing
+--     WhereShut       what holds of the statement at which the gate stopped a run
+--     ShutsOne        a gate can stop one of the sessions at a statement
+--     BlamesRounds    why a race in rounds fails
 use Rattle.std.specs.Prelude.{◌≡◌, ◌<◌, ◌≤◌, ◌⊎◌, ◌+◌, ℕ, Bool, true, false, List, [], ◌∷◌, ◌++◌, length, map, take, drop, slice_get, Some}
 use Rattle.xa_xid.specs.declared.statement.Statement.{Statement}
 use Rattle.xa_words.specs.Entry.{Entry}
@@ -36,7 +36,7 @@ use Rattle.xa_store.specs.declared.progress.Progress.{Progress}
 use Rattle.xa_store.specs.declared.race_fault.RaceFault.{RaceFault}
 use Rattle.xa_store.specs.declared.race_fault.RaceFault.TheVariants.{GateShut, Full, NoMemory, ThreadRefused}
 
--- an answer behind so many entries of earlier rounds
+-- an answer after so many entries of earlier rounds
 abbrev pub later : ℕ → Answer → Answer
 later before answer = record { place = answer.place + before; reply = answer.reply }
 
@@ -52,7 +52,7 @@ pub record AreLegalAtLast (base : State) (before : ℕ) (known after : Known) (o
   pub number : after.number ≡ known.number
   pub gains : Gains base before after.seen known old new
 
--- a session's base, its pass and how far it has come, before a round and after it
+-- a session's base, its pass and its progress, before a round and after it
 pub record HasGoneOn {Pass : Type 0} (belongs_to : Pass → LogIdentity) (known : Pass → Known) (base : State) (pass : Pass) (before : ℕ) (old : Progress)
     (base' : State)
     (pass' : Pass) (new : Progress) : Type 0 where
@@ -64,7 +64,7 @@ pub record HasGoneOn {Pass : Type 0} (belongs_to : Pass → LogIdentity) (known 
 abbrev pub HasBeenLetIn : (ℕ → ℕ → Bool → Type 0) → ℕ → ℕ → ℕ → Type 0
 HasBeenLetIn gate session from to = (line : ℕ) → from ≤ line → line < to → gate session line true
 
--- the session's next statement enters, and the history is as long as the log can be
+-- the session's next statement is to be logged, and the history is as long as the log can be
 pub record HasNoRoom (base : State) (capacity : ℕ) (history : List Entry) (session : ℕ) (progress : Progress) : Type 0 where
   pub statement : Statement
   pub next : slice_get progress.lines.items (length progress.answers.items) ≡ Some statement
@@ -76,12 +76,12 @@ abbrev pub HasEnded : State → ℕ → List Entry → ℕ → Progress → Type
 HasEnded base capacity history session progress =
     (length progress.lines.items ≤ length progress.answers.items) ⊎ HasNoRoom base capacity history session progress
 
--- each statement that was answered was let in, and the session ends where it has to
+-- each statement that was answered was let in, and the session ends its round as it must
 pub record EndsItsRound (gate : ℕ → ℕ → Bool → Type 0) (base : State) (capacity : ℕ) (known after : Known) (old new : Progress) : Type 0 where
   pub opened : HasBeenLetIn gate known.number (length old.answers.items) (length new.answers.items)
   pub ended : HasEnded base capacity after.seen known.number new
 
--- the same of each session, from this number on, before a round and after it
+-- the relation holds of each session, from this number on, before a round and after it
 abbrev pub EachFrom : (ℕ → Progress → Progress → Type 0) → ℕ → List Progress → List Progress → Type 0
 EachFrom R session [] [] = Unit {0}
 EachFrom R session [] (new ∷ news) = ⊥
@@ -139,34 +139,34 @@ AllAnswered base history session (statements ∷ rest) (answers ∷ others) =
 abbrev pub AreFresh : List Pass → Type 0
 AreFresh passes = (index : ℕ) (pass : Pass) → slice_get passes index ≡ Some pass → known_of pass ≡ newcomer (index + 1)
 
--- the gate can shut one of the session's statements
+-- the gate can stop the session at one of its statements
 pub record CanShut (gate : ℕ → ℕ → Bool → Type 0) (session count named line : ℕ) : Type 0 where
   pub number : named ≡ session
   pub below : line < count
   pub shut : gate session line false
 
--- why a session of so many statements gives no more; a full history only ends its round
+-- why a session of so many statements stops; a full history only ends its round
 abbrev pub StopsInRound : (ℕ → ℕ → Bool → Type 0) → ℕ → ℕ → RaceFault → Type 0
 StopsInRound gate session count (GateShut named line) = CanShut gate session count named line
 StopsInRound gate session count (Full named line) = ⊥
 StopsInRound gate session count NoMemory = Unit {0}
 StopsInRound gate session count ThreadRefused = ⊥
 
--- what is so of the line at which the gate shut a run
+-- what holds of the line at which the gate stopped a run
 abbrev pub WhereShut : RaceFault → (ℕ → Type 0) → Type 0
 WhereShut (GateShut session line) holds = holds line
 WhereShut (Full session line) holds = Unit {0}
 WhereShut NoMemory holds = Unit {0}
 WhereShut ThreadRefused holds = Unit {0}
 
--- the gate can shut a statement of one of the sessions, the first of which is session 1
+-- the gate can stop one of the sessions, the first of which is session 1, at a statement
 pub record ShutsOne (gate : ℕ → ℕ → Bool → Type 0) (lines : List (List Statement)) (named line : ℕ) : Type 0 where
   pub index : ℕ
   pub statements : List Statement
   pub found : slice_get lines index ≡ Some statements
   pub shut : CanShut gate (index + 1) (length statements) named line
 
--- there is no memory or no thread, or else the gate can shut a statement; a full history is no fault
+-- there is no memory or no thread, or the gate can stop a session at a statement; a full history is no fault
 abbrev pub BlamesRounds : (ℕ → ℕ → Bool → Type 0) → List (List Statement) → RaceFault → Type 0
 BlamesRounds gate lines (GateShut named line) = ShutsOne gate lines named line
 BlamesRounds gate lines (Full named line) = ⊥

@@ -1,9 +1,9 @@
--- Runs, sessions and answers side by side.
+-- Runs, sessions and answers, place by place.
 --     HasAnswered     a session has answered all statements of its run
---     HasRun          the same of a session that is on the log and the base that it was on
+--     HasRun          HasAnswered, with the same log and the same base
 --     HasStopped      one of some runs stops
 --     StopsSome       why not all of some runs were answered
---     AllThree        the same holds of three lists, place by place
+--     AllThree        a relation holds of three lists, place by place
 use Rattle.std.specs.Prelude.{◌≡◌, ◌⊎◌, ℕ, Bool, List, [], ◌∷◌, length, slice_get, Some}
 use Rattle.xa_xid.specs.declared.statement.Statement.{Statement}
 use Rattle.xa_server.specs.State.{State}

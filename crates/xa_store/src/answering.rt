@@ -1,4 +1,4 @@
-//! One session answers its statements, one after another.
+//! One session executes its statements, one after another.
 ghost use Rattle.std.specs.Prelude.{◌≡◌, IfOk, IfErr};
 ghost use Rattle.xa_session.specs.Stays.{Stays};
 ghost use Rattle.xa_store.specs.Legal.{fault_at, EndsOne, GoesNoFurther, Stops};
@@ -11,7 +11,7 @@ use std::sync::Wait;
 use xa_session::{Answer, Fault, Session};
 use xa_xid::{SessionNo, Statement};
 
-/// Why a run stops at a statement of the session's that wasn't answered.
+/// The fault of a run at a statement that its session couldn't execute.
 fn unanswered(session: SessionNo, line: u64, fault: Fault) -> RaceFault
     ensures { result ≡ fault_at session line fault }
 {
@@ -21,7 +21,7 @@ fn unanswered(session: SessionNo, line: u64, fault: Fault) -> RaceFault
     }
 }
 
-/// Asks the gate, and executes the session's statement at `line`.
+/// Asks the gate, then executes the session's statement at `line`.
 pub(crate) fn answer_one<L: DecisionLog, G: Gate, R: Wait>(
     rt: &R,
     session: &mut Session<'_, L>,
@@ -46,9 +46,10 @@ pub(crate) fn answer_one<L: DecisionLog, G: Gate, R: Wait>(
     }
 }
 
-/// The answers to all of a session's statements, in order.
+/// Returns the answers to all of a session's statements, in order.
 ///
-/// Errors: at the first statement that isn't answered, where the gate shuts the run, the history is full or memory runs out.
+/// Errors, at the first statement that isn't answered: `GateShut` if the gate stops the run there, `Full` if
+/// the history has no room for it, `NoMemory`.
 pub(crate) fn answers_to<L: DecisionLog, G: Gate, R: Wait>(
     rt: &R,
     alloc: Global,

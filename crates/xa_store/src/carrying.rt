@@ -1,4 +1,4 @@
-//! A store whose history is full goes on with an empty one, and its sessions with their open branches.
+//! Replaces a store's full history by an empty one and keeps its sessions' open branches.
 ghost use Rattle.std.specs.Prelude.{◌≡◌, IfOk, IfErr, map};
 ghost use Rattle.std.specs.List.{AllZip};
 ghost use Rattle.decision_log.specs.Opens.{Opens};
@@ -13,7 +13,7 @@ use xa_session::replayed;
 use xa_xid::NoMemory;
 
 impl Store {
-    /// The server that the last pass's history leaves, and an empty log with its passes.
+    /// The store whose base is what the last pass's history leaves: its log is empty, and its passes are new.
     pub(crate) fn onward(
         &self,
         alloc: Global,
@@ -31,24 +31,32 @@ impl Store {
         self.reopened(alloc, base)
     }
 
-    /// This store with an empty history of the same capacity, and new passes of all its sessions, as `renew` gives it, but that
-    /// no session ends: a session of the new pass of a number goes on with the branch that this number has open. All that the
-    /// last of the given passes has seen is in the new base, and nothing else.
+    /// Replaces this store's history by an empty one, and keeps every session's open branch and its locks.
     ///
-    /// Errors: `NoMemory`, with the store and the passes, whose lists are as they were.
-    ///
-    /// May answer `NoMemory`. Doesn't wait. Takes time for the rows of the base and for the history.
-    /// Own rule: docs/RATTLE.md#stores.
+    /// The new base is the old one after all that the last of the given passes has seen. The log has the same
+    /// capacity and the same number of sessions, and a new pass is returned for each session. The session of
+    /// a new pass goes on with the branch that its number has open. `passes` must be as `close` returns them,
+    /// at least one. Errors: `NoMemory`, if an allocation fails.
+    /// After an error the store and the list of passes come back unchanged.
+    /// May return `NoMemory`. Doesn't wait. Takes time for the rows of the base and for the history.
+    /// Own rule: docs/RATTLE.md#renewal.
     pub fn carry_over(
         self,
         alloc: Global,
         mut passes: Vec<Pass>,
     ) -> Result<(Store, Vec<Pass>), (Store, Vec<Pass>, NoMemory)>
         requires { AreGathered (identity_of self.log) passes.items }
+        // Proved (stores, carry-over-base): A store that is carried over begins with the old base after all
+        //   that the last pass has seen.
         ensures base { IfOk result (λ opened. opened.0.base ≡ state_after self.base (last_known (map known_of passes.items)).seen) }
+        // Proved (stores, carry-over-passes): A store that is carried over has an empty log of the same two
+        //   sizes, with passes of all sessions.
         ensures ok { IfOk result
             (λ opened. Opens log_of known_of (identity_of self.log).capacity (identity_of self.log).sessions (identity_of opened.0.log) opened.1.items) }
+        // Proved (stores, carry-over-no-memory): If there is no memory to carry a store over, the store and
+        //   the passes come back as they were.
         ensures store { IfErr result (λ kept. (kept.0.base ≡ self.base) × (identity_of kept.0.log ≡ identity_of self.log)) }
+        // Proved (stores, carry-over-no-memory)
         ensures passes { IfErr result (λ kept. AllZip (λ old new. (log_of new ≡ log_of old) × (known_of new ≡ known_of old)) passes.items kept.1.items) }
     {
         let mut last = passes.take_last();

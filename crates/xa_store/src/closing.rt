@@ -1,4 +1,4 @@
-//! How a race's sessions end: they meet, and leave.
+//! How the sessions of a race end: they synchronise, and return their passes.
 ghost use Rattle.std.specs.Prelude.{◌≡◌, map, IfOk};
 ghost use Rattle.std.specs.List.{All};
 ghost use Rattle.xa_store.specs.Closed.{HasClosed};
@@ -12,7 +12,7 @@ use xa_session::Session;
 use xa_words::Entry;
 use xa_xid::NoMemory;
 
-/// What a race leaves: a history, and for each session its pass and what it was answered.
+/// The result of a race or a round: its history, and for each session its pass and its answers.
 #[derive(Drop)]
 pub(crate) struct Closed<D> {
     pub(crate) history: Vec<Entry>,
@@ -20,7 +20,7 @@ pub(crate) struct Closed<D> {
     pub(crate) done: Vec<D>,
 }
 
-/// The sessions, and what each was answered, in the order given.
+/// Splits what the threads returned into the sessions and their answers, each in the order given.
 fn part<'a, D: Drop>(
     alloc: Global,
     mut returned: Vec<Returned<'a, Log, D>>,
@@ -36,7 +36,7 @@ fn part<'a, D: Drop>(
     and_both(others, session, done)
 }
 
-/// All that a race leaves, once its threads have ended: the sessions meet, and leave.
+/// Has the sessions synchronise and return their passes, after the threads of a race have ended.
 pub(crate) fn close_all<D: Drop>(
     alloc: Global,
     store: &Store,

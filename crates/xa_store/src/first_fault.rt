@@ -1,20 +1,20 @@
-//! Which fault of a race is told.
+//! Which fault of a race is returned.
 ghost use Rattle.std.specs.Prelude.{◌≡◌, ◌≤◌, ◌⊎◌};
 ghost use Rattle.xa_store.specs.Lowest.{IsOutside};
 
 use crate::RaceFault;
 
-/// A fault, and whose run had it. Of several faults that of the lowest session is told.
+/// A fault, and the session whose run had it. Of several faults that of the lowest session is returned.
 #[derive(Clone, Copy, Drop)]
 pub(crate) struct FirstFault {
-    /// The session's number; above all numbers where no run had the fault.
+    /// The session's number. It is above all numbers if no run had the fault.
     session: u64,
     /// The fault.
     pub(crate) fault: RaceFault,
 }
 
 impl FirstFault {
-    /// The fault of the run of the session of this number.
+    /// The fault of the run of the session with this number.
     pub(crate) fn of(session: u64, fault: RaceFault) -> FirstFault
         ensures fault { result.fault ≡ fault }
         ensures session { result.session ≡ session }
@@ -22,7 +22,7 @@ impl FirstFault {
         FirstFault { session, fault }
     }
 
-    /// NoMemory outside the runs.
+    /// `NoMemory` outside of the runs.
     pub(crate) fn outside() -> FirstFault
         ensures { IsOutside result }
     {
@@ -32,7 +32,7 @@ impl FirstFault {
         }
     }
 
-    /// Which of the two is told.
+    /// The one of the two faults that is returned.
     pub(crate) fn or(self, other: FirstFault) -> FirstFault
         ensures either { (result ≡ self) ⊎ (result ≡ other) }
         ensures lowest { (result.session ≤ self.session) × (result.session ≤ other.session) }

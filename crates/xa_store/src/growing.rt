@@ -1,9 +1,9 @@
-//! Lists that grow by one, where memory lasts.
+//! Lists that grow by one element, if there is memory.
 ghost use Rattle.std.specs.Prelude.{◌≡◌, ◌++◌, ◌∷◌, [], Ok, IfOk};
 
 use xa_xid::NoMemory;
 
-/// The list with one element more behind it, where both could be had.
+/// Appends one element to a list, if both could be had.
 pub(crate) fn and_last<T: Drop>(
     others: Result<Vec<T>, NoMemory>,
     last: Result<T, NoMemory>,
@@ -15,7 +15,7 @@ pub(crate) fn and_last<T: Drop>(
     Ok(all)
 }
 
-/// Two lists, each with one element more behind it, where the lists could be had.
+/// Appends one element to each of two lists, if the lists could be had.
 pub(crate) fn and_both<A: Drop, B: Drop>(
     others: Result<(Vec<A>, Vec<B>), NoMemory>,
     first: A,

@@ -1,10 +1,11 @@
-//! What the rounds of a race give.
+//! The state of a race between two rounds.
 
 use crate::progress::Progress;
 use crate::{Pass, Store};
 use xa_words::Entry;
 
-/// What all rounds so far give: the store and the passes of the last one, the history of all, and how far each session has come.
+/// All rounds so far: the store and the passes of the last one, the history of all, and each session's
+/// progress.
 #[derive(Drop)]
 pub(crate) struct Held {
     pub(crate) store: Store,

@@ -1,4 +1,4 @@
-//! What all of a store's sessions have seen.
+//! The history that all of a store's sessions have seen.
 ghost use Rattle.std.specs.Prelude.{◌≡◌, ◌<◌, IfOk, length, map};
 ghost use Rattle.std.specs.List.{All, AllZip};
 ghost use Rattle.xa_store.specs.Passes.{identity_of, log_of, known_of};
@@ -12,12 +12,12 @@ use xa_words::Entry;
 use xa_xid::NoMemory;
 
 impl Store {
-    /// The history that the last of these sessions has seen once it has looked and met all others. It begins with what each of
-    /// them has seen, and its entries of each one's number are that one's own. Empty where no session is given.
+    /// Returns the history that the last of these sessions has seen, after it looked and met all others.
     ///
-    /// Errors: `NoMemory`, after which sessions may have seen more, and nothing else has changed.
-    ///
-    /// May answer `NoMemory`. Doesn't wait.
+    /// It begins with what each session has seen, and its entries of a session's number are that session's
+    /// own. It is empty if no session is given. Errors: `NoMemory`, if an allocation fails.
+    /// After an error sessions may have seen more; nothing else has changed.
+    /// May return `NoMemory`. Doesn't wait.
     /// Own rule: docs/RATTLE.md#stores.
     pub fn history(
         &self,
@@ -25,13 +25,20 @@ impl Store {
         sessions: &mut Vec<Session<'_, Log>>,
     ) -> Result<Vec<Entry>, NoMemory>
         requires { All (λ session. log_of session.pass ≡ identity_of self.now.log) sessions.old.items }
+        // Proved (stores, history-keeps): Asking for the history of sessions takes nothing from them and adds
+        //   nothing, also without memory.
         ensures keeps { AllZip
             (λ old new. (new.base.now ≡ old.base.now) × (log_of new.pass ≡ log_of old.pass) × AddsNothing (known_of old.pass) (known_of new.pass))
             sessions.old.items sessions.new.items }
+        // Proved (stores, history-is-last-seen): The history of a store's sessions is what the last of them
+        //   has seen after a look.
         ensures last { IfOk result (λ list. list.items ≡ (last_known (map (λ session. known_of session.pass) sessions.new.items)).seen) }
+        // Proved (stores, history-is-last-seen)
         ensures looked { 0 < length sessions.old.items
             → (last_known (map (λ session. known_of session.pass) sessions.old.items)).looks
             < (last_known (map (λ session. known_of session.pass) sessions.new.items)).looks }
+        // Proved (stores, history-has-all): That history begins with what each of the sessions has seen, and
+        //   its entries of each session's number are that session's own.
         ensures whole { IfOk result (λ list. All (λ session. IsTakenIn list.items (known_of session.pass)) sessions.new.items) }
     {
         if sessions.is_empty() {

@@ -1,4 +1,4 @@
-//! One round of a race, from the passes of its sessions to their passes.
+//! One round of a race: from the passes of its sessions to their passes after it.
 ghost use Rattle.std.specs.Prelude.{◌≡◌, map, IfOk, IfErr, vec_len};
 ghost use Rattle.std.specs.List.{All};
 ghost use Rattle.xa_store.specs.Passes.{identity_of, log_of};
@@ -17,7 +17,7 @@ use std::sync::Wait;
 use std::thread::Threads;
 use xa_xid::NoMemory;
 
-/// A session of the pass, with how far it has come.
+/// A session of the pass, with the session's progress.
 fn resumed<'a, G: Gate>(
     store: &'a Store,
     pass: Pass,
@@ -44,7 +44,7 @@ fn resumed<'a, G: Gate>(
     }
 }
 
-/// A session of each pass, with how far it has come.
+/// A session of each pass, with the session's progress.
 fn connect_all<'a, G: Gate>(
     alloc: Global,
     store: &'a Store,
@@ -72,10 +72,10 @@ fn connect_all<'a, G: Gate>(
     and_last(others, resumed(store, pass, one, before, gate))
 }
 
-/// Holds one round: each session goes on, on a thread of its own, until it has no more statement or the history no more room.
-/// The rounds before this one have `before` entries.
+/// Holds one round: each session goes on, on a thread of its own, until it has no statement left or the
+/// history has no room for the next one. The rounds before this one have `before` entries.
 ///
-/// Errors: of all faults that of the lowest session; `NoMemory` outside the runs where no run has a fault.
+/// Errors: of all faults that of the lowest session; `NoMemory` outside of the runs if no run has a fault.
 pub(crate) fn hold_round<G: Gate + Sync, R: Threads + Wait + Sync>(
     rt: &R,
     alloc: Global,

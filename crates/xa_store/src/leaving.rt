@@ -1,4 +1,4 @@
-//! Sessions that leave together.
+//! Closing the sessions of a store together.
 ghost use Rattle.std.specs.Prelude.{◌≡◌, ◌<◌, IfOk, IfErr, length, map};
 ghost use Rattle.std.specs.List.{All, AllZip};
 ghost use Rattle.xa_store.specs.Passes.{identity_of, log_of, known_of};
@@ -29,12 +29,11 @@ fn leave_all(
 }
 
 impl Store {
-    /// The history of these sessions, as `history` gives it, and their passes, in order: all of them leave. So are the passes that
-    /// `renew` takes, where a session is given at all.
+    /// Closes these sessions: returns their history, as `history` does, and their passes, in order.
     ///
-    /// Errors: `NoMemory`, with the sessions, which may have seen more.
-    ///
-    /// May answer `NoMemory`. Doesn't wait.
+    /// If at least one session is given, the passes are as `renew` and `carry_over` take them.
+    /// Errors: `NoMemory`, if an allocation fails. The sessions then come back, and may have seen more.
+    /// May return `NoMemory`. Doesn't wait.
     /// Own rule: docs/RATTLE.md#stores.
     pub fn close<'s>(
         &self,
@@ -42,15 +41,26 @@ impl Store {
         mut sessions: Vec<Session<'s, Log>>,
     ) -> Result<(Vec<Entry>, Vec<Pass>), (Vec<Session<'s, Log>>, NoMemory)>
         requires { All (λ session. log_of session.pass ≡ identity_of self.now.log) sessions.items }
+        // Proved (stores, close-passes): Closing sessions returns their passes, in order. Each keeps what it
+        //   knew and adds nothing.
         ensures passes { IfOk result
             (λ ended. AllZip (λ session pass. (log_of pass ≡ log_of session.pass) × AddsNothing (known_of session.pass) (known_of pass)) sessions.entry.items
             ended.1.items) }
+        // Proved (stores, close-history): Of sessions that were closed the last has looked. The history that
+        //   is returned is what it has seen; it has all that each of them has seen, with each one's own
+        //   entries.
         ensures last { IfOk result (λ ended. ended.0.items ≡ (last_known (map known_of ended.1.items)).seen) }
+        // Proved (stores, close-history)
         ensures looked { IfOk result
             (λ ended. 0 < length sessions.entry.items
             → (last_known (map (λ session. known_of session.pass) sessions.entry.items)).looks < (last_known (map known_of ended.1.items)).looks) }
+        // Proved (stores, close-history)
         ensures whole { IfOk result (λ ended. All (λ pass. IsTakenIn ended.0.items (known_of pass)) ended.1.items) }
+        // Proved (stores, close-for-renewal): If a session was given, the passes that closing returns are
+        //   those that a renewal takes.
         ensures gathered { IfOk result (λ ended. 0 < length sessions.entry.items → AreGathered (identity_of self.now.log) ended.1.items) }
+        // Proved (stores, close-no-memory): If there is no memory to close sessions, they come back, and have
+        //   kept all that they knew.
         ensures err { IfErr result
             (λ refused. AllZip
             (λ old new. (new.base.now ≡ old.base.now) × (log_of new.pass ≡ log_of old.pass) × AddsNothing (known_of old.pass) (known_of new.pass))

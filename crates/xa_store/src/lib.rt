@@ -1,4 +1,10 @@
-//! A store that threads share: a server that held nothing at first, and the history of statements that its sessions add.
+//! A store that threads share: an empty server as the base, and the log of the statements that sessions add.
+//!
+//! Opening a store returns a pass for each of its sessions: the session's handle on the log. Connect a pass
+//! to get an `xa_session::Session`, which may move to a thread of yours. `race` and `race_in_rounds` run
+//! sessions on threads and return their answers with the one history that explains them.
+//! Read docs/RATTLE.md#stores first, then `src/store.rt`, `src/renew.rt`, `src/racing.rt` and
+//! `specs/Legal.antt`.
 #![tactic(auto)]
 
 mod answering;

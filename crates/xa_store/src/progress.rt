@@ -1,11 +1,11 @@
-//! How far a session of a race in rounds has come.
+//! How many statements of a session were answered in a race in rounds.
 
 ghost use Rattle.std.specs.Prelude.{◌≡◌, ◌<◌, ◌≤◌, true, false, length};
 
 use xa_session::Answer;
 use xa_xid::Statement;
 
-/// A session's statements, and the answers to as many of the first of them.
+/// A session's statements, and the answers to the first of them.
 #[derive(Drop)]
 pub(crate) struct Progress {
     pub(crate) lines: Vec<Statement>,

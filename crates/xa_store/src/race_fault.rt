@@ -1,4 +1,4 @@
-//! Why a race gave nothing.
+//! Why a race failed.
 ghost use Rattle.std.specs.Prelude.{◌≡◌};
 ghost use Rattle.xa_store.specs.Faults.{number_of_race_fault};
 
@@ -6,10 +6,10 @@ use std::alloc::{AllocError, AllocFailed};
 use thiserror::Error;
 use xa_xid::SessionNo;
 
-/// Why a race gave nothing.
+/// Why a race failed.
 #[derive(Clone, Copy, Debug, Drop, PartialEq, Eq, Error)]
 pub enum RaceFault {
-    /// The gate shut this session's run before its statement at `line`, counted from 0.
+    /// The gate stopped this session's run before its statement at `line`, counted from 0.
     #[error("gate shut for session {} at its statement {line}", .session.get())]
     GateShut {
         /// The session of the run.
@@ -17,7 +17,7 @@ pub enum RaceFault {
         /// The statement, counted from 0.
         line: u64,
     },
-    /// This session's statement at `line`, counted from 0, enters, and the history is as long as the log's capacity.
+    /// This session's statement at `line`, counted from 0, is to be logged, and the log has no room left.
     #[error("log full for session {} at its statement {line}", .session.get())]
     Full {
         /// The session of the run.
@@ -25,19 +25,21 @@ pub enum RaceFault {
         /// The statement, counted from 0.
         line: u64,
     },
-    /// Memory ran out.
+    /// An allocation failed.
     #[error("out of memory")]
     NoMemory,
-    /// A thread couldn't be started.
+    /// The system refused a thread.
     #[error("thread refused")]
     ThreadRefused,
 }
 
 impl RaceFault {
-    /// The fault's number, from 1 to 4.
+    /// Returns the fault's number, from 1 to 4, in the order of the variants.
     ///
-    /// Takes no memory. Doesn't wait. Own rule: docs/RATTLE.md#races.
+    /// Takes no memory. Doesn't wait.
+    /// Own rule: docs/RATTLE.md#races.
     pub fn number(&self) -> u64
+        // Proved (stores, race-fault-number): Each fault of a race has its number in the table of faults.
         ensures { result ≡ number_of_race_fault self.now }
     {
         match self {

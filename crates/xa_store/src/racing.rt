@@ -1,4 +1,4 @@
-//! Runs of sessions side by side.
+//! Runs of sessions on threads.
 ghost use Rattle.std.specs.Prelude.{◌≡◌, length, count_by, IfOk, IfErr, OnOk};
 ghost use Rattle.std.specs.List.{All, AllZip};
 ghost use Rattle.xa_store.specs.Passes.{identity_of, log_of, known_of};
@@ -71,15 +71,15 @@ pub(crate) fn count_speakers(runs: &[Run]) -> u64
     runs.iter().filter(|run| !run.lines.is_empty()).count() as u64
 }
 
-/// Runs each of the runs on a thread of its own, and gives all answers with the one history that explains them.
+/// Runs each of the runs on a thread of its own, and returns all answers and the history that explains them.
 ///
-/// Each run asks the gate before each of its statements, and executes it.
-/// Errors: that of the run of the lowest session with a fault. `GateShut` where the gate shut it, `Full` where its statement
-/// enters a history that has no more room, `NoMemory` where memory ran out, `ThreadRefused` where its thread couldn't be
-/// started. `NoMemory` outside the runs is told where no run has a fault. After an error the passes are dropped; runs without
-/// a fault went on to their end, and what was answered stands in the store's history.
-///
-/// May answer `NoMemory`. Waits for its threads, which may wait: no number of tries is promised.
+/// Each run executes its statements in order, and asks the gate before each. Errors: `GateShut` if the gate
+/// stopped a run, `Full` if a run's statement is to be logged and the log has no room, `NoMemory` if an
+/// allocation failed, `ThreadRefused` if a run's thread couldn't be started. Of several the fault of the
+/// lowest session is returned; `NoMemory` outside of the runs only if no run has a fault.
+/// After an error the passes are dropped. The other runs went on, and the store's history keeps what was
+/// answered.
+/// May return `NoMemory`. Waits for its threads, which may wait: no number of tries is promised.
 /// Own rule: docs/RATTLE.md#races.
 pub fn race<G: Gate + Sync, R: Threads + Wait + Sync>(
     rt: &R,
@@ -89,9 +89,23 @@ pub fn race<G: Gate + Sync, R: Threads + Wait + Sync>(
     gate: &G,
 ) -> Result<Outcome, RaceFault>
     requires { All (λ run. log_of run.pass ≡ identity_of store.now.log) runs.items }
+    // Proved (stores, race-one-history): One history explains the answers of a race. Each is the reply after
+    //   a prefix that has all that its run's pass had seen; places never fall; each statement that is logged
+    //   is in the history once, in order, after what the pass had added before.
+    // Proved (stores, race-history-has-all): The history of a race is what the last pass has seen in the end.
+    //   It begins with what each pass has seen, and its entries of each pass's number are that pass's own.
     ensures legal { IfOk result (λ outcome. IsOutcome store.now.base runs.items outcome) }
+    // Proved (stores, race-gate-opened): If all runs of a race are answered, in one log or in rounds, the
+    //   gate can let in each of their statements.
     ensures opened { OnOk result (All (λ run. LetsIn (G.may_answer gate.now) (known_of run.pass).number (length run.lines.items)) runs.items) }
+    // Proved (stores, race-fault-cause): A fault `GateShut` or `Full` of a race names one statement of a run.
+    //   Those before it were answered, and a history explains their answers. At `GateShut` the gate can stop
+    //   this session at this line. At `Full` the statement is to be logged after that history, which is as
+    //   long as the log can be.
     ensures fault { IfErr result (λ fault. Blames (G.may_answer gate.now) store.now.base runs.items fault) }
+    // Proved (stores, race-lowest-fault): `GateShut` and `Full` are returned of the lowest session that has a
+    //   fault: all runs of lower sessions were answered to their ends. `ThreadRefused` is returned only if
+    //   there is a run.
     ensures lowest { IfErr result (TellsLowest (G.may_answer gate.now) store.now.base runs.items) }
 {
     gate.announce(count_speakers(runs.as_slice()));

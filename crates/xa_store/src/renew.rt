@@ -1,4 +1,4 @@
-//! A store whose history is full goes on with an empty one.
+//! Replaces a store's full history by an empty one, with every session disconnected.
 ghost use Rattle.std.specs.Prelude.{◌≡◌, ◌≤◌, IfOk, IfErr, map};
 ghost use Rattle.std.specs.List.{AllZip};
 ghost use Rattle.decision_log.specs.Opens.{Opens};
@@ -13,7 +13,8 @@ use xa_server::Server;
 use xa_session::replayed;
 use xa_xid::{NoMemory, SessionNo, Statement};
 
-/// The server once sessions 1 to the last have disconnected, in order. Each one's branch that isn't PREPARED is rolled back.
+/// The server after sessions 1 to the last have disconnected, in order. Branches that aren't PREPARED are
+/// rolled back.
 fn disconnect_all(mut server: Server, sessions: u64) -> Server
     requires { sessions ≤ 16 }
     ensures { result ≡ disconnected sessions server }
@@ -26,7 +27,7 @@ fn disconnect_all(mut server: Server, sessions: u64) -> Server
 }
 
 impl Store {
-    /// A store that begins with this server, with an empty log of this store's sizes, and its passes.
+    /// The store with this base and an empty log of this store's sizes, and the log's passes.
     pub(crate) fn reopened(
         &self,
         alloc: Global,
@@ -43,7 +44,8 @@ impl Store {
         Ok((Store { base, log }, passes))
     }
 
-    /// The server that the last pass's history leaves once all sessions have ended, and an empty log with its passes.
+    /// The store that begins with what the last pass's history and the end of all sessions leave, and its
+    /// passes.
     fn anew(&self, alloc: Global, last: &mut Pass) -> Result<(Store, Vec<Pass>), NoMemory>
         requires { log_of last.old ≡ identity_of self.now.log }
         ensures belongs { log_of last.new ≡ log_of last.old }
@@ -58,24 +60,33 @@ impl Store {
         self.reopened(alloc, base)
     }
 
-    /// This store with an empty history of the same capacity, and new passes of all its sessions: all that the last of the given
-    /// passes has seen is in the new base, in which each session's open branch is rolled back and PREPARED branches stand with
-    /// their locks. The passes are as `history` leaves them, and their sessions have left; of a pass that isn't given nothing is promised.
+    /// Replaces this store's history by an empty one, with every session disconnected.
     ///
-    /// Errors: `NoMemory`, with the store and the passes, whose lists are as they were.
-    ///
-    /// May answer `NoMemory`. Doesn't wait. Takes time for the rows of the base and for the history.
-    /// Own rule: docs/RATTLE.md#stores.
+    /// The new base is the old one after all that the last of the given passes has seen, and after a
+    /// `DISCONNECT` of each session: PREPARED branches stay, with their locks, and each session's open branch
+    /// is rolled back. The log has the same capacity, and a new pass is returned for each session. `passes`
+    /// must be as `close` returns them, at least one; entries that none of them has seen are lost. Errors:
+    /// `NoMemory`, if an allocation fails. After an error the store and the list of passes come back
+    /// unchanged.
+    /// May return `NoMemory`. Doesn't wait. Takes time for the rows of the base and for the history.
+    /// Own rule: docs/RATTLE.md#renewal.
     pub fn renew(
         self,
         alloc: Global,
         mut passes: Vec<Pass>,
     ) -> Result<(Store, Vec<Pass>), (Store, Vec<Pass>, NoMemory)>
         requires { AreGathered (identity_of self.log) passes.items }
+        // Proved (stores, renew-base): A renewed store begins with the old base after all that the last pass
+        //   has seen, and after a `DISCONNECT` of each session.
         ensures base { IfOk result (λ opened. opened.0.base ≡ renewed self.base (last_known (map known_of passes.items)).seen (identity_of self.log).sessions) }
+        // Proved (stores, renew-passes): A renewed store has an empty log of the same two sizes, with passes
+        //   of all sessions.
         ensures ok { IfOk result
             (λ opened. Opens log_of known_of (identity_of self.log).capacity (identity_of self.log).sessions (identity_of opened.0.log) opened.1.items) }
+        // Proved (stores, renew-no-memory): If there is no memory to renew a store, the store and the passes
+        //   come back as they were.
         ensures store { IfErr result (λ kept. (kept.0.base ≡ self.base) × (identity_of kept.0.log ≡ identity_of self.log)) }
+        // Proved (stores, renew-no-memory)
         ensures passes { IfErr result (λ kept. AllZip (λ old new. (log_of new ≡ log_of old) × (known_of new ≡ known_of old)) passes.items kept.1.items) }
     {
         let mut last = passes.take_last();

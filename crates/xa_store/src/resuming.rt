@@ -1,4 +1,4 @@
-//! What passes from one round of a race to the next.
+//! What is handed from one round of a race to the next.
 ghost use Rattle.std.specs.Prelude.{◌≡◌, ◌<◌, ◌≤◌, ◌++◌, [], length, map, true, false, IfOk, IfErr, OnOk};
 ghost use Rattle.std.specs.List.{All};
 ghost use Rattle.xa_store.specs.Passes.{identity_of};
@@ -15,7 +15,7 @@ use xa_session::Answer;
 use xa_words::Entry;
 use xa_xid::NoMemory;
 
-/// The runs' passes, and their statements with no answer yet.
+/// The runs' passes, and their statements without an answer yet.
 pub(crate) fn split(
     alloc: Global,
     mut runs: Vec<Run>,
@@ -33,14 +33,14 @@ pub(crate) fn split(
     and_both(others, pass, Progress { lines, answers })
 }
 
-/// Puts a round's history behind that of the rounds before.
+/// Appends a round's history to that of the rounds before.
 pub(crate) fn extend(history: &mut Vec<Entry>, mut round: Vec<Entry>) -> Result<(), NoMemory>
     ensures { OnOk result (history.new.items ≡ history.old.items ++ round.items) }
 {
     history.append(&mut round)
 }
 
-/// Whether each session has been answered all its statements.
+/// Whether every statement of every session was answered.
 pub(crate) fn are_done(progress: &[Progress]) -> bool
     ensures done { result ≡ true → All (λ one. length one.lines.items ≤ length one.answers.items) progress.now }
     ensures some { result ≡ false → 0 < length progress.now }
@@ -54,7 +54,7 @@ pub(crate) fn are_done(progress: &[Progress]) -> bool
     true
 }
 
-/// The answers alone.
+/// Only the answers.
 pub(crate) fn answers_of(
     alloc: Global,
     progress: Vec<Progress>,
@@ -69,9 +69,9 @@ pub(crate) fn answers_of(
     Ok(all)
 }
 
-/// All rounds so far, with the store of the next one and the passes of as many of its sessions.
+/// All rounds so far, with the store of the next round and the passes of its sessions.
 ///
-/// Errors: `NoMemory`; all is then dropped.
+/// Errors: `NoMemory`. Everything is dropped then.
 pub(crate) fn carried(alloc: Global, held: Held) -> Result<Held, RaceFault>
     requires gathered { AreGathered (identity_of held.store.log) held.passes.items }
     requires few { length held.passes.items ≤ (identity_of held.store.log).sessions }

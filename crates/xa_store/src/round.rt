@@ -1,4 +1,4 @@
-//! A session goes on with its statements, as long as the history has room.
+//! A session goes on with its statements as long as the history has room.
 ghost use Rattle.std.specs.Prelude.{◌≡◌, ◌∷◌, [], ◌++◌, IfOk, IfErr, OnOk, length};
 ghost use Rattle.xa_store.specs.Rounds.{later, HasGoneOn, EndsItsRound, StopsInRound, WhereShut};
 
@@ -11,7 +11,7 @@ use std::sync::Wait;
 use xa_session::{Answer, Session};
 use xa_xid::SessionNo;
 
-/// A session of a round, how far it has come, how many entries the rounds before this one have, and the gate that it asks.
+/// A session of a round, its progress, how many entries the rounds before this one have, and the gate.
 #[derive(Drop)]
 pub(crate) struct Resumed<'a, L: DecisionLog, G> {
     pub(crate) session: Session<'a, L>,
@@ -20,7 +20,7 @@ pub(crate) struct Resumed<'a, L: DecisionLog, G> {
     pub(crate) gate: &'a G,
 }
 
-/// Puts an answer behind the others, with its place counted over all rounds.
+/// Appends an answer to the others, with its place counted over all rounds.
 ///
 /// Errors: `NoMemory`, also for a place of 2^64 or more: no memory has room for a history of that length.
 fn push_later(answers: &mut Vec<Answer>, answer: Answer, before: u64) -> Result<(), RaceFault>
@@ -35,9 +35,9 @@ fn push_later(answers: &mut Vec<Answer>, answer: Answer, before: u64) -> Result<
     Ok(())
 }
 
-/// Answers a session's next statements, in order, up to the last or to one that the history has no room for.
+/// Answers a session's next statements, in order, until the last or until one for which the log has no room.
 ///
-/// Errors: `GateShut` at the statement at which the gate shuts the run, `NoMemory`.
+/// Errors: `GateShut` if the gate stops the run, `NoMemory`.
 fn go_on<L: DecisionLog, G: Gate, R: Wait>(
     rt: &R,
     session: &mut Session<'_, L>,

@@ -1,4 +1,4 @@
-//! Races of any length: whenever the history is full, the store is carried over.
+//! Races of any length: whenever a log is full, the store is carried over.
 ghost use Rattle.std.specs.Prelude.{◌≡◌, ◌<◌, [], length, map, IfOk, IfErr, OnOk};
 ghost use Rattle.std.specs.List.{All, AllZip};
 ghost use Rattle.decision_log.specs.Known.{AllOf};
@@ -38,9 +38,9 @@ fn begin(alloc: Global, store: Store, runs: Vec<Run>) -> Result<Held, NoMemory>
     })
 }
 
-/// Holds one round more, and puts its history behind that of the rounds so far.
+/// Holds one more round, and appends its history to that of the rounds so far.
 ///
-/// Errors: those of `hold_round`; `NoMemory` also where there is none for the longer history.
+/// Errors: those of `hold_round`; `NoMemory` also if there is none for the longer history.
 fn hold_next<G: Gate + Sync, R: Threads + Wait + Sync>(
     rt: &R,
     alloc: Global,
@@ -78,7 +78,7 @@ fn hold_next<G: Gate + Sync, R: Threads + Wait + Sync>(
 
 /// Holds rounds until each statement of each session was answered.
 ///
-/// Errors: those of the first round with a fault; `NoMemory` also where the store can't be carried over.
+/// Errors: those of the first round with a fault; `NoMemory` also if the store can't be carried over.
 fn hold_rounds<G: Gate + Sync, R: Threads + Wait + Sync>(
     rt: &R,
     alloc: Global,
@@ -100,7 +100,7 @@ fn hold_rounds<G: Gate + Sync, R: Threads + Wait + Sync>(
     unreachable!()
 }
 
-/// The store and the outcome, once each statement was answered.
+/// The store and the outcome, after each statement was answered.
 fn tell(alloc: Global, held: Held) -> Result<(Store, Outcome), NoMemory>
     ensures store { IfOk result (λ told. told.0 ≡ held.store) }
     ensures history { IfOk result (λ told. told.1.history ≡ held.history) }
@@ -143,17 +143,17 @@ fn hold_all<G: Gate + Sync, R: Threads + Wait + Sync>(
     Ok(told)
 }
 
-/// Runs each of the runs on a thread of its own, in rounds, and gives all answers with the one history that explains them.
+/// Runs each of the runs on a thread of its own, in rounds, and returns all answers and the history that
+/// explains them.
 ///
-/// Whenever the store's history is full, the runs come together, the store is carried over, and each run goes on with the
-/// statement at which it stood, on a new thread; its open branch stays open. Places count over all rounds. The runs are those of
-/// the sessions 1 to the last, in order, which have seen nothing. Each run asks the gate before each of its statements, and once
-/// more for a statement that had no room in a round.
-/// Errors: that of the run of the lowest session with a fault, as those of `race`, but never `Full`; `NoMemory` also where there
-/// is none for the history of all rounds. After an error the store and the passes are dropped.
-///
-/// The store that comes back is that of the last round, and so are the passes, as `renew` and `carry_over` take them.
-/// May answer `NoMemory`. Waits for its threads, which may wait: no number of tries, and none of rounds, is promised.
+/// The runs are of the sessions 1 to the last, in order, which have seen nothing. Whenever the log is full,
+/// the runs synchronise, the store is carried over, and each run goes on with its next statement on a new
+/// thread; its open branch stays open. Places count over all rounds. Each run asks the gate before each
+/// statement, and once more for a statement that had no room in a round. Errors: those of `race` for the same
+/// causes, but never `Full`; `NoMemory` also if there is none for the history of all rounds.
+/// After an error the store and the passes are dropped. After Ok both are the last round's, as `renew` and
+/// `carry_over` take them. May return `NoMemory`. Waits for its threads, which may wait: no number of tries
+/// or rounds is promised.
 /// Own rule: docs/RATTLE.md#races-in-rounds.
 pub fn race_in_rounds<G: Gate + Sync, R: Threads + Wait + Sync>(
     rt: &R,
@@ -164,17 +164,32 @@ pub fn race_in_rounds<G: Gate + Sync, R: Threads + Wait + Sync>(
 ) -> Result<(Store, Outcome), RaceFault>
     requires belongs { All (λ run. log_of run.pass ≡ identity_of store.log) runs.items }
     requires fresh { AreFresh (map (λ run. run.pass) runs.items) }
+    // Proved (stores, rounds-one-history): One history, of any length, explains the answers of a race in
+    //   rounds, with places that count over all rounds.
     ensures legal { IfOk result (λ ended. Legal store.base ended.1.history.items runs.items (map (λ answers. answers.items) ended.1.answers.items)) }
+    // Proved (stores, rounds-own-entries): The history of a race in rounds has entries only of the log's
+    //   sessions, and none if there is no run.
     ensures own { IfOk result (λ ended. AllOf (identity_of store.log).sessions ended.1.history.items) }
+    // Proved (stores, rounds-own-entries)
     ensures none { length runs.items ≡ 0 → IfOk result (λ ended. ended.1.history.items ≡ []) }
+    // Proved (stores, rounds-store): The store that a race in rounds returns leads, after all that the last
+    //   pass has seen, to the state to which the history leads. If there is a run, the passes are as a
+    //   renewal takes them, one for each run. The log has as much room as the first, for as many sessions.
     ensures gathered { IfOk result (λ ended. 0 < length runs.items → AreGathered (identity_of ended.0.log) ended.1.passes.items) }
+    // Proved (stores, rounds-store)
     ensures state { IfOk result
         (λ ended. state_after ended.0.base (last_known (map known_of ended.1.passes.items)).seen ≡ state_after store.base ended.1.history.items) }
+    // Proved (stores, rounds-store)
     ensures passes { IfOk result
         (λ ended. AllZip (λ run pass. (known_of pass).number ≡ (known_of run.pass).number) runs.items ended.1.passes.items) }
+    // Proved (stores, rounds-store)
     ensures capacity { IfOk result (λ ended. (identity_of ended.0.log).capacity ≡ (identity_of store.log).capacity) }
+    // Proved (stores, rounds-store)
     ensures sessions { IfOk result (λ ended. (identity_of ended.0.log).sessions ≡ (identity_of store.log).sessions) }
+    // Proved (stores, race-gate-opened)
     ensures opened { OnOk result (All (λ run. LetsIn (G.may_answer gate.now) (known_of run.pass).number (length run.lines.items)) runs.items) }
+    // Proved (stores, rounds-fault): No fault of a race in rounds is `Full`. `GateShut` names a statement of
+    //   a session at which the gate can stop it.
     ensures fault { IfErr result (BlamesRounds (G.may_answer gate.now) (map (λ run. run.lines.items) runs.items)) }
 {
     gate.announce(count_speakers(runs.as_slice()));

@@ -1,9 +1,9 @@
-//! A run: the statements that one session gives.
+//! A run: the statements that one session gives in a race.
 
 use crate::Pass;
 use xa_xid::Statement;
 
-/// What one session gives in a race.
+/// The statements that one session gives in a race.
 #[derive(Drop)]
 pub struct Run {
     /// The session's pass.

@@ -1,4 +1,4 @@
-//! A gate at which sessions step aside by pseudo-random turns.
+//! A gate at which sessions let other threads run for a pseudo-random number of turns.
 ghost use Rattle.std.specs.Prelude.{◌≡◌, ◌<◌, IsTrue};
 
 use crate::{Gate, TogetherGate};
@@ -7,11 +7,12 @@ use rand_pcg::Pcg32;
 use std::thread::yield_now;
 use xa_xid::SessionNo;
 
-/// The gate at which the sessions meet before their first lines, as at `TogetherGate`, and each steps aside before each of its
-/// lines: it lets other threads run for as many turns as a generator of the seed says, which has a stream for each session.
+/// Lets all runs begin at the same time, and delays each of their statements by a pseudo-random time.
 ///
-/// It is always open, so a race with it is what a race with `OpenGate` is. The turns are the seed's, and what they come to is the
-/// scheduler's: two races of one seed can differ.
+/// Sessions wait for each other before their first statements, as at `TogetherGate`. Before each of its
+/// statements a session lets another thread run for 0 to 63 turns, by a generator with the given seed and a
+/// stream for each session. The gate never stops a run, so outcomes are those of a race with `OpenGate`; some
+/// get likelier. The scheduler decides what the turns lead to: two races with one seed can differ.
 #[derive(Drop)]
 pub struct ShuffledGate {
     together: TogetherGate,
@@ -19,7 +20,7 @@ pub struct ShuffledGate {
 }
 
 impl ShuffledGate {
-    /// A gate of a seed, in `[0, 2^64)`, at which nobody stands.
+    /// Makes a gate of a seed, in `[0, 2^64)`.
     ///
     /// Takes no memory. Doesn't wait.
     /// Own rule: docs/RATTLE.md#races.
@@ -32,7 +33,7 @@ impl ShuffledGate {
         }
     }
 
-    /// For how many turns a session steps aside before this line, in `[0, 64)`.
+    /// How many turns a session waits before this line, in `[0, 64)`.
     fn turns(&self, session: SessionNo, line: u64) -> u32
         ensures { result < 64 }
     {
@@ -42,6 +43,7 @@ impl ShuffledGate {
     }
 }
 
+// Proved (stores, gates-let-in)
 impl Gate for ShuffledGate {
     ghost may_answer = { λ _ _ _ opened. IsTrue opened };
 

@@ -13,7 +13,7 @@ use std::sync::Wait;
 use std::thread;
 use std::thread::{Promise, Scope, Threads};
 
-/// What a task's thread promises of what it gives back.
+/// A thread's promise about the value that it returns.
 #[derive(Drop)]
 struct DoesItsPart<T>(Snapshot<T>);
 
@@ -21,7 +21,7 @@ impl<T: Task> Promise<Result<T::Gain, RaceFault>> for DoesItsPart<T> {
     ghost kept_by = { λ promise ended. IfOk ended (T.gains promise.0.value) × IfErr ended (T.stops promise.0.value) };
 }
 
-/// The fault that is told where one more task stops.
+/// The fault that is returned if one more task stops.
 fn fault_of<D: Drop>(others: Result<Vec<D>, FirstFault>, own: FirstFault) -> FirstFault
     ensures either { (others ≡ Err result) ⊎ (result ≡ own) }
     ensures lowest { (result.session ≤ own.session) × IfErr others (λ first_fault. result.session ≤ first_fault.session) }
@@ -32,7 +32,7 @@ fn fault_of<D: Drop>(others: Result<Vec<D>, FirstFault>, own: FirstFault) -> Fir
     own
 }
 
-/// Puts what one more task gave, that of the session of this number, behind what all others gave.
+/// Appends what one more task returned, that of the session of this number, to what all others returned.
 fn join_task<D: Drop>(
     others: Result<Vec<D>, FirstFault>,
     number: u64,
@@ -58,9 +58,9 @@ fn join_task<D: Drop>(
     }
 }
 
-/// Gives each task a thread of its own, and waits for all of them. All are started before the first is waited for.
+/// Gives each task a thread of its own, and waits for all of them. All start before the first is waited for.
 ///
-/// Errors: of all faults that of the lowest session. What the others gave is then dropped.
+/// Errors: of all faults that of the lowest session. What the others returned is dropped then.
 fn spread<'s, E, T: Task + Send + Drop + 's, R: Threads + Wait + Sync>(
     scope: &Scope<'s, E>,
     rt: &'s R,
@@ -87,7 +87,7 @@ where
 
 /// Gives each task a thread of its own, and waits for all of them.
 ///
-/// Errors: of all faults that of the lowest session. What the others gave is then dropped.
+/// Errors: of all faults that of the lowest session. What the others returned is dropped then.
 pub(crate) fn run_all<T: Task + Send + Drop, R: Threads + Wait + Sync>(
     rt: &R,
     alloc: Global,

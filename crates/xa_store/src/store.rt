@@ -10,13 +10,15 @@ use xa_server::Server;
 use xa_session::Session;
 use xa_xid::NoMemory;
 
-/// The log of a store: a session that stops holds up no other.
+/// The log of a store. A thread that stops anywhere in it holds up no other.
 pub type Log = ChainLog;
 
-/// What a session of a store knows of its history.
+/// A pass: a session's handle on a store's log, with what the session has seen of the history.
 pub type Pass = ChainPass;
 
-/// A store. Its sessions are on the threads of their callers, and share its history.
+/// A store: a base, which is an empty server at first, and the log of the history that its sessions share.
+///
+/// Its sessions run on the threads of their callers.
 #[derive(Drop)]
 pub struct Store {
     pub(crate) base: Server,
@@ -24,22 +26,27 @@ pub struct Store {
 }
 
 impl Store {
-    /// A store with no branches and no rows, whose history can have `capacity` entries, in `[1, 1024]`, and the passes of
-    /// sessions 1 to `sessions`, in `[1, 16]`, in order, each with nothing seen.
+    /// Opens a store with no branch and no row, and returns it with a pass for each of its sessions.
     ///
-    /// Errors, in the order of test: `CapacityOutOfRange`, `SessionsOutOfRange`, `NoMemory`.
-    ///
-    /// May answer `NoMemory`. Doesn't wait.
+    /// `capacity`: how many entries the history can have, in `[1, 1024]`. `sessions`: how many sessions there
+    /// are, in `[1, 16]`; their passes are returned in order, from session 1 on, each with nothing seen.
+    /// Errors, in the order of test: `CapacityOutOfRange`, `SessionsOutOfRange` if the number isn't in its range;
+    /// `NoMemory` if an allocation fails.
+    /// May return `NoMemory`. Doesn't wait.
     /// Own rule: docs/RATTLE.md#stores.
     pub fn open(
         alloc: Global,
         capacity: u64,
         sessions: u64,
     ) -> Result<(Store, Vec<Pass>), OpenFault>
+        // Proved (stores, opens-empty): A new store has no branch and no row.
         ensures base { IfOk result (λ opened. opened.0.base ≡ no_state) }
+        // Proved (stores, opens-passes): Opening a store returns the passes of sessions 1 to the last, in
+        //   order, each with nothing seen.
         ensures ok { IfOk result
             (λ opened. Opens ⟦<Log as DecisionLog>⟧.belongs_to ⟦<Log as DecisionLog>⟧.known capacity sessions (⟦<Log as DecisionLog>⟧.identity opened.0.log)
             opened.1.items) }
+        // Proved (stores, open-fault): If a store can't be opened, the fault is the first whose cause holds.
         ensures err { IfErr result (λ fault. Refuses capacity sessions fault) }
     {
         let (log, passes) = Log::open(alloc, capacity, sessions)?;
@@ -47,16 +54,19 @@ impl Store {
         Ok((Store { base, log }, passes))
     }
 
-    /// A session of a pass that this store's `open` gave, over this store's history.
+    /// Makes a session of a pass that this store's `open` returned.
     ///
-    /// Errors: `NoMemory`, with the pass as it was.
-    ///
-    /// May answer `NoMemory`. Doesn't wait.
+    /// Errors: `NoMemory`, if an allocation fails; the pass then comes back unchanged.
+    /// May return `NoMemory`. Doesn't wait.
     /// Own rule: docs/RATTLE.md#stores.
     pub fn connect(&self, pass: Pass) -> Result<Session<'_, Log>, (Pass, NoMemory)>
         requires { ⟦<Log as DecisionLog>⟧.belongs_to pass ≡ ⟦<Log as DecisionLog>⟧.identity self.now.log }
+        // Proved (stores, connect): A session of a store is of the pass that it was connected with, and its
+        //   history begins in the store's base. Without memory the pass comes back.
         ensures pass { IfOk result (λ session. session.pass ≡ pass) }
+        // Proved (stores, connect)
         ensures base { IfOk result (λ session. session.base.now ≡ self.now.base) }
+        // Proved (stores, connect)
         ensures err { IfErr result (λ refused. refused.0 ≡ pass) }
     {
         Session::connect(&self.log, pass, &self.base)

@@ -1,4 +1,4 @@
-//! What a thread of a race does.
+//! The work of one thread of a race.
 ghost use Rattle.std.specs.Prelude.{◌≡◌, ℕ, IfOk, IfErr};
 ghost use Rattle.xa_store.specs.declared.race_fault.RaceFault.{RaceFault};
 
@@ -10,13 +10,13 @@ use xa_xid::SessionNo;
 
 /// The part of a race that one thread has: statements of one session.
 pub(crate) trait Task {
-    /// What its thread gives back.
+    /// The part of a race that one thread does: statements of one session.
     type Gain;
 
     // the number of its session
     ghost number_of: { Self → ℕ };
 
-    // what it gives back, where it does its part
+    // what it returns if it does its part
     ghost gains: { Self → Self.Gain → Type 0 };
 
     // why it stops
@@ -32,7 +32,7 @@ pub(crate) trait Task {
         ensures fault { IfErr result (stops self) };
 }
 
-/// What a session's thread gives back: the session, and what it was answered.
+/// What a session's thread returns: the session, and its answers.
 #[derive(Drop)]
 pub(crate) struct Returned<'a, L: DecisionLog, D> {
     pub(crate) session: Session<'a, L>,

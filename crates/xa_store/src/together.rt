@@ -1,4 +1,4 @@
-//! A gate at which the runs of a race meet before their first lines.
+//! A gate at which the runs of a race wait for each other before their first statements.
 ghost use Rattle.std.specs.Prelude.{IsTrue};
 
 use crate::Gate;
@@ -9,20 +9,22 @@ use xa_xid::SessionNo;
 /// How often a session that waits for the others lets another thread run before it goes on without them.
 const TURNS: u64 = 1_000_000;
 
-/// The gate that lets no session past its first line until all that have a line stand there. A session turns at it for
-/// 1,000,000 times at most, and then goes on alone: where a thread can't be started, the others end all the same.
+/// Lets all runs of a race begin at the same time.
 ///
-/// It is always open, so a race with it is what a race with `OpenGate` is.
+/// A session waits before its first statement until all runs that have a statement are there, for at most
+/// 1,000,000 turns (it lets another thread run). Then it goes on without them, so a race ends even if a
+/// thread can't be started. The gate never stops a run, so outcomes are those of a race with `OpenGate`; some
+/// get likelier.
 #[derive(Drop)]
 pub struct TogetherGate {
-    /// How many sessions have a line.
+    /// How many sessions have a statement.
     awaited: AtomicU64,
-    /// How many of them have come to their first line.
+    /// How many of them have come to their first statement.
     arrived: AtomicU64,
 }
 
 impl TogetherGate {
-    /// A gate at which nobody stands.
+    /// Makes a gate at which no session waits yet.
     ///
     /// Takes no memory. Doesn't wait.
     /// Own rule: docs/RATTLE.md#races.
@@ -33,7 +35,7 @@ impl TogetherGate {
         }
     }
 
-    /// Turns until all stand at their first lines.
+    /// Waits until all sessions are at their first statements.
     fn await_all(&self) {
         let _before = self.arrived.fetch_add(1, Ordering::SeqCst);
         for _ in 0..TURNS {
@@ -45,6 +47,7 @@ impl TogetherGate {
     }
 }
 
+// Proved (stores, gates-let-in)
 impl Gate for TogetherGate {
     ghost may_answer = { λ _ _ _ opened. IsTrue opened };
 
