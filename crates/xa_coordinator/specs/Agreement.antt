@@ -17,8 +17,8 @@ pub record AddsStatements (statements : List Statement) (old new : SessionView) 
   pub advances : Advances old.known new.known
   pub mine : new.known.mine ≡ old.known.mine ++ map (entry_of old.known.number) statements
 
--- XA COMMIT is of a decided number's branch, with ONE PHASE of any number's; XA ROLLBACK of a branch whose number isn't decided (presumed abort); no other
--- statement goes against them
+-- XA COMMIT is of a decided number's branch, with ONE PHASE of any number's; XA ROLLBACK is of a branch whose
+-- number isn't decided (presumed abort); every other statement agrees
 abbrev pub AgreesWith : List Decision → List ℕ → ℕ → Statement → Type 0
 AgreesWith decisions name store (Commit xid false) = (number : ℕ) × IsBranchOf name number store xid × (is_decided decisions number ≡ true)
 AgreesWith decisions name store (Commit xid true) = (number : ℕ) × IsBranchOf name number store xid

@@ -1,6 +1,6 @@
--- Two sessions of a store that one value holds.
---     IsLeftAlone      a session that wasn't spoken to
---     IsAnsweredSo     a session was given a statement, and answered it so, or didn't for a fault
+-- Two sessions of a store in one value.
+--     IsLeftAlone      the session got no statement
+--     IsAnsweredSo     the session answered a statement, or failed, with this result
 use Rattle.std.specs.Prelude.{◌≡◌, Result, Ok, Err}
 use Rattle.xa_xid.specs.declared.statement.Statement.{Statement}
 use Rattle.xa_session.specs.Answer.{IsAnswered, Fails}
@@ -19,7 +19,7 @@ abbrev pub AnswersSo : Statement → Result Answer Fault → SessionView → Ses
 AnswersSo statement (Ok answer) old new = IsAnswered old.base statement answer old.known new.known
 AnswersSo statement (Err fault) old new = Fails old.turns old.identity.capacity old.base statement fault old.known new.known
 
--- it was given the statement, in the log that it was of, and answered so, or didn't for this fault
+-- it was given the statement, in the log that it was of, and this is the result
 pub record IsAnsweredSo (statement : Statement) (answered : Result Answer Fault) (old new : SessionView) : Type 0 where
   pub log : StaysOfLog old new
   pub answers : AnswersSo statement answered old new

@@ -1,4 +1,4 @@
--- Which branch a global transaction has in which store.
+-- The names of a global transaction's branches.
 --     branch_xid       the identifier of a transaction's branch in a store
 --     IsBranchOf       the identifier is that of this transaction's branch
 use Rattle.std.specs.Prelude.{◌≡◌, ◌<◌, ◌^◌, ℕ, List, [], ◌∷◌, ◌++◌}

@@ -1,12 +1,13 @@
--- How the numbers of global transactions stand. A contract sees the decisions as the list of how numbers 1, 2, .. stand.
---     decision_of      how a number stands, where it was given
+-- The states of the numbers of global transactions. A contract sees decisions as the list of the states of 1,
+-- 2, ..
+--     decision_of      the state of a number, if it was given
 --     is_decided       whether a number is decided
 --     may_be_decided   whether a number was given and isn't closed
 --     with_decided     the decisions with this number decided
---     closed_of        how a number stands once a recovery has closed what is undecided
+--     closed_of        the state of a number after a recovery has closed the undecided ones
 --     IsOvertaken      a number is undecided, and a later one closed
---     CanStand         numbers can stand so
---     IsNoList         why a list isn't how numbers can stand
+--     CanStand         a list can be decisions
+--     IsNoList         why a list can't be taken as decisions
 use Rattle.std.specs.Prelude.{ℕ, ◌≡◌, ◌<◌, ◌≤◌, Bool, true, false, Option, Some, None, if◌then◌else◌, ◌==◌, ◌-◌, List, length, slice_get, slice_set}
 use Rattle.xa_coordinator.specs.Limits.{most_numbers}
 use Rattle.xa_coordinator.specs.declared.fault.DecisionsFault.{DecisionsFault}
@@ -14,7 +15,7 @@ use Rattle.xa_coordinator.specs.declared.fault.DecisionsFault.TheVariants.{TooMa
 use Rattle.xa_coordinator.specs.declared.decisions.Decision.{Decision}
 use Rattle.xa_coordinator.specs.declared.decisions.Decision.TheVariants.{Undecided, Decided, Closed}
 
--- how the number stands; numbers are given from 1 on (own rule)
+-- the state of the number; numbers are given from 1 on (own rule)
 unfoldable pub decision_of : List Decision → ℕ → Option Decision
 decision_of decisions number = if number == 0 then None else slice_get decisions (number - 1)
 
@@ -35,7 +36,7 @@ is_decided decisions number = decides (decision_of decisions number)
 abbrev pub may_be_decided : List Decision → ℕ → Bool
 may_be_decided decisions number = is_not_closed (decision_of decisions number)
 
--- this number is decided, the others stand as they did
+-- this number is decided, the others have the states that they had
 unfoldable pub with_decided : List Decision → ℕ → List Decision
 with_decided decisions number = slice_set decisions (number - 1) Decided
 
@@ -56,7 +57,7 @@ pub record CanStand (decisions : List Decision) : Type 0 where
   pub most : length decisions ≤ most_numbers
   pub none : (number : ℕ) → IsOvertaken decisions number → ⊥
 
--- the fault's cause holds; memory is wanted for nothing but what can stand so
+-- the fault's cause holds; only for a list that can be decisions memory is wanted
 abbrev pub IsNoList : List Decision → DecisionsFault → Type 0
 IsNoList decisions TooMany = most_numbers < length decisions
 IsNoList decisions (Overtaken number) = IsOvertaken decisions number

@@ -6,7 +6,7 @@
 --     has_working_branch  whether it has it open and ACTIVE
 --     IsWorking        it has it open and ACTIVE
 --     IsAsBeforeOrEnded  what is open in a store is as before, or the branch is IDLE
---     KeepsOpen        a call left what is open in the stores that it didn't speak to
+--     KeepsOpen        in the stores that a call didn't speak to, what is open is as before
 use Rattle.std.specs.Prelude.{◌≡◌, ◌≤◌, ◌==◌, ◌&&◌, ◌⊎◌, ℕ, Bool, true, false, List, Option, Some, slice_get}
 use Rattle.xa_xid.specs.declared.xid.Xid.{Xid}
 use Rattle.xa_server.specs.State.{association_of}

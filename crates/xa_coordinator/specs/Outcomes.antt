@@ -1,15 +1,15 @@
 -- What a call over several stores did in them.
 --     finish_statement  the statement that finishes a branch
---     ends_first, ends_in      whether XA END comes before it;  by what the coordinator has open
+--     ends_first, ends_in      whether XA END comes before it;  and in a store, by what is open there
 --     IsClosed         the branch was finished
 --     lists_store      whether a store is in a list
---     Settles, SettlesIn      a store whose turn has passed, when branches are finished
---     IsVoted          a store whose turn has passed, when branches are prepared
---     IsEnded          the store of the only participant, when it is ended alone
+--     Settles, SettlesIn      a store that finishing has reached
+--     IsVoted          a store that preparing has reached
+--     IsEnded          the store of the only participant, after its XA END
 --     IsHazard         a list of participants, ascending
 --     branch_of        the branch of a transaction in a store
---     EndsAs           what the finishing of a transaction came to
---     asked_by_ending, asked_by_vote      how far a call came
+--     EndsAs           how the finishing of a transaction ended
+--     asked_by_ending, asked_by_vote      the stores below this number were spoken to
 --     VotesAs          what the stores voted
 --     KeepsMark, KeepsUnfinished      what is open in the store that a vote names;  and in the one that an Unfinished names
 --     finish_for       how a transaction that was voted on is finished
@@ -49,7 +49,7 @@ abbrev pub ends_first : Closing → (working : Bool) → Bool
 ends_first RollBack working = working
 ends_first closing working = false
 
--- the branch was finished: the statement was added, behind XA END where that comes before it
+-- the branch was finished: the statement was added, after XA END if that comes before it
 abbrev pub IsClosed : (ends : Bool) → Statement → Xid → SessionView → SessionView → Type 0
 IsClosed false statement xid old new = AddsStatements (statement ∷ []) old new
 IsClosed true statement xid old new = AddsStatements (End xid ∷ statement ∷ []) old new
@@ -74,7 +74,7 @@ abbrev pub IsEnded : Xid → (takes_part : Bool) → SessionView → SessionView
 IsEnded xid false old new = new ≡ old
 IsEnded xid true old new = AddsStatements (End xid ∷ []) old new
 
--- each is less than all behind it
+-- each is less than all after it
 abbrev pub Ascends : List ℕ → Type 0
 Ascends [] = Unit {0}
 Ascends (store ∷ stores) = All (λ later. store < later) stores × Ascends stores
@@ -98,13 +98,13 @@ branch_of transaction store = branch_xid transaction.name.items transaction.numb
 abbrev pub ends_in : List (Option OpenBranch) → Transaction → Closing → ℕ → Bool
 ends_in branches transaction closing store = ends_first closing (has_working_branch branches store transaction.number)
 
--- the branch of a store was finished, or wasn't known there, where the store takes part
+-- the branch of a store was finished, or wasn't known there, if the store takes part
 abbrev pub SettlesIn : List (Option OpenBranch) → Transaction → Closing → ℕ → (listed : Bool) → SessionView → SessionView → Type 0
 SettlesIn branches transaction closing store listed =
     Settles (ends_in branches transaction closing store) (finish_statement closing (branch_of transaction store)) (branch_of transaction store)
     (takes_part transaction.participants store) listed
 
--- what the finishing of a transaction's branches came to, by what the coordinator had open
+-- how the finishing of a transaction's branches ended, by what the coordinator had open
 abbrev pub EndsAs : {S : Type 0} → (S → SessionView) → List (Option OpenBranch) → Transaction → Closing → Ending → List S → List S → Type 0
 EndsAs view branches transaction closing Committed old new =
     (commits closing ≡ true) × EachStore view (λ store. SettlesIn branches transaction closing store false) old new
@@ -149,7 +149,8 @@ VotesAs view transaction (No prepared store cause) old new =
 VotesAs view transaction Nothing old new =
     ((store : ℕ) → takes_part transaction.participants store ≡ false) × (new ≡ old)
 
--- after OnePhase the only participant's branch is IDLE; in the store that a No names, what is open is as before, or the transaction's branch is IDLE
+-- after OnePhase the only participant's branch is IDLE; in the store that a No names, what is open is as
+-- before or IDLE
 abbrev pub KeepsMark : Transaction → Vote → List (Option OpenBranch) → List (Option OpenBranch) → Type 0
 KeepsMark transaction (OnePhase prepared) old new =
     (store : ℕ) → takes_part transaction.participants store ≡ true
@@ -157,12 +158,13 @@ KeepsMark transaction (OnePhase prepared) old new =
 KeepsMark transaction (No prepared store cause) old new = IsAsBeforeOrEnded store transaction.number old new
 KeepsMark transaction vote old new = Unit {0}
 
--- and so in the store that an Unfinished names
+-- the same of the store that an Unfinished names
 abbrev pub KeepsUnfinished : (number : ℕ) → Ending → List (Option OpenBranch) → List (Option OpenBranch) → Type 0
 KeepsUnfinished number (Unfinished store cause) old new = IsAsBeforeOrEnded store number old new
 KeepsUnfinished number ending old new = Unit {0}
 
--- how a transaction that was voted on is finished: as it was decided, and else in one phase or by rolling back (presumed abort)
+-- how a transaction that was voted on is finished: as decided, else in one phase or by rolling back (presumed
+-- abort)
 abbrev pub finish_for : Bool → VoteKind → Closing
 finish_for true vote_kind = InTwoPhases
 finish_for false VoteKindOnePhase = InOnePhase

@@ -1,4 +1,5 @@
--- What the parts of a call come to. Contracts of private functions alone cite these: no public clause rests on them.
+-- What the parts of a call did. Only contracts of private functions cite these: no public clause rests on
+-- them.
 --     IsOfBranch       a statement that begins, ends, prepares or finishes a branch
 --     IsToldAs         what became of a statement, by the answer
 --     statement_into   the statement that brings a branch into a phase
@@ -7,10 +8,11 @@
 --     ClosesAs         what became of one branch that was to be finished
 --     PreparesAs       what became of one branch that was to be prepared
 --     ClosesNext       what became of one participant that was to be finished
---     PollsAs, asked_by_poll      what became of the participants that were to be prepared;  how far the poll came
+--     PollsAs, asked_by_poll      what became of the participants that were to be prepared;  how far that
+--     came
 --     IsParticipation  how many take part, as far as a vote has to know
---     WorksWithin      what a row statement came to in an open branch
---     total, counted   all that was counted;  with one branch more
+--     WorksWithin      what became of a row statement in an open branch
+--     total, counted   all that was counted;  with one more branch
 --     fault_by         the fault of a store, by its cause
 --     added_at         how many entries the session of a store has added
 use Rattle.std.specs.Prelude.{◌≡◌, ◌≢◌, ◌+◌, ◌⊎◌, ℕ, Bool, true, false, List, [], ◌∷◌, ◌++◌, length, slice_get, Option, Some, None, Result, Ok, Err}
@@ -63,7 +65,7 @@ abbrev pub statement_into : Phase → Xid → Statement
 statement_into Active xid = Start xid
 statement_into Idle xid = End xid
 
--- the statement, once it is carried out, leaves this branch open, or none that the coordinator keeps
+-- the statement, after it is carried out, leaves this branch open, or none that the coordinator keeps
 abbrev pub LeavesOpen : List ℕ → ℕ → Statement → Option OpenBranch → Type 0
 LeavesOpen name store statement None = Unit {0}
 LeavesOpen name store statement (Some branch) = statement ≡ statement_into branch.phase (branch_xid name branch.number store)
@@ -110,7 +112,7 @@ IsParticipation participants Nobody = (store : ℕ) → takes_part participants 
 IsParticipation participants (Single store) = OnlyTakesPart participants store
 IsParticipation participants Several = TwoTakePart participants
 
--- what a row statement came to in a branch that is ACTIVE
+-- what became of a row statement in a branch that is ACTIVE
 abbrev pub WorksWithin : {S : Type 0} → (S → SessionView) → Xid → ℕ → Statement → Result Reply WorkFault → List S → List S → Type 0
 WorksWithin view xid store row (Ok reply) before after = AtStore view store (IsReplied row reply xid) before after
 WorksWithin view xid store row (Err (Session fault)) before after = AtStore view store (IsUndone row (CauseSession fault)) before after
@@ -121,7 +123,7 @@ WorksWithin view xid store row (Err Lost) before after = ⊥
 abbrev pub total : Tally → ℕ
 total tally = tally.committed + tally.rolled_back + tally.missing
 
--- the tally with one branch more
+-- the tally with one more branch
 abbrev pub counted : Tally → (decided : Bool) → Found → Tally
 counted tally true Closed = record tally { committed = tally.committed + 1 }
 counted tally false Closed = record tally { rolled_back = tally.rolled_back + 1 }
@@ -132,7 +134,7 @@ abbrev pub fault_by : ℕ → Cause → RecoverFault
 fault_by store (CauseSession fault) = RecoverSession store fault
 fault_by store (CauseRefused error) = RecoverRefused store error
 
--- how many entries a session has added; none where there is no session
+-- how many entries a session has added; none if there is no session
 abbrev pub added_by : {S : Type 0} → (S → SessionView) → Option S → ℕ
 added_by view None = 0
 added_by view (Some session) = length (view session).known.mine

@@ -1,17 +1,17 @@
 -- What a recovery does, in one store and in all.
---     IsDisconnected   a session let go of what it had open
+--     IsDisconnected   a session ended what it had open
 --     ListsPrepared    XA RECOVER answered this list
 --     IsNamed          a branch is of the coordinator's naming
 --     SettlesOne, Settled      what became of one listed branch;  of all
---     IsFinished, IsSettled       what became of a store's prepared branches;  once the session had let go
+--     IsFinished, IsSettled       what became of a store's prepared branches;  after the session's DISCONNECT
 --     IsClear          none of the coordinator's naming is prepared afterwards
---     IsRecovered      what the recovery of a store came to
+--     IsRecovered      one store was recovered
 --     IsUnsettled, StopsAmong      a listed branch wasn't finished;  those before it were settled
---     IsCutOff         once the session had let go, a statement of the recovery wasn't carried out
+--     IsCutOff         after the session's DISCONNECT a statement of the recovery wasn't carried out
 --     IsStillPrepared  a branch of the coordinator's naming is prepared afterwards
---     BreaksBy, BreaksHere      the recovery of a store came to no end, and what the coordinator has open there
---     Recovers         what the recovery of all stores came to
---     BreaksOff        it came to no end
+--     BreaksBy, BreaksHere      the recovery of a store failed, and what the coordinator has open there
+--     Recovers         all stores were recovered
+--     BreaksOff        the recovery failed
 --     asked_by_fault   how far it came
 use Rattle.std.specs.Prelude.{◌≡◌, ◌≢◌, ◌<◌, ◌≤◌, ◌+◌, ◌^◌, ◌⊎◌, ℕ, Bool, true, false, List, [], ◌∷◌, ◌++◌, length, take, map, slice_get, Option, Some, None}
 use Rattle.std.specs.List.{sum_by}
@@ -43,7 +43,7 @@ use Rattle.xa_coordinator.specs.Stores.{AtStore, EachStore}
 use Rattle.xa_coordinator.specs.Told.{IsUndone}
 use Rattle.xa_coordinator.specs.Work.{MayBe}
 
--- the session was told DISCONNECT, which enters where it has a branch open, and has none open then
+-- the session was given DISCONNECT, which is logged if it has a branch open, and has none open then
 pub record IsDisconnected (old new : SessionView) : Type 0 where
   pub statements : List Statement
   pub is : MayBe Disconnect statements
@@ -66,8 +66,8 @@ abbrev pub finish_decided : Bool → Closing
 finish_decided true = InTwoPhases
 finish_decided false = RollBack
 
--- what became of a listed branch, and what is counted then: nothing is said of one that isn't of this coordinator's naming; another one is committed or rolled
--- back as the decisions say, or was answered XAER_NOTA
+-- what became of a listed branch, and what is counted then: one that isn't of this coordinator's naming gets
+-- no statement; another one is committed or rolled back as the decisions say, or was answered XAER_NOTA
 pub data SettlesOne (decisions : List Decision) (name : List ℕ) (store : ℕ) (xid : Xid) (tally : Tally) (old : SessionView) : Tally → SessionView → Type 0 where
   foreign : (IsNamed name store xid → ⊥) → SettlesOne decisions name store xid tally old tally old
   committed : (number : ℕ) → IsBranchOf name number store xid → is_decided decisions number ≡ true → (new : SessionView)
@@ -95,7 +95,7 @@ pub record IsFinished (decisions : List Decision) (name : List ℕ) (store : ℕ
   pub listed : ListsPrepared xids place old listing
   pub settled : Settled decisions name store listing xids tally new
 
--- the session let go of what it had open, and then the prepared branches were finished
+-- the session ended what it had open, and then the prepared branches were finished
 pub record IsSettled (decisions : List Decision) (name : List ℕ) (store : ℕ) (tally : Tally) (old new : SessionView) : Type 0 where
   pub freed : SessionView
   pub disconnected : IsDisconnected old freed
@@ -105,13 +105,13 @@ pub record IsSettled (decisions : List Decision) (name : List ℕ) (store : ℕ)
 abbrev pub NoneLeft : List ℕ → ℕ → SessionView → Type 0
 NoneLeft name store session = (number : ℕ) → number < 2 ^ 64 → is_prepared (state_after session.base session.known.seen) (branch_xid name number store) ≡ false
 
--- XA RECOVER was answered at this place, where no branch of this coordinator's naming is prepared
+-- XA RECOVER was answered at this place, at which no branch of this coordinator's naming is prepared
 pub record IsClear (name : List ℕ) (store front : ℕ) (old new : SessionView) : Type 0 where
   pub xids : List Xid
   pub listed : ListsPrepared xids front old new
   pub none_left : NoneLeft name store new
 
--- what the recovery of a store came to, with the place of its last list
+-- what the recovery of a store did, with the place of its last list
 pub record IsRecovered (decisions : List Decision) (name : List ℕ) (store : ℕ) (tally : Tally) (front : ℕ) (old new : SessionView) : Type 0 where
   pub finished : SessionView
   pub settled : IsSettled decisions name store tally old finished
@@ -134,7 +134,8 @@ pub record StopsAmong (decisions : List Decision) (name : List ℕ) (store : ℕ
   pub settled : Settled decisions name store old (take place xids) tally mid
   pub unsettled : IsUnsettled decisions name store xid cause mid new
 
--- the session had let go, and then the first list, the ending of a listed branch, or the last list wasn't carried out; everything before it was
+-- after the DISCONNECT the first list, the finish of a listed branch, or the last list wasn't carried out;
+-- everything before it was
 pub data IsCutOff (decisions : List Decision) (name : List ℕ) (store : ℕ) (old : SessionView) : Cause → SessionView → Type 0 where
   unlisted : (freed : SessionView) → IsDisconnected old freed → (fault : Fault) (new : SessionView) → IsUndone (Recover false) (CauseSession fault) freed new
       → IsCutOff decisions name store old (CauseSession fault) new
@@ -143,7 +144,7 @@ pub data IsCutOff (decisions : List Decision) (name : List ℕ) (store : ℕ) (o
   unlisted_again : (tally : Tally) (finished : SessionView) → IsSettled decisions name store tally old finished → (fault : Fault) (new : SessionView)
       → IsUndone (Recover false) (CauseSession fault) finished new → IsCutOff decisions name store old (CauseSession fault) new
 
--- the prepared branches were settled, and of the last list one is of this coordinator's naming
+-- the prepared branches were settled, and the last list has one of this coordinator's naming
 pub record IsStillPrepared (decisions : List Decision) (name : List ℕ) (store : ℕ) (old new : SessionView) : Type 0 where
   pub tally : Tally
   pub finished : SessionView
@@ -155,7 +156,7 @@ pub record IsStillPrepared (decisions : List Decision) (name : List ℕ) (store 
   pub fits : number < 2 ^ 64
   pub prepared : is_prepared (state_after new.base new.known.seen) (branch_xid name number store) ≡ true
 
--- a store of which this tally and this place were found
+-- a store that was recovered with this tally and this place
 abbrev pub RecoveredBy : List Decision → List ℕ → List (Tally × ℕ) → ℕ → SessionView → SessionView → Type 0
 RecoveredBy decisions name found store old new = (one : Tally × ℕ) × (slice_get found store ≡ Some one) × IsRecovered decisions name store one.0 one.1 old new
 
@@ -169,8 +170,8 @@ pub record Recovers {S : Type 0} (view : S → SessionView) (decisions : List De
   pub rolled_back : report.rolled_back ≡ sum_by (λ one. one.0.rolled_back) found
   pub missing : report.missing ≡ sum_by (λ one. one.0.missing) found
 
--- a statement of the recovery of a store wasn't carried out for this cause: DISCONNECT, and the coordinator has open there what it had, or one behind it, and it
--- has nothing open there
+-- a statement of the recovery of a store wasn't carried out for this cause: DISCONNECT, and the coordinator
+-- has open there what it had; or a later one, and it has nothing open there
 abbrev pub BreaksBy : {S : Type 0} → (S → SessionView) → List Decision → List ℕ → ℕ → Cause → (marks marks' : List (Option OpenBranch)) → List S → List S → Type 0
 BreaksBy view decisions name store (CauseSession fault) marks marks' old new =
     ((slice_get marks' store ≡ slice_get marks store) × AtStore view store (IsUndone Disconnect (CauseSession fault)) old new)
@@ -178,7 +179,7 @@ BreaksBy view decisions name store (CauseSession fault) marks marks' old new =
 BreaksBy view decisions name store (CauseRefused error) marks marks' old new =
     (slice_get marks' store ≡ Some None) × AtStore view store (λ before after. IsCutOff decisions name store before (CauseRefused error) after) old new
 
--- the recovery of the store that a fault names came to no end, by what the coordinator has open there
+-- the recovery of the store that a fault names failed, by what the coordinator has open there
 abbrev pub BreaksHere : {S : Type 0} → (S → SessionView) → List Decision → List ℕ → RecoverFault → (marks marks' : List (Option OpenBranch)) → List S → List S
     → Type 0
 BreaksHere view decisions name (Session store fault) marks marks' old new = BreaksBy view decisions name store (CauseSession fault) marks marks' old new
@@ -194,7 +195,8 @@ asked_by_fault (StillPrepared store) = store + 1
 asked_by_fault NoMemory = 0
 asked_by_fault (Refused store error) = store + 1
 
--- the recovery came to no end: the stores below the one that the fault names are recovered, that one fared so, and those behind weren't spoken to
+-- the recovery failed: the stores below the one that the fault names are recovered, and those above it got no
+-- statement
 pub record BreaksOff {S : Type 0} (view : S → SessionView) (decisions : List Decision) (name : List ℕ) (fault : RecoverFault)
     (marks marks' : List (Option OpenBranch)) (old new : List S) : Type 0 where
   pub within : asked_by_fault fault ≤ length old

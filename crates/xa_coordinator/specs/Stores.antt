@@ -20,7 +20,8 @@ pub record ChangesAt {S : Type 0} (store : ℕ) (old new : List S) : Type 0 wher
   pub count : length new ≡ length old
   pub others : (other : ℕ) → other ≢ store → slice_get new other ≡ slice_get old other
 
--- a call ended at this store: those below are done with, this one fared so, and the sessions of those behind are as they were
+-- a call ended at this store: those below it are done, it fared so, and the sessions of those above are as
+-- they were
 pub record EndsAt {S : Type 0} (view : S → SessionView) (fact : ℕ → SessionView → SessionView → Type 0) (store : ℕ) (last : SessionView → SessionView → Type 0)
     (old new : List S) : Type 0 where
   pub below : (other : ℕ) → other < store → AtStore view other (fact other) old new

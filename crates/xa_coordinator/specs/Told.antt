@@ -1,7 +1,7 @@
 -- What became of a statement that a coordinator gave to the session of one store.
 --     IsDone           it was carried out
 --     HasCause, IsUndone      why it wasn't;  and nothing was added
---     IsUndoneBehind   it wasn't, and XA END before it was
+--     IsUndoneBehind   it wasn't, but XA END before it was
 --     IsStopped        it wasn't, or XA END before it wasn't
 --     IsMissing        the branch wasn't known
 --     IsUnfinished     it wasn't, for another cause than that the branch wasn't known, or XA END before it wasn't
@@ -42,7 +42,7 @@ pub record IsUndone (statement : Statement) (cause : Cause) (old new : SessionVi
   pub adds : AddsStatements [] old new
   pub why : HasCause statement cause old new
 
--- XA END of the branch was carried out, and the statement behind it wasn't
+-- XA END of the branch was carried out, and the statement after it wasn't
 pub record IsUndoneBehind (statement : Statement) (xid : Xid) (cause : Cause) (old new : SessionView) : Type 0 where
   pub mid : SessionView
   pub ends : IsDone (End xid) old mid

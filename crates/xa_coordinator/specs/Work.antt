@@ -1,4 +1,4 @@
--- What work in a store came to.
+-- What work in a store did.
 --     IsRow            a row statement
 --     MayBe            one statement, or none
 --     AddsAtMost       at most this statement was added
@@ -8,7 +8,7 @@
 --     IsWorked         the branch was open or was started, and the row statement was answered
 --     IsCut            the branch was open or was started, and the row statement wasn't answered
 --     KeepsOthers      the transaction is the same but for one store
---     WorksAs          what work came to, by the answer
+--     WorksAs          what work did, by the answer
 use Rattle.std.specs.Prelude.{◌≡◌, ◌≢◌, ◌⊎◌, ℕ, true, false, List, [], ◌∷◌, ◌++◌, Option, Result, Ok, Err}
 use Rattle.xa_xid.specs.declared.xid.Xid.{Xid}
 use Rattle.xa_xid.specs.declared.statement.Statement.{Statement}
@@ -57,12 +57,13 @@ pub record AddsWork (xid : Xid) (row : Statement) (old new : SessionView) : Type
   pub is_row : MayBe row worked
   pub adds : AddsStatements (started ++ worked) old new
 
--- the session had the branch open, ACTIVE, or was told to start it and did
+-- the session had the branch open, ACTIVE, or was given XA START and carried it out
 pub data MayStart (xid : Xid) (old : SessionView) : SessionView → Type 0 where
   was_open : association_seen old ≡ Active xid → MayStart xid old old
   was_started : (mid : SessionView) → IsDone (Start xid) old mid → MayStart xid old mid
 
--- the row statement was answered, at a place not before what had been seen, where the session's branch was this one and ACTIVE
+-- the row statement was answered, at a place not before what had been seen, and the session's branch was this
+-- one, ACTIVE
 pub record IsReplied (row : Statement) (reply : Reply) (xid : Xid) (old new : SessionView) : Type 0 where
   pub log : StaysOfLog old new
   pub place : ℕ
@@ -88,7 +89,8 @@ pub record KeepsOthers (store : ℕ) (old new : Transaction) : Type 0 where
   pub stores : new.stores ≡ old.stores
   pub others : (other : ℕ) → other ≢ store → takes_part new.participants other ≡ takes_part old.participants other
 
--- what work came to in its store, whether the store takes part then, and what the coordinator has open in its stores
+-- what work did in its store, whether the store takes part then, and what the coordinator has open in its
+-- stores
 abbrev pub WorksAs : {S : Type 0} → (S → SessionView) → (marks marks' : List (Option OpenBranch)) → Transaction → Transaction → ℕ → Statement
     → Result Reply WorkFault → List S → List S → Type 0
 WorksAs view marks marks' old new store row (Ok reply) before after =

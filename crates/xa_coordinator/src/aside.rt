@@ -1,4 +1,4 @@
-//! Another client's statements, where each session of a coordinator holds that client's beside it.
+//! Statements of another client, whose sessions are held together with the coordinator's.
 ghost use Rattle.std.specs.Prelude.{◌≡◌, ◌<◌, ◌≤◌, map, vec_len};
 ghost use Rattle.xa_coordinator.specs.Beside.{IsLeftAlone, IsAnsweredSo};
 ghost use Rattle.xa_coordinator.specs.Stores.{AtStore, EachStore, ChangesAt};
@@ -9,7 +9,7 @@ use xa_session::{Answer, Fault};
 use xa_xid::Statement;
 
 impl<S: Speak> Coordinator<S> {
-    /// How many stores it has, in `[1, 16]`.
+    /// Returns how many stores the coordinator has, in `[1, 16]`.
     ///
     /// Takes no memory. Doesn't wait.
     pub fn count(&self) -> u8
@@ -21,10 +21,11 @@ impl<S: Speak> Coordinator<S> {
 }
 
 impl<S: Beside> Coordinator<Fused<S>> {
-    /// Has the other client's session of a store, in `[0, number of stores)`, answer a statement. The coordinator's sessions aren't
-    /// spoken to, pass on as many calls as before, and have open what they had.
+    /// Has the other client's session of a store answer a statement.
     ///
-    /// Errors: those of the session. May answer `NoMemory`. May wait: no number of tries is promised.
+    /// `store`: in `[0, number of stores)`. The coordinator's sessions get no statement, pass on as many
+    /// calls as before, and have open what they had. Errors: those of the other client's session.
+    /// May return `NoMemory`. May wait: no number of tries is promised.
     /// Own rule: docs/COORDINATOR.md#calls.
     pub fn execute_other<R: Wait>(
         &mut self,
@@ -33,11 +34,19 @@ impl<S: Beside> Coordinator<Fused<S>> {
         statement: &Statement,
     ) -> Result<Answer, Fault>
         requires { store < vec_len self.old.stores }
+        // Proved (coordinator, other-client): The other client's session of a store answers a statement as a
+        //   session does. The coordinator's sessions know what they knew, pass on as many calls, and have
+        //   open what they had.
         ensures name { self.new.name ≡ self.old.name }
+        // Proved (coordinator, other-client)
         ensures branches { self.new.branches ≡ self.old.branches }
+        // Proved (coordinator, other-client)
         ensures left { map (λ session. session.left) self.new.stores.items ≡ map (λ session. session.left) self.old.stores.items }
+        // Proved (coordinator, other-client)
         ensures others { ChangesAt store self.old.stores.items self.new.stores.items }
+        // Proved (coordinator, other-client)
         ensures alone { AtStore (λ session. S.view session.inner) store IsLeftAlone self.old.stores.items self.new.stores.items }
+        // Proved (coordinator, other-client)
         ensures given { AtStore (λ session. S.other session.inner) store (IsAnsweredSo statement.now result) self.old.stores.items self.new.stores.items }
     {
         self.stores[store as usize].execute_inner(rt, statement)

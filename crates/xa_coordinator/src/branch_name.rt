@@ -6,17 +6,21 @@ ghost use Rattle.std.specs.Int.{w64, from_be_bytes};
 
 use xa_xid::{Bytes, Xid, copy_of};
 
-/// The formatID of every branch of a coordinator.
+/// The formatID of every branch that a coordinator starts.
 pub const FORMAT_ID: u64 = 22593;
 
-/// The identifier of the branch that a transaction has in a store: gtrid is the coordinator's name, at most 56 bytes, and the
-/// number in eight bytes, highest first; bqual is the store's number as one byte.
+/// Returns the identifier of the branch that a transaction has in a store.
 ///
+/// `name`: the coordinator's name, at most 56 bytes. `number`: the transaction's number. `store`: the store's
+/// number, from 0. The formatID is 22593; the gtrid is the name and then the number in eight bytes, highest
+/// first; the bqual is the store's number as one byte.
 /// Takes no memory. Doesn't wait.
 /// Own rule: docs/COORDINATOR.md#branch-names.
 #[tactic(auto, unfolding(crate::specs::Branch::branch_xid))]
 pub fn branch_xid(name: &Bytes, number: u64, store: u8) -> Xid
     requires { array_vec_len name.now ≤ 56 }
+    // Proved (coordinator, branch-name): The branch of a transaction in a store is named by the coordinator,
+    //   the transaction's number and the store.
     ensures { result ≡ xid_of_branch name.now.items number store }
 {
     let mut gtrid = copy_of(name);
@@ -30,7 +34,7 @@ pub fn branch_xid(name: &Bytes, number: u64, store: u8) -> Xid
     }
 }
 
-/// The number in the last eight bytes of a text, highest first, where just eight follow the first so many.
+/// The number in the last eight bytes of a text, highest first, if exactly eight follow the first `place`.
 fn number_behind(place: usize, bytes: &[u8]) -> Option<u64>
     ensures some { IfSome result (λ number. number ≡ from_be_bytes w64 (drop place bytes.now)) }
     ensures none { IfNone result (length bytes.now ≢ place + 8) }
@@ -47,7 +51,7 @@ fn number_behind(place: usize, bytes: &[u8]) -> Option<u64>
     ]))
 }
 
-/// The number of the transaction of which this is the branch in a store, where a coordinator of the name names it so.
+/// The transaction's number, if a coordinator of this name gives this identifier to a branch in this store.
 pub(crate) fn number_of_branch(name: &Bytes, store: u8, xid: &Xid) -> Option<u64>
     requires { array_vec_len name.now ≤ 56 }
     ensures some { IfSome result (λ number. IsBranchOf name.now.items number store xid.now) }

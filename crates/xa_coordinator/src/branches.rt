@@ -15,7 +15,7 @@ use std::sync::Wait;
 use xa_server::XaError;
 use xa_xid::Statement;
 
-/// Whether the branch was found that a statement was to finish.
+/// Whether the branch was known that a statement was to finish.
 fn found(said: Result<(), Cause>) -> Result<Found, Cause>
     ensures says { (statement : Statement) (old new : SessionView) → IsToldAs statement said old new → SaysAs statement result old new }
     ensures fault { IfErr result (λ cause. said ≡ Err cause) }
@@ -29,7 +29,7 @@ fn found(said: Result<(), Cause>) -> Result<Found, Cause>
 }
 
 impl<S: Speak> Coordinator<S> {
-    /// Has a transaction's branch started in a store.
+    /// Starts a transaction's branch in a store.
     pub(crate) fn start_branch<R: Wait>(
         &mut self,
         rt: &R,
@@ -53,7 +53,7 @@ impl<S: Speak> Coordinator<S> {
         self.execute_at(rt, store, &statement, Some(then))
     }
 
-    /// Has the work of a transaction's branch ended in a store.
+    /// Ends the work of a transaction's branch in a store.
     pub(crate) fn end_branch<R: Wait>(
         &mut self,
         rt: &R,
@@ -76,7 +76,7 @@ impl<S: Speak> Coordinator<S> {
         self.execute_at(rt, store, &statement, Some(then))
     }
 
-    /// Has a transaction's branch prepared, of which the work has ended.
+    /// Prepares a transaction's branch, of which the work has ended.
     fn prepare_ended<R: Wait>(&mut self, rt: &R, store: u8, number: u64) -> Result<(), Cause>
         requires { store < vec_len self.old.stores }
         ensures name { self.new.name ≡ self.old.name }
@@ -90,7 +90,7 @@ impl<S: Speak> Coordinator<S> {
         self.execute_at(rt, store, &statement, None)
     }
 
-    /// Has a transaction's branch ended and prepared.
+    /// Ends and prepares a transaction's branch.
     pub(crate) fn prepare_branch<R: Wait>(
         &mut self,
         rt: &R,
@@ -169,7 +169,7 @@ impl<S: Speak> Coordinator<S> {
         }
     }
 
-    /// Finishes a branch; one that takes work and is to be rolled back is ended first.
+    /// Finishes a branch. One that takes work and is to be rolled back is ended first.
     pub(crate) fn finish_open<R: Wait>(
         &mut self,
         rt: &R,

@@ -14,7 +14,7 @@ pub enum Closing {
     RollBack,
 }
 
-/// Whether a branch that was to be finished was known.
+/// Whether the branch that was to be finished was known.
 #[derive(Clone, Copy, Debug, PartialEq, Eq)]
 pub enum Found {
     /// It was, and is finished.
@@ -26,7 +26,7 @@ pub enum Found {
 impl Closing {
     ghost use Rattle.xa_coordinator.specs.Outcomes.{finish_statement, ends_first as ends_first_by};
 
-    /// The statement that finishes a branch so.
+    /// The statement that finishes a branch in this way.
     pub(crate) fn statement(self, xid: Xid) -> Statement
         ensures { result ≡ finish_statement self xid }
     {
@@ -43,7 +43,7 @@ impl Closing {
         }
     }
 
-    /// Whether `XA END` comes before that statement, by whether the branch takes work.
+    /// Whether `XA END` comes before that statement. `working` tells whether the branch takes work.
     pub(crate) fn ends_first(self, working: bool) -> bool
         ensures { result ≡ ends_first_by self working }
     {

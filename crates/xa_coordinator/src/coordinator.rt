@@ -9,7 +9,7 @@ use crate::participants::Participants;
 use crate::{BeginFault, Decisions, Speak, Transaction};
 use xa_xid::{Bytes, copy_of};
 
-/// A coordinator: a name, and a session of each store.
+/// A coordinator of global transactions: a name, a session of each store, and what is open in each.
 #[derive(Drop)]
 pub struct Coordinator<S: Speak> {
     pub(crate) name: Bytes,
@@ -17,6 +17,8 @@ pub struct Coordinator<S: Speak> {
     pub(crate) branches: [Option<OpenBranch>; 16],
     ghost named: { (1 ≤ array_vec_len name) × (array_vec_len name ≤ 56) },
     ghost sized: { (1 ≤ vec_len stores) × (vec_len stores ≤ 16) },
+    // Proved (coordinator, open-there): Whatever a coordinator has open in a store, the session there has
+    //   open.
     ghost open_there: { OpenThere S.view name.items stores.items branches },
 }
 
@@ -24,14 +26,19 @@ impl<S: Speak> Coordinator<S> {
     ghost use Rattle.xa_coordinator.specs.Participants.{takes_part};
     ghost use Rattle.xa_coordinator.specs.declared.decisions.Decision.TheVariants.{Undecided};
 
-    /// The coordinator of this name, of 1 to 56 bytes, over these stores, 1 to 16, which has nothing open in them.
+    /// Makes a coordinator that has nothing open in its stores.
     ///
+    /// `name`: 1 to 56 bytes. `stores`: a session of each store, 1 to 16, numbered from 0. Use one name with
+    /// the same stores in the same order and one set of decisions.
     /// Takes no memory. Doesn't wait.
+    /// Own rule: docs/COORDINATOR.md#decisions.
     pub fn new(name: Bytes, stores: Vec<S>) -> Coordinator<S>
         requires named { (1 ≤ array_vec_len name) × (array_vec_len name ≤ 56) }
         requires sized { (1 ≤ vec_len stores) × (vec_len stores ≤ 16) }
         ensures name { result.name ≡ name }
         ensures stores { result.stores ≡ stores }
+        // Proved (coordinator, nothing-open): Nothing is open in a new coordinator, in one that is restarted,
+        //   and after a recovery that came to its end.
         ensures free { (store : ℕ) → store < vec_len stores → slice_get result.branches store ≡ Some None }
     {
         Coordinator {
@@ -41,20 +48,31 @@ impl<S: Speak> Coordinator<S> {
         }
     }
 
-    /// Begins a global transaction, of the next number, in which no store takes part.
+    /// Begins a global transaction of the next number, in which no store takes part yet.
     ///
-    /// Errors: `NumbersSpent`, where 1,000,000 numbers were given; `NoMemory`. The decisions are as before then.
-    ///
-    /// May answer `NoMemory`. Doesn't wait.
+    /// `decisions`: the decisions of this coordinator's name. Errors: `NumbersSpent` if 1,000,000 numbers
+    /// were given, `NoMemory` if the decisions couldn't grow.
+    /// After an error the decisions are as before.
+    /// May return `NoMemory`. Doesn't wait.
     /// Own rule: docs/COORDINATOR.md#decisions.
     pub fn begin(&self, decisions: &mut Decisions) -> Result<Transaction, BeginFault>
+        // Proved (coordinator, begin): Beginning gives the next number, undecided, to a transaction of this
+        //   coordinator in which no store takes part.
         ensures number { IfOk result (λ transaction. transaction.number ≡ length decisions.old + 1) }
+        // Proved (coordinator, begin)
         ensures name { IfOk result (λ transaction. transaction.name ≡ self.now.name) }
+        // Proved (coordinator, begin)
         ensures stores { IfOk result (λ transaction. transaction.stores ≡ vec_len self.now.stores) }
+        // Proved (coordinator, begin)
         ensures nobody { IfOk result (λ transaction. (store : ℕ) → takes_part transaction.participants store ≡ false) }
+        // Proved (coordinator, begin)
         ensures undecided { OnOk result (decisions.new ≡ decisions.old ++ Undecided ∷ []) }
+        // Proved (coordinator, begin-fails): `NumbersSpent` is returned exactly if all 1,000,000 numbers were
+        //   given. A fault of `begin` leaves the decisions as they were.
         ensures err { OnErr result (decisions.new ≡ decisions.old) }
+        // Proved (coordinator, begin-fails)
         ensures spent { result ≡ Err BeginFault.NumbersSpent → length decisions.old ≡ most_numbers }
+        // Proved (coordinator, begin-fails)
         ensures full { length decisions.old ≡ most_numbers → result ≡ Err BeginFault.NumbersSpent }
     {
         let number = decisions.give()?;
@@ -66,21 +84,24 @@ impl<S: Speak> Coordinator<S> {
         })
     }
 
-    /// The coordinator as another of the same name over the same sessions would be, which has nothing open in them. Nothing is said to the stores.
+    /// Forgets what is open, as a new coordinator of the same name over the same sessions does.
     ///
-    /// Takes no memory. Doesn't wait.
+    /// The stores get no statement. Takes no memory. Doesn't wait.
+    /// Own rule: docs/COORDINATOR.md#recovery.
     pub fn restart(&mut self)
         ensures name { self.new.name ≡ self.old.name }
         ensures stores { self.new.stores ≡ self.old.stores }
+        // Proved (coordinator, nothing-open)
         ensures free { (store : ℕ) → store < vec_len self.new.stores → slice_get self.new.branches store ≡ Some None }
     {
         self.branches = [None; 16];
     }
 
-    /// The sessions back. Nothing is said to the stores.
+    /// Returns the sessions. The stores get no statement.
     ///
     /// Takes no memory. Doesn't wait.
     pub fn stop(self) -> Vec<S>
+        // Proved (coordinator, stop): Stopping a coordinator returns its sessions as they are.
         ensures { result ≡ self.stores }
     {
         let Coordinator { stores, .. } = self;

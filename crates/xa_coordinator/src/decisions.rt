@@ -1,4 +1,4 @@
-//! The decisions of a coordinator, and how each number stands.
+//! The decisions of a coordinator: the state of each transaction's number.
 ghost use Rattle.std.specs.Prelude.{ℕ, ◌≡◌, ◌≤◌, ◌<◌, ◌+◌, [], ◌∷◌, ◌++◌, true, false, length, map, OnOk, OnErr, IfOk, IfErr, IfSome, IfNone};
 ghost use Rattle.xa_coordinator.specs.declared.decisions.Decision.TheVariants.{Undecided as StandsUndecided};
 ghost use Rattle.xa_coordinator.specs.Limits.{most_numbers};
@@ -10,14 +10,16 @@ use std::alloc::Global;
 use std::marker::Model;
 use thiserror::Error;
 
-/// The number is closed, or was never given.
+/// The error of `decide`: the number is closed, or was never given.
 #[derive(Clone, Copy, Debug, Drop, PartialEq, Eq, Error)]
 #[error("the transaction's number is closed, or was never given")]
 pub struct Closed;
 
-/// The numbers of global transactions that were given, 1, 2, .., and how each stands. The caller keeps them.
+/// The decisions of one coordinator: of each number that was given, whether it is undecided, decided or
+/// closed.
 ///
-/// A contract sees them as the list of how numbers 1, 2, .. stand.
+/// You keep them; they outlive the coordinator. A contract sees them as the list of the states of the numbers
+/// 1, 2, ..
 #[derive(Drop)]
 pub struct Decisions {
     by_number: Vec<Decision>,
@@ -66,7 +68,7 @@ impl Decisions {
     /// How many numbers can be given.
     pub const MOST: usize = 1_000_000;
 
-    /// Decisions that have given no number.
+    /// Makes decisions that have given no number.
     ///
     /// Takes no memory. Doesn't wait.
     pub fn new(alloc: Global) -> Decisions
@@ -77,16 +79,22 @@ impl Decisions {
         }
     }
 
-    /// Decisions that were kept elsewhere, as `as_slice` gave them: how the numbers 1, 2, .. stand, which are given.
+    /// Takes back decisions that were kept elsewhere, as `as_slice` returned them.
     ///
-    /// Errors, in the order of test: `TooMany`, for more than 1,000,000 numbers; `Overtaken`, where the number is undecided and a later one
-    /// closed, which no call of a coordinator leads to; `NoMemory`.
-    ///
-    /// May answer `NoMemory`. Doesn't wait.
+    /// `list`: the states of the numbers 1, 2, .., all of which are given. Errors, in the order of test:
+    /// `TooMany` if there are more than 1,000,000; `Overtaken` if a number is undecided and a later one
+    /// closed, which no call of a coordinator leads to; `NoMemory` if an allocation fails.
+    /// May return `NoMemory`. Doesn't wait.
     /// Own rule: docs/COORDINATOR.md#decisions.
     pub fn of(alloc: Global, list: &[Decision]) -> Result<Decisions, DecisionsFault>
+        // Proved (coordinator, decisions-of): Decisions are made only of lists of at most 1,000,000 numbers
+        //   in which no undecided number comes before a closed one. Each number then has the state that the
+        //   list has.
         ensures ok { IfOk result (λ decisions. decisions ≡ list.now) }
+        // Proved (coordinator, decisions-of)
         ensures stands { OnOk result (CanStand list.now) }
+        // Proved (coordinator, decisions-refused): A list is refused as decisions only for the cause that the
+        //   fault names.
         ensures fault { IfErr result (IsNoList list.now) }
     {
         if Self::MOST < list.len() {
@@ -100,7 +108,7 @@ impl Decisions {
         })
     }
 
-    /// How the numbers 1, 2, .. stand that were given.
+    /// Returns the states of the numbers 1, 2, .. that were given.
     ///
     /// Takes no memory. Doesn't wait.
     pub fn as_slice(&self) -> &[Decision]
@@ -109,7 +117,7 @@ impl Decisions {
         self.by_number.as_slice()
     }
 
-    /// How a number stands, where it was given.
+    /// The state of a number, if it was given.
     #[tactic(auto, unfolding(crate::specs::Decisions::decision_of))]
     fn decision(&self, number: u64) -> Option<Decision>
         ensures { result ≡ decision_of self.now number }
@@ -120,11 +128,13 @@ impl Decisions {
         self.by_number.get((number - 1) as usize).copied()
     }
 
-    /// Whether it is decided that the transaction of this number commits.
+    /// Whether the transaction of this number is decided, which means that it commits.
     ///
     /// Takes no memory. Doesn't wait.
     /// Own rule: docs/COORDINATOR.md#decisions.
     pub fn is_decided(&self, number: u64) -> bool
+        // Proved (coordinator, decide): `decide` decides exactly the given number, if it was given and isn't
+        //   closed. What was decided stays so.
         ensures { result ≡ is_decided_by self.now number }
     {
         match self.decision(number) {
@@ -145,7 +155,7 @@ impl Decisions {
         }
     }
 
-    /// Where a number stands that was given and isn't closed.
+    /// The place of a number that was given and isn't closed.
     #[tactic(auto, using(crate::proofs::DecisionsOf::given))]
     fn place_to_decide(&self, number: u64) -> Option<usize>
         ensures some { IfSome result (λ place. (place + 1 ≡ number) × (place < length self.now) × (may_be_decided self.now number ≡ true)) }
@@ -180,20 +190,26 @@ impl Decisions {
         close_each(self.by_number.as_mut_slice());
     }
 
-    /// Records that the transaction of a vote of Ready commits, before any of its branches does.
+    /// Records that the transaction of a vote of Ready commits. Call it before any of its branches commits.
     ///
-    /// Errors: `Closed`, where a recovery has closed the number, or these decisions never gave it. Nothing is recorded then.
-    /// A second call answers Ok again.
-    ///
+    /// Errors: `Closed` if a recovery has closed the number, or if these decisions never gave it.
+    /// After an error nothing is recorded. A second call for the same number returns Ok again.
     /// Takes no memory. Doesn't wait.
     /// Own rule: docs/COORDINATOR.md#decisions.
     pub fn decide(&mut self, prepared: &Prepared) -> Result<(), Closed>
         requires { prepared.now.vote_kind ≡ VoteKind.Ready }
+        // Proved (coordinator, decide)
         ensures given { OnOk result (may_be_decided self.old prepared.now.transaction.number ≡ true) }
+        // Proved (coordinator, decide)
         ensures ok { OnOk result (self.new ≡ with_decided self.old prepared.now.transaction.number) }
+        // Proved (coordinator, decide)
         ensures decided { OnOk result (is_decided_by self.new prepared.now.transaction.number ≡ true) }
+        // Proved (coordinator, decide)
         ensures kept { OnOk result ((other : ℕ) → is_decided_by self.old other ≡ true → is_decided_by self.new other ≡ true) }
+        // Proved (coordinator, decide-fails): If `decide` returns `Closed`, the number is closed or was never
+        //   given, and nothing is recorded.
         ensures closed { OnErr result (may_be_decided self.old prepared.now.transaction.number ≡ false) }
+        // Proved (coordinator, decide-fails)
         ensures err { OnErr result (self.new ≡ self.old) }
     {
         let Some(place) = self.place_to_decide(prepared.number()) else {
@@ -204,19 +220,19 @@ impl Decisions {
     }
 }
 
-/// How a number stands that was given.
+/// The state of a number that was given.
 #[derive(Clone, Copy, Debug, PartialEq, Eq)]
 pub enum Decision {
-    /// It isn't decided.
+    /// No decision is recorded yet.
     Undecided,
-    /// It is decided that its branches commit.
+    /// The transaction's branches commit.
     Decided,
-    /// A recovery closed it before it was decided: it never will be.
+    /// A recovery closed the number before it was decided. It can't be decided any more.
     Closed,
 }
 
 impl Decision {
-    /// How the number stands once a recovery has closed what is undecided.
+    /// The number's state after a recovery has closed the undecided ones.
     pub(crate) fn closed(self) -> Decision
         ensures { result ≡ closed_of self }
     {

@@ -12,12 +12,13 @@ pub enum Ending {
     Committed,
     /// Each participant rolled back.
     RolledBack,
-    /// These stores, ascending, answered XAER_NOTA: somebody else had finished the branch. The others are finished.
+    /// These stores, ascending, answered XAER_NOTA, since somebody else had finished the branch. The others
+    /// are finished.
     Hazard {
         /// The stores, by their numbers.
         stores: ArrayVec<u8, 16>,
     },
-    /// This store's branch wasn't finished, and those above weren't asked.
+    /// This store's branch wasn't finished, and the stores above it got no statement.
     Unfinished {
         /// The store, by its number.
         store: u8,
@@ -27,7 +28,7 @@ pub enum Ending {
 }
 
 impl Ending {
-    /// The ending's number, in `[1, 4]`.
+    /// Returns the ending's number, in `[1, 4]`, in the order of the variants.
     ///
     /// Takes no memory. Doesn't wait.
     /// Own rule: docs/COORDINATOR.md#finishing.

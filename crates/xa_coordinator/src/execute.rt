@@ -14,7 +14,7 @@ use std::sync::Wait;
 use xa_server::{Reply, XaError};
 use xa_xid::{Statement, Xid};
 
-/// Why the statement was refused, where it was.
+/// The refusal, if the statement was refused.
 pub(crate) fn refusal(reply: &Reply) -> Option<XaError>
     ensures { MatchOption result (is_refused reply.now ≡ false) (λ error. reply.now ≡ Refused error) }
 {
@@ -26,7 +26,7 @@ pub(crate) fn refusal(reply: &Reply) -> Option<XaError>
     }
 }
 
-/// Gives a statement about a branch to a session: whether it was carried out, and why not.
+/// Gives a statement about a branch to a session. The error says why it wasn't carried out.
 ///
 /// May wait: no number of tries is promised.
 pub(crate) fn execute_on<S: Speak, R: Wait>(
@@ -55,8 +55,8 @@ impl<S: Speak> Coordinator<S> {
         branch_xid(&self.name, number, store)
     }
 
-    /// Gives a statement about a branch to a store. Where it is carried out, the coordinator has this branch open there, or
-    /// none.
+    /// Gives a statement about a branch to a store. If it is carried out, the coordinator has `then` open
+    /// there.
     ///
     /// May wait: no number of tries is promised.
     pub(crate) fn execute_at<R: Wait>(

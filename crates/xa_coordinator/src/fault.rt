@@ -1,4 +1,4 @@
-//! The faults of a coordinator's calls, and why a branch couldn't be brought on.
+//! The faults of a coordinator's calls, and why a store didn't carry a statement out.
 ghost use Rattle.std.specs.Prelude.{◌≡◌};
 ghost use Rattle.xa_coordinator.specs.Faults.{number_of_decisions_fault, number_of_work_fault, number_of_begin_fault, number_of_recover_fault};
 
@@ -10,19 +10,20 @@ use xa_session::Fault;
 /// Why work in a store wasn't answered.
 #[derive(Clone, Copy, Debug, Drop, PartialEq, Eq, Error)]
 pub enum WorkFault {
-    /// The session couldn't answer `XA START`, or the row statement.
+    /// The session couldn't answer `XA START` or the row statement.
     #[error("{0}")]
     Session(Fault),
     /// `XA START` was refused.
     #[error("{0}")]
     Refused(XaError),
-    /// The store takes part, and this coordinator has no open branch of the transaction there. Nothing was said to the store.
+    /// The store takes part, and this coordinator has no open branch of the transaction there. The store got
+    /// no statement.
     #[error("this coordinator has no open branch of the transaction in the store")]
     Lost,
 }
 
 impl WorkFault {
-    /// The fault's number, in `[1, 3]`.
+    /// Returns the fault's number, in `[1, 3]`, in the order of the variants.
     ///
     /// Takes no memory. Doesn't wait.
     /// Own rule: docs/COORDINATOR.md#faults.
@@ -37,25 +38,26 @@ impl WorkFault {
     }
 }
 
-/// Why a list isn't taken for decisions.
+/// Why a list isn't taken as decisions.
 #[derive(Clone, Copy, Debug, Drop, PartialEq, Eq, Error)]
 pub enum DecisionsFault {
     /// It has more than 1,000,000 numbers.
     #[error("more than 1,000,000 numbers")]
     TooMany,
-    /// The number is undecided and a later one closed, though what closes a number closes every undecided one.
+    /// This number is undecided and a later one is closed. A recovery closes every undecided number, so no
+    /// calls lead to that.
     #[error("transaction {number} is undecided, and a later one is closed")]
     Overtaken {
         /// The transaction's number, from 1.
         number: u64,
     },
-    /// There was no memory.
+    /// An allocation failed.
     #[error("out of memory")]
     NoMemory,
 }
 
 impl DecisionsFault {
-    /// The fault's number, in `[1, 3]`.
+    /// Returns the fault's number, in `[1, 3]`, in the order of the variants.
     ///
     /// Takes no memory. Doesn't wait.
     /// Own rule: docs/COORDINATOR.md#faults.
@@ -76,13 +78,13 @@ pub enum BeginFault {
     /// All 1,000,000 numbers were given.
     #[error("all 1,000,000 numbers were given")]
     NumbersSpent,
-    /// There was no memory.
+    /// An allocation failed.
     #[error("out of memory")]
     NoMemory,
 }
 
 impl BeginFault {
-    /// The fault's number, in `[1, 2]`.
+    /// Returns the fault's number, in `[1, 2]`, in the order of the variants.
     ///
     /// Takes no memory. Doesn't wait.
     /// Own rule: docs/COORDINATOR.md#faults.
@@ -96,7 +98,8 @@ impl BeginFault {
     }
 }
 
-/// Why a recovery didn't come to its end. Every undecided number is closed all the same, and the stores below are done with.
+/// Why a recovery didn't come to its end. All undecided numbers are closed, and the stores below the named
+/// one are recovered.
 #[derive(Clone, Copy, Debug, Drop, PartialEq, Eq, Error)]
 pub enum RecoverFault {
     /// This store's session couldn't answer a statement.
@@ -107,16 +110,16 @@ pub enum RecoverFault {
         /// Why it couldn't.
         fault: Fault,
     },
-    /// Somebody prepared another branch of this coordinator in this store meanwhile.
+    /// Another client prepared another branch of this coordinator's naming in this store during the recovery.
     #[error("store {store}: another branch of this coordinator was prepared meanwhile")]
     StillPrepared {
         /// The store, by its number.
         store: u8,
     },
-    /// There was no memory for the report. Nothing was said to the stores.
+    /// There was no memory for the report. No store got a statement.
     #[error("out of memory")]
     NoMemory,
-    /// This store refused a statement, for another cause than XAER_NOTA.
+    /// This store refused a statement for another cause than XAER_NOTA.
     #[error("store {store}: {error}")]
     Refused {
         /// The store, by its number.
@@ -127,7 +130,7 @@ pub enum RecoverFault {
 }
 
 impl RecoverFault {
-    /// The fault's number, in `[1, 4]`.
+    /// Returns the fault's number, in `[1, 4]`, in the order of the variants.
     ///
     /// Takes no memory. Doesn't wait.
     /// Own rule: docs/COORDINATOR.md#faults.
@@ -143,7 +146,7 @@ impl RecoverFault {
     }
 }
 
-/// Why a store didn't carry a statement of a coordinator out.
+/// Why a store didn't carry a coordinator's statement out.
 #[derive(Clone, Copy, Debug, Drop, PartialEq, Eq, Error)]
 pub enum Cause {
     /// The session couldn't answer it.

@@ -1,4 +1,4 @@
-//! The second phase: the branches of a transaction are finished.
+//! The second phase: finishing the branches of a transaction.
 ghost use Rattle.std.specs.Prelude.{◌≡◌, ◌<◌, List, false, OnOk, OnErr, IfErr, vec_len};
 ghost use Rattle.xa_coordinator.specs.Agreement.{Agrees};
 ghost use Rattle.xa_coordinator.specs.Decisions.{is_decided};
@@ -32,7 +32,7 @@ fn finish_for(decided: bool, vote_kind: VoteKind) -> Closing
 }
 
 impl<S: Speak> Coordinator<S> {
-    /// Finishes the branch of a store, or lists the store where the branch isn't known there.
+    /// Finishes the branch of a store, or lists the store if the branch isn't known there.
     fn finish_next<R: Wait>(
         &mut self,
         rt: &R,
@@ -101,24 +101,41 @@ impl<S: Speak> Coordinator<S> {
         }
     }
 
-    /// Finishes a transaction that was voted on. One that is decided commits; the only participant of a vote of OnePhase commits in
-    /// one phase; else each participant rolls back, after `XA END` where this coordinator has its branch open and ACTIVE.
+    /// Finishes a transaction that was voted on, as the decisions say.
     ///
-    /// The condition is that the transaction was begun under this name, over as many stores. The participants are told in
-    /// ascending order. One that answers XAER_NOTA is passed by; another refusal, or a fault of a session, ends the call. The
-    /// transaction is spent in every case.
-    ///
-    /// May answer a fault of a session. May wait: no number of tries is promised.
+    /// Each participant, in ascending order, gets `XA COMMIT` if the number is decided, `XA COMMIT .. ONE
+    /// PHASE` after a vote of OnePhase, else `XA ROLLBACK`. `XA END` precedes a rollback if this coordinator
+    /// has the branch open and ACTIVE. A participant that answers XAER_NOTA is skipped; any other refusal and
+    /// any fault of a session ends the call. The transaction must have been begun under this name, over as
+    /// many stores, and `decisions` must be those that gave its number. It can't be used again, whatever is
+    /// returned.
+    /// May return a fault of a session. May wait: no number of tries is promised.
     /// Own rule: docs/COORDINATOR.md#finishing.
     pub fn finish<R: Wait>(&mut self, rt: &R, decisions: &Decisions, prepared: Prepared) -> Ending
         requires name { prepared.transaction.name.items ≡ self.old.name.items }
         requires stores { prepared.transaction.stores ≡ vec_len self.old.stores }
         ensures name { self.new.name ≡ self.old.name }
         ensures count { vec_len self.new.stores ≡ vec_len self.old.stores }
+        // Proved (coordinator, finish-elsewhere): In the stores that `prepare`, `finish` or `abandon` doesn't
+        //   speak to, the coordinator has open what it had.
         ensures elsewhere { KeepsOpen prepared.transaction.participants (asked_by_ending result) self.old.branches self.new.branches }
+        // Proved (coordinator, finish-open): In the store that a No or an Unfinished names, what the
+        //   coordinator has open is as before, or the transaction's branch is IDLE. After OnePhase the only
+        //   participant's branch is IDLE.
         ensures cut { KeepsUnfinished prepared.transaction.number result self.old.branches self.new.branches }
+        // Proved (coordinator, endings): After Committed or RolledBack each participant's commit or rollback
+        //   was added, as the decisions and the vote say. After Hazard exactly the named participants
+        //   answered XAER_NOTA, and the others are finished. `XA END` comes before the statement exactly if a
+        //   branch that is open and ACTIVE is rolled back.
+        // Proved (coordinator, unfinished): After Unfinished the named store didn't carry its statement out.
+        //   The cause is the session's fault, or the server's refusal at a place not before what had been
+        //   seen. It is never XAER_NOTA of the statement that finishes the branch.
         ensures ends { EndsAs S.view self.old.branches prepared.transaction
             (finish_of_vote (is_decided decisions.now prepared.transaction.number) prepared.vote_kind) result self.old.stores.items self.new.stores.items }
+        // Proved (coordinator, agrees): Each call adds only entries that agree with the decisions, also if it
+        //   ends in a fault. A commit or rollback is of a branch of this coordinator's naming, a commit
+        //   without ONE PHASE of a decided number, a rollback of one that isn't decided. Of `abandon` this
+        //   holds if its number isn't decided.
         ensures agrees { EachStore S.view (Agrees decisions.now self.old.name.items) self.old.stores.items self.new.stores.items }
     {
         let Prepared {
@@ -129,23 +146,27 @@ impl<S: Speak> Coordinator<S> {
         self.finish_each(rt, &transaction, closing)
     }
 
-    /// Rolls a transaction back that wasn't voted on: each participant, after `XA END` where this coordinator has its branch open
-    /// and ACTIVE.
+    /// Rolls back a transaction that wasn't voted on.
     ///
-    /// The condition is that the transaction was begun under this name, over as many stores. The participants are told in
-    /// ascending order. One that answers XAER_NOTA is passed by; another refusal, or a fault of a session, ends the call. The
-    /// transaction is spent in every case.
-    ///
-    /// May answer a fault of a session. May wait: no number of tries is promised.
+    /// Each participant, in ascending order, gets `XA ROLLBACK`, after `XA END` if this coordinator has the
+    /// branch open and ACTIVE. A participant that answers XAER_NOTA is skipped; any other refusal and any
+    /// fault of a session ends the call. The transaction must have been begun under this name, over as many
+    /// stores. It can't be used again, whatever is returned.
+    /// May return a fault of a session. May wait: no number of tries is promised.
     /// Own rule: docs/COORDINATOR.md#finishing.
     pub fn abandon<R: Wait>(&mut self, rt: &R, transaction: Transaction) -> Ending
         requires name { transaction.name.items ≡ self.old.name.items }
         requires stores { transaction.stores ≡ vec_len self.old.stores }
         ensures name { self.new.name ≡ self.old.name }
         ensures count { vec_len self.new.stores ≡ vec_len self.old.stores }
+        // Proved (coordinator, finish-elsewhere)
         ensures elsewhere { KeepsOpen transaction.participants (asked_by_ending result) self.old.branches self.new.branches }
+        // Proved (coordinator, finish-open)
         ensures cut { KeepsUnfinished transaction.number result self.old.branches self.new.branches }
+        // Proved (coordinator, endings)
+        // Proved (coordinator, unfinished)
         ensures ends { EndsAs S.view self.old.branches transaction Closing.RollBack result self.old.stores.items self.new.stores.items }
+        // Proved (coordinator, agrees)
         ensures agrees { (decisions : List Decision)
             → is_decided decisions transaction.number ≡ false
             → EachStore S.view (Agrees decisions self.old.name.items) self.old.stores.items self.new.stores.items }

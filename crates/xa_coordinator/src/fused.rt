@@ -1,4 +1,4 @@
-//! A session that fails from a certain call on, and when that call comes.
+//! A session that passes on a limited number of calls and then fails.
 ghost use Rattle.std.specs.Prelude.{◌≡◌, ◌+◌, true, false, ◌<◌, Some, map, slice_get, vec_len};
 ghost use Rattle.std.specs.Borrow.{Lends, sem};
 ghost use Rattle.xa_coordinator.specs.Fusing.{AnswersAsWithin};
@@ -9,9 +9,10 @@ use std::sync::Wait;
 use xa_session::{Answer, Fault};
 use xa_xid::Statement;
 
-/// A session that passes so many calls on, and then answers NoMemory to all, though no allocation failed.
+/// A session that passes on a given number of calls, and then returns `NoMemory` for each, as if it had been
+/// stopped.
 ///
-/// A contract sees it as the session within, so it keeps every promise of one.
+/// A contract sees it as the session within, so it keeps every promise of a session.
 #[derive(Drop)]
 pub struct Fused<S: Speak> {
     pub(crate) inner: S,
@@ -21,7 +22,7 @@ pub struct Fused<S: Speak> {
 impl<S: Speak> Fused<S> {
     ghost use Rattle.xa_coordinator.specs.contracts.fused.Fused.{the_row};
 
-    /// The session that passes `calls` calls on, in `[0, 2^64)`.
+    /// Limits a session to `calls` calls, in `[0, 2^64)`.
     ///
     /// Takes no memory. Doesn't wait.
     /// Own rule: docs/COORDINATOR.md#sessions-of-a-coordinator.
@@ -32,7 +33,7 @@ impl<S: Speak> Fused<S> {
         Fused { inner, left: calls }
     }
 
-    /// The session within, as the calls left it.
+    /// Returns the session within, as the calls left it.
     ///
     /// Takes no memory. Doesn't wait.
     pub fn into_inner(self) -> S
@@ -42,11 +43,14 @@ impl<S: Speak> Fused<S> {
         inner
     }
 
-    /// The session within. What is done with it uses up no call.
+    /// Lends the session within. What you do with it uses up no call.
     ///
     /// Takes no memory. Doesn't wait.
     pub fn inner_mut(&mut self) -> &mut S
+        // Proved (coordinator, limit-lends): The session within a limited one is lent as it is, and what is
+        //   done with it leaves the limit.
         ensures inner { result.now ≡ self.old.inner }
+        // Proved (coordinator, limit-lends)
         ensures* writes_back { sem 𝓛 (Lends (the_row S.row) S.row self.entry result (λ inner. record self.old { inner = inner })) }
     {
         &mut self.inner
@@ -66,6 +70,9 @@ impl<S: Speak> Fused<S> {
     }
 }
 
+// Proved (coordinator, limited-session): A session that fails from a certain call on keeps the promises of
+//   `Speak`. While calls are left, it answers as the session within does, and one call less is left. Then it
+//   returns `NoMemory`, and the session within gets no statement.
 impl<S: Speak> Speak for Fused<S> {
     ghost view = { λ fused. S.view fused.inner };
 
@@ -93,9 +100,11 @@ impl<S: Speak> Speak for Fused<S> {
 }
 
 impl<S: Speak> Fused<S> {
-    /// From now on it passes on `calls` calls, and then answers out of memory to all.
+    /// Sets the limit anew: `calls` more calls are passed on, in `[0, 2^64)`, and then each returns
+    /// `NoMemory`.
     ///
     /// Takes no memory. Doesn't wait.
+    /// Own rule: docs/COORDINATOR.md#sessions-of-a-coordinator.
     pub fn allow(&mut self, calls: u64)
         ensures inner { self.new.inner ≡ self.old.inner }
         ensures left { self.new.left ≡ calls }
@@ -105,17 +114,25 @@ impl<S: Speak> Fused<S> {
 }
 
 impl<S: Speak> Coordinator<Fused<S>> {
-    /// From now on the session of a store, in `[0, number of stores)`, passes on `calls` calls, and then answers out of memory to all.
-    /// The coordinator's branches stay as they are.
+    /// Sets the limit of one store's session anew: it passes on `calls` more calls, and then returns
+    /// `NoMemory` for each.
     ///
+    /// `store`: in `[0, number of stores)`. `calls`: in `[0, 2^64)`. What the coordinator has open stays as
+    /// it is.
     /// Takes no memory. Doesn't wait.
+    /// Own rule: docs/COORDINATOR.md#sessions-of-a-coordinator.
     #[tactic(auto, using(crate::proofs::Limited::left_there))]
     pub fn allow(&mut self, store: u8, calls: u64)
         requires { store < vec_len self.old.stores }
         ensures name { self.new.name ≡ self.old.name }
+        // Proved (coordinator, allow): Allowing calls to the session of a store sets just that session's
+        //   limit. No session gets a statement, and what the coordinator has open stays.
         ensures branches { self.new.branches ≡ self.old.branches }
+        // Proved (coordinator, allow)
         ensures sessions { map (λ session. session.inner) self.new.stores.items ≡ map (λ session. session.inner) self.old.stores.items }
+        // Proved (coordinator, allow)
         ensures left { slice_get (map (λ session. session.left) self.new.stores.items) store ≡ Some calls }
+        // Proved (coordinator, allow)
         ensures others { ChangesAt store self.old.stores.items self.new.stores.items }
     {
         self.stores[store as usize].allow(calls);

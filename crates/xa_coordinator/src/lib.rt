@@ -1,4 +1,9 @@
-//! Two-phase commit over several stores, with presumed abort.
+//! Two-phase commit with presumed abort over 1 to 16 stores, and recovery after a coordinator stopped.
+//!
+//! You keep the transactions' numbers and the decisions; the coordinator gives statements to one session of
+//! each store. A session is anything that keeps the promises of the trait `Speak`.
+//! Read docs/COORDINATOR.md first, then `specs/Agreement.antt` and `specs/Outcomes.antt`, then
+//! `src/speak.rt`, `src/prepare.rt`, `src/finish.rt` and `src/work.rt`.
 #![tactic(auto)]
 
 mod aside;

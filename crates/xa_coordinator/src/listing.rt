@@ -1,4 +1,4 @@
-//! What a recovery asks of a store: to let go of what is open, and to list what is prepared.
+//! What a recovery asks of a store: to end what is open, and to list what is prepared.
 ghost use Rattle.std.specs.Prelude.{◌≡◌, ◌<◌, ◌≤◌, ◌+◌, Some, None, false, IfOk, IfErr, OnOk, OnErr, slice_get, vec_len};
 ghost use Rattle.xa_coordinator.specs.OpenBranches.{association_seen};
 ghost use Rattle.xa_coordinator.specs.Parts.{added_at};
@@ -13,7 +13,7 @@ use xa_server::{Reply, XidList};
 use xa_session::{Answer, Fault};
 use xa_xid::Statement;
 
-/// Has a session let go of what it has open. No server refuses that.
+/// Has a session end what it has open, by `DISCONNECT`. No server refuses that.
 fn let_go<S: Speak, R: Wait>(rt: &R, session: &mut S) -> Result<(), Fault>
     ensures done { OnOk result (IsDisconnected (S.view session.old) (S.view session.new)) }
     ensures undone { IfErr result (λ fault. IsUndone DisconnectStatement (Cause.Session fault) (S.view session.old) (S.view session.new)) }
@@ -22,7 +22,7 @@ fn let_go<S: Speak, R: Wait>(rt: &R, session: &mut S) -> Result<(), Fault>
     Ok(())
 }
 
-/// The prepared branches of a session's store, and the place at which they are.
+/// The prepared branches of a session's store, and the place at which they are prepared.
 #[tactic(auto, using(crate::proofs::LettingGo::listed_quietly))]
 fn list_prepared<S: Speak, R: Wait>(rt: &R, session: &mut S) -> Result<(XidList, u64), Fault>
     ensures association { association_seen (S.view session.new) ≡ association_seen (S.view session.old) }
@@ -38,7 +38,7 @@ fn list_prepared<S: Speak, R: Wait>(rt: &R, session: &mut S) -> Result<(XidList,
 }
 
 impl<S: Speak> Coordinator<S> {
-    /// Has the session of a store let go of what it has open.
+    /// Has the session of a store end what it has open.
     pub(crate) fn disconnect<R: Wait>(&mut self, rt: &R, store: u8) -> Result<(), Fault>
         requires { store < vec_len self.old.stores }
         ensures name { self.new.name ≡ self.old.name }

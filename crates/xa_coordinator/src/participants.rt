@@ -6,13 +6,13 @@ ghost use Rattle.std.specs.Prelude.{◌≡◌, ◌<◌, ◌≤◌, ◌+◌, ℕ,
 pub enum Participation {
     /// None.
     Nobody,
-    /// This one alone.
+    /// Only this one.
     Single(u8),
     /// Two or more.
     Several,
 }
 
-/// The stores that take part in a global transaction, as a mark for each of 16.
+/// The stores that take part in a global transaction: a mark for each of 16.
 #[derive(Clone, Copy, Debug, PartialEq, Eq)]
 pub struct Participants {
     pub(crate) members: [bool; 16],
@@ -44,7 +44,7 @@ impl Participants {
             .unwrap_or(false)
     }
 
-    /// The store takes part, below 16.
+    /// Marks a store, below 16, as taking part.
     #[tactic(auto, unfolding(crate::specs::Participants::takes_part))]
     pub(crate) fn insert(&mut self, store: u8)
         requires { store < 16 }

@@ -1,4 +1,4 @@
-//! A coordinator apart from its sessions.
+//! A coordinator without its sessions.
 ghost use Rattle.std.specs.Prelude.{◌≡◌, ◌≤◌, vec_len};
 ghost use Rattle.arrayvec.specs.ArrayVec.{array_vec_len};
 ghost use Rattle.xa_coordinator.specs.OpenBranches.{OpenThere};
@@ -7,7 +7,7 @@ use crate::branches::OpenBranch;
 use crate::{Coordinator, Speak};
 use xa_xid::Bytes;
 
-/// A coordinator apart from its sessions: its name, and its record of the branches that it has open in them.
+/// A coordinator without its sessions: its name, and its record of the branches that it has open in them.
 #[derive(Drop)]
 pub struct Paused {
     pub(crate) name: Bytes,
@@ -16,14 +16,20 @@ pub struct Paused {
 }
 
 impl<S: Speak> Coordinator<S> {
-    /// The sessions, in the order of their stores, and the coordinator apart from them. Nothing is said to the stores.
+    /// Splits the coordinator into its sessions, in the order of their stores, and the rest, which `resume`
+    /// takes.
     ///
-    /// Takes no memory. Doesn't wait.
+    /// The stores get no statement. Takes no memory. Doesn't wait.
     /// Own rule: docs/COORDINATOR.md#renewal-between-calls.
     pub fn pause(self) -> (Vec<S>, Paused)
+        // Proved (coordinator, pause): A coordinator that is split from its sessions keeps its name and its
+        //   record of open branches. It goes on over any sessions that have these branches open.
         ensures stores { result.0 ≡ self.stores }
+        // Proved (coordinator, pause)
         ensures name { result.1.name ≡ self.name }
+        // Proved (coordinator, pause)
         ensures branches { result.1.branches ≡ self.branches }
+        // Proved (coordinator, pause)
         ensures open_there { OpenThere S.view result.1.name.items result.0.items result.1.branches }
     {
         let Coordinator {
@@ -36,16 +42,20 @@ impl<S: Speak> Coordinator<S> {
 }
 
 impl Paused {
-    /// The coordinator over these sessions, of its stores in their order, 1 to 16. The condition is that each has open what the
-    /// coordinator has open in its store. Nothing is said to the stores.
+    /// Makes the coordinator again, over the given sessions.
     ///
+    /// `stores`: a session of each of its stores, in the same order, 1 to 16. Each must have open what the
+    /// coordinator has open in its store. The stores get no statement.
     /// Takes no memory. Doesn't wait.
     /// Own rule: docs/COORDINATOR.md#renewal-between-calls.
     pub fn resume<S: Speak>(self, stores: Vec<S>) -> Coordinator<S>
         requires sized { (1 ≤ vec_len stores) × (vec_len stores ≤ 16) }
         requires open_there { OpenThere S.view self.name.items stores.items self.branches }
+        // Proved (coordinator, pause)
         ensures name { result.name ≡ self.name }
+        // Proved (coordinator, pause)
         ensures stores { result.stores ≡ stores }
+        // Proved (coordinator, pause)
         ensures branches { result.branches ≡ self.branches }
     {
         let Paused { name, branches } = self;

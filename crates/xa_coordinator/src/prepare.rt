@@ -29,7 +29,7 @@ fn no(transaction: Transaction, store: u8, cause: Cause) -> Vote
 }
 
 impl<S: Speak> Coordinator<S> {
-    /// Has each participant ended and prepared, in ascending order, up to the first that isn't.
+    /// Ends and prepares each participant's branch, in ascending order, until one fails.
     fn poll<R: Wait>(&mut self, rt: &R, transaction: &Transaction) -> Result<(), (u8, Cause)>
         requires name { transaction.now.name.items ≡ self.old.name.items }
         requires stores { transaction.now.stores ≡ vec_len self.old.stores }
@@ -50,7 +50,7 @@ impl<S: Speak> Coordinator<S> {
         Ok(())
     }
 
-    /// Has the only participant's work ended.
+    /// Ends the only participant's branch.
     fn end_alone<R: Wait>(&mut self, rt: &R, transaction: Transaction, store: u8) -> Vote
         requires name { transaction.name.items ≡ self.old.name.items }
         requires stores { transaction.stores ≡ vec_len self.old.stores }
@@ -73,7 +73,7 @@ impl<S: Speak> Coordinator<S> {
         }
     }
 
-    /// Has each participant ended and prepared.
+    /// Ends and prepares each participant's branch.
     fn prepare_each<R: Wait>(&mut self, rt: &R, transaction: Transaction) -> Vote
         requires name { transaction.name.items ≡ self.old.name.items }
         requires stores { transaction.stores ≡ vec_len self.old.stores }
@@ -96,22 +96,31 @@ impl<S: Speak> Coordinator<S> {
         }
     }
 
-    /// Has the stores vote: each participant, in ascending order, is told `XA END` and `XA PREPARE`; the only one `XA END`
-    /// alone.
+    /// Has the stores vote on a transaction.
     ///
-    /// The condition is that the transaction was begun under this name, over as many stores. The vote is No at the first store
-    /// that doesn't carry its statement out; those above it aren't asked.
-    ///
-    /// May answer a fault of a session. May wait: no number of tries is promised.
+    /// Each participant, in ascending order, gets `XA END` and `XA PREPARE`; if there is only one, it gets
+    /// only `XA END`. The vote is No at the first store that doesn't carry its statement out; the stores
+    /// above it get no statement. The transaction must have been begun under this name, over as many stores.
+    /// It takes no more work.
+    /// May return a fault of a session. May wait: no number of tries is promised.
     /// Own rule: docs/COORDINATOR.md#votes.
     pub fn prepare<R: Wait>(&mut self, rt: &R, transaction: Transaction) -> Vote
         requires name { transaction.name.items ≡ self.old.name.items }
         requires stores { transaction.stores ≡ vec_len self.old.stores }
         ensures name { self.new.name ≡ self.old.name }
         ensures count { vec_len self.new.stores ≡ vec_len self.old.stores }
+        // Proved (coordinator, finish-elsewhere)
         ensures elsewhere { KeepsOpen transaction.participants (asked_by_vote result) self.old.branches self.new.branches }
+        // Proved (coordinator, finish-open)
         ensures cut { KeepsMark transaction result self.old.branches self.new.branches }
+        // Proved (coordinator, votes): After a vote of Ready two participants at least were ended and
+        //   prepared, and each participant was. After OnePhase one store takes part, and its `XA END` was
+        //   added. After Nothing no store takes part.
+        // Proved (coordinator, vote-no): After a vote of No the named store didn't carry its statement out.
+        //   The cause is the session's fault, or the server's refusal at a place not before what had been
+        //   seen.
         ensures vote { VotesAs S.view transaction result self.old.stores.items self.new.stores.items }
+        // Proved (coordinator, agrees)
         ensures agrees { (decisions : List Decision) → EachStore S.view (Agrees decisions self.old.name.items) self.old.stores.items self.new.stores.items }
     {
         match transaction.participants.participation() {

@@ -1,4 +1,4 @@
-//! Recovery: what a coordinator that was stopped left behind is finished as the decisions say.
+//! Recovery: finishing what a stopped coordinator left, as the decisions say.
 ghost use Rattle.std.specs.Prelude.{◌≡◌, ◌≢◌, ◌<◌, ◌≤◌, ◌+◌, ℕ, List, [], Option, Some, None, IfOk, IfErr, OnOk, length, slice_get, map, vec_len, vec_capacity};
 ghost use Rattle.xa_coordinator.specs.Agreement.{Agrees};
 ghost use Rattle.xa_coordinator.specs.Decisions.{closed_of, is_decided, decision_of};
@@ -54,7 +54,7 @@ impl<S: Speak> Coordinator<S> {
         }
     }
 
-    /// Lets go of what is open in a store, and finishes what is prepared there.
+    /// Ends what is open in a store, and finishes what is prepared there.
     fn finish_prepared<R: Wait>(
         &mut self,
         rt: &R,
@@ -168,16 +168,18 @@ impl<S: Speak> Coordinator<S> {
         Ok(report)
     }
 
-    /// Finishes what a coordinator of this name left in its stores. Every undecided number is closed first. Then, store by store
-    /// in ascending order, up to the first fault: the session disconnects; of the prepared branches those of this coordinator's
-    /// naming are committed where their number is decided, and else rolled back, also where it was never given (presumed abort);
-    /// and no such branch is prepared any more. A branch that is answered XAER_NOTA meanwhile is counted as missing.
+    /// Finishes what a coordinator of this name, stopped anywhere, left in its stores.
     ///
-    /// Errors: `NoMemory`, where there is none for the report, before anything is said; then the fault of the first store that has
-    /// one: `Session`, where its session couldn't answer; `Refused`, where a statement was refused for another cause than XAER_NOTA;
-    /// `StillPrepared`, where somebody prepared another such branch meanwhile. The numbers stay closed, and it may be called again.
-    ///
-    /// May answer `NoMemory`, and a fault of a session. May wait: no number of tries is promised.
+    /// First every undecided number is closed. Then each store, in ascending order until the first fault: its
+    /// session disconnects; each prepared branch of this coordinator's naming is committed if its number is
+    /// decided, else rolled back, also if the number was never given (presumed abort); no such branch is
+    /// prepared any more. A branch that is answered XAER_NOTA is counted as missing. Errors: `NoMemory` if
+    /// there is none for the report, before any statement; then the first store's fault: `Session` if its
+    /// session couldn't answer, `Refused` if a statement was refused for another cause than XAER_NOTA,
+    /// `StillPrepared` if another client prepared such a branch meanwhile.
+    /// After an error the numbers stay closed and the stores below the named one are recovered. Call it
+    /// again.
+    /// May return `NoMemory` and faults of a session. May wait: no number of tries is promised.
     /// Own rule: docs/COORDINATOR.md#recovery.
     pub fn recover<R: Wait>(
         &mut self,
@@ -187,16 +189,37 @@ impl<S: Speak> Coordinator<S> {
     ) -> Result<Report, RecoverFault>
         ensures name { self.new.name ≡ self.old.name }
         ensures count { vec_len self.new.stores ≡ vec_len self.old.stores }
+        // Proved (coordinator, recovery-closes): A recovery closes every undecided number and no other, also
+        //   if it ends in a fault. What is decided stays so.
         ensures closed { decisions.new ≡ map closed_of decisions.old }
+        // Proved (coordinator, recovery-closes)
         ensures none_undecided { (number : ℕ) → decision_of decisions.new number ≢ Some Decision.Undecided }
+        // Proved (coordinator, recovery-closes)
         ensures kept { (number : ℕ) → is_decided decisions.new number ≡ is_decided decisions.old number }
+        // Proved (coordinator, nothing-open)
         ensures free { OnOk result ((store : ℕ) → store < vec_len self.new.stores → slice_get self.new.branches store ≡ Some None) }
+        // Proved (coordinator, recovery-open): After a fault of recovery nothing is open in the stores below
+        //   the named one. In the named store it is as before if `DISCONNECT` failed, else nothing is open.
+        //   Above it is as before.
         ensures marks { IfErr result
             (λ fault. (store : ℕ) → asked_by_fault fault ≤ store → slice_get self.new.branches store ≡ slice_get self.old.branches store) }
+        // Proved (coordinator, recovery-open)
         ensures below { IfErr result (λ fault. (store : ℕ) → store + 1 < asked_by_fault fault → slice_get self.new.branches store ≡ Some None) }
+        // Proved (coordinator, recovered): After a recovery each store's session has disconnected. Each
+        //   branch of this coordinator's naming that was prepared at one place, not before what had been
+        //   seen, was committed if its number is decided, else rolled back, or was answered XAER_NOTA, and is
+        //   counted so. Nothing else was added.
+        // Proved (coordinator, recovered-clear): Then each session has looked, and at the place that is
+        //   reported, the end of all that it has seen, no branch of this coordinator's naming is prepared.
         ensures recovers { IfOk result (λ report. Recovers S.view decisions.new self.old.name.items report self.old.stores.items self.new.stores.items) }
+        // Proved (coordinator, recovery-fault): A fault of recovery names a store; those below it are
+        //   recovered. There the session couldn't answer, or the store refused for another cause than
+        //   XAER_NOTA, or a branch of this naming is prepared. It got exactly the statements that come before
+        //   that. After `NoMemory` no session got a statement.
+        // Proved (coordinator, recovery-open)
         ensures breaks { IfErr result
             (λ fault. BreaksOff S.view decisions.new self.old.name.items fault self.old.branches self.new.branches self.old.stores.items self.new.stores.items) }
+        // Proved (coordinator, agrees)
         ensures agrees { EachStore S.view (Agrees decisions.new self.old.name.items) self.old.stores.items self.new.stores.items }
     {
         decisions.close_all();

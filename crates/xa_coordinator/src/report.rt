@@ -1,22 +1,22 @@
-//! What a recovery found and did, in all and in one store.
+//! What a recovery found and did.
 ghost use Rattle.std.specs.Prelude.{◌≡◌, ◌<◌, ◌+◌, ◌^◌, ◌++◌, ◌∷◌, [], vec_len, vec_capacity};
 
 /// What a recovery found and did, in all stores.
 #[derive(Debug, Drop)]
 pub struct Report {
-    /// For each store the place of its last `XA RECOVER`: how many entries its session had seen, with no prepared branch of this
-    /// coordinator among what they leave.
+    /// For each store, the place of its last `XA RECOVER`: how many entries its session had seen. After these
+    /// no branch of this coordinator is prepared.
     pub fronts: Vec<u64>,
     /// How many branches were committed.
     pub committed: u128,
     /// How many were rolled back.
     pub rolled_back: u128,
-    /// How many were answered XAER_NOTA: somebody else had finished them.
+    /// How many were answered XAER_NOTA, since somebody else had finished them.
     pub missing: u128,
 }
 
 impl Report {
-    /// One store more.
+    /// Adds one more store.
     pub(crate) fn add(&mut self, tally: Tally, front: u64)
         requires room { vec_len self.old.fronts < vec_capacity self.old.fronts }
         requires committed_fits { self.old.committed + tally.committed < 2 ^ 128 }

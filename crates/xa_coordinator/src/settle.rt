@@ -25,7 +25,7 @@ fn finish_decided(decided: bool) -> Closing
     }
 }
 
-/// The tally with one branch more.
+/// The tally with one more branch.
 fn with_one(tally: Tally, decided: bool, found: Found) -> Tally
     requires { total tally + 1 < 2 ^ 64 }
     ensures counted { result ≡ counted tally decided found }
@@ -48,7 +48,8 @@ fn with_one(tally: Tally, decided: bool, found: Found) -> Tally
 }
 
 impl<S: Speak> Coordinator<S> {
-    /// Finishes a prepared branch of this coordinator's naming as the decisions say, and leaves another one.
+    /// Finishes a prepared branch of this coordinator's naming as the decisions say, and leaves any other
+    /// branch.
     fn settle<R: Wait>(
         &mut self,
         rt: &R,
@@ -81,7 +82,7 @@ impl<S: Speak> Coordinator<S> {
         Ok(with_one(tally, decided, found))
     }
 
-    /// Finishes each listed branch of this coordinator's naming, in order, up to the first that isn't finished.
+    /// Finishes each listed branch of this coordinator's naming, in order, until one isn't finished.
     pub(crate) fn settle_each<R: Wait>(
         &mut self,
         rt: &R,
@@ -113,7 +114,7 @@ impl<S: Speak> Coordinator<S> {
         Ok(tally)
     }
 
-    /// The number of a listed branch of this coordinator's naming, where there is one.
+    /// The number of the first listed branch of this coordinator's naming, if there is one.
     pub(crate) fn own_number(&self, store: u8, xids: &[Xid]) -> Option<u64>
         ensures fits { IfSome result (λ number. number < 2 ^ 64) }
         ensures some { IfSome result (λ number. list_any (same_xid (branch_xid self.now.name.items number store)) xids.now ≡ true) }

@@ -1,4 +1,4 @@
-//! What a coordinator asks of a session.
+//! What a coordinator requires of a session.
 ghost use Rattle.std.specs.Prelude.{◌≡◌, ◌≤◌, ◌<◌, ◌+◌, ⊤, [], Result, IfOk, IfErr};
 ghost use Rattle.decision_log.specs.History.{entries_of};
 ghost use Rattle.xa_server.specs.Locks.{LockLaw};
@@ -13,17 +13,23 @@ use std::sync::Wait;
 use xa_session::{Answer, Fault, Session};
 use xa_xid::Statement;
 
-/// Something that statements can be given to, as a session.
+/// What a coordinator requires of a session: it answers statements, and keeps a session's promises.
 pub trait Speak {
-    // what a contract sees of it
+    // what a contract sees of the session
     ghost view: { Self → SessionView };
 
-    // what more is known of a call, by the session before it, the statement, the answer and the session after it
+    // what more is known of a call: of the session before it, the statement, the answer and the session after
+    // it
     ghost attempts: { Self → StatementOf → Result AnswerOf FaultOf → Self → Type 0 } = { λ _ _ _ _. ⊤ };
 
     ghost executes: { Self → StatementOf → Result AnswerOf FaultOf → Self → Type 0 } = { λ _ _ _ _. ⊤ };
 
-    /// Answers a statement from the whole history, as it is at one step of the call, and adds it there if it enters.
+    /// Answers a statement from the whole history, as it is at one step of the call, and adds it there if it
+    /// is logged.
+    ///
+    /// Tries at most once to append. Errors: those of `xa_session::Session::attempt`.
+    /// After an error nothing of the statement was added. Doesn't wait.
+    /// Own rule: docs/COORDINATOR.md#sessions-of-a-coordinator.
     fn attempt(&mut self, statement: &Statement) -> Result<Answer, Fault>
         ensures stays { StaysOfLog (view self.old) (view self.new) }
         ensures answered { IfOk result (λ answer. IsAnswered (view self.old).base statement.now answer (view self.old).known (view self.new).known) }
@@ -33,7 +39,11 @@ pub trait Speak {
         ensures tries { (view self.new).known.tries ≤ (view self.old).known.tries + 1 }
         ensures gives { attempts self.old statement.now result self.new };
 
-    /// Answers a statement as `attempt` does, trying again after `Overtaken` and `Busy`.
+    /// Answers a statement as `attempt` does, and tries again after `Overtaken` and `Busy`.
+    ///
+    /// Errors: `Full`, `NoMemory`.
+    /// After an error nothing of the statement was added. May wait: no number of tries is promised.
+    /// Own rule: docs/COORDINATOR.md#sessions-of-a-coordinator.
     fn execute<R: Wait>(&mut self, rt: &R, statement: &Statement) -> Result<Answer, Fault>
         ensures stays { StaysOfLog (view self.old) (view self.new) }
         ensures answered { IfOk result (λ answer. IsAnswered (view self.old).base statement.now answer (view self.old).known (view self.new).known) }
@@ -50,10 +60,13 @@ pub trait Speak {
     ghost lawful: { (session : Self) → LockLaw (view session).base };
 }
 
+// Proved (coordinator, session-speaks): A session, over any log, keeps the promises of `Speak`. It returns
+//   `NoMemory` only for the list of an `XA RECOVER`, or if its replica hasn't replayed all that it has seen.
 impl<'a, L: DecisionLog> Speak for Session<'a, L> {
     ghost view = { λ session. record { identity = L.belongs_to session.pass; turns = L.TURNS; base = session.base.now; known = L.known session.pass; beside = [] } };
 
-    // a session looks at each attempt, and there is no memory only for a list, or for a replica that hasn't replayed all that is seen
+    // a session looks at each attempt, and memory is missing only for a list, or for a replica that hasn't
+    // replayed all that is seen
     ghost attempts = { λ old statement result new. ((L.known old.pass).looks < (L.known new.pass).looks)
         × IfErr result (λ fault. WantsMemory statement fault new.replica (L.known new.pass)) };
 

@@ -1,12 +1,12 @@
-//! A global transaction that takes work, and one that is prepared.
+//! A global transaction that takes work, and one that was voted on.
 ghost use Rattle.std.specs.Prelude.{◌≡◌, ◌<◌, ◌≤◌, ◌^◌, ℕ, true};
 ghost use Rattle.xa_coordinator.specs.Participants.{takes_part};
 
 use crate::participants::Participants;
 use xa_xid::Bytes;
 
-/// A global transaction that takes work: its number, the name and the count of stores of its coordinator, and the stores
-/// that take part.
+/// A global transaction that takes work: its number, its coordinator's name and count of stores, and the
+/// stores that take part. `prepare` and `abandon` use it up.
 #[derive(Debug, Drop)]
 pub struct Transaction {
     pub(crate) number: u64,
@@ -19,7 +19,7 @@ pub struct Transaction {
 }
 
 impl Transaction {
-    /// The number, from 1 on.
+    /// Returns the transaction's number, in `[1, 1,000,000]`.
     ///
     /// Takes no memory. Doesn't wait.
     pub fn number(&self) -> u64
@@ -28,7 +28,7 @@ impl Transaction {
         self.number
     }
 
-    /// Whether a store takes part.
+    /// Whether a store takes part. `store`: the store's number, from 0.
     ///
     /// Takes no memory. Doesn't wait.
     pub fn has(&self, store: u8) -> bool
@@ -38,18 +38,18 @@ impl Transaction {
     }
 }
 
-/// What the stores voted.
+/// What the stores voted, without the transaction.
 #[derive(Clone, Copy, Debug, PartialEq, Eq)]
 pub enum VoteKind {
     /// Each participant is prepared.
     Ready,
-    /// The one participant can be committed without being prepared.
+    /// The only participant can be committed without being prepared.
     OnePhase,
     /// A participant isn't prepared.
     No,
 }
 
-/// A global transaction that was voted on, and takes no more work.
+/// A global transaction that was voted on, and takes no more work. `finish` uses it up.
 #[derive(Debug, Drop)]
 pub struct Prepared {
     pub(crate) transaction: Transaction,
@@ -57,7 +57,7 @@ pub struct Prepared {
 }
 
 impl Prepared {
-    /// The transaction's number.
+    /// Returns the transaction's number.
     ///
     /// Takes no memory. Doesn't wait.
     pub fn number(&self) -> u64

@@ -7,13 +7,13 @@ use crate::{Cause, Prepared};
 /// What the stores of a transaction voted.
 #[derive(Debug, Drop)]
 pub enum Vote {
-    /// Each participant is prepared, two at least.
+    /// Each participant is prepared; there are at least two.
     Ready(Prepared),
-    /// The only participant's work has ended: it can be committed without being prepared.
+    /// The only participant's work has ended. It can be committed without being prepared.
     OnePhase(Prepared),
-    /// A participant isn't prepared; those below are, those above weren't asked.
+    /// A participant isn't prepared. Those below it are, and those above it got no statement.
     No {
-        /// The transaction, to be finished.
+        /// The transaction, which `finish` rolls back.
         prepared: Prepared,
         /// The store that isn't prepared.
         store: u8,
@@ -25,7 +25,7 @@ pub enum Vote {
 }
 
 impl Vote {
-    /// The vote's number, in `[1, 4]`.
+    /// Returns the vote's number, in `[1, 4]`, in the order of the variants.
     ///
     /// Takes no memory. Doesn't wait.
     /// Own rule: docs/COORDINATOR.md#votes.

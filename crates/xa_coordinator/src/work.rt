@@ -43,7 +43,7 @@ impl<S: Speak> Coordinator<S> {
         Ok(answer.reply)
     }
 
-    /// Work in a store in which the coordinator has the transaction's branch open and ACTIVE.
+    /// Works in a store in which the coordinator has the transaction's branch open and ACTIVE.
     fn work_within<R: Wait>(
         &mut self,
         rt: &R,
@@ -70,7 +70,7 @@ impl<S: Speak> Coordinator<S> {
         }
     }
 
-    /// Work in a store in which the transaction's branch is to be started.
+    /// Works in a store in which the transaction's branch is to be started.
     fn start_and_work<R: Wait>(
         &mut self,
         rt: &R,
@@ -99,7 +99,7 @@ impl<S: Speak> Coordinator<S> {
         }
     }
 
-    /// Work in a store, as the coordinator has the transaction's branch open there or not.
+    /// Works in a store, whether the coordinator has the transaction's branch open there or not.
     fn work_at<R: Wait>(
         &mut self,
         rt: &R,
@@ -131,16 +131,19 @@ impl<S: Speak> Coordinator<S> {
         self.start_and_work(rt, transaction, store, statement)
     }
 
-    /// Gives a `GET`, `PUT` or `DEL` of a transaction to a store, in `[0, number of stores)`, which takes part from its first work on: its
-    /// branch is started by `XA START`. A row statement that is refused is a reply.
+    /// Gives a `GET`, `PUT` or `DEL` of a transaction to a store, and first starts the transaction's branch
+    /// if needed.
     ///
-    /// The condition is that the transaction was begun under this name, over as many stores. Errors: `Session`, where the
-    /// session couldn't answer `XA START`, or the row statement: then the store takes part where it did before, or where the
-    /// coordinator has its branch open and ACTIVE now. `Refused`, where `XA START` was refused: then it takes part where it did
-    /// before. `Lost`, where the store takes part and this coordinator has no open branch of the transaction there; nothing is
-    /// said to the store then. Of a store that takes part the branch is never started again.
-    ///
-    /// May answer a fault of a session. May wait: no number of tries is promised.
+    /// `store`: in `[0, number of stores)`. It takes part from its first work on. `transaction` must have
+    /// been begun under this name, over as many stores. A row statement that is refused is a reply, not an
+    /// error.
+    /// Errors: `Lost` if the store takes part and this coordinator has no open branch of the transaction
+    /// there, in which case the store gets no statement; `Session` if the session couldn't answer `XA START`
+    /// or the row statement; and
+    /// `Refused` if `XA START` was refused.
+    /// After an error the store takes part if it did before, or if the coordinator has the branch open and
+    /// ACTIVE now. In a store that takes part a branch is never started again.
+    /// May return a fault of a session. May wait: no number of tries is promised.
     /// Own rule: docs/COORDINATOR.md#work.
     pub fn work<R: Wait>(
         &mut self,
@@ -155,15 +158,30 @@ impl<S: Speak> Coordinator<S> {
         requires row { IsRow statement.now }
         ensures name { self.new.name ≡ self.old.name }
         ensures frame { ChangesAt store self.old.stores.items self.new.stores.items }
+        // Proved (coordinator, work-elsewhere): In the stores that `work` doesn't speak to, the coordinator
+        //   has open what it had, and no other store comes to take part.
         ensures marks { ChangesAt store self.old.branches self.new.branches }
+        // Proved (coordinator, work-elsewhere)
         ensures keeps { KeepsOthers store transaction.old transaction.new }
+        // Proved (coordinator, work): A row statement is answered only if the session's branch is the
+        //   transaction's and ACTIVE, with the server's reply at a place not before what had been seen. The
+        //   store takes part then, and the coordinator has the branch open and ACTIVE.
+        // Proved (coordinator, work-fault): After a fault of work its cause holds of the store's session.
+        //   Either the branch was open or was started, and the store takes part; or `XA START` wasn't carried
+        //   out, which it is sent only if the coordinator hadn't the branch open and ACTIVE.
         ensures works { WorksAs S.view self.old.branches self.new.branches transaction.old transaction.new store statement.now result self.old.stores.items
             self.new.stores.items }
+        // Proved (coordinator, work-lost): If the store takes part and the coordinator has no open branch of
+        //   the transaction there, `work` returns `Lost`, and the session gets no statement.
         ensures lost { takes_part transaction.old.participants store ≡ true → (HasOpen self.old.branches store transaction.old.number → ⊥)
             → result ≡ Err WorkFault.Lost }
+        // Proved (coordinator, work-starts-once): If the store took part before, `work` carries no `XA START`
+        //   out.
         ensures again { takes_part transaction.old.participants store ≡ true
             → AtStore S.view store (AddsAtMost statement.now) self.old.stores.items self.new.stores.items }
+        // Proved (coordinator, work-adds): Work adds at most its `XA START` and its row statement.
         ensures adds { AtStore S.view store (AddsWork (branch_of transaction.old store) statement.now) self.old.stores.items self.new.stores.items }
+        // Proved (coordinator, agrees)
         ensures agrees { (decisions : List Decision) → EachStore S.view (Agrees decisions self.old.name.items) self.old.stores.items self.new.stores.items }
     {
         self.work_at(rt, transaction, store, statement)
