@@ -139,8 +139,7 @@ impl<S: Speak> Coordinator<S> {
     /// error.
     /// Errors: `Lost` if the store takes part and this coordinator has no open branch of the transaction
     /// there, in which case the store gets no statement; `Session` if the session couldn't answer `XA START`
-    /// or the row statement; and
-    /// `Refused` if `XA START` was refused.
+    /// or the row statement; and `Refused` if `XA START` was refused.
     /// After an error the store takes part if it did before, or if the coordinator has the branch open and
     /// ACTIVE now. In a store that takes part a branch is never started again.
     /// May return a fault of a session. May wait: no number of tries is promised.

@@ -1,10 +1,10 @@
--- A lasting store, as contracts see it.
+-- An unbounded store, as contracts see it.
 --     history_of       all entries since it began
---     no_log           what stands for the log of a store that has none
+--     no_log           the identity that a store without a log has
 --     own_view, other_view     its own session, of number 1;  the other client's, of number 2
 --     IsAnsweredBeside         a session of it answered a statement
 --     other_alone      the other client's session by itself
---     other-steady     it stays as it was where the store's own session is spoken to
+--     other-steady     it stays as it was when the store's own session is used
 use Rattle.std.specs.Prelude.{◌≡◌, false, List, [], ◌∷◌, map}
 use Rattle.std.proofs.Common.{ap, ◌∙◌}
 use Rattle.xa_words.specs.Entry.{Entry}
@@ -30,7 +30,7 @@ no_log = record {
   capacity = 0;
 }
 
--- its own session, beside which it holds the other client's
+-- its own session, with the other client's as the one that it holds
 abbrev pub own_view : LastingStore → SessionView
 own_view store = record {
   identity = no_log;
@@ -40,7 +40,7 @@ own_view store = record {
   beside = known_by 2 store.other (history_of store) ∷ [];
 }
 
--- the other client's session, beside which it holds its own
+-- the other client's session, with the store's own as the one that it holds
 abbrev pub other_view : LastingStore → SessionView
 other_view store = record {
   identity = no_log;
@@ -50,12 +50,12 @@ other_view store = record {
   beside = known_by 1 store.own (history_of store) ∷ [];
 }
 
--- the session stays of its store, the one beside it knows what it knew, and the statement was answered
+-- the session stays of its store, the one that it holds knows what it knew, and the statement was answered
 pub record IsAnsweredBeside (statement : Statement) (old new : SessionView) (answer : Answer) : Type 0 where
   pub stays : StaysOfLog old new
   pub answered : IsAnswered old.base statement answer old.known new.known
 
--- a session of no log that is alone
+-- a session of no log that holds no other
 abbrev alone_at : State → Known → SessionView
 alone_at base known = record { identity = no_log; turns = false; base = base; known = known; beside = [] }
 
@@ -66,7 +66,7 @@ other_alone store = alone_at store.first.value (known_by 2 store.other (history_
 head_is : (known known' : Known) → known ∷ [] ≡ known' ∷ [] → known ≡ known'
 head_is known known' is = cc
 
--- whoever speaks as its own session leaves the other client's as it was
+-- using its own session leaves the other client's as it was
 pub other-steady : (old new : LastingStore) → StaysOfLog (own_view old) (own_view new) → other_alone new ≡ other_alone old
 other-steady old new stays =
     ap (λ base. alone_at base (known_by 2 new.other (history_of new))) stays.base ∙ ap (alone_at old.first.value) (head_is _ _ stays.beside)

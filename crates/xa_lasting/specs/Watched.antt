@@ -1,7 +1,7 @@
--- What a session of a lasting store knows of its history, and how a statement is served.
---     known_by         what a session knows, by how far it has come
+-- What a session of an unbounded store knows of its history, and how a statement is served.
+--     known_by         what a session knows, by how much it has seen
 --     HasSeenOwn       a session has seen all entries of its own
---     AllEntered       each entry of a history entered where it stands
+--     AllEntered       each entry of a history was logged at its place
 --     Serves           a statement was answered from the state that the whole history leaves
 use Rattle.std.specs.Prelude.{◌≡◌, ◌≤◌, ◌+◌, ℕ, true, false, List, [], ◌∷◌, ◌++◌, length, take, slice_get, Some}
 use Rattle.xa_words.specs.Entry.{Entry}
@@ -32,14 +32,14 @@ pub record HasSeenOwn (session : ℕ) (watch : Watch) (history : List Entry) : T
   pub within : watch.seen ≤ length history
   pub own : entries_of session (take watch.seen history) ≡ entries_of session history
 
--- each entry entered where it stands, and is of session 1 or 2
+-- each entry was logged at its place, and is of session 1 or 2
 pub record AllEntered (base : State) (history : List Entry) : Type 0 where
   pub entered : (place : ℕ) (entry : Entry) → slice_get history place ≡ Some entry
       → enters (state_at base history place) entry.session entry.statement ≡ true
   pub two : (place : ℕ) (entry : Entry) → slice_get history place ≡ Some entry → (1 ≤ entry.session) × (entry.session ≤ 2)
 
--- the reply is the server's, at the end of the history; a statement that enters is carried out and stands next, else nothing changes; the session has looked,
--- and has seen all
+-- the reply is the server's, at the end of the history; a statement that is logged is carried out and becomes
+-- the next entry, else nothing changes; the session has looked, and has seen all
 pub record Serves (session : ℕ) (statement : Statement) (answer : Answer) (old : State) (history : List Entry) (watch : Watch) (new : State)
     (history' : List Entry) (watch' : Watch) : Type 0 where
   pub place : answer.place ≡ length history

@@ -1,4 +1,4 @@
-//! How a session's statement is answered where no other session speaks meanwhile.
+//! Answering a session's statement when no other session uses the store.
 ghost use Rattle.std.specs.Prelude.{◌≡◌, Err, IfOk, OnErr, map, length};
 ghost use Rattle.xa_session.specs.declared.fault.Fault.TheVariants.{NoMemory as WantsMemory};
 ghost use Rattle.xa_lasting.specs.Watched.{Serves};
@@ -10,9 +10,10 @@ use xa_session::{Answer, Fault};
 use xa_words::Entry;
 use xa_xid::{SessionNo, Statement};
 
-/// Answers a session's statement from the state that the history leaves, and carries it out. Room for the entry is taken first.
+/// Answers a session's statement from the state that the history leaves, and carries it out. Room for the
+/// entry is taken first.
 ///
-/// Error: `NoMemory`, also after 2 ^ 64 - 1 looks of the session. Nothing has changed then.
+/// Errors: `NoMemory`, also after 2^64 - 1 looks of the session. Nothing has changed then.
 pub(crate) fn serve(
     server: &mut Server,
     history: &mut Vec<Snapshot<Entry>>,

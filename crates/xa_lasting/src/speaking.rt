@@ -1,4 +1,4 @@
-//! The sessions of a lasting store, as sessions.
+//! The sessions of an unbounded store, as a coordinator uses them.
 
 use crate::LastingStore;
 use std::sync::Wait;
@@ -6,6 +6,8 @@ use xa_coordinator::{Beside, Speak};
 use xa_session::{Answer, Fault};
 use xa_xid::Statement;
 
+// Proved (coordinator, unbounded-store): An unbounded store's own session keeps the promises of `Speak` over
+//   the store's whole history, although the store keeps no entry of it. Its only fault is `NoMemory`.
 impl Speak for LastingStore {
     ghost use Rattle.std.specs.Prelude.{◌≡◌, Err, OnErr};
     ghost use Rattle.xa_session.specs.declared.fault.Fault.TheVariants.{NoMemory as WantsMemory};
@@ -13,7 +15,7 @@ impl Speak for LastingStore {
 
     ghost view = { own_view };
 
-    // it is never full, and nobody overtakes it
+    // the store is never full, and no other session appends during a call
     ghost attempts = { λ old statement result new. OnErr result (result ≡ Err WantsMemory) };
 
     ghost executes = { λ old statement result new. OnErr result (result ≡ Err WantsMemory) };
@@ -37,6 +39,9 @@ impl Speak for LastingStore {
     }
 }
 
+// Proved (coordinator, unbounded-store-beside): The other client's session of an unbounded store keeps the
+//   same promises, and its only fault is `NoMemory`. Each of the two sessions stays as it was when the other
+//   is used.
 impl Beside for LastingStore {
     ghost use Rattle.xa_lasting.specs.Lasting.{other_alone, other-steady};
 

@@ -1,4 +1,4 @@
-//! How far a session of a lasting store has come.
+//! How much of the history a session of an unbounded store has seen.
 
 /// How much of the history a session has seen, and how often it has looked.
 #[derive(Clone, Copy, Debug, PartialEq, Eq)]

@@ -1,6 +1,6 @@
--- What a coordinator adds in one store, in any number of its calls, between which the store is renewed.
+-- What a coordinator adds in one store, in any number of its calls, with renewals of the store between them.
 --     Course           calls and renewals, one after another
---     joined           lists set end to end
+--     joined           lists, one after another, as one
 --     AgreesThroughout     what was added in all calls agrees with the decisions
 use Rattle.std.specs.Prelude.{◌≡◌, ℕ, List, [], ◌∷◌, ◌++◌, map, All}
 use Rattle.std.specs.List.{AllZip}
@@ -12,7 +12,7 @@ use Rattle.xa_coordinator.specs.Agreement.{AgreesWith, Agrees}
 use Rattle.xa_coordinator.specs.declared.decisions.Decision.{Decision}
 use Rattle.xa_renewal.specs.Renewal.{GoesOn}
 
--- from one session of the store to another: calls, each with the decisions as they stood in it, and renewals
+-- from one session of the store to another: calls, each with the decisions of its time, and renewals
 pub data Course (name : List ℕ) (store : ℕ) : List (List Decision) → SessionView → SessionView → Type 0 where
   stays : (session : SessionView) → Course name store [] session session
   calls : (decisions : List Decision) (later : List (List Decision)) (old mid new : SessionView) → Agrees decisions name store old mid
@@ -23,7 +23,8 @@ abbrev pub joined : List (List Statement) → List Statement
 joined [] = []
 joined (list ∷ lists) = list ++ joined lists
 
--- the history begins where it did, and as it did; of the session's number just these statements were added, those of each call in agreement with its decisions
+-- the history begins as it did; exactly these statements of the session were added, those of each call as its
+-- decisions allow
 pub record AgreesThroughout (name : List ℕ) (store : ℕ) (decisions : List (List Decision)) (old new : SessionView) : Type 0 where
   pub base : new.base ≡ old.base
   pub number : new.known.number ≡ old.known.number

@@ -1,6 +1,6 @@
--- The histories of a store's segments, set end to end.
+-- The histories of a store's segments, one after another.
 --     first_of         the state in which the first of them begins
---     history_of       all entries of the segments in front of one
+--     history_of       all entries of the earlier segments
 use Rattle.std.specs.Prelude.{List, [], ◌++◌}
 use Rattle.xa_words.specs.Entry.{Entry}
 use Rattle.xa_server.specs.State.{State}

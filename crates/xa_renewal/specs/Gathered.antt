@@ -1,4 +1,4 @@
--- Sessions of one segment that meet.
+-- Sessions of one segment that synchronise.
 --     HasMet           a session that has met another
 --     Opened           the sessions of the segment that follows
 use Rattle.std.specs.Prelude.{◌≡◌, List, map, Some, Option}

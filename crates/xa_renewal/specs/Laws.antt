@@ -1,4 +1,4 @@
--- What is so of every kept session.
+-- What holds of every kept session.
 --     own-part         the entries of its own number in what it has seen are its own
 --     keeps-law        the state in which its history begins keeps the lock law
 use Rattle.std.specs.Prelude.{◌≡◌, ◌++◌, Option, Some, None, IsSome}

@@ -1,5 +1,5 @@
 -- What a session knows and answers in one segment, over all segments.
---     known_over       what it knows, behind the entries of earlier segments
+--     known_over       what it knows, after the entries of earlier segments
 --     identity_over    the log of its segment, with room for those entries too
 --     fault_over       a fault that counts them too
 --     answer_over      an answer or a fault
@@ -14,7 +14,8 @@ use Rattle.xa_session.specs.declared.fault.Fault.{Fault}
 use Rattle.xa_session.specs.declared.fault.Fault.TheVariants.{Overtaken, Full, NoMemory, Busy}
 use Rattle.xa_store.specs.Rounds.{later}
 
--- it has seen the earlier segments whole, and its own entries of them are its own still; looks and tries are counted in its segment
+-- it has seen the earlier segments whole, and its own entries of them are still its own; looks and tries are
+-- counted in its segment
 abbrev pub known_over : List Entry → Known → Known
 known_over before known = record {
   number = known.number;

@@ -1,9 +1,9 @@
--- What opening and renewing make of the sessions of a store.
+-- How opening and renewing a store leave its sessions.
 --     Opens            a store's sessions before its first entry
---     IsOfItsStore     a session that was spoken to, or wasn't
+--     IsOfItsStore     a session that was used, or wasn't
 --     GoesOn           the session has all that it had, in the store that is renewed
 --     HasRoom          the log is empty, and of the same capacity
---     HasRoomAt        the same of one store of a coordinator
+--     HasRoomAt        HasRoom of one store of a coordinator
 use Rattle.std.specs.Prelude.{◌≡◌, ◌+◌, ℕ, List, [], Some, length, slice_get}
 use Rattle.std.specs.List.{All}
 use Rattle.decision_log.specs.History.{Begins}
@@ -34,11 +34,11 @@ pub record GoesOn (old new : SessionView) : Type 0 where
   pub mine : new.known.mine ≡ old.known.mine
   pub opened : association_seen new ≡ association_seen old
 
--- behind all that the session has seen there is room for as many entries as its log could have
+-- after all that the session has seen there is room for as many entries as its log could have
 abbrev pub HasRoom : Kept → Kept → Type 0
 HasRoom old new = (view_of new).identity.capacity ≡ length (view_of new).known.seen + (log_in old.seat).capacity
 
--- so it is with the kept session of this store
+-- HasRoom of the kept session of this store
 abbrev pub HasRoomAt : {S : Type 0} → (S → Kept) → ℕ → List S → List S → Type 0
 HasRoomAt {S} kept store old new =
     (before after : S) → slice_get old store ≡ Some before → slice_get new store ≡ Some after → HasRoom (kept before) (kept after)

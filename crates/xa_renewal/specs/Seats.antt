@@ -15,7 +15,7 @@ use Rattle.xa_renewal.specs.declared.seat.Seat.{Seat}
 abbrev pub before_seat : ℕ → List Entry → Known
 before_seat number before = record { number = number; seen = before; mine = entries_of number before; looks = 0; tries = 0; since = 0 }
 
--- its history begins where that of the store's first segment does, and beside it stands what it knows of earlier segments
+-- its history begins with the store's first entry, and what it knows of earlier segments is kept with it
 abbrev pub seat_view : Seat → SessionView
 seat_view seat = record {
   identity = identity_over (history_of seat.segment.value.past) (identity_of seat.segment.value.log);

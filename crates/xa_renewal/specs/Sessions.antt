@@ -1,8 +1,8 @@
 -- Kept sessions, as contracts see them.
---     nowhere          what stands for a session that isn't there
+--     nowhere          the view of a session that isn't there
 --     view_of          the session over all segments
 --     known_in, log_in, segment_in     in its segment: what its pass knows, of which log it is;  the segment
---     IsOf             the session is of this segment's log, behind these entries
+--     IsOf             the session is of this segment's log, after these entries
 --     AreAllOf         all sessions of a store, in the order of their numbers
 use Rattle.std.specs.Prelude.{◌≡◌, ◌<◌, ◌+◌, ℕ, false, List, [], ◌∷◌, length, Option, Some, None, slice_get}
 use Rattle.std.specs.List.{All}

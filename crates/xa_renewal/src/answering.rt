@@ -1,4 +1,4 @@
-//! How a kept session answers, and meets another.
+//! How a kept session answers, and synchronises with another.
 ghost use Rattle.std.specs.Prelude.{◌≡◌, ◌<◌, ◌≤◌, ◌+◌, ◌^◌, IfErr};
 ghost use Rattle.decision_log.specs.Calls.{MeetsFirst, MeetsSecond};
 ghost use Rattle.xa_coordinator.specs.Beside.{IsAnsweredSo};
@@ -12,7 +12,7 @@ use std::sync::Wait;
 use xa_session::{Answer, Fault, Session};
 use xa_xid::Statement;
 
-/// An answer's place, and how much a fault says is seen, counted over all segments.
+/// Counts an answer's place, or the number of entries that a fault names, over all segments.
 fn over(before: u64, answered: Result<Answer, Fault>) -> Result<Answer, Fault>
     requires { farthest answered + before < 2 ^ 64 }
     ensures { result ≡ answer_over before answered }

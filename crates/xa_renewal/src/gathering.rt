@@ -1,4 +1,4 @@
-//! Kept sessions of one segment meet, so that one of them has seen what all have.
+//! Kept sessions of one segment synchronise, so that one of them has seen all that any of them has.
 ghost use Rattle.std.specs.Prelude.{◌≡◌, IfOk, vec_capacity};
 ghost use Rattle.std.specs.List.{All, AllZip};
 ghost use Rattle.decision_log.specs.History.{Begins, entries_of};
@@ -8,8 +8,8 @@ ghost use Rattle.xa_renewal.specs.Gathered.{HasMet};
 
 use crate::Kept;
 
-/// Each of the others meets the last. Where that had seen what each of them has, it sees no more, and has just the entries of each
-/// one's number that this one knows as its own.
+/// Each of the others meets the last. If that had seen what each of them has, it sees no more, and its
+/// entries of each session's number are exactly that session's own.
 fn meet_each(others: &mut Vec<Kept>, last: &mut Kept)
     requires { All (λ session. log_in session.seat ≡ log_in last.old.seat) others.old.items }
     ensures others { AllZip HasMet others.old.items others.new.items }
@@ -27,8 +27,8 @@ fn meet_each(others: &mut Vec<Kept>, last: &mut Kept)
     }
 }
 
-/// Each of the others meets the last, twice: after the first round that has seen the most, so the second lets it see no more, and
-/// all that is told of the others' entries is told of one history.
+/// Each of the others meets the last, twice. After the first round the last has seen the most, so the second
+/// adds nothing, and what is known of the others' entries is known of one history.
 pub(crate) fn meet_all(others: &mut Vec<Kept>, last: &mut Kept)
     requires { All (λ session. log_in session.seat ≡ log_in last.old.seat) others.old.items }
     ensures others { AllZip HasMet others.old.items others.new.items }

@@ -10,13 +10,13 @@ use xa_session::Session;
 use xa_store::Pass;
 use xa_xid::NoMemory;
 
-/// A session that is kept while its store is renewed. It borrows nothing, and may be sent to another thread.
+/// A session that you keep while its store is renewed. It borrows nothing, and may be sent to another thread.
 ///
-/// A contract sees it over all segments of its store: `view_of session`, whose history begins with the store's first entry, and whose
-/// places count from there. Looks and tries are counted from the last renewal on.
+/// A contract sees it over all segments of its store: `view_of session`. Its history begins with the store's
+/// first entry, and its places count from there. Looks and tries are counted from the last renewal on.
 #[derive(Drop)]
 pub struct Kept {
-    // It is without a seat only while a call has that.
+    // Only during a call it is without a seat.
     pub(crate) seat: Option<Seat>,
     ghost there: { IsSome seat },
 }
@@ -24,7 +24,7 @@ pub struct Kept {
 impl Kept {
     ghost use Rattle.xa_renewal.specs.Sessions.{view_of, known_in, log_in, segment_in};
 
-    /// A session of this pass, which owns its segment together with the others.
+    /// A session of this pass, which owns its segment together with the store's other sessions.
     pub(crate) fn of(segment: &Arc<Segment>, pass: Pass) -> Result<Kept, NoMemory>
         requires { log_of pass ≡ identity_of segment.now.value.log }
         ensures segment { IfOk result (λ session. segment_in session.seat ≡ Some segment.now.value) }
@@ -45,7 +45,7 @@ impl Kept {
         }
     }
 
-    /// Two sessions of a log meet: what this one has seen begins what the other has seen afterwards.
+    /// Has two sessions of a log meet: what this one has seen begins what the other has seen afterwards.
     pub(crate) fn meet(&mut self, other: &mut Kept)
         requires { log_in self.old.seat ≡ log_in other.old.seat }
         ensures segment { segment_in self.new.seat ≡ segment_in self.old.seat }

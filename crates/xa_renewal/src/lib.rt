@@ -1,4 +1,11 @@
-//! Sessions of a store that are kept while it is renewed.
+//! Sessions that you keep while their store is renewed, so that a coordinator on threads never runs out of
+//! log.
+//!
+//! `Kept::open` returns all sessions of a new store; they may go to threads of their own. Between calls,
+//! `renew` takes all of them and has each go on over an empty log. `renew_store` does so for one store of a
+//! coordinator.
+//! Read docs/COORDINATOR.md#renewal-between-calls first, then `specs/Sessions.antt`, `specs/Renewal.antt`,
+//! `src/renewing.rt`, `src/coordinating.rt`, `src/segment.rt` and `specs/Course.antt`.
 #![tactic(auto)]
 
 mod answering;

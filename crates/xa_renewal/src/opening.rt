@@ -1,4 +1,4 @@
-//! The sessions of a segment, the first or the one that follows.
+//! Making the sessions of a segment: the first one, or the one that follows.
 ghost use Rattle.std.specs.Prelude.{◌≡◌, ◌++◌, Some, map, IfOk, IfErr};
 ghost use Rattle.std.specs.List.{All};
 ghost use Rattle.decision_log.specs.Opens.{Opens, Refuses};
@@ -44,7 +44,7 @@ fn seated_all(alloc: Global, segment: Segment, passes: Vec<Pass>) -> Result<Vec<
 }
 
 impl Seat {
-    /// The segment that follows, where its history is to be the whole of this session's.
+    /// The segment that follows, if its history is to have all of this session's.
     fn next(self, alloc: Global) -> (Seat, Result<(Segment, Vec<Pass>), NoMemory>)
         ensures segment { result.0.segment.value ≡ self.segment.value }
         ensures log { log_of result.0.pass ≡ log_of self.pass }
@@ -70,9 +70,9 @@ impl Seat {
 }
 
 impl Kept {
-    /// The sessions of the segment that follows, which begins where all that this session has seen ends.
+    /// The sessions of the segment that follows, which begins after all that this session has seen.
     ///
-    /// Error: `NoMemory`.
+    /// Errors: `NoMemory`.
     pub(crate) fn following(&mut self, alloc: Global) -> Result<Vec<Kept>, NoMemory>
         ensures segment { segment_in self.new.seat ≡ segment_in self.old.seat }
         ensures log { log_in self.new.seat ≡ log_in self.old.seat }
@@ -86,15 +86,21 @@ impl Kept {
         seated_all(alloc, segment, passes)
     }
 
-    /// All sessions of a store with no branches and no rows, in the order of their numbers, 1 to `sessions`, in `[1, 16]`. Between two
-    /// renewals its history can have `capacity` entries, in `[1, 1024]`.
+    /// Opens a store with no branch and no row, and returns all its sessions, in the order of their numbers.
     ///
-    /// Errors, in the order of test: `CapacityOutOfRange`, `SessionsOutOfRange`, `NoMemory`.
-    ///
-    /// May answer `NoMemory`. Doesn't wait.
+    /// `capacity`: how many entries its log has room for between two renewals, in `[1, 1024]`. `sessions`:
+    /// how many sessions there are, in `[1, 16]`. Keep all of them: a store can be renewed only with all its
+    /// sessions.
+    /// Errors, in the order of test: `CapacityOutOfRange`, `SessionsOutOfRange` if the number isn't in its
+    /// range; `NoMemory` if an allocation fails.
+    /// May return `NoMemory`. Doesn't wait.
     /// Own rule: docs/COORDINATOR.md#renewal-between-calls.
     pub fn open(alloc: Global, capacity: u64, sessions: u64) -> Result<Vec<Kept>, OpenFault>
+        // Proved (coordinator, kept-opens): The sessions of a store that is opened to be renewed are those of
+        //   each number, none of which has seen anything, over no branch and no row. Else the first fault
+        //   whose cause holds is returned.
         ensures ok { IfOk result (λ all. OpensStore sessions all.items) }
+        // Proved (coordinator, kept-opens)
         ensures err { IfErr result (Refuses capacity sessions) }
     {
         let (segment, passes) = Segment::first(alloc, capacity, sessions)?;

@@ -1,4 +1,4 @@
-//! What came before a segment of a store's history.
+//! The segments of a store's history before the present one.
 ghost use Rattle.std.specs.Prelude.{◌≡◌, ◌++◌, []};
 ghost use Rattle.xa_store.specs.Passes.{known_of};
 
@@ -6,12 +6,13 @@ use std::snapshot::Snapshot;
 use xa_server::Server;
 use xa_store::Pass;
 
-/// The segments in front of one. Contracts see their histories; at run time nothing of them is kept.
+/// The earlier segments of a store's history. Contracts see their histories; at run time nothing of them is
+/// kept.
 #[derive(Drop)]
 pub enum Past {
     /// There is none: the store begins with this server.
     Nothing(Snapshot<Server>),
-    /// What came before the last of them, and a pass that had seen its whole history.
+    /// The segments before the last of them, and a pass that had seen the last one's whole history.
     Behind(Snapshot<Past>, Snapshot<Pass>),
 }
 
@@ -26,7 +27,7 @@ impl Past {
         Past::Nothing(Snapshot::of(first))
     }
 
-    /// The past with one segment more, whose history this pass has seen.
+    /// The past with one more segment, whose history this pass has seen.
     pub(crate) fn behind(before: &Past, last: &Pass) -> Past
         ensures first { first_of result ≡ first_of before.now }
         ensures history { history_of result ≡ history_of before.now ++ (known_of last.now).seen }

@@ -1,4 +1,4 @@
-//! A stretch of a store's history.
+//! A segment: a stretch of a store's history from one renewal to the next.
 ghost use Rattle.std.specs.Prelude.{◌≡◌, ◌≤◌, ◌^◌, ◌++◌, [], length, IfOk, IfErr};
 ghost use Rattle.decision_log.specs.Opens.{Opens, Refuses};
 ghost use Rattle.xa_server.specs.Locks.{LockLaw};
@@ -15,7 +15,8 @@ use xa_session::replayed;
 use xa_store::{Log, Pass};
 use xa_xid::NoMemory;
 
-/// A stretch of a store's history, from one renewal to the next: the state in which it begins, the log that keeps it, and what came before.
+/// A stretch of a store's history, from one renewal to the next: its base, its log, and the segments before
+/// it.
 #[derive(Drop)]
 pub struct Segment {
     pub(crate) base: Server,
@@ -29,7 +30,7 @@ pub struct Segment {
 }
 
 impl Segment {
-    /// The first segment of a store with no branches and no rows, and the passes of its sessions.
+    /// The first segment of a store with no branch and no row, and the passes of its sessions.
     pub(crate) fn first(
         alloc: Global,
         capacity: u64,
@@ -53,7 +54,7 @@ impl Segment {
         Ok((segment, passes))
     }
 
-    /// The state in which the segment that follows begins: what all that the pass has seen of this one leaves.
+    /// The state in which the segment that follows begins: what the pass's history of this one leaves.
     fn next_base(&self, last: &mut Pass) -> Result<Server, NoMemory>
         requires { log_of last.old ≡ identity_of self.now.log }
         ensures belongs { log_of last.new ≡ log_of last.old }
@@ -63,9 +64,10 @@ impl Segment {
         replayed(&self.log, &self.base, last)
     }
 
-    /// The segment that follows once a pass has seen the whole history of this one, and the passes of its sessions.
+    /// The segment that follows after a pass has seen the whole history of this one, and the passes of its
+    /// sessions.
     ///
-    /// Error: `NoMemory`, also where the histories together have more than 2 ^ 63 - 1024 entries.
+    /// Errors: `NoMemory`, also if the histories together have more than 2^63 - 1024 entries.
     pub(crate) fn next(
         &self,
         alloc: Global,

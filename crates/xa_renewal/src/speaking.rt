@@ -1,4 +1,4 @@
-//! A kept session, as a session.
+//! A kept session, as a coordinator uses it.
 
 use crate::Kept;
 use std::sync::Wait;
@@ -6,6 +6,8 @@ use xa_coordinator::Speak;
 use xa_session::{Answer, Fault};
 use xa_xid::Statement;
 
+// Proved (coordinator, kept-session): A kept session keeps the promises of `Speak` over the histories of all
+//   segments, one after another. Its places count from the store's first entry.
 impl Speak for Kept {
     ghost use Rattle.xa_renewal.specs.Sessions.{view_of};
     ghost use Rattle.xa_renewal.specs.Laws.{own-part, keeps-law};
