@@ -1,6 +1,7 @@
--- A transaction manager whose sessions each hold the other client's beside them: what a call does to it.
---     within, others_of        the coordinator's sessions, and the other clients', as they can't be made to fail
---     LeavesAlone      no session of the coordinator's was spoken to, and each passes as many calls on as before
+-- A transaction manager whose sessions hold the other clients': what a call does to it.
+--     within, others_of        the coordinator's sessions without their limits, and the other clients'
+--     LeavesAlone      no session of the coordinator's got a statement, and each passes on as many calls as
+--     before
 --     HasRepliedBeside         AT
 --     IsShownBeside            SHOW
 --     CarriesBeside    a call was carried out, by the call
@@ -29,7 +30,7 @@ use Rattle.xa_manager.specs.Served.{call_said, refused_text, has_few_words}
 use Rattle.xa_manager.specs.Texts.{answer_text}
 use Rattle.xa_manager.specs.Whole.{IsPair, IsRefused}
 
--- a session that can be made to fail, seen as the one within
+-- a session without its limit
 abbrev pub within : {S : Type 0} → (S → SessionView) → Fused S → SessionView
 within {S} view session = view session.inner
 
@@ -37,12 +38,13 @@ within {S} view session = view session.inner
 abbrev pub others_of : {S : Type 0} → (S → SessionView) → List (Fused S) → List SessionView
 others_of {S} other sessions = map (within other) sessions
 
--- none was spoken to, and each passes as many calls on as before
+-- none got a statement, and each passes on as many calls as before
 pub record LeavesAlone {S : Type 0} (view : S → SessionView) (old new : List (Fused S)) : Type 0 where
   pub alone : EachStore (within view) (λ store. IsLeftAlone) old new
   pub left : map (λ (s : Fused S). s.left) new ≡ map (λ (s : Fused S). s.left) old
 
--- the other client's session in a store was given a statement, and this is what it answered; nothing was said to any other session
+-- the other client's session in a store was given a statement, and this is its answer; no other session got a
+-- statement
 pub record HasRepliedBeside {S T : Type 0} (view other : S → SessionView) (store : ℕ) (statement : Statement) (old : WholeManager (Fused S) T)
     (response : Response) (new : WholeManager (Fused S) T) : Type 0 where
   pub answer : Result Reply Fault
@@ -63,7 +65,7 @@ pub record IsShownBeside {S T : Type 0} (view other : S → SessionView) (old : 
   pub alone : LeavesAlone view old.sessions new.sessions
   pub stands : new ≡ record old { sessions = new.sessions }
 
--- a call was carried out, by the call; none but AT and SHOW says anything to another client's session
+-- a call was carried out, by the call; only AT and SHOW give a statement to another client's session
 abbrev pub CarriesBeside : {S T : Type 0} → (S → SessionView) → (S → SessionView) → (T → SessionView) → WholeManager (Fused S) T → Call → Response
     → WholeManager (Fused S) T → Type 0
 CarriesBeside view other nobody old (At store statement) response new = HasRepliedBeside view other store statement old response new
@@ -83,14 +85,15 @@ pub record BeginsBeside {S T : Type 0} (view other : S → SessionView) (manager
   pub anew : StartsAnew manager.branches manager.sessions
   pub pairs : All (λ session. IsPair (view session.inner) (other session.inner)) manager.sessions
 
--- memory was refused for a call, and nothing was said and nothing changed; or it was carried out, and memory was refused for what is told of it
+-- memory was refused for a call, and no session got a statement and nothing changed; or it was carried out,
+-- and memory was refused for its answer
 pub record IsRefusedBeside {S T : Type 0} (view other : S → SessionView) (nobody : T → SessionView) (old : WholeManager (Fused S) T) (call : Call)
     (text : List ℕ) (new : WholeManager (Fused S) T) : Type 0 where
   pub speaks : call ≡ Silent → ⊥
   pub told : text ≡ refused_text
   pub stands : (new ≡ old) ⊎ ((response : Response) × (has_few_words response ≡ false) × PerformsBeside view other nobody old call response new)
 
--- a call was refused or carried out, and what it came to is told; or memory was refused
+-- a call was refused or carried out, and its response is written; or memory was refused
 abbrev pub IsBesideAnswer : {S T : Type 0} → (S → SessionView) → (S → SessionView) → (T → SessionView) → WholeManager (Fused S) T → Received → List ℕ
     → WholeManager (Fused S) T → Type 0
 IsBesideAnswer view other nobody old line text new =

@@ -1,7 +1,7 @@
--- What a line tells a transaction manager. All of it is our own: docs/COORDINATOR.md#calls.
---     takes_rows       the statements that a transaction gives: GET, PUT and DEL
---     call_of          what a line tells
---     IsWritten        a call that a line can tell
+-- How a line is read as a call of a transaction manager. All of it is an own rule: docs/COORDINATOR.md#calls.
+--     takes_rows       the statements that a transaction can give: GET, PUT and DEL
+--     call_of          the call that a line is read as
+--     IsWritten        a call as a line can spell it
 use Rattle.std.specs.Prelude.{◌≡◌, ℕ, Bool, true, false, bytes_eq, if◌then◌else◌, Option, Some, None, Result, Ok, Err, List, [], ◌∷◌, codes}
 use Rattle.xa_xid.specs.Bytes.{unblank}
 use Rattle.xa_xid.specs.declared.statement.Statement.{Statement}
@@ -19,7 +19,7 @@ takes_rows (Put key value) = true
 takes_rows (Del key) = true
 takes_rows statement = false
 
--- the number that is all of a text, but for blanks behind it
+-- the number that is all of a text, except for blanks after it
 unfoldable pub lone_number : List ℕ → Option ℕ
 lone_number text = if is_empty_line (behind_word text) then number_of_word (first_word text) else None
 
@@ -28,22 +28,22 @@ abbrev pub alone : Call → List ℕ → Call
 alone call [] = call
 alone call (byte ∷ rest) = Unread 0
 
--- a call of a transaction's number alone
+-- a call of which a transaction's number is the only argument
 abbrev pub numbered : (ℕ → Call) → Option ℕ → Call
 numbered call None = Unread 0
 numbered call (Some number) = call number
 
--- work, where its statement is read and is of its kinds; one of another kind goes wrong at its first byte
+-- work, if its statement is read and is GET, PUT or DEL; any other kind is wrong at its first byte
 abbrev pub work_call : ℕ → ℕ → Result Statement ℕ → Call
 work_call number store (Err place) = Unread place
 work_call number store (Ok statement) = if takes_rows statement then Work number store statement else Unread 0
 
--- what the other client says, where its statement is read
+-- the other client's statement, if it is read
 abbrev pub at_call : ℕ → Result Statement ℕ → Call
 at_call store (Err place) = Unread place
 at_call store (Ok statement) = At store statement
 
--- a number, and the call that the text behind it makes
+-- a number, and the call that the text after it makes
 abbrev pub with_number : Option ℕ → (ℕ → Call) → Call
 with_number None call = Unread 0
 with_number (Some number) call = call number
@@ -65,7 +65,7 @@ fail_of text =
     if bytes_eq (first_word (behind_word text)) (codes "AFTER") then numbered (λ calls. Fail store calls) (lone_number (behind_word (behind_word text)))
     else Unread 0)
 
--- the calls that are about no transaction, by their first word and the text behind it
+-- the calls that are about no transaction, by their first word and the text after it
 unfoldable pub plain_call : List ℕ → List ℕ → Call
 plain_call word text =
     if bytes_eq word (codes "BEGIN") then alone Begin text else
@@ -75,7 +75,7 @@ plain_call word text =
     if bytes_eq word (codes "RECOVER") then alone RecoverCall text else
     if bytes_eq word (codes "SHOW") then alone Show text else Unread 0
 
--- a call by its first word and the text behind it
+-- a call by its first word and the text after it
 unfoldable pub call_named : List ℕ → List ℕ → Call
 call_named word text =
     if bytes_eq word (codes "WORK") then work_of text else
@@ -84,16 +84,16 @@ call_named word text =
     if bytes_eq word (codes "FINISH") then numbered (λ number. Finish number) (lone_number text) else
     if bytes_eq word (codes "ABANDON") then numbered (λ number. Abandon number) (lone_number text) else plain_call word text
 
--- what is left of a line behind its blanks
+-- what is left of a line after its blanks
 abbrev pub filled_call : List ℕ → Call
 filled_call [] = Silent
 filled_call (first ∷ rest) = call_named (first_word (first ∷ rest)) (behind_word (first ∷ rest))
 
--- what a line tells: its words are cut at blanks, and written as they stand here; a comment tells nothing
+-- the call that a line is read as: its words are separated by blanks; a comment is no call
 unfoldable pub call_of : List ℕ → Call
 call_of line = if is_comment_line line then Silent else filled_call (unblank line)
 
--- work gives GET, PUT or DEL, as in each call that a line tells
+-- work gives GET, PUT or DEL, as in each call that a line spells
 abbrev pub IsWritten : Call → Type 0
 IsWritten (Work number store statement) = takes_rows statement ≡ true
 IsWritten call = Unit {0}

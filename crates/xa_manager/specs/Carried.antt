@@ -1,7 +1,8 @@
--- What each call of a transaction manager does, where it isn't refused: what it is answered, what was said to the sessions, and how all stands then.
+-- What each call of a transaction manager does if it isn't refused: its response, what the sessions did, and
+-- the state then.
 --     WholeManager     a transaction manager, as contracts see it
---     SpeaksAlone      only the coordinator's sessions were spoken to
---     vote_answer_of, stage_after     what is told of a vote;  how far the transaction has come then
+--     SpeaksAlone      only the coordinator's sessions were used
+--     vote_answer_of, stage_after     the answer for a vote;  the transaction's stage after it
 --     IsBegun, IsSpent                BEGIN: a transaction began;  no number is left
 --     HasWorked        WORK
 --     HasVoted         PREPARE
@@ -59,8 +60,8 @@ use Rattle.xa_manager.specs.Ledger.{stage_of, with_stage, IsTransactionOf}
 use Rattle.xa_manager.specs.Limits.{LimitsAlone, StartsAnew}
 use Rattle.xa_manager.specs.Said.{IsGiven, IsListed}
 
--- a transaction manager, as contracts see it: how many stores it has, how the numbers stand, how far each transaction has come, what the coordinator has
--- open in each store, its session in each, and the other client's
+-- a transaction manager, as contracts see it: how many stores it has, the states of the numbers, the stage of
+-- each transaction, what the coordinator has open in each store, its session in each, and the other client's
 pub record WholeManager (C T : Type 0) : Type 0 where
   pub stores : ℕ
   pub decisions : List Decision
@@ -69,20 +70,21 @@ pub record WholeManager (C T : Type 0) : Type 0 where
   pub sessions : List C
   pub other_clients : List T
 
--- only the coordinator's sessions were spoken to, each stays of its log, and there are as many; the numbers and the transactions stand so now
+-- only the coordinator's sessions were used, each stays of its log, and there are as many; these are the
+-- decisions and stages now
 pub record SpeaksAlone {C T : Type 0} (view : C → SessionView) (decisions : List Decision) (stages : List Stage) (old new : WholeManager C T) : Type 0 where
   pub logs : EachStore view (λ store. StaysOfLog) old.sessions new.sessions
   pub count : length new.sessions ≡ length old.sessions
   pub stands : new ≡ record old { decisions = decisions; stages = stages; branches = new.branches; sessions = new.sessions }
 
--- what is told of a vote
+-- the answer for a vote
 abbrev pub vote_answer_of : Vote → VoteAnswer
 vote_answer_of (VoteReady prepared) = ToldReady
 vote_answer_of (VoteOnePhase prepared) = ToldOnePhase
 vote_answer_of (VoteNo prepared store cause) = ToldNo store cause
 vote_answer_of VoteNothing = ToldNothing
 
--- how far a transaction has come with its vote
+-- a transaction's stage after its vote
 abbrev pub stage_after : Vote → Stage
 stage_after (VoteReady prepared) = Ready prepared
 stage_after (VoteOnePhase prepared) = VotedStage prepared
@@ -103,7 +105,8 @@ pub record IsSpent {C T : Type 0} (old : WholeManager C T) (response : Response)
   pub told : response ≡ NumbersSpent
   pub stands : new ≡ old
 
--- a transaction that takes work worked in a store, and its work came to this; in the other stores nothing changed, nor whether they take part
+-- a transaction that takes work worked in a store, with this result; in the other stores nothing changed, nor
+-- whether they take part
 pub record HasWorked {C T : Type 0} (view : C → SessionView) (number store : ℕ) (statement : Statement) (old : WholeManager C T) (response : Response)
     (new : WholeManager C T) : Type 0 where
   pub before : Transaction
@@ -161,22 +164,22 @@ pub record IsAbandoned {C T : Type 0} (view : C → SessionView) (number : ℕ) 
   pub working : stage_of old.stages number ≡ Some (Working before)
   pub ends : HasEnded view number before RollBack old response new
 
--- the coordinator's session in a store passes so many calls on, and nothing was said to any session
+-- the coordinator's session in a store passes on so many calls, and no session got a statement
 pub record IsLimited {S T : Type 0} (store calls : ℕ) (old : WholeManager (Fused S) T) (response : Response) (new : WholeManager (Fused S) T) : Type 0 where
   pub known : store < old.stores
   pub told : response ≡ Limited
   pub limited : LimitsAlone store calls old.sessions new.sessions
   pub stands : new ≡ record old { sessions = new.sessions }
 
--- a new coordinator took the place of the old one, over the same sessions, to which nothing was said
+-- a new coordinator replaced the old one, over the same sessions, which got no statement
 pub record IsStopped {S T : Type 0} (old : WholeManager (Fused S) T) (response : Response) (new : WholeManager (Fused S) T) : Type 0 where
   pub told : response ≡ Stopped
   pub anew : StartsAnew new.branches new.sessions
   pub within : map (λ (s : Fused S). s.inner) new.sessions ≡ map (λ (s : Fused S). s.inner) old.sessions
   pub stands : new ≡ record old { branches = new.branches; sessions = new.sessions }
 
--- the coordinator recovered by the decisions, of which none is undecided then, and this is what recovery came to; nothing is open then, or after a fault, in
--- the stores that it didn't come to, what was
+-- the coordinator recovered by the decisions, of which none is undecided then, with this result; nothing is
+-- open then, or after a fault, in the stores that it didn't reach, what was open before
 pub record HasRecovered {C T : Type 0} (view : C → SessionView) (old : WholeManager C T) (response : Response) (new : WholeManager C T) : Type 0 where
   pub outcome : Result Report RecoverFault
   pub told : response ≡ Recovered outcome
@@ -186,7 +189,8 @@ pub record HasRecovered {C T : Type 0} (view : C → SessionView) (old : WholeMa
   pub marks : IfErr outcome (λ fault. (store : ℕ) → asked_by_fault fault ≤ store → slice_get new.branches store ≡ slice_get old.branches store)
   pub alone : SpeaksAlone view (map closed_of old.decisions) old.stages old new
 
--- the other client's session in a store was given a statement, and this is what it answered; nothing was said to any other session
+-- the other client's session in a store was given a statement, and this is its answer; no other session got a
+-- statement
 pub record HasReplied {C T : Type 0} (view : T → SessionView) (store : ℕ) (statement : Statement) (old : WholeManager C T) (response : Response)
     (new : WholeManager C T) : Type 0 where
   pub answer : Result Reply Fault

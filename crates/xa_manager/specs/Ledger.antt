@@ -1,6 +1,6 @@
--- The transactions that were begun, as the list of how far 1, 2, .. have come.
---     stage_of         how far a transaction has come, where it was begun
---     with_stage       the list with this one so far
+-- The transactions that were begun, as the list of the stages of 1, 2, ..
+--     stage_of         a transaction's stage, if it was begun
+--     with_stage       the list with this stage of one transaction
 --     transaction_in   the transaction that is kept
 --     IsTransactionOf  the transaction of a number
 use Rattle.std.specs.Prelude.{◌≡◌, ℕ, Option, Some, None, if◌then◌else◌, ◌==◌, ◌-◌, List, slice_get, slice_set, codes}
@@ -8,15 +8,15 @@ use Rattle.xa_coordinator.specs.declared.transaction.Transaction.{Transaction}
 use Rattle.xa_manager.specs.declared.stage.Stage.{Stage}
 use Rattle.xa_manager.specs.declared.stage.Stage.TheVariants.{Working, Ready, Voted, Over}
 
--- how far the transaction of this number has come; numbers are given from 1 on
+-- the stage of the transaction of this number; numbers are given from 1 on
 unfoldable pub stage_of : List Stage → ℕ → Option Stage
 stage_of stages number = if number == 0 then None else slice_get stages (number - 1)
 
--- the transaction of this number has come so far, the others as they had; nothing changes where it wasn't begun
+-- the transaction of this number has this stage, the others have theirs; nothing changes if it wasn't begun
 unfoldable pub with_stage : List Stage → ℕ → Stage → List Stage
 with_stage stages number stage = if number == 0 then stages else slice_set stages (number - 1) stage
 
--- the transaction that is kept of one that isn't over
+-- the transaction that is kept, unless it is over
 abbrev pub transaction_in : Stage → Option Transaction
 transaction_in (Working transaction) = Some transaction
 transaction_in (Ready prepared) = Some prepared.transaction

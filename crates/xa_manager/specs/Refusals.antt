@@ -1,8 +1,8 @@
--- What a call is refused with, where it isn't carried out.
---     takes_work, takes_decision, takes_finish     whether a call is for a transaction that has come so far
---     refusal_in       what a call that is for some stages alone is refused with
---     refusal_at       what a call that needs a store is refused with
---     refusal_of       what a call is refused with
+-- Why a call is refused.
+--     takes_work, takes_decision, takes_finish     whether a call is allowed in a stage
+--     refusal_in       the refusal of a call that only some stages allow
+--     refusal_at       the refusal of a call that needs a store
+--     refusal_of       the refusal of a call
 use Rattle.std.specs.Prelude.{ℕ, Bool, true, false, nat_lt, if◌then◌else◌, Option, Some, None, List}
 use Rattle.xa_manager.specs.declared.call.Call.{Call}
 use Rattle.xa_manager.specs.declared.call.Call.TheVariants.{Unread as UnreadCall, Work, Prepare, Decide, Finish, Abandon, Fail, At}
@@ -28,16 +28,17 @@ takes_finish (Ready prepared) = true
 takes_finish (Voted prepared) = true
 takes_finish stage = false
 
--- a call that is for transactions of these stages alone
+-- a call that only these stages allow
 abbrev pub refusal_in : (Stage → Bool) → ℕ → Option Stage → Option Response
 refusal_in takes number None = Some (UnknownTransaction number)
 refusal_in takes number (Some stage) = if takes stage then None else Some (WrongStage number)
 
--- a call that needs a store of this number, and then is refused so
+-- a call that needs a store of this number, and then has this refusal
 abbrev pub refusal_at : (stores store : ℕ) → Option Response → Option Response
 refusal_at stores store refusal = if nat_lt store stores then refusal else Some (UnknownStore store)
 
--- what a call is refused with: the faults in this order, a line that isn't read, an unknown store, an unknown transaction, a wrong stage
+-- the refusal of a call: an unread line, an unknown store, an unknown transaction, a wrong stage, in this
+-- order
 abbrev pub refusal_of : ℕ → List Stage → Call → Option Response
 refusal_of stores stages (UnreadCall place) = Some (Unread place)
 refusal_of stores stages (Work number store statement) = refusal_at stores store (refusal_in takes_work number (stage_of stages number))

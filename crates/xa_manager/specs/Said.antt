@@ -1,8 +1,8 @@
--- What was said to a session, by what was answered.
+-- What a session did, by its answer.
 --     reply_of         the reply of an answer
---     RepliesAs        a session answered a statement so, or didn't for a fault
---     IsGiven          a session was given a statement, and answered so
---     IsListed         a session was given XA RECOVER, and answered as a list says
+--     RepliesAs        a session answered a statement, or failed, with this result
+--     IsGiven          a session was given a statement, with this result
+--     IsListed         a session was given XA RECOVER, and answered as the list has it
 use Rattle.std.specs.Prelude.{◌≡◌, ℕ, true, Some, Result, Ok, Err, List, slice_get}
 use Rattle.xa_xid.specs.declared.statement.Statement.{Statement}
 use Rattle.xa_xid.specs.declared.statement.Statement.TheVariants.{Recover}
@@ -17,12 +17,12 @@ abbrev pub reply_of : Result Answer Fault → Result Reply Fault
 reply_of (Ok answer) = Ok answer.reply
 reply_of (Err fault) = Err fault
 
--- a session answered a statement so, or didn't for this fault
+-- a session answered a statement, or failed, with this result
 abbrev pub RepliesAs : Statement → Result Reply Fault → SessionView → SessionView → Type 0
 RepliesAs statement (Ok reply) old new = (place : ℕ) × IsAnswered old.base statement (record { place = place; reply = reply }) old.known new.known
 RepliesAs statement (Err fault) old new = Fails old.turns old.identity.capacity old.base statement fault old.known new.known
 
--- a session was given the statement, in the log that it was of, and answered so, or didn't for this fault
+-- a session was given the statement, in the log that it was of, with this result
 pub record IsGiven (statement : Statement) (answer : Result Reply Fault) (old new : SessionView) : Type 0 where
   pub log : StaysOfLog old new
   pub replies : RepliesAs statement answer old new

@@ -1,6 +1,6 @@
--- What a transaction manager answers to lines that come one after another.
+-- How a transaction manager answers lines, one after another.
 --     call_said       the call that a line is
---     refused_text    what is told where memory is refused
+--     refused_text    the answer if memory is refused
 --     has_few_words   a response whose words take no memory
 --     IsRefusedCall   memory was refused for a call or for its answer
 --     IsCallAnswer    how a line may be answered
@@ -28,11 +28,12 @@ abbrev pub call_said : Received → Call
 call_said (Whole line) = call_of line
 call_said TooLong = Unread 0
 
--- what is told where memory is refused (number and SQLSTATE are the manual's, ER_OUTOFMEMORY; that it is told so is our own)
+-- the answer if memory is refused (number and SQLSTATE are the manual's, ER_OUTOFMEMORY; the rest is an own
+-- rule)
 abbrev pub refused_text : List ℕ
 refused_text = codes "ERROR 1037 (HY001): out of memory\n"
 
--- a reply of a word: OK, or that there is no such row
+-- a reply of one word: OK, or that there is no such row
 abbrev pub is_word : Reply → Bool
 is_word Done = true
 is_word (Value None) = true
@@ -55,15 +56,16 @@ has_few_words Stopped = true
 has_few_words (Replied convert (Ok reply)) = is_word reply
 has_few_words response = false
 
--- memory was refused for a call, and nothing was said and nothing changed; or it was carried out, and memory was refused for what is
--- told of it, which is then a response of many words: so a transaction that begins, a decision, a limit and a stop aren't carried out
+-- memory was refused for a call, and no session got a statement and nothing changed; or it was carried out,
+-- and memory was refused for its answer, which is then of many words: so a begin, a decision, a limit and a
+-- stop aren't carried out
 pub record IsRefusedCall {S T : Type 0} (view : S → SessionView) (view' : T → SessionView) (old : WholeManager (Fused S) T) (call : Call) (text : List ℕ)
     (new : WholeManager (Fused S) T) : Type 0 where
   pub speaks : call ≡ Silent → ⊥
   pub told : text ≡ refused_text
   pub stands : (new ≡ old) ⊎ ((response : Response) × (has_few_words response ≡ false) × Performs view view' old call response new)
 
--- a call was refused or carried out, and what it came to is told; or memory was refused
+-- a call was refused or carried out, and its response is written; or memory was refused
 abbrev pub IsCallAnswer : {S T : Type 0} → (S → SessionView) → (T → SessionView) → WholeManager (Fused S) T → Received → List ℕ → WholeManager (Fused S) T
     → Type 0
 IsCallAnswer view view' old line text new =

@@ -1,14 +1,14 @@
--- What is written for a call, by what it was answered. All of it is our own: docs/COORDINATOR.md#calls.
+-- The text that is written for a call, by its response. All of it is an own rule: docs/COORDINATOR.md#calls.
 --     fault_text, cause_text       why a statement wasn't answered, or carried out
---     worked_text                  what work came to
+--     worked_text                  the result of work
 --     vote_text                    what the stores voted
 --     ending_text                  how a transaction ended
---     recovered_text               what a recovery came to
---     replied_text                 what another client was answered
---     stores_shown_text            each store, and what its other client was answered
---     decisions_text               the numbers by how they stand
---     response_text                what a call was answered
---     answer_text                  the same with its line feed, and nothing for a line that tells nothing
+--     recovered_text               the result of a recovery
+--     replied_text                 another client's answer
+--     stores_shown_text            each store, and its other client's answer
+--     decisions_text               the numbers by their states
+--     response_text                the response to a call
+--     answer_text                  the same with its line feed, and nothing for a line that is no call
 use Rattle.std.specs.Prelude.{ℕ, ◌+◌, Bool, true, false, if◌then◌else◌, Result, Ok, Err, List, [], ◌∷◌, ◌++◌, codes, decimal}
 use Rattle.xa_server.specs.declared.reply.Reply.{Reply}
 use Rattle.xa_session.specs.declared.fault.Fault.{Fault}
@@ -33,7 +33,7 @@ use Rattle.xa_manager.specs.declared.response.Response.TheVariants.{Silent, Unre
 use Rattle.xa_manager.specs.declared.response.Response.TheVariants.{Voted, Decided as WasDecided, Closed as WasClosed, Ended, Limited, Stopped, Recovered}
 use Rattle.xa_manager.specs.declared.response.Response.TheVariants.{Replied, Shown}
 
--- why a session didn't answer; one that tries again is never left overtaken or busy
+-- why a session didn't answer; a session that tries again is never left overtaken or busy
 abbrev pub fault_text : Fault → List ℕ
 fault_text (Overtaken seen) = codes "overtaken"
 fault_text Full = codes "log full"
@@ -45,7 +45,7 @@ abbrev pub cause_text : Cause → List ℕ
 cause_text (SessionCause fault) = fault_text fault
 cause_text (RefusedCause error) = error_text error
 
--- what work came to
+-- the result of work
 abbrev pub worked_text : Result Reply WorkFault → List ℕ
 worked_text (Ok reply) = reply_text false reply
 worked_text (Err (WorkSession fault)) = codes "FAULT: " ++ fault_text fault
@@ -71,7 +71,7 @@ ending_text RolledBack = codes "ROLLED BACK"
 ending_text (Hazard stores) = codes "HAZARD" ++ stores_text stores.items
 ending_text (Unfinished store cause) = codes "UNFINISHED " ++ decimal store ++ codes ": " ++ cause_text cause
 
--- why a recovery didn't come to its end
+-- why a recovery failed
 abbrev pub recover_fault_text : RecoverFault → List ℕ
 recover_fault_text (RecoverSession store fault) = codes "UNRECOVERED " ++ decimal store ++ codes ": " ++ fault_text fault
 recover_fault_text (StillPrepared store) = codes "STILL PREPARED " ++ decimal store
@@ -84,17 +84,17 @@ report_text report =
     codes "RECOVERED committed " ++ decimal report.committed ++ codes " rolled back " ++ decimal report.rolled_back ++ codes " missing "
     ++ decimal report.missing
 
--- what a recovery came to
+-- the result of a recovery
 abbrev pub recovered_text : Result Report RecoverFault → List ℕ
 recovered_text (Ok report) = report_text report
 recovered_text (Err fault) = recover_fault_text fault
 
--- what another client was answered, recovered identifiers in digits where they are to be converted
+-- another client's answer, with recovered identifiers in digits if they are to be converted
 abbrev pub replied_text : Bool → Result Reply Fault → List ℕ
 replied_text convert (Ok reply) = reply_text convert reply
 replied_text convert (Err fault) = codes "FAULT: " ++ fault_text fault
 
--- a store, and below it what its other client was answered
+-- a store, and below it its other client's answer
 abbrev pub store_text : ℕ → Result Reply Fault → List ℕ
 store_text store answer = codes "STORE " ++ decimal store ++ codes "\n" ++ replied_text true answer ++ codes "\n"
 
@@ -103,29 +103,29 @@ abbrev pub stores_shown_text : ℕ → List (Result Reply Fault) → List ℕ
 stores_shown_text store [] = []
 stores_shown_text store (answer ∷ answers) = store_text store answer ++ stores_shown_text (store + 1) answers
 
--- a number stands so
+-- a number has the wanted state
 abbrev pub stands_as : Decision → Decision → Bool
 stands_as Undecided Undecided = true
 stands_as Decided Decided = true
 stands_as Closed Closed = true
 stands_as wanted decision = false
 
--- a number after a space, where it stands as wanted
+-- a number after a space, if it has the wanted state
 abbrev pub number_text : Decision → ℕ → Decision → List ℕ
 number_text wanted number decision = if stands_as wanted decision then codes " " ++ decimal number else []
 
--- the numbers from this one on that stand as wanted, ascending, each after a space
+-- the numbers from this one on that have the wanted state, ascending, each after a space
 abbrev pub numbers_text : Decision → ℕ → List Decision → List ℕ
 numbers_text wanted number [] = []
 numbers_text wanted number (decision ∷ decisions) = number_text wanted number decision ++ numbers_text wanted (number + 1) decisions
 
--- the numbers by how they stand
+-- the numbers by their states
 abbrev pub decisions_text : List Decision → List ℕ
 decisions_text decisions =
     codes "UNDECIDED" ++ numbers_text Undecided 1 decisions ++ codes "\nDECIDED" ++ numbers_text Decided 1 decisions ++ codes "\nCLOSED"
     ++ numbers_text Closed 1 decisions
 
--- what a call was answered, once the decisions are these
+-- the response to a call, when the decisions are these
 abbrev pub response_text : List Decision → Response → List ℕ
 response_text decisions Silent = []
 response_text decisions (Unread place) = syntax_text place
@@ -145,7 +145,7 @@ response_text decisions (Recovered recovered) = recovered_text recovered
 response_text decisions (Replied convert answer) = replied_text convert answer
 response_text decisions (Shown listing) = stores_shown_text 0 listing.answers.items ++ decisions_text decisions
 
--- nothing is written for a line that tells nothing
+-- nothing is written for a line that is no call
 abbrev pub is_silent : Response → Bool
 is_silent Silent = true
 is_silent response = false

@@ -1,4 +1,4 @@
-//! Calls, carried out.
+//! Carrying calls out.
 ghost use Rattle.std.specs.Prelude.{◌≡◌, ◌≤◌, ◌<◌, ◌-◌, ◌^◌, ◌⊎◌, ℕ, true, nat_lt, IfOk, OnErr, vec_len, length, map};
 ghost use Rattle.xa_coordinator.specs.Stores.{EachStore};
 ghost use Rattle.xa_manager.specs.Calls.{takes_rows, IsWritten};
@@ -26,7 +26,7 @@ pub(crate) fn reply_in(answered: Result<Answer, Fault>) -> Result<Reply, Fault>
     Ok(answer.reply)
 }
 
-/// What is told of a transaction that doesn't begin.
+/// The response for a transaction that doesn't begin.
 fn not_begun(fault: BeginFault) -> Result<Response, NoMemory>
     ensures { IfOk result (λ response. (fault ≡ BeginFault.NumbersSpent) × (response ≡ Response.NumbersSpent)) }
 {
@@ -36,7 +36,7 @@ fn not_begun(fault: BeginFault) -> Result<Response, NoMemory>
     }
 }
 
-/// What is told of a vote, and how far the transaction has come.
+/// The response for a vote, and the transaction's stage after it.
 fn told_of(vote: Vote) -> (VoteAnswer, Stage)
     ensures answer { result.0 ≡ vote_answer_of vote }
     ensures stage { result.1 ≡ stage_with vote }
@@ -53,7 +53,7 @@ fn told_of(vote: Vote) -> (VoteAnswer, Stage)
     }
 }
 
-/// What a client's session answers to a statement.
+/// Gives a statement to a client's session, and returns its answer.
 fn reply_from<T: Speak, R: Wait>(
     rt: &R,
     session: &mut T,
@@ -64,7 +64,8 @@ fn reply_from<T: Speak, R: Wait>(
     reply_in(session.execute(rt, statement))
 }
 
-/// What each other client is answered to `XA RECOVER CONVERT XID`. Room for the answers is taken before any is asked.
+/// What each other client's session answers to `XA RECOVER CONVERT XID`. Room for the answers is taken before
+/// the first is asked.
 fn listed_by_each<T: Speak, R: Wait>(
     rt: &R,
     alloc: Global,
@@ -83,7 +84,7 @@ fn listed_by_each<T: Speak, R: Wait>(
     Ok(answers)
 }
 
-/// Lets the sessions of so many stores pass every call on.
+/// Lets the sessions of the first `count` stores pass every call on.
 fn allow_all<S: Speak>(coordinator: &mut Coordinator<Fused<S>>, count: u8)
     requires { count ≤ vec_len coordinator.old.stores }
     ensures name { coordinator.new.name ≡ coordinator.old.name }
@@ -191,7 +192,7 @@ impl<C: Speak, T: Speak> Manager<C, T> {
         }
     }
 
-    /// Rolls a transaction back that wasn't voted on.
+    /// Rolls back a transaction that wasn't voted on.
     fn abandon<R: Wait>(&mut self, rt: &R, number: u64) -> Response
         ensures { IsRefused (whole_of self.old) (Call.Abandon number) result (whole_of self.new)
             ⊎ IsAbandoned C.view number (whole_of self.old) result (whole_of self.new) }
@@ -246,7 +247,7 @@ impl<S: Speak, T: Speak> Manager<Fused<S>, T> {
         Response::Limited
     }
 
-    /// A new coordinator of the name takes the place of the old one, over the same sessions, which no longer fail.
+    /// Replaces the coordinator by a new one of the same name over the same sessions, which no longer fail.
     fn stop(&mut self) -> Response
         ensures { IsStopped (whole_of self.old) result (whole_of self.new) }
     {
@@ -255,12 +256,14 @@ impl<S: Speak, T: Speak> Manager<Fused<S>, T> {
         Response::Stopped
     }
 
-    /// Carries a call out, and gives what it is answered.
+    /// Carries a call out, and returns its response.
     ///
-    /// After `FAIL` the coordinator's session in that store passes so many calls on, and those of the other stores as many as before; after `STOP` each
-    /// passes 2 ^ 64 - 1, and nothing is open in any store.
-    /// Error: `NoMemory`, where a transaction can't be kept or a list of answers has no room; nothing was said to any session then, and nothing changed.
-    /// May wait: no number of tries is promised.
+    /// `call`: as `read_call` returns it. A call that the table of refusals refuses changes nothing. After
+    /// `FAIL` the coordinator's session in that store passes on so many calls; after `STOP` each passes on
+    /// 2^64 - 1, and nothing is open in any store.
+    /// Errors: `NoMemory` if a transaction can't be kept or a list of answers has no room.
+    /// After an error no session got a statement, and nothing changed.
+    /// May return `NoMemory`. May wait: no number of tries is promised.
     /// Own rule: docs/COORDINATOR.md#calls.
     pub fn answer<R: Wait>(
         &mut self,
@@ -269,7 +272,24 @@ impl<S: Speak, T: Speak> Manager<Fused<S>, T> {
         call: &Call,
     ) -> Result<Response, NoMemory>
         requires { IsWritten call.now }
+        // Proved (manager, refusals): A call is refused exactly if the table of refusals says so, in the
+        //   order of the errors. Then numbers, stages and sessions stay. Else numbers and stages are as the
+        //   call says.
+        // Proved (manager, answers): The answer to work, a vote, an ending or a recovery is what the
+        //   coordinator's own call did in its sessions; an ending is as the decisions say. The answer to `AT`
+        //   is the other client's session's, that to `SHOW` what each of these answered to `XA RECOVER`,
+        //   after which it has added nothing.
+        // Proved (manager, begins-transaction): `BEGIN` begins the transaction of the next number, of the
+        //   coordinator `c`, in which no store takes part. `WORK` leaves its number and name, and which other
+        //   stores take part.
+        // Proved (manager, no-other-session): No other session gets a statement than those that the call
+        //   names, none for a refused call, and each session stays of its log.
+        // Proved (manager, limits): After `FAIL` is answered OK only that session's limit changes, to the
+        //   given number of calls. After `STOP` each session passes on 2^64 - 1 calls, and nothing is open in
+        //   any store.
         ensures answers { IfOk result (λ response. Performs S.view T.view (whole_of self.old) (call.now) response (whole_of self.new)) }
+        // Proved (manager, no-memory): If `NoMemory` is returned, no session got a statement, and numbers,
+        //   stages, sessions, limits and what is open are as they were.
         ensures nothing { OnErr result (whole_of self.new ≡ whole_of self.old) }
     {
         match call {

@@ -1,4 +1,4 @@
-//! Calls, carried out where each of the coordinator's sessions holds the other client's beside it.
+//! Carrying calls out if each of the coordinator's sessions holds the other client's.
 ghost use Rattle.std.specs.Prelude.{◌≡◌, ◌⊎◌, IfOk, OnErr, vec_len, length, map};
 ghost use Rattle.xa_coordinator.specs.Stores.{EachStore};
 ghost use Rattle.xa_manager.specs.Beside.{within, HasRepliedBeside, IsShownBeside, LeavesAlone, PerformsBeside};
@@ -17,7 +17,8 @@ use xa_server::Reply;
 use xa_session::Fault;
 use xa_xid::{NoMemory, Statement};
 
-/// What each other client is answered to `XA RECOVER CONVERT XID`. Room for the answers is taken before any is asked.
+/// What each other client's session answers to `XA RECOVER CONVERT XID`. Room for the answers is taken before
+/// the first is asked.
 fn listed_beside<S: Beside, R: Wait>(
     rt: &R,
     alloc: Global,
@@ -65,11 +66,14 @@ impl<S: Beside, T: Speak> Manager<Fused<S>, T> {
         Ok(Response::Shown(Listing { answers }))
     }
 
-    /// Carries a call out as `answer` does, where the coordinator's session in each store holds the other client's beside it: that one
-    /// answers `AT` and `SHOW`, and the manager's own list of other clients isn't spoken to.
+    /// Carries a call out as `answer` does, if the coordinator's session in each store holds the other
+    /// client's.
     ///
-    /// Error: `NoMemory`, where a transaction can't be kept or a list of answers has no room; nothing was said to any session then, and nothing changed.
-    /// May wait: no number of tries is promised.
+    /// The sessions that are held answer `AT` and `SHOW`; the manager's own list of other clients gets no
+    /// statement.
+    /// Errors: `NoMemory` if a transaction can't be kept or a list of answers has no room.
+    /// After an error no session got a statement, and nothing changed.
+    /// May return `NoMemory`. May wait: no number of tries is promised.
     /// Own rule: docs/COORDINATOR.md#calls.
     pub fn answer_beside<R: Wait>(
         &mut self,
@@ -78,7 +82,11 @@ impl<S: Beside, T: Speak> Manager<Fused<S>, T> {
         call: &Call,
     ) -> Result<Response, NoMemory>
         requires { IsWritten call.now }
+        // Proved (manager, answers-beside): If the coordinator's sessions hold the other clients', calls are
+        //   refused and carried out in the same way, and only `AT` and `SHOW` give a statement to the other
+        //   clients'.
         ensures answers { IfOk result (λ response. PerformsBeside S.view S.other T.view (whole_of self.old) (call.now) response (whole_of self.new)) }
+        // Proved (manager, no-memory)
         ensures nothing { OnErr result (whole_of self.new ≡ whole_of self.old) }
     {
         match call {

@@ -1,4 +1,4 @@
-//! A transaction manager that answers lines, whose sessions hold the other clients' beside them.
+//! A transaction manager that answers lines, whose sessions hold the other clients'.
 
 ghost use Rattle.std.specs.Prelude.{◌≡◌};
 
@@ -18,7 +18,7 @@ pub struct BesideServer<'r, C: Speak, T: Speak, R: Wait> {
 }
 
 impl<'r, C: Speak, T: Speak, R: Wait> BesideServer<'r, C, T, R> {
-    /// A server by this manager.
+    /// Makes a server of lines of this manager.
     ///
     /// Takes no memory. Doesn't wait.
     pub fn new(rt: &'r R, manager: Manager<C, T>) -> BesideServer<'r, C, T, R>
@@ -28,6 +28,8 @@ impl<'r, C: Speak, T: Speak, R: Wait> BesideServer<'r, C, T, R> {
     }
 }
 
+// Proved (manager, lines-beside): A server of lines whose coordinator's sessions hold the other clients'
+//   answers each line likewise: as its call is carried out or refused, or with `ERROR 1037`.
 impl<'r, S: Beside, T: Speak, R: Wait> LineServer for BesideServer<'r, Fused<S>, T, R> {
     ghost use Rattle.xa_manager.specs.Beside.{BeginsBeside, IsBesideAnswer};
     ghost use Rattle.xa_manager.specs.Managed.{whole_of};

@@ -22,7 +22,7 @@ pub(crate) fn short_answer(text: &[u8]) -> Answer
     Answer::Short(bytes)
 }
 
-/// What is told of a transaction that began.
+/// The answer after a transaction began.
 fn begun(number: u64) -> Answer
     ensures { bytes_of result ≡ (codes "TRANSACTION " ++ decimal number) ++ codes "\n" }
 {
@@ -46,7 +46,7 @@ fn word_of(reply: &Reply) -> Option<Answer>
     }
 }
 
-/// What is told of a vote without a cause.
+/// The answer after a vote without a cause.
 fn vote_of(vote: &VoteAnswer) -> Option<Answer>
     ensures words { IfSome result (λ answer. bytes_of answer ≡ vote_text vote.now ++ codes "\n") }
     ensures none { result ≡ None → has_few_words (Response.Voted vote.now) ≡ false }
@@ -59,7 +59,7 @@ fn vote_of(vote: &VoteAnswer) -> Option<Answer>
     }
 }
 
-/// What is told of an ending without stores and a cause.
+/// The answer after an ending without stores and without a cause.
 fn ending_of(ending: &Ending) -> Option<Answer>
     ensures words { IfSome result (λ answer. bytes_of answer ≡ ending_text ending.now ++ codes "\n") }
     ensures none { result ≡ None → has_few_words (Response.Ended ending.now) ≡ false }
@@ -71,7 +71,7 @@ fn ending_of(ending: &Ending) -> Option<Answer>
     }
 }
 
-/// The answer to a call that was carried out, where its words are few. It takes no memory.
+/// The answer to a call that was carried out, if its words are few. It takes no memory.
 pub(crate) fn few_words(response: &Response) -> Option<Answer>
     ensures words { IfSome result (λ answer. (decisions : List Decision) → bytes_of answer ≡ answer_text decisions response.now) }
     ensures none { result ≡ None → has_few_words response.now ≡ false }

@@ -1,17 +1,19 @@
-//! What a line tells a transaction manager.
+//! The calls of a transaction manager.
 
 use xa_xid::Statement;
 
-/// What a line tells a transaction manager. Transactions are numbered from 1, stores from 0; a number may be any below 2^64.
+/// A call of a transaction manager, as a line spells it.
+///
+/// Transactions are numbered from 1, stores from 0. A number may be any below 2^64.
 #[derive(Drop)]
 pub enum Call {
-    /// Nothing: a line of blanks, or a comment.
+    /// No call: a line of blanks, or a comment.
     Silent,
-    /// It isn't read: the byte at which its statement goes wrong, or 0 where another part does.
+    /// The line can't be read. It has the byte at which its statement is wrong, or 0 if another part is.
     Unread(u64),
-    /// A transaction begins.
+    /// Begin a transaction.
     Begin,
-    /// A transaction gives a `GET`, `PUT` or `DEL` to a store.
+    /// Give a transaction's `GET`, `PUT` or `DEL` to a store.
     Work {
         /// The transaction.
         number: u64,
@@ -20,32 +22,33 @@ pub enum Call {
         /// The row statement.
         statement: Statement,
     },
-    /// The stores of a transaction vote.
+    /// Have the stores of a transaction vote.
     Prepare(u64),
-    /// A transaction is decided.
+    /// Decide that a transaction commits.
     Decide(u64),
-    /// A transaction that was voted on is finished.
+    /// Finish a transaction that was voted on.
     Finish(u64),
-    /// A transaction that wasn't voted on is rolled back.
+    /// Roll back a transaction that wasn't voted on.
     Abandon(u64),
-    /// The coordinator's session in a store answers so many more calls, and then out of memory.
+    /// Let the coordinator's session in a store answer so many more calls, and then return out of memory for
+    /// each.
     Fail {
         /// The store.
         store: u64,
-        /// How many calls it answers still.
+        /// How many more calls it answers.
         calls: u64,
     },
-    /// The coordinator is gone, and a new one takes its place.
+    /// Replace the coordinator by a new one.
     Stop,
-    /// The coordinator recovers.
+    /// Have the coordinator recover.
     Recover,
-    /// The other client gives a statement to a store.
+    /// Give a statement of the other client to a store.
     At {
         /// The store.
         store: u64,
         /// The statement.
         statement: Statement,
     },
-    /// The stores' prepared branches and the decisions are shown.
+    /// Show the stores' prepared branches and the decisions.
     Show,
 }

@@ -12,17 +12,18 @@ use std::sync::Wait;
 use xa_coordinator::{Fused, Speak};
 use xa_lines::{Answer, LineServer};
 
-/// Room for what most calls are told, in bytes. It is taken before a call is carried out; only values and lists need more.
+/// Room for most answers, in bytes. It is taken before a call is carried out; only values and lists need
+/// more.
 pub(crate) const ANSWER_ROOM: usize = 256;
 
-/// What is told where memory is refused.
+/// The answer if memory is refused.
 pub(crate) fn refusal() -> Answer
     ensures { bytes_of result ≡ refused_text }
 {
     short_answer(b"ERROR 1037 (HY001): out of memory\n")
 }
 
-/// What is told of a line that isn't read as a call.
+/// The answer to a line that isn't read as a call.
 pub(crate) fn unread() -> Answer
     ensures { bytes_of result ≡ syntax_text 0 ++ codes "\n" }
 {
@@ -37,7 +38,7 @@ pub struct CallServer<'r, C: Speak, T: Speak, R: Wait> {
 }
 
 impl<'r, C: Speak, T: Speak, R: Wait> CallServer<'r, C, T, R> {
-    /// A server by this manager.
+    /// Makes a server of lines of this manager.
     ///
     /// Takes no memory. Doesn't wait.
     pub fn new(rt: &'r R, manager: Manager<C, T>) -> CallServer<'r, C, T, R>
@@ -47,6 +48,13 @@ impl<'r, C: Speak, T: Speak, R: Wait> CallServer<'r, C, T, R> {
     }
 }
 
+// Proved (manager, lines): Each line that is served is answered as its call is carried out or refused, or
+//   with `ERROR 1037` if an allocation fails. A line without an answer is never answered so.
+// Proved (manager, lines-no-memory): After `ERROR 1037` no session got a statement and nothing changed; or
+//   the call was carried out and its result has more than fixed words: a value, a list, a refusal, a cause,
+//   several stores, a report. So no transaction was begun, no number decided or found closed, no session
+//   limited, no coordinator stopped, the vote wasn't Ready, One Phase or Nothing, and the ending was neither
+//   Committed nor Rolled back.
 impl<'r, S: Speak, T: Speak, R: Wait> LineServer for CallServer<'r, Fused<S>, T, R> {
     ghost use Rattle.xa_manager.specs.Managed.{whole_of};
     ghost use Rattle.xa_manager.specs.Served.{IsCallAnswer};

@@ -1,4 +1,4 @@
-//! Calls of a coordinator over stores of its own that are never full, line by line.
+//! A coordinator's calls over unbounded stores, line by line.
 ghost use Rattle.std.specs.Prelude.{◌≡◌, ◌≤◌, ◌<◌, ◌-◌, ◌^◌, ℕ, All, length, vec_len, IfOk, IfErr, IfSome, OnOk};
 ghost use Rattle.xa_lines.specs.Exchange.{IsFresh};
 ghost use Rattle.xa_lines.specs.Served.{IsServed, AfterServing};
@@ -17,7 +17,7 @@ use xa_lines::{Client, LineServer, ScriptFault, serve};
 use xa_server::Server;
 use xa_xid::NoMemory;
 
-/// So many stores that hold nothing, none of which fails, and as many more to which nobody speaks.
+/// Unbounded stores that hold nothing and never fail, and as many more that get no statement.
 fn open_each(
     alloc: Global,
     count: u64,
@@ -37,10 +37,10 @@ fn open_each(
     Ok((sessions, nobody))
 }
 
-/// A manager over 1 to 16 stores that hold nothing and are never full: nothing has begun, nothing is open, and no session fails.
+/// Makes a manager over unbounded stores that hold nothing. Nothing has begun, and no session fails.
 ///
-/// Error: `NoMemory`.
-/// May return `NoMemory`. Never waits.
+/// `count`: how many stores, in `[1, 16]`. Errors: `NoMemory` if an allocation fails; nothing is kept then.
+/// May return `NoMemory`. Doesn't wait.
 /// Own rule: docs/COORDINATOR.md#calls.
 pub fn lasting_manager(
     alloc: Global,
@@ -48,7 +48,11 @@ pub fn lasting_manager(
 ) -> Result<Manager<Fused<LastingStore>, LastingStore>, NoMemory>
     requires some { 1 ≤ count }
     requires most { count ≤ 16 }
+    // Proved (manager, unbounded-begins): A manager over unbounded stores has as many of them as asked, with
+    //   nothing begun, nothing open and no session that fails. A conversation over them is answered as by one
+    //   manager that begins so.
     ensures stores { IfOk result (λ manager. vec_len manager.coordinator.stores ≡ count) }
+    // Proved (manager, unbounded-begins)
     ensures begins { IfOk result
         (λ manager. BeginsBeside ⟦<LastingStore as Speak>⟧.view ⟦<LastingStore as Beside>⟧.other (whole_of manager)) }
 {
@@ -56,10 +60,10 @@ pub fn lasting_manager(
     Ok(Manager::new(alloc, sessions, nobody))
 }
 
-/// Carries a client's calls out as `converse` does, over 1 to 16 stores that hold nothing and are never full.
+/// Carries a client's calls out as `converse` does, over 1 to 16 unbounded stores that hold nothing at first.
 ///
 /// Errors: those of `converse`.
-/// May wait, for the client too.
+/// May return `NoMemory`. May wait, for the client too.
 /// Own rule: docs/COORDINATOR.md#calls.
 pub fn converse_lasting<
     'a,
@@ -69,9 +73,11 @@ pub fn converse_lasting<
     requires some { 1 ≤ count }
     requires most { count ≤ 16 }
     requires fresh { IfSome (P.exchange client.old) IsFresh }
+    // Proved (manager, unbounded-begins)
     ensures told { OnOk result (IfSome (P.exchange client.new)
         (IsServed ⟦<BesideServer<'a, Fused<LastingStore>, LastingStore, R> as LineServer>⟧.begins
         ⟦<BesideServer<'a, Fused<LastingStore>, LastingStore, R> as LineServer>⟧.answers)) }
+    // Proved (manager, unbounded-begins)
     ensures fault { IfErr result (λ fault. IfSome (P.exchange client.new)
         (AfterServing ⟦<BesideServer<'a, Fused<LastingStore>, LastingStore, R> as LineServer>⟧.begins
         ⟦<BesideServer<'a, Fused<LastingStore>, LastingStore, R> as LineServer>⟧.answers fault)) }

@@ -1,4 +1,4 @@
-//! The transactions that were begun.
+//! The transactions that were begun, and their stages.
 ghost use Rattle.std.specs.Prelude.{◌≡◌, ◌≢◌, ◌<◌, ◌+◌, ◌-◌, ◌++◌, ◌∷◌, [], ◌⊎◌, length, take, Some, None, OnOk, OnErr, IfOk, IfErr, IfSome};
 ghost use Rattle.xa_manager.specs.Ledger.{stage_of, with_stage};
 ghost use Rattle.xa_manager.specs.Refusals.{refusal_in, takes_work, takes_decision, takes_finish};
@@ -10,9 +10,9 @@ use std::mem;
 use xa_coordinator::{Prepared, Transaction};
 use xa_xid::NoMemory;
 
-/// The transactions that were begun, 1, 2, .., and how far each has come.
+/// The transactions that were begun, 1, 2, .., with the stage of each.
 ///
-/// A contract sees them as the list of how far they have come.
+/// A contract sees them as the list of their stages.
 #[derive(Drop)]
 pub struct Ledger {
     stages: Vec<Stage>,
@@ -28,7 +28,7 @@ impl Model for Ledger {
 }
 
 impl Ledger {
-    /// No transaction.
+    /// Makes a ledger without a transaction.
     ///
     /// Takes no memory. Doesn't wait.
     pub fn new(alloc: Global) -> Ledger
@@ -41,7 +41,8 @@ impl Ledger {
 
     /// Adds the next transaction.
     ///
-    /// Error: `NoMemory`; the ledger is as before then. Doesn't wait.
+    /// Errors: `NoMemory` if an allocation fails. After an error the ledger is as before.
+    /// May return `NoMemory`. Doesn't wait.
     pub fn add(&mut self, stage: Stage) -> Result<(), NoMemory>
         ensures ok { OnOk result (self.new ≡ self.old ++ stage ∷ []) }
         ensures err { OnErr result (self.new ≡ self.old) }
@@ -50,7 +51,7 @@ impl Ledger {
         Ok(())
     }
 
-    /// Takes the last transaction away.
+    /// Removes the last transaction.
     ///
     /// Takes no memory. Doesn't wait.
     pub fn forget_last(&mut self)
@@ -59,7 +60,7 @@ impl Ledger {
         let _last = self.stages.pop();
     }
 
-    /// Where a transaction stands in the list, if it was begun.
+    /// The place of a transaction in the list, if it was begun.
     #[tactic(auto, unfolding(crate::specs::Ledger::stage_of))]
     fn place(&self, number: u64) -> Option<usize>
         ensures some { IfSome result (λ place. number ≡ place + 1) }
@@ -73,7 +74,7 @@ impl Ledger {
         Some((number - 1) as usize)
     }
 
-    /// Takes out how far a transaction has come, which is over in its place; nothing where it wasn't begun.
+    /// Takes out the stage of a transaction, if it was begun. Its place then says that it is over.
     #[tactic(auto, unfolding(crate::specs::Ledger::stage_of, crate::specs::Ledger::with_stage))]
     fn take(&mut self, number: u64) -> Option<Stage>
         ensures taken { result ≡ stage_of self.old number }
@@ -86,7 +87,7 @@ impl Ledger {
         Some(mem::replace(&mut self.stages[place], Stage::Over))
     }
 
-    /// Puts back how far a transaction has come, where it was begun.
+    /// Puts a transaction's stage back, if it was begun.
     ///
     /// Takes no memory. Doesn't wait.
     #[tactic(auto, unfolding(crate::specs::Ledger::stage_of, crate::specs::Ledger::with_stage))]
@@ -99,10 +100,11 @@ impl Ledger {
         self.stages[place] = stage;
     }
 
-    /// Takes out a transaction that takes work; it is over in its place.
+    /// Takes out a transaction that takes work. Its place then says that it is over.
     ///
-    /// Errors: `UnknownTransaction`, where it wasn't begun; `WrongStage`, where it doesn't take work any more. The ledger is as before
-    /// then. Takes no memory. Doesn't wait.
+    /// `number`: the transaction's, any below 2^64. Errors: the response `UnknownTransaction` if it wasn't
+    /// begun, `WrongStage` if it takes no more work.
+    /// After an error the ledger is as before. Takes no memory. Doesn't wait.
     /// Own rule: docs/COORDINATOR.md#calls.
     pub fn take_working(&mut self, number: u64) -> Result<Transaction, Response>
         ensures taken { IfOk result (λ transaction. stage_of self.old number ≡ Some (Stage.Working transaction)) }
@@ -120,10 +122,11 @@ impl Ledger {
         }
     }
 
-    /// Takes out a transaction whose vote is Ready; it is over in its place.
+    /// Takes out a transaction whose vote is Ready. Its place then says that it is over.
     ///
-    /// Errors: as those of `take_working`, `WrongStage` where its vote isn't Ready, or it was finished.
-    /// Takes no memory. Doesn't wait.
+    /// `number`: the transaction's, any below 2^64. Errors: the response `UnknownTransaction` if it wasn't
+    /// begun, `WrongStage` if its vote isn't Ready or it was finished.
+    /// After an error the ledger is as before. Takes no memory. Doesn't wait.
     /// Own rule: docs/COORDINATOR.md#calls.
     pub fn take_ready(&mut self, number: u64) -> Result<Prepared, Response>
         ensures taken { IfOk result (λ prepared. stage_of self.old number ≡ Some (Stage.Ready prepared)) }
@@ -141,10 +144,12 @@ impl Ledger {
         }
     }
 
-    /// Takes out a transaction that has a vote to finish: Ready, One Phase or No; it is over in its place.
+    /// Takes out a transaction that has a vote to finish: Ready, One Phase or No. Its place then says that it
+    /// is over.
     ///
-    /// Errors: as those of `take_working`, `WrongStage` where it has no such vote, or it was finished.
-    /// Takes no memory. Doesn't wait.
+    /// `number`: the transaction's, any below 2^64. Errors: the response `UnknownTransaction` if it wasn't
+    /// begun, `WrongStage` if it has no such vote or was finished.
+    /// After an error the ledger is as before. Takes no memory. Doesn't wait.
     /// Own rule: docs/COORDINATOR.md#calls.
     pub fn take_voted(&mut self, number: u64) -> Result<Prepared, Response>
         ensures taken { IfOk result

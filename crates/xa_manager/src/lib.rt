@@ -1,4 +1,10 @@
-//! A transaction manager that is told its calls line by line: a coordinator over stores of its own, and another client in each store.
+//! A transaction manager that reads its calls line by line: a coordinator over 1 to 16 stores, and another
+//! client's session in each store. `xa_script coordinate` gives it the standard streams.
+//!
+//! Read docs/COORDINATOR.md#calls first: it has the lines and their answers. Then read `specs/Refusals.antt`,
+//! `specs/Carried.antt` and `specs/Whole.antt`, then `src/answer.rt` (what each call does),
+//! `src/call_server.rt` (the manager as a server of lines) and `src/run.rt` (opened stores, and a
+//! conversation over them).
 #![tactic(auto)]
 
 mod answer;

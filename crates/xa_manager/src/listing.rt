@@ -3,7 +3,7 @@
 use xa_server::Reply;
 use xa_session::Fault;
 
-/// What the other client of each store, from store 0 on, was answered to `XA RECOVER CONVERT XID`.
+/// The answers of the other clients' sessions, from store 0 on, to `XA RECOVER CONVERT XID`.
 #[derive(Drop)]
 pub struct Listing {
     pub(crate) answers: Vec<Result<Reply, Fault>>,

@@ -21,8 +21,8 @@ fn name() -> Bytes
     name
 }
 
-/// A transaction manager: a coordinator with a session in each store, another client's session in each
-/// store, the decisions, and how far each transaction has come.
+/// A transaction manager: a coordinator with a session in each store, another client's session in each store,
+/// the decisions, and the stage of each transaction.
 #[derive(Drop)]
 pub struct Manager<C: Speak, T: Speak> {
     pub(crate) coordinator: Coordinator<C>,
@@ -40,8 +40,9 @@ pub struct Manager<C: Speak, T: Speak> {
 }
 
 impl<C: Speak, T: Speak> Manager<C, T> {
-    /// A manager over these sessions, two in each store: the coordinator's and another client's. Nothing has begun.
+    /// Makes a manager over these sessions, two in each store: the coordinator's and another client's.
     ///
+    /// Nothing has begun. There are 1 to 16 stores, and both lists are in their order.
     /// Takes no memory. Doesn't wait.
     #[tactic(auto, using(crate::proofs::Nothing::none_begun))]
     pub fn new(alloc: Global, sessions: Vec<C>, other_clients: Vec<T>) -> Manager<C, T>
@@ -63,7 +64,7 @@ impl<C: Speak, T: Speak> Manager<C, T> {
         }
     }
 
-    /// The decisions.
+    /// Returns the decisions.
     ///
     /// Takes no memory. Doesn't wait.
     pub fn decisions(&self) -> &Decisions
@@ -74,7 +75,7 @@ impl<C: Speak, T: Speak> Manager<C, T> {
 }
 
 impl<C: Speak, T: Speak + Drop> Manager<C, T> {
-    /// The coordinator's sessions back. Nothing is said to the stores.
+    /// Returns the coordinator's sessions. The stores get no statement.
     ///
     /// Takes no memory. Doesn't wait.
     pub fn into_sessions(self) -> Vec<C>

@@ -1,4 +1,4 @@
-//! Prints responses.
+//! Writing responses as text.
 ghost use Rattle.std.specs.Prelude.{◌≡◌, [], ◌++◌, false, OnOk, OnErr, IfOk, codes, decimal};
 ghost use Rattle.xa_lines.specs.Answer.{bytes_of};
 ghost use Rattle.xa_manager.specs.Served.{has_few_words};
@@ -76,7 +76,7 @@ fn push_store_cause(
     push_cause(alloc, text, cause)
 }
 
-/// Appends what work came to, where that isn't a word.
+/// Appends the result of work, if it isn't one word.
 fn push_worked(
     alloc: Global,
     text: &mut Vec<u8>,
@@ -137,7 +137,7 @@ fn push_ending(alloc: Global, text: &mut Vec<u8>, ending: &Ending) -> Result<(),
     }
 }
 
-/// Appends what a recovery did.
+/// Appends the report of a recovery.
 fn push_report(text: &mut Vec<u8>, report: &Report) -> Result<(), NoMemory>
     ensures { OnOk result (text.new.items ≡ text.old.items ++ report_text report.now) }
 {
@@ -146,7 +146,7 @@ fn push_report(text: &mut Vec<u8>, report: &Report) -> Result<(), NoMemory>
     push_count(text, b" missing ", report.missing)
 }
 
-/// Appends why a recovery didn't come to its end.
+/// Appends why a recovery failed.
 fn push_recover_fault(
     alloc: Global,
     text: &mut Vec<u8>,
@@ -170,7 +170,7 @@ fn push_recover_fault(
     }
 }
 
-/// Appends what another client was answered.
+/// Appends another client's answer.
 fn push_replied(
     alloc: Global,
     text: &mut Vec<u8>,
@@ -188,7 +188,7 @@ fn push_replied(
     }
 }
 
-/// Appends a store's number, and below it what its other client was answered.
+/// Appends a store's number, and below it the answer of its other client.
 fn push_store(
     alloc: Global,
     text: &mut Vec<u8>,
@@ -217,7 +217,7 @@ fn push_each_store(
     Ok(())
 }
 
-/// Whether a number stands so.
+/// Whether a number has the wanted state.
 fn stands(decision: &Decision, wanted: Decision) -> bool
     ensures { result ≡ stands_as wanted decision.now }
 {
@@ -229,7 +229,7 @@ fn stands(decision: &Decision, wanted: Decision) -> bool
     }
 }
 
-/// Appends the numbers that stand so, ascending, each after a space.
+/// Appends the numbers that have the wanted state, ascending, each after a space.
 fn push_numbers(
     text: &mut Vec<u8>,
     wanted: Decision,
@@ -245,7 +245,7 @@ fn push_numbers(
     Ok(())
 }
 
-/// Appends the numbers by how they stand. It doesn't end in a line feed.
+/// Appends all numbers by their states. The text doesn't end in a line feed.
 fn push_decisions(text: &mut Vec<u8>, decisions: &[Decision]) -> Result<(), NoMemory>
     ensures { OnOk result (text.new.items ≡ text.old.items ++ decisions_text decisions.now) }
 {
@@ -257,7 +257,7 @@ fn push_decisions(text: &mut Vec<u8>, decisions: &[Decision]) -> Result<(), NoMe
     push_numbers(text, Decision::Closed, decisions)
 }
 
-/// Appends a response of more than few words. It doesn't end in a line feed.
+/// Appends a response of more than few words. The text doesn't end in a line feed.
 fn push_response(
     alloc: Global,
     text: &mut Vec<u8>,
@@ -290,7 +290,7 @@ fn push_response(
     }
 }
 
-/// Puts the text of a response of more than few words into an empty text.
+/// Writes a response of more than few words into an empty text.
 fn write_into(
     alloc: Global,
     mut text: Vec<u8>,
@@ -309,10 +309,12 @@ fn write_into(
     Ok(text)
 }
 
-/// The text of a response, each of its lines with a line feed; it is empty for a line that tells nothing.
+/// Writes the text of a response, each of its lines with a line feed. A response to no call has an empty
+/// text.
 ///
-/// `room` is an empty text, which may have room for it already.
-/// Errors: `NoMemory`, never for a response of few words, which takes no memory. Doesn't wait.
+/// `room`: an empty text, which may have room already. `decisions`: as they are after the call.
+/// Errors: `NoMemory` if the text has no room, but never for a response of few words, which takes no memory.
+/// May return `NoMemory`. Doesn't wait.
 /// Own rule: docs/COORDINATOR.md#calls.
 pub fn write_response(
     alloc: Global,
@@ -321,7 +323,10 @@ pub fn write_response(
     response: &Response,
 ) -> Result<Answer, NoMemory>
     requires { room.items ≡ [] }
+    // Proved (manager, response-text): What is written for a response is its text, with its line feed, and
+    //   nothing for a line without an answer.
     ensures text { IfOk result (λ answer. bytes_of answer ≡ answer_text decisions.now response.now) }
+    // Proved (manager, response-memory): Memory is never refused for a response of few words.
     ensures few { OnErr result (has_few_words response.now ≡ false) }
 {
     match few_words(response) {

@@ -1,4 +1,4 @@
-//! Lines, read as calls.
+//! Reading lines as calls.
 ghost use Rattle.std.specs.Prelude.{◌≡◌, Some, None, MatchOption};
 ghost use Rattle.xa_lines.specs.Script.{first_word, behind_word, number_of_word};
 ghost use Rattle.xa_manager.specs.Calls.{lone_number, takes_rows, alone as alone_call, work_of, at_of, fail_of, plain_call, call_named, call_of};
@@ -9,7 +9,7 @@ use xa_lines::{is_comment, number_in, split_word};
 use xa_statement::read_statement;
 use xa_xid::{Statement, skip_blanks};
 
-/// The number that the text's first word names, and the text behind that word and its blanks.
+/// The number in the text's first word, and the text after that word and its blanks.
 fn number_then(text: &[u8]) -> Option<(u64, &[u8])>
     ensures { MatchOption result
         (number_of_word (first_word text.now) ≡ None)
@@ -22,7 +22,7 @@ fn number_then(text: &[u8]) -> Option<(u64, &[u8])>
     }
 }
 
-/// The number that is all of the text, but for blanks behind it.
+/// The number that is all of the text, except for blanks after it.
 #[tactic(auto, unfolding(crate::specs::Calls::lone_number))]
 fn number_alone(text: &[u8]) -> Option<u64>
     ensures { result ≡ lone_number text.now }
@@ -35,7 +35,7 @@ fn number_alone(text: &[u8]) -> Option<u64>
     }
 }
 
-/// Whether a transaction gives such a statement: `GET`, `PUT` or `DEL`.
+/// Whether a transaction can give the statement: `GET`, `PUT` or `DEL`.
 fn is_row(statement: &Statement) -> bool
     ensures { result ≡ takes_rows statement.now }
 {
@@ -49,7 +49,7 @@ fn is_row(statement: &Statement) -> bool
     }
 }
 
-/// The call, where nothing stands behind it.
+/// The call, if nothing comes after it.
 fn alone(call: Call, rest: &[u8]) -> Call
     requires { IsWritten call }
     ensures call { result ≡ alone_call call rest.now }
@@ -124,7 +124,7 @@ fn fail(text: &[u8]) -> Call
     }
 }
 
-/// A call that is about no transaction.
+/// Reads a call that is about no transaction.
 #[tactic(auto, unfolding(crate::specs::Calls::plain_call))]
 fn plain(word: &[u8], rest: &[u8]) -> Call
     ensures call { result ≡ plain_call word.now rest.now }
@@ -147,7 +147,7 @@ fn plain(word: &[u8], rest: &[u8]) -> Call
     }
 }
 
-/// `n`, behind `PREPARE`.
+/// `n`, after `PREPARE`.
 fn prepare(text: &[u8]) -> Call
     ensures call { result ≡ numbered (λ number. Call.Prepare number) (lone_number text.now) }
     ensures written { IsWritten result }
@@ -158,7 +158,7 @@ fn prepare(text: &[u8]) -> Call
     }
 }
 
-/// `n`, behind `DECIDE`.
+/// `n`, after `DECIDE`.
 fn decide(text: &[u8]) -> Call
     ensures call { result ≡ numbered (λ number. Call.Decide number) (lone_number text.now) }
     ensures written { IsWritten result }
@@ -169,7 +169,7 @@ fn decide(text: &[u8]) -> Call
     }
 }
 
-/// `n`, behind `FINISH`.
+/// `n`, after `FINISH`.
 fn finish(text: &[u8]) -> Call
     ensures call { result ≡ numbered (λ number. Call.Finish number) (lone_number text.now) }
     ensures written { IsWritten result }
@@ -180,7 +180,7 @@ fn finish(text: &[u8]) -> Call
     }
 }
 
-/// `n`, behind `ABANDON`.
+/// `n`, after `ABANDON`.
 fn abandon(text: &[u8]) -> Call
     ensures call { result ≡ numbered (λ number. Call.Abandon number) (lone_number text.now) }
     ensures written { IsWritten result }
@@ -191,7 +191,7 @@ fn abandon(text: &[u8]) -> Call
     }
 }
 
-/// A call by its first word.
+/// Reads a call by its first word.
 #[tactic(auto, unfolding(crate::specs::Calls::call_named))]
 fn named(word: &[u8], rest: &[u8]) -> Call
     ensures call { result ≡ call_named word.now rest.now }
@@ -212,13 +212,18 @@ fn named(word: &[u8], rest: &[u8]) -> Call
     }
 }
 
-/// The call that a line tells. Its words stand between blanks; a line of blanks, and one whose first byte that isn't blank is `#`, tells nothing.
+/// Reads a line as a call.
 ///
+/// `line`: without its line feed. Words are separated by blanks. A line of blanks, and one whose first byte
+/// that isn't blank is `#`, is no call. A line that can't be read is the call `Unread`.
 /// Takes no memory. Doesn't wait.
 /// Own rule: docs/COORDINATOR.md#calls.
 #[tactic(auto, unfolding(crate::specs::Calls::call_of))]
 pub fn read_call(line: &[u8]) -> Call
+    // Proved (manager, read-call): A line is read as one call, by the definitions. Work is `GET`, `PUT` or
+    //   `DEL`.
     ensures call { result ≡ call_of line.now }
+    // Proved (manager, read-call)
     ensures written { IsWritten result }
 {
     if is_comment(line) {

@@ -1,50 +1,51 @@
-//! What a call is answered.
+//! The responses to calls.
 
 use crate::{Listing, VoteAnswer};
 use xa_coordinator::{Ending, RecoverFault, Report, WorkFault};
 use xa_server::Reply;
 use xa_session::Fault;
 
-/// What a call is answered.
+/// The response to a call.
 #[derive(Drop)]
 pub enum Response {
-    /// Nothing.
+    /// The line is no call, and has no answer.
     Silent,
-    /// The line isn't read; the byte at which it goes wrong.
+    /// The line can't be read. It has the byte at which it is wrong.
     Unread(u64),
     /// There is no store of this number.
     UnknownStore(u64),
     /// No transaction of this number was begun.
     UnknownTransaction(u64),
-    /// The transaction has come too far for the call, or not far enough.
+    /// The transaction isn't in a stage that allows the call.
     WrongStage(u64),
     /// The transaction of this number began.
     Begun(u64),
-    /// No number is left.
+    /// All numbers were given.
     NumbersSpent,
-    /// What work came to.
+    /// What work did.
     Worked(Result<Reply, WorkFault>),
     /// What the stores voted.
     Voted(VoteAnswer),
-    /// It is decided that the transaction commits.
+    /// The transaction is decided: it commits.
     Decided,
-    /// Its number is closed: it can't be decided.
+    /// The transaction's number is closed, so it can't be decided.
     Closed,
     /// How the transaction ended.
     Ended(Ending),
     /// The coordinator's session in a store was limited.
     Limited,
-    /// A new coordinator has taken the place of the old one.
+    /// A new coordinator has replaced the old one.
     Stopped,
-    /// What recovery came to.
+    /// What a recovery did.
     Recovered(Result<Report, RecoverFault>),
-    /// What another client was answered, with identifiers in digits where `convert`.
+    /// The answer of another client's session, with identifiers in digits if `convert`.
     Replied {
         /// Whether recovered identifiers are printed in digits.
         convert: bool,
         /// The answer.
         answer: Result<Reply, Fault>,
     },
-    /// What the other client of each store was answered to `XA RECOVER CONVERT XID`. The decisions are told after that.
+    /// The answers of the other clients' sessions to `XA RECOVER CONVERT XID`. The decisions are written
+    /// after them.
     Shown(Listing),
 }

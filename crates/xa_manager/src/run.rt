@@ -1,4 +1,4 @@
-//! Calls of a coordinator over stores of its own, line by line.
+//! A coordinator's calls over stores with a log, line by line.
 ghost use Rattle.std.specs.Prelude.{◌≡◌, ◌≤◌, ◌<◌, ◌-◌, ◌^◌, [], ℕ, All, length, map, vec_len, IfOk, IfErr, IfSome, OnOk};
 ghost use Rattle.std.specs.List.{AllZip};
 ghost use Rattle.decision_log.specs.Known.{newcomer};
@@ -20,7 +20,7 @@ use xa_session::Session;
 use xa_store::{Log, Pass, Store};
 use xa_xid::NoMemory;
 
-/// Opens a store, and gives the passes of its two sessions.
+/// Opens a store, and returns it with the passes of its two sessions.
 fn open_store(alloc: Global, capacity: u64) -> Result<(Store, Pass, Pass), NoMemory>
     ensures logs { IfOk result (λ opened. (log_of opened.1 ≡ identity_of opened.0.log) × (log_of opened.2 ≡ identity_of opened.0.log)) }
     ensures capacity { IfOk result (λ opened. (identity_of opened.0.log).capacity ≡ capacity) }
@@ -36,21 +36,29 @@ fn open_store(alloc: Global, capacity: u64) -> Result<(Store, Pass, Pass), NoMem
     Ok((store, first, second))
 }
 
-/// Opens so many stores, each of which holds nothing and has room for `capacity` entries and two sessions, and returns them with the passes of their
-/// sessions 1, the coordinator's, and of their sessions 2, the other clients'.
+/// Opens stores that hold nothing, and returns them with the passes of their sessions 1 and of their sessions
+/// 2.
 ///
-/// Errors: `NoMemory` where memory can't be had, or where `capacity` isn't in `[1, 1024]`; nothing is kept then.
-/// May return `NoMemory`. Never waits.
+/// `count`: how many stores. `capacity`: how many entries each has room for, in `[1, 1024]`.
+/// Session 1 is the coordinator's, session 2 the other client's.
+/// Errors: `NoMemory` if an allocation fails, or if `capacity` is out of its range; nothing is kept then.
+/// May return `NoMemory`. Doesn't wait.
 /// Own rule: docs/COORDINATOR.md#calls.
 pub fn open_stores(
     alloc: Global,
     count: u64,
     capacity: u64,
 ) -> Result<(Vec<Store>, Vec<Pass>, Vec<Pass>), NoMemory>
+    // Proved (manager, opened-stores): Opened stores hold nothing, as many as asked, and have the room that
+    //   was asked for. The passes of sessions 1 and 2 of each have seen nothing.
     ensures count { IfOk result (λ opened. vec_len opened.0 ≡ count) }
+    // Proved (manager, opened-stores)
     ensures first { IfOk result (λ opened. AreOf opened.0.items opened.1.items) }
+    // Proved (manager, opened-stores)
     ensures second { IfOk result (λ opened. AreOf opened.0.items opened.2.items) }
+    // Proved (manager, opened-stores)
     ensures capacity { IfOk result (λ opened. All (λ store. (identity_of store.log).capacity ≡ capacity) opened.0.items) }
+    // Proved (manager, opened-stores)
     ensures new { IfOk result (λ opened. AreNew opened.0.items opened.1.items opened.2.items) }
 {
     let mut stores = Vec::new(alloc);
@@ -87,7 +95,7 @@ fn connect_each<'a>(
     Ok(sessions)
 }
 
-/// The sessions, each of which can be made to fail.
+/// The sessions, each with a limit that lets every call through.
 fn fuse_each<S: Speak + Drop>(alloc: Global, sessions: Vec<S>) -> Result<Vec<Fused<S>>, NoMemory>
     ensures count { IfOk result (λ fused. vec_len fused ≡ vec_len sessions) }
     ensures within { IfOk result (λ fused. map (λ session. session.inner) fused.items ≡ sessions.items) }
@@ -100,10 +108,11 @@ fn fuse_each<S: Speak + Drop>(alloc: Global, sessions: Vec<S>) -> Result<Vec<Fus
     Ok(fused)
 }
 
-/// A manager over 1 to 16 stores, by the passes of their two sessions as `open_stores` returns them: nothing has begun, nothing is open, and no session fails.
+/// Makes a manager over 1 to 16 stores. Nothing has begun, nothing is open, and no session fails.
 ///
-/// Errors: `NoMemory`; the passes are gone then.
-/// May return `NoMemory`. Never waits.
+/// `stores`, and the passes of their sessions 1 and 2, are as `open_stores` returns them.
+/// Errors: `NoMemory` if an allocation fails; the passes are gone then.
+/// May return `NoMemory`. Doesn't wait.
 /// Own rule: docs/COORDINATOR.md#calls.
 pub fn manager_over<'a>(
     alloc: Global,
@@ -115,12 +124,21 @@ pub fn manager_over<'a>(
     requires most { length stores.now ≤ 16 }
     requires first { AreOf stores.now firsts.items }
     requires second { AreOf stores.now seconds.items }
+    // Proved (manager, manager-begins): A manager over opened stores has in each the coordinator's session
+    //   and the other client's, both of that store, which have seen nothing. Nothing has begun, nothing is
+    //   open, and no session is limited.
     ensures stores { IfOk result (λ manager. vec_len manager.coordinator.stores ≡ length stores.now) }
+    // Proved (manager, manager-begins)
     ensures decisions { IfOk result (λ manager. manager.decisions ≡ []) }
+    // Proved (manager, manager-begins)
     ensures ledger { IfOk result (λ manager. manager.ledger ≡ []) }
+    // Proved (manager, manager-begins)
     ensures anew { IfOk result (λ manager. StartsAnew manager.coordinator.branches manager.coordinator.stores.items) }
+    // Proved (manager, manager-begins)
     ensures sessions { IfOk result (λ manager. map (λ session. session.inner.pass) manager.coordinator.stores.items ≡ firsts.items) }
+    // Proved (manager, manager-begins)
     ensures other_clients { IfOk result (λ manager. map (λ session. session.pass) manager.other_clients.items ≡ seconds.items) }
+    // Proved (manager, manager-begins)
     ensures begins { AreNew stores.now firsts.items seconds.items
         → IfOk result (λ manager. ManagerBegins ⟦<Session<'a, Log> as Speak>⟧.view ⟦<Session<'a, Log> as Speak>⟧.view (whole_of manager)) }
 {
@@ -130,14 +148,16 @@ pub fn manager_over<'a>(
     Ok(Manager::new(alloc, sessions, other_clients))
 }
 
-/// Carries a client's calls out over 1 to 16 stores, line by line, until the client ends: each line is answered, and the answer told, before more is received.
+/// Carries a client's calls out over 1 to 16 stores, line by line, until the client ends.
 ///
-/// The stores, which hold nothing, and the passes of their two sessions, the coordinator's and another client's, are as `open_stores` returns them. The
-/// input is of any length, a line of at most 65,536 bytes; a longer one isn't read as a call.
-/// Errors: `NoMemory`, where the sessions or the room for a line can't be had, before anything was received; `Read` where a read failed, or after
-/// 2 ^ 64 - 1 reads; `Write` where a write or a flush failed. After `Read` all whole lines are answered; after `Write` a prefix of the answers
-/// was given. Where memory is refused for a call, that is its answer, and the next is received.
-/// May wait, for the client too.
+/// Each answer is written before more is received. The stores and the passes of their two sessions are as
+/// `open_stores` returns them. The input may have any length, a line at most 65,536 bytes; a longer one isn't
+/// read as a call.
+/// Errors: `NoMemory` if the sessions or the room for a line can't be had, before anything was received;
+/// `Read` if a read failed, or after 2^64 - 1 reads; `Write` if a write or a flush failed.
+/// After an error: after `Read` all whole lines are answered, after `Write` a prefix of the answers was
+/// written. If an allocation fails for one call, that is its answer, and the conversation goes on.
+/// May return `NoMemory`. May wait, for the client too.
 /// Own rule: docs/COORDINATOR.md#calls.
 pub fn converse<
     'a,
@@ -157,9 +177,12 @@ pub fn converse<
     requires second { AreOf stores.now seconds.items }
     requires new { AreNew stores.now firsts.items seconds.items }
     requires fresh { IfSome (P.exchange client.old) IsFresh }
+    // Proved (manager, conversation): All lines of a conversation are answered, one after another, by one
+    //   manager that begins with nothing begun. After a fault it is as the server of lines states.
     ensures told { OnOk result (IfSome (P.exchange client.new)
         (IsServed ⟦<CallServer<'a, Fused<Session<'a, Log>>, Session<'a, Log>, R> as LineServer>⟧.begins
         ⟦<CallServer<'a, Fused<Session<'a, Log>>, Session<'a, Log>, R> as LineServer>⟧.answers)) }
+    // Proved (manager, conversation)
     ensures fault { IfErr result (λ fault. IfSome (P.exchange client.new)
         (AfterServing ⟦<CallServer<'a, Fused<Session<'a, Log>>, Session<'a, Log>, R> as LineServer>⟧.begins
         ⟦<CallServer<'a, Fused<Session<'a, Log>>, Session<'a, Log>, R> as LineServer>⟧.answers fault)) }

@@ -1,8 +1,8 @@
-//! What the stores of a transaction voted, as it is told.
+//! What the stores of a transaction voted, as an answer.
 
 use xa_coordinator::Cause;
 
-/// What the stores of a transaction voted, as it is told.
+/// What the stores of a transaction voted, as an answer, without the transaction.
 #[derive(Drop)]
 pub enum VoteAnswer {
     /// Each participant is prepared.
