@@ -1,4 +1,4 @@
--- What a run of calls leaves of each transaction, behind a recovery that came to its end.
+-- What a run of calls leaves of each transaction, after a recovery that came to its end.
 --     branch_in        the branch that a transaction has in a store
 --     HasAdded         the coordinator's session added a statement
 --     IsPlain          a call that isn't RECOVER
@@ -7,9 +7,10 @@
 --     LeavesBranches   a call that has no other client end a branch of the coordinator's
 --     ChangesRows      a statement that changes committed values
 --     WasCommitted     a prepared branch was committed, with all its writes
---     AllOrNone        each transaction stands in all of its stores, or in none
---     KeepsToDecisions     all that the coordinator added goes with them, and nothing of it is prepared
---     LeavesWhole      so it is behind a stop, where the recovery came to its end
+--     AllOrNone        each transaction is in all of its stores, or in none
+--     KeepsToDecisions     all that the coordinator added goes with the decisions, and none of its branches
+--     is prepared
+--     LeavesWhole      both hold after a stop, if the recovery came to its end
 use Rattle.std.specs.Prelude.{◌≡◌, ◌⊎◌, ◌<◌, ◌≤◌, ◌+◌, ◌^◌, ℕ, Bool, true, false, Some, Ok, slice_get, List, Contains, codes}
 use Rattle.std.specs.FinMap as map
 use Rattle.xa_words.specs.Entry.{Entry}
@@ -46,32 +47,32 @@ branch_in number store = branch_xid (codes "c") number store
 abbrev pub HasAdded : Fused CountedStore → Statement → Type 0
 HasAdded session statement = Contains (own_of session.inner).known.mine (entry_of 1 statement)
 
--- a call that isn't RECOVER; work gives GET, PUT or DEL, as in each call that a line tells
+-- a call that isn't RECOVER; work gives GET, PUT or DEL, as in each call that a line spells
 abbrev pub IsPlain : Call → Type 0
 IsPlain (Work number store statement) = takes_rows statement ≡ true
 IsPlain Recover = ⊥
 IsPlain call = Unit {0}
 
--- whatever store the coordinator began a branch of the transaction in is this one
+-- the coordinator began a branch of the transaction in no other store than this one
 abbrev pub IsAlone : List (Fused CountedStore) → ℕ → ℕ → Type 0
 IsAlone sessions number store =
     (other : ℕ) (session : Fused CountedStore) → slice_get sessions other ≡ Some session → HasAdded session (Start (branch_in number other)) → other ≡ store
 
--- an undecided transaction that was committed all the same
+-- an undecided transaction that was committed nevertheless
 pub record IsOnePhase (decisions : List Decision) (sessions : List (Fused CountedStore)) (store number : ℕ) : Type 0 where
   pub undecided : is_decided decisions number ≡ false
   pub alone : IsAlone sessions number store
 
--- XA COMMIT is of a decided transaction's branch; with ONE PHASE it is of an undecided one's that has no branch in another store; XA ROLLBACK is of an undecided
--- one's
+-- XA COMMIT is of a decided transaction's branch; with ONE PHASE of an undecided one's that has no branch in
+-- another store; XA ROLLBACK is of an undecided one's
 abbrev pub GoesWith : List Decision → List (Fused CountedStore) → ℕ → Statement → Type 0
 GoesWith decisions sessions store (Commit xid false) = (number : ℕ) × IsBranchOf (codes "c") number store xid × (is_decided decisions number ≡ true)
 GoesWith decisions sessions store (Commit xid true) = (number : ℕ) × IsBranchOf (codes "c") number store xid × IsOnePhase decisions sessions store number
 GoesWith decisions sessions store (Rollback xid) = (number : ℕ) × IsBranchOf (codes "c") number store xid × (is_decided decisions number ≡ false)
 GoesWith decisions sessions store statement = Unit {0}
 
--- in each store, all that the coordinator's session added, in all calls from the first on, goes with the decisions as they stand in the end, and none of its
--- branches is prepared
+-- in each store, all that the coordinator's session added, in all calls from the first on, goes with the
+-- final decisions, and none of its branches is prepared
 pub record KeepsToDecisions (last : Managing) : Type 0 where
   pub goes : (store : ℕ) (session : Fused CountedStore) (statement : Statement) → slice_get last.sessions store ≡ Some session → HasAdded session statement
       → GoesWith last.decisions last.sessions store statement
@@ -88,7 +89,7 @@ abbrev pub LeavesBranches : Call → Type 0
 LeavesBranches (At store statement) = EndsNone store statement
 LeavesBranches call = Unit {0}
 
--- the state that the store's first so many entries left
+-- the state after so many entries of the store
 abbrev pub state_before : CountedStore → ℕ → State
 state_before counted place = state_at counted.store.first.value (history_of counted.store) place
 
@@ -105,8 +106,8 @@ KeepsRowsOr counted place entry =
     ((state_before counted (place + 1)).rows ≡ (state_before counted place).rows)
     ⊎ ChangesRows (association_of (state_before counted place) entry.session) entry.statement
 
--- the coordinator's XA PREPARE of the branch stands in the store's history, from there on the branch was PREPARED up to a later place, and the coordinator's XA COMMIT
--- there made all its writes the committed values
+-- the coordinator's XA PREPARE of the branch is in the store's history; from there the branch was PREPARED up
+-- to a later place, at which the coordinator's XA COMMIT made all its writes the committed values
 pub record WasCommitted (counted : CountedStore) (xid : Xid) : Type 0 where
   pub prepare : ℕ
   pub prepares : slice_get (history_of counted.store) prepare ≡ Some (entry_of 1 (Prepare xid))
@@ -117,8 +118,9 @@ pub record WasCommitted (counted : CountedStore) (xid : Xid) : Type 0 where
   pub rows : (branch : Branch) → map.get (state_before counted place).branches xid ≡ Some branch
       → (state_before counted (place + 1)).rows ≡ with_writes (map.entries branch.writes) (state_before counted place).rows
 
--- a decided transaction was committed in each store in which the coordinator began a branch of it; of an undecided one an XA COMMIT, whoever gave it, stands in a
--- store's history only with ONE PHASE, and then the coordinator began no branch of it in another store
+-- a decided transaction was committed in each store in which the coordinator began a branch of it; of an
+-- undecided one an XA COMMIT, whoever gave it, is in a store's history only with ONE PHASE, and then the
+-- coordinator began no branch of it in another store
 pub record AllOrNone (last : Managing) : Type 0 where
   pub all : (number store : ℕ) (session : Fused CountedStore) → number < 2 ^ 64 → is_decided last.decisions number ≡ true
       → slice_get last.sessions store ≡ Some session → HasAdded session (Start (branch_in number store)) → WasCommitted session.inner (branch_in number store)
@@ -127,6 +129,6 @@ pub record AllOrNone (last : Managing) : Type 0 where
       → slice_get (history_of session.inner.store) place ≡ Some (entry_of client (Commit (branch_in number store) one_phase))
       → (one_phase ≡ true) × IsAlone last.sessions number store
 
--- where the recovery behind a stop came to its end, what it left is so
+-- if the recovery after a stop came to its end, both hold of what it left
 abbrev pub LeavesWhole : {stores : ℕ} {script told : List Call} {text : List ℕ} → IsLeft stores script told text → Type 0
 LeavesWhole left = (report : Report) → left.response ≡ Recovered (Ok report) → KeepsToDecisions left.last × AllOrNone left.last

@@ -24,7 +24,7 @@ other_of counted = other_alone counted.store
 abbrev pub state_in : CountedStore → State
 state_in counted = state_after counted.store.first.value (history_of counted.store)
 
--- one call more was given, up to 2 ^ 64 - 1 of them; whether memory was ever refused is noted
+-- one more call was counted, up to 2 ^ 64 - 1 of them; whether memory was ever refused is noted
 pub record IsCounted (old : CountedStore) (statement : Statement) (result : Result Answer Fault) (new : CountedStore) : Type 0 where
   pub given : old.given < 2 ^ 64 - 1 → new.given ≡ old.given + 1
   pub refused : OnErr result (new.starved ≡ true)

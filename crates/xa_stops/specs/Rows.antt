@@ -1,4 +1,4 @@
--- The rows that are shown behind a stop.
+-- The rows that are shown after a stop.
 --     key_named        the key that a call names in a store
 --     keys_named       the keys that calls name in a store, each once, ascending
 --     AreNamed         the lists of those that they name in each store

@@ -1,7 +1,8 @@
--- What a script of calls says, and what is written for it. All of it is our own: docs/COORDINATOR.md#stops.
+-- What a script of calls is, and the text that is written for it. All of it is an own rule:
+-- docs/COORDINATOR.md#stops.
 --     calls_of         the calls of a script, one of each line
---     faults_text      what is written for the lines that are refused
---     IsStopsText      what is written for a script, and how that ends
+--     faults_text      the text of the lines that are refused
+--     IsStopsText      the text of a script, and how the script ended
 use Rattle.std.specs.Prelude.{◌≡◌, ◌≢◌, ℕ, ◌+◌, Bool, true, false, if◌then◌else◌, Option, List, [], ◌∷◌, ◌++◌, map, codes, decimal, IfSome}
 use Rattle.std.specs.Io.KnownBytes.{Keeps, Appends}
 use Rattle.xa_lines.specs.Received.{received_line}
@@ -48,36 +49,36 @@ is_refusal response = false
 abbrev pub cause_text : ℕ → Response → List ℕ
 cause_text number response = codes "LINE " ++ decimal number ++ codes ": " ++ answer_text [] response
 
--- that, where the line is refused
+-- the same, if the line is refused; else nothing
 abbrev pub fault_text : ℕ → Response → List ℕ
 fault_text number response = if is_refusal response then cause_text number response else []
 
--- what is written for the lines from this number on that are refused
+-- the text of those lines, from this number on, that are refused
 unfoldable pub faults_from : ℕ → List Response → List ℕ
 faults_from number [] = []
 faults_from number (response ∷ responses) = fault_text number response ++ faults_from (number + 1) responses
 
--- all calls were carried out, and this is what is written for those that were refused
+-- all calls were carried out, and this is the text of those that were refused
 pub record HasFaults (stores : ℕ) (calls : List Call) (text : List ℕ) : Type 0 where
   pub responses : List Response
   pub last : Managing
   pub run : IsRun stores calls responses last
   pub text_is : text ≡ faults_from 1 responses
 
--- what is written for a script, and how that ends: its stops where no line is faulty, else the faulty lines
+-- the text of a script, and how it ended: its stops if no line is faulty, else the faulty lines
 abbrev pub IsStopsText : ℕ → List ℕ → Ended → List ℕ → Type 0
 IsStopsText stores script Done text = HasFaults stores (calls_of script) [] × IsShown stores (calls_of script) text
 IsStopsText stores script Faulty text = HasFaults stores (calls_of script) text × (text ≢ [])
 
--- what may be written for a script, however that ends
+-- a text of the script, however it ended
 abbrev pub IsSomeText : ℕ → List ℕ → List ℕ → Type 0
 IsSomeText stores script text = (ended : Ended) × IsStopsText stores script ended text
 
--- the writer got what is written for the script
+-- the writer got the text of the script
 abbrev pub AppendsStops : ℕ → Ended → List ℕ → Option (List ℕ) → Option (List ℕ) → Type 0
 AppendsStops stores ended script old new = (text : List ℕ) × IsStopsText stores script ended text × Appends old new text
 
--- the writer got a prefix of that
+-- the writer got a prefix of it
 abbrev pub AppendsStopsPrefix : ℕ → List ℕ → Option (List ℕ) → Option (List ℕ) → Type 0
 AppendsStopsPrefix stores script old new = (ended : Ended) × (text : List ℕ) × IsStopsText stores script ended text × AppendsPrefix old new text
 
@@ -85,7 +86,7 @@ AppendsStopsPrefix stores script old new = (ended : Ended) × (text : List ℕ) 
 abbrev pub IsFaultOfStops : List ℕ → ScriptFault → Type 0
 IsFaultOfStops script fault = fault ≡ NoMemory
 
--- what a fault leaves in the writer: a prefix where a write failed, else nothing; there is no fault of a race
+-- what a fault leaves in the writer: a prefix if a write failed, else nothing; there is no fault of a race
 abbrev pub AfterStopsFault : ℕ → ScriptFault → Option (List ℕ) → Option (List ℕ) → Option (List ℕ) → Type 0
 AfterStopsFault stores Write input old new = IfSome input (λ script. AppendsStopsPrefix stores script old new)
 AfterStopsFault stores Full input old new = ⊥

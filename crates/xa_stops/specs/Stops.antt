@@ -1,12 +1,12 @@
--- The stops of a coordinator, and what a recovery leaves behind each.
+-- The stops of a coordinator, and what a recovery leaves after each.
 --     is_own           whether a call is one of the coordinator's
 --     MakesCalls       how many calls of sessions a line makes in each store
 --     stops_in         the stops of calls
 --     limits_for       how many of a line's first calls go to each store
---     ended_calls      calls with STOP and RECOVER behind them
+--     ended_calls      calls, and then STOP and RECOVER
 --     stopped_calls    the calls that are carried out for a stop
---     IsLeft           what a recovery leaves behind calls
---     IsShown          what is written for calls of which none is faulty
+--     IsLeft           what a recovery leaves after calls
+--     IsShown          the text of calls of which none is faulty
 use Rattle.std.specs.Prelude.{◌≡◌, ℕ, zero, suc, ◌+◌, ◌-◌, min, Bool, true, false, if◌then◌else◌, Some, Err, List, [], ◌∷◌, ◌++◌, length, take, drop, map}
 use Rattle.std.specs.Prelude.{slice_get, sum, codes, decimal}
 use Rattle.std.specs.List.{AllZip, concat}
@@ -23,19 +23,20 @@ use Rattle.xa_stops.specs.Counted.{state_in}
 use Rattle.xa_stops.specs.Rows.{rows_text}
 use Rattle.xa_stops.specs.Runs.{Managing, IsRun, IsGiven}
 
--- a call that the coordinator carries out: one that isn't another client's, and tells something
+-- a call that the coordinator carries out: not another client's, and not a blank line or a comment
 abbrev pub is_own : Call → Bool
 is_own Silent = false
 is_own (At store statement) = false
 is_own call = true
 
--- how much greater each number is than the one in its place
+-- how much greater each number is than the one at its place
 unfoldable pub differences : List ℕ → List ℕ → List ℕ
 differences [] before = []
 differences (one ∷ after) [] = one ∷ differences after []
 differences (one ∷ after) (other ∷ before) = (one - other) ∷ differences after before
 
--- the line at a place makes so many calls in each store: with it the sessions are given so many statements more
+-- the line at a place makes so many calls in each store: after it the sessions have been given so many more
+-- statements
 pub record MakesCalls (stores : ℕ) (calls : List Call) (place : ℕ) (made : List ℕ) : Type 0 where
   pub before : List ℕ
   pub after : List ℕ
@@ -48,7 +49,7 @@ unfoldable pub stops_below : ℕ → ℕ → List Stop
 stops_below place zero = []
 stops_below place (suc count) = stops_below place count ++ record { place = place; calls = count } ∷ []
 
--- a line has a stop before each of its calls, and one where it makes none
+-- a line has a stop before each of its calls, and one if it makes none
 abbrev pub stop_count : ℕ → ℕ
 stop_count zero = 1
 stop_count (suc calls) = suc calls
@@ -77,12 +78,12 @@ unfoldable pub fails_from : ℕ → List ℕ → List Call
 fails_from store [] = []
 fails_from store (limit ∷ limits) = Fail store limit ∷ fails_from (store + 1) limits
 
--- calls, and behind them STOP and RECOVER
+-- calls, and after them STOP and RECOVER
 abbrev pub ended_calls : List Call → List Call
 ended_calls calls = calls ++ StopCall ∷ Recover ∷ []
 
--- what is carried out of the line at a place until so many calls were made in each store, which are so many in all: FAIL for each store, and the line; of a
--- line in which no call was made nothing is
+-- what is carried out of the line at a place until so many calls were made, divided among the stores: FAIL
+-- for each store, and the line; nothing if no call was made in it
 abbrev pub cut_line : List Call → ℕ → ℕ → List ℕ → List Call
 cut_line calls place zero limits = []
 cut_line calls place (suc count) limits = fails_from 0 limits ++ take 1 (drop place calls)
@@ -91,7 +92,8 @@ cut_line calls place (suc count) limits = fails_from 0 limits ++ take 1 (drop pl
 abbrev pub stopped_calls : List Call → Stop → List ℕ → List Call
 stopped_calls calls stop limits = ended_calls (take stop.place calls ++ cut_line calls stop.place stop.calls limits)
 
--- a manager that was told these calls answered the last of them so, and in its stores the rows that the script names have these committed values
+-- a manager that carried out these calls answered the last of them so, and the rows that the script names
+-- have these committed values
 pub record IsLeft (stores : ℕ) (script told : List Call) (text : List ℕ) : Type 0 where
   pub responses : List Response
   pub response : Response
@@ -108,7 +110,7 @@ count_line count = codes "STOPS " ++ decimal count ++ codes "\n"
 abbrev pub stop_line : Stop → List ℕ
 stop_line stop = codes "STOP " ++ decimal (stop.place + 1) ++ codes " " ++ decimal stop.calls ++ codes "\n"
 
--- what is written for a stop: its line, and what a recovery leaves where the coordinator was stopped there
+-- the text of a stop: its line, and what a recovery leaves if the coordinator was stopped there
 pub record IsStopText (stores : ℕ) (calls : List Call) (made : List (List ℕ)) (stop : Stop) (text : List ℕ) : Type 0 where
   pub there : List ℕ
   pub makes : slice_get made stop.place ≡ Some there
@@ -116,7 +118,7 @@ pub record IsStopText (stores : ℕ) (calls : List Call) (made : List (List ℕ)
   pub left : IsLeft stores calls (stopped_calls calls stop (limits_for there stop.calls)) rest
   pub text_is : text ≡ stop_line stop ++ rest
 
--- how many stops there are, what is written for each, and what a recovery leaves behind all lines (own rule)
+-- how many stops there are, the text of each, and what a recovery leaves after all lines (own rule)
 pub record IsShown (stores : ℕ) (calls : List Call) (text : List ℕ) : Type 0 where
   pub made : List (List ℕ)
   pub count : length made ≡ length calls

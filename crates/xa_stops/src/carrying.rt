@@ -1,4 +1,4 @@
-//! Calls, carried out one after another.
+//! Carrying calls out, one after another.
 ghost use Rattle.std.specs.Prelude.{List, All, OnOk};
 ghost use Rattle.xa_manager.specs.Calls.{IsWritten};
 ghost use Rattle.xa_manager.specs.Managed.{whole_of};
@@ -30,7 +30,7 @@ pub fn carry_out<R: Wait>(
     Ok(())
 }
 
-/// Has the coordinator's session in each store, from store 0 on, answer so many calls more.
+/// Lets the coordinator's session in each store, from store 0 on, answer so many more calls.
 pub fn limit_each<R: Wait>(
     rt: &R,
     alloc: Global,

@@ -1,4 +1,4 @@
-//! A lasting store that counts what its own session is given.
+//! An unbounded store that counts the statements that its own session is given.
 ghost use Rattle.std.specs.Prelude.{◌≡◌, ◌+◌, ◌-◌, ◌<◌, ◌^◌, false, true};
 ghost use Rattle.xa_stops.specs.Counted.{state_in};
 
@@ -9,7 +9,8 @@ use xa_server::Server;
 use xa_session::{Answer, Fault};
 use xa_xid::Statement;
 
-/// A lasting store that counts the calls of its own session, and notes where memory was refused for a statement.
+/// An unbounded store that counts the calls of its own session, and notes if memory was refused for a
+/// statement.
 #[derive(Drop)]
 pub struct CountedStore {
     pub(crate) store: LastingStore,
@@ -20,7 +21,7 @@ pub struct CountedStore {
 }
 
 impl CountedStore {
-    /// The store, whose sessions were given nothing yet.
+    /// The store, before any call of its sessions.
     pub(crate) fn new(store: LastingStore) -> CountedStore
         ensures store { result.store ≡ store }
         ensures given { result.given ≡ 0 }
@@ -40,7 +41,7 @@ impl CountedStore {
         self.store.server()
     }
 
-    /// Counts a call of its own session, which was answered or not.
+    /// Counts a call of its own session. `answered` tells whether it was answered.
     fn count(&mut self, answered: bool)
         ensures store { self.new.store ≡ self.old.store }
         ensures given { self.old.given < 2 ^ 64 - 1 → self.new.given ≡ self.old.given + 1 }
@@ -52,6 +53,8 @@ impl CountedStore {
     }
 }
 
+// Proved (scripts, stops-counted): The stores on which stops are tried count each statement of the
+//   coordinator's session, and note if memory was refused for one.
 impl Speak for CountedStore {
     ghost use Rattle.xa_stops.specs.Counted.{own_of, IsCounted};
 

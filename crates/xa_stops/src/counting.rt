@@ -23,7 +23,7 @@ fn given_in(alloc: Global, stores: &[CountedStore]) -> Result<Vec<u64>, NoMemory
     Ok(given)
 }
 
-/// How many statements the coordinator's session of each store was given, once these calls are carried out.
+/// How many statements the coordinator's session of each store was given, after these calls are carried out.
 fn given_after<R: Wait>(
     rt: &R,
     alloc: Global,
@@ -49,7 +49,7 @@ fn number_or_zero(list: &[u64], place: usize) -> u64
     if place < list.len() { list[place] } else { 0 }
 }
 
-/// How much greater each number is than the one in its place.
+/// How much greater each number is than the one at its place.
 fn differences(alloc: Global, after: &[u64], before: &[u64]) -> Result<Vec<u64>, NoMemory>
     ensures { IfOk result (λ more. more.items ≡ differences_of after.now before.now) }
 {

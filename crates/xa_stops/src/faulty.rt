@@ -48,7 +48,7 @@ fn push_cause(
     Ok(())
 }
 
-/// Appends the line of this number where it is refused.
+/// Appends the line of this number, if it is refused.
 fn push_fault(
     faults: &mut Vec<u8>,
     alloc: Global,
@@ -65,7 +65,7 @@ fn push_fault(
     }
 }
 
-/// Carries a call out, and appends the line of this number where it is refused.
+/// Carries a call out, and appends the line of this number if it is refused.
 fn carry_line<R: Wait>(
     rt: &R,
     alloc: Global,
@@ -84,7 +84,7 @@ fn carry_line<R: Wait>(
     Ok(())
 }
 
-/// Carries all calls out, and gives what is written for those that are refused.
+/// Carries all calls out, and returns the text for those that are refused.
 pub fn faulty_lines<R: Wait>(
     rt: &R,
     alloc: Global,

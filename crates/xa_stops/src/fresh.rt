@@ -14,7 +14,7 @@ use xa_manager::Manager;
 use xa_server::Server;
 use xa_xid::NoMemory;
 
-/// A store that holds nothing and doesn't fail.
+/// A store that holds nothing and whose session doesn't fail.
 fn fresh_session(alloc: Global) -> Fused<CountedStore>
     ensures pair { IsPair (own_of result.inner) (other_of result.inner) }
     ensures left { result.left ≡ 2 ^ 64 - 1 }
@@ -27,7 +27,7 @@ fn fresh_session(alloc: Global) -> Fused<CountedStore>
     Fused::new(store, u64::MAX)
 }
 
-/// So many stores that hold nothing, none of which fails, and as many more to which nobody speaks.
+/// Stores that hold nothing and never fail, and as many more that get no statement.
 fn open_each(
     alloc: Global,
     count: u64,
@@ -48,7 +48,7 @@ fn open_each(
     Ok((sessions, nobody))
 }
 
-/// A manager over so many stores that hold nothing: nothing has begun, and no session fails.
+/// A manager over stores that hold nothing: nothing has begun, and no session fails.
 pub fn fresh_manager(
     alloc: Global,
     count: u64,
@@ -63,7 +63,7 @@ pub fn fresh_manager(
 
 /// The stores of a manager, none of which was refused memory.
 ///
-/// Error: `NoMemory`, also where one was.
+/// Errors: `NoMemory`, also if one of them was.
 pub fn fed_stores(
     alloc: Global,
     manager: Manager<Fused<CountedStore>, LastingStore>,

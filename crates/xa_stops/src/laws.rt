@@ -1,4 +1,4 @@
-//! What follows from what a recovery leaves behind a stop.
+//! Laws about what a recovery leaves after a stop.
 ghost use Rattle.std.specs.Prelude.{◌≡◌, Some, slice_get, ◌++◌, ◌∷◌, [], Ok, List, ℕ, All};
 ghost use Rattle.xa_coordinator.specs.declared.report.Report.{Report};
 ghost use Rattle.xa_manager.specs.declared.call.Call.{Call};
@@ -14,41 +14,64 @@ ghost use Rattle.xa_words.specs.Entry.{Entry};
 ghost use Rattle.xa_stops.specs.Scripts.{calls_of};
 ghost use Rattle.xa_stops.specs.Stops.{IsStopText, IsShown};
 
-/// Behind calls, none of them `RECOVER`, and a recovery that came to its end, everything that the coordinator ever added to a store goes with
-/// the decisions as they stand then, and none of its branches is prepared.
+/// States what the coordinator's sessions have added after calls, none of them `RECOVER`, and a completed
+/// recovery.
 ///
+/// Everything that they ever added goes with the decisions as they are then, and none of the coordinator's
+/// branches is prepared.
 /// Own rule: docs/COORDINATOR.md#stops.
 pub fn recovery_keeps_to_decisions()
+    // Proved (coordinator, recovery-keeps-to-decisions): In any run of a manager's calls over unbounded
+    //   stores, in which only the last is `RECOVER` and is answered with a report, all that the coordinator
+    //   added goes with the final decisions. `XA COMMIT` is of decided transactions, with ONE PHASE of
+    //   undecided ones with a branch in only one store; `XA ROLLBACK` is of undecided ones. None of its
+    //   branches is prepared. This holds whatever other clients do.
     ensures { (stores : ℕ) (told : List Call) (responses : List Response) (report : Report) (last : Managing) → All IsPlain told
         → IsRun stores (told ++ Recover ∷ []) (responses ++ Recovered (Ok report) ∷ []) last
         → KeepsToDecisions last }
 {}
 
-/// Then each transaction stands in all stores in which it has a branch, or in none: a decided one was committed in each, and one that isn't
-/// decided in none, or by ONE PHASE in the only store in which it has one. The condition is that no call has another client end a branch of
-/// the coordinator's naming.
+/// States that each transaction then is in all stores in which it has a branch, or in none.
 ///
+/// A decided one was committed in each; one that isn't decided in none, or by ONE PHASE in the only store in
+/// which it has a branch. The condition is that no call has another client end a branch of the coordinator's
+/// naming.
 /// Own rule: docs/COORDINATOR.md#stops.
 pub fn transactions_stand_whole_or_not_at_all()
+    // Proved (coordinator, whole-or-not-at-all): In such a run each transaction is whole or absent: a decided
+    //   one was committed in each store in which the coordinator began a branch of it; of an undecided one an
+    //   `XA COMMIT` is in a history only with ONE PHASE, and then it has a branch in no other store. Premise:
+    //   no `AT` commits or rolls back a branch of the coordinator's naming.
     ensures { (stores : ℕ) (told : List Call) (responses : List Response) (report : Report) (last : Managing) → All IsPlain told
         → All LeavesBranches told
         → IsRun stores (told ++ Recover ∷ []) (responses ++ Recovered (Ok report) ∷ []) last
         → AllOrNone last }
 {}
 
-/// So it is behind each stop that is shown of a script, and behind all its lines, wherever `RECOVERED` is written.
+/// States the same after each stop that is shown of a script, and after all its lines, if `RECOVERED` is
+/// written.
 ///
 /// Own rule: docs/COORDINATOR.md#stops.
 pub fn each_stop_leaves_all_or_none()
+    // Proved (scripts, stops-whole): After each of these stops whose recovery was answered `RECOVERED`, a
+    //   decided transaction was committed in each store in which the coordinator began a branch of it, with
+    //   all writes of that branch at once. Of an undecided one an `XA COMMIT` is in a store's history only
+    //   with ONE PHASE, and then the coordinator began a branch of it in no other store. None of its branches
+    //   is prepared. Premise: no `AT` commits or rolls back a branch of the coordinator's naming. Which row
+    //   statements the writes come from, and that `RECOVERED` is answered, is only tested.
     ensures stop { (stores : ℕ) (script : List ℕ) (made : List (List ℕ)) (stop : Stop) (text : List ℕ) → All LeavesBranches (calls_of script)
         → (shown : IsStopText stores (calls_of script) made stop text)
         → LeavesWhole shown.left }
+    // Proved (scripts, stops-whole)
     ensures end { (stores : ℕ) (script text : List ℕ) → All LeavesBranches (calls_of script) → (shown : IsShown stores (calls_of script) text) → LeavesWhole shown.left }
 {}
 
-/// In a store's history nothing changes a committed value but commits, and writes of sessions that have no branch open.
+/// States that in a store's history only commits, and writes of sessions without an open branch, change a
+/// committed value.
 ///
 /// Own rule: docs/STATEMENTS.md#rows-and-locks.
 pub fn commits_change_rows()
+    // Proved (scripts, commits-change-rows): In a store's history only commits, and writes of sessions that
+    //   have no branch open, change a committed value.
     ensures { (counted : CountedStore) (place : ℕ) (entry : Entry) → slice_get (history_of counted.store) place ≡ Some entry → KeepsRowsOr counted place entry }
 {}

@@ -1,4 +1,11 @@
-//! Every stop of a coordinator, and what a recovery leaves.
+//! Shows every stop of a coordinator: for each call that it could have stopped before, what a recovery
+//! leaves.
+//!
+//! The calls of a script are carried out on new stores, once for each stop, up to that stop. Then a
+//! coordinator of the same name and decisions recovers, and the rows that the calls name are shown.
+//! `stops_script` does so from a reader to a writer. Read docs/COORDINATOR.md#stops first, then
+//! `specs/Stops.antt`, `src/run.rt` and `src/stopping.rt`; for what is left of each transaction,
+//! `specs/Atomic.antt` and `proofs/Holding.antt`.
 #![tactic(auto)]
 
 mod carrying;

@@ -20,7 +20,7 @@ fn key_in(statement: &Statement) -> Option<Key>
     }
 }
 
-/// The key that a statement names, where it is for this store.
+/// The key that a statement names, if it is for this store.
 fn key_there(there: u64, statement: &Statement, store: u64) -> Option<Key>
     ensures { result ≡ if nat_eq there store then key_of_statement statement.now else None }
 {
@@ -84,7 +84,7 @@ fn listed(alloc: Global, found: &BTreeSet<Key>) -> Result<Vec<Key>, NoMemory>
     Ok(keys)
 }
 
-/// The keys that calls name in each of so many stores, each once, ascending.
+/// The keys that calls name in each of `stores` stores, each once, ascending.
 pub fn keys_of_each(alloc: Global, calls: &[Call], stores: u64) -> Result<Vec<Vec<Key>>, NoMemory>
     ensures count { IfOk result (λ keys. vec_len keys ≡ stores) }
     ensures keys { IfOk result (λ keys. AreNamed calls.now (map (λ one. one.items) keys.items)) }

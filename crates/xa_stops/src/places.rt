@@ -1,4 +1,4 @@
-//! Where a coordinator is stopped.
+//! The stops of a coordinator.
 ghost use Rattle.std.specs.Prelude.{◌≡◌, ◌++◌, length, map, sum, OnOk, IfOk};
 ghost use Rattle.xa_stops.specs.Stops.{is_own as is_own_call, stop_count, stops_at, stops_below, stops_in as stops_of};
 
@@ -29,7 +29,7 @@ fn total(made: &[u64]) -> Result<u64, NoMemory>
     Ok(sum)
 }
 
-/// Adds the stops in a line that makes so many calls: before each, or one where it makes none.
+/// Adds the stops in a line that makes so many calls: one before each call, or one if it makes none.
 fn add_stops(stops: &mut Vec<Stop>, place: usize, calls: u64) -> Result<(), NoMemory>
     ensures { OnOk result (stops.new.items ≡ stops.old.items ++ stops_below place (stop_count calls)) }
 {

@@ -1,4 +1,4 @@
-//! What a script of calls says, line by line.
+//! Reading a script of calls, line by line.
 ghost use Rattle.std.specs.Prelude.{◌≡◌, All, IfOk};
 ghost use Rattle.xa_manager.specs.Calls.{IsWritten};
 ghost use Rattle.xa_stops.specs.Scripts.{taken as taken_of, call_in as call_of_line, calls_of};
@@ -8,7 +8,7 @@ use xa_lines::{LINE_BYTES, split_line};
 use xa_manager::{Call, read_call};
 use xa_xid::NoMemory;
 
-/// The call, but that those which stop a coordinator or look at it aren't read.
+/// The call, but unread if it is one that stops a coordinator or looks at it.
 fn taken(call: Call) -> Call
     requires { IsWritten call }
     ensures call { result ≡ taken_of call }

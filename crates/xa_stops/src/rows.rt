@@ -1,4 +1,4 @@
-//! Prints rows.
+//! Writing rows as text.
 ghost use Rattle.std.specs.Prelude.{◌≡◌, ◌++◌, List, length, map, IfOk};
 ghost use Rattle.std.specs.List.{flat_map};
 ghost use Rattle.xa_stops.specs.Counted.{state_in};
@@ -12,7 +12,7 @@ use xa_lines::push_number;
 use xa_server::Server;
 use xa_xid::{Bytes, Key, NoMemory, with_part};
 
-/// A text with a value, or that there is none, at its end.
+/// Appends a value, or that there is none, to a text.
 fn with_value(mut text: Vec<u8>, value: Option<Bytes>) -> Result<Vec<u8>, NoMemory>
     ensures { IfOk result (λ longer. longer.items ≡ text.items ++ value_text value) }
 {
@@ -25,7 +25,7 @@ fn with_value(mut text: Vec<u8>, value: Option<Bytes>) -> Result<Vec<u8>, NoMemo
     }
 }
 
-/// A text with the line of a row at its end.
+/// Appends the line of a row to a text.
 fn with_row(mut text: Vec<u8>, store: u64, server: &Server, key: &Key) -> Result<Vec<u8>, NoMemory>
     ensures { IfOk result (λ longer. longer.items ≡ text.items ++ row_line store server.now key.now) }
 {
@@ -39,7 +39,7 @@ fn with_row(mut text: Vec<u8>, store: u64, server: &Server, key: &Key) -> Result
     Ok(text)
 }
 
-/// A text with the lines of a store's rows at its end.
+/// Appends the lines of a store's rows to a text.
 fn with_rows(text: Vec<u8>, store: u64, server: &Server, keys: &[Key]) -> Result<Vec<u8>, NoMemory>
     ensures { IfOk result (λ longer. longer.items ≡ text.items ++ flat_map (row_line store server.now) keys.now) }
 {

@@ -1,4 +1,4 @@
-//! Shows every stop of a script of calls.
+//! Showing every stop of a script of calls.
 ghost use Rattle.std.specs.Prelude.{◌≡◌, ◌≤◌, ◌<◌, ◌-◌, ◌^◌, ◌++◌, List, ℕ, All, length, get_or, map, IfOk, IfErr, OnOk, OnErr, MatchResult, IfSome, Err};
 ghost use Rattle.std.specs.List.{AllZip, concat};
 ghost use Rattle.std.specs.Io.KnownBytes.{Appends, IsAtEnd};
@@ -24,16 +24,16 @@ use xa_lines::{PieceReader, PieceWriter, ScriptFault, push_number, read_all, wri
 use xa_manager::Call;
 use xa_xid::{Key, NoMemory};
 
-/// How a script of calls ended, and what is written for it.
+/// How a script of calls ended, and the text that is written for it.
 #[derive(Drop)]
 pub struct Told {
     /// How it ended.
     pub ended: Ended,
-    /// What is written.
+    /// The text.
     pub text: Vec<u8>,
 }
 
-/// A text with the head of a stop at its end.
+/// Appends the head of a stop to a text.
 fn with_head(mut text: Vec<u8>, stop: Stop) -> Result<Vec<u8>, NoMemory>
     requires { stop.place < 2 ^ 64 - 1 }
     ensures { IfOk result (λ longer. longer.items ≡ text.items ++ stop_line stop) }
@@ -46,7 +46,7 @@ fn with_head(mut text: Vec<u8>, stop: Stop) -> Result<Vec<u8>, NoMemory>
     Ok(text)
 }
 
-/// The line that says how many stops there are.
+/// The line with the number of stops.
 fn with_count(alloc: Global, count: usize) -> Result<Vec<u8>, NoMemory>
     ensures { IfOk result (λ text. text.items ≡ count_line count) }
 {
@@ -65,7 +65,7 @@ fn stop_at(stops: &[Stop], place: usize) -> Stop
     stops[place]
 }
 
-/// A text with each stop at its end.
+/// Appends each stop to a text.
 fn with_stops<R: Wait>(
     rt: &R,
     alloc: Global,
@@ -94,7 +94,7 @@ fn with_stops<R: Wait>(
     Ok(longer)
 }
 
-/// What is written for calls of which none is faulty.
+/// The text for calls of which none is faulty.
 fn shown_stops<R: Wait>(
     rt: &R,
     alloc: Global,
@@ -124,7 +124,12 @@ fn shown_stops<R: Wait>(
     Ok(text)
 }
 
-/// Shows every stop of the script of calls that this text is.
+/// Makes the text of every stop of a script of calls, or of its faulty lines.
+///
+/// `text`: the script. `stores`: how many unbounded stores there are, in `[1, 16]`, which hold nothing at
+/// first.
+/// Errors: `NoMemory` if an allocation fails. May return `NoMemory`. Doesn't wait.
+/// Own rule: docs/COORDINATOR.md#stops.
 pub fn stops_text<R: Wait>(
     rt: &R,
     alloc: Global,
@@ -133,6 +138,12 @@ pub fn stops_text<R: Wait>(
 ) -> Result<Told, NoMemory>
     requires some { 1 ≤ stores }
     requires most { stores ≤ 16 }
+    // Proved (scripts, stops-shown): Of a coordinator's script exactly its stops are written: for each call
+    //   of the coordinator one before each call of a session that its line makes, or one if it makes none.
+    //   For each is written what a manager that carried out just these lines, the last up to that call,
+    //   answered to `RECOVER`, and the committed values then.
+    // Proved (scripts, stops-faulty): If a manager that carried out all calls of the script refused one,
+    //   exactly the refused lines are written instead, each with its cause.
     ensures { IfOk result (λ told. IsStopsText stores text.now told.ended told.text.items) }
 {
     let calls = read_calls(alloc, text)?;
@@ -149,7 +160,7 @@ pub fn stops_text<R: Wait>(
     })
 }
 
-/// Writes what is written for a script, and gives how it ended.
+/// Writes a script's text, and returns how the script ended.
 fn write_told<W: PieceWriter>(writer: &mut W, told: &Told) -> Result<Ended, ScriptFault>
     ensures ended { IfOk result (λ ended. ended ≡ told.now.ended) }
     ensures all { OnOk result (Appends (W.contents writer.old) (W.contents writer.new) told.now.text.items) }
@@ -163,14 +174,16 @@ fn write_told<W: PieceWriter>(writer: &mut W, told: &Told) -> Result<Ended, Scri
     Ok(told.ended)
 }
 
-/// Shows every stop of a script of calls: reads all of it, and writes what a recovery leaves behind each stop and behind all lines, or its faulty lines.
+/// Shows every stop of a script of calls: reads all of it, and writes its text as `stops_text` makes it.
 ///
-/// A script is at most 1,048,576 bytes, and takes at most 2,097,152 reads. There are `stores` stores, in `[1, 16]`, which hold nothing at
-/// first and are never full. Nothing is written before all stops were tried. What is written isn't flushed.
-/// Errors: `Read` where a read failed, or too many reads were needed; `TooLong` where the script is longer; `NoMemory`; `Write`
-/// where a write failed or took nothing. After `Write` a prefix of the text was written, after any other nothing. A reader or a
+/// The script has at most 1,048,576 bytes, and takes at most 2,097,152 reads. `stores`: how many unbounded
+/// stores there are, in `[1, 16]`, which hold nothing at first. Nothing is written before all stops were
+/// tried; the writer isn't flushed.
+/// Errors: `Read` if a read failed, or too many reads were needed; `TooLong` if the script is longer;
+/// `NoMemory` if an allocation failed; `Write` if a write failed or took nothing.
+/// After an error: after `Write` a prefix of the text was written, after any other nothing. A reader or
 /// writer that failed isn't called again.
-/// May answer `NoMemory`. Doesn't wait, unless the reader or the writer does.
+/// May return `NoMemory`. Doesn't wait, unless the reader or the writer does.
 /// Own rule: docs/COORDINATOR.md#stops.
 pub fn stops_script<H: Wait, R: PieceReader, W: PieceWriter>(
     rt: &H,
@@ -181,17 +194,28 @@ pub fn stops_script<H: Wait, R: PieceReader, W: PieceWriter>(
 ) -> Result<Ended, ScriptFault>
     requires some { 1 ≤ stores }
     requires most { stores ≤ 16 }
-    // All was read, and what was written is the text of its stops, or its faulty lines.
+    // Proved (scripts, stops-read): After Ok all of a coordinator's script was read, and the text of its
+    //   stops or of its faulty lines was written. A script had at most 1,048,576 bytes.
     ensures read { OnOk result (IsAtEnd (R.remaining reader.new)) }
+    // Proved (scripts, stops-read)
+    // Proved (scripts, stops-shown)
+    // Proved (scripts, stops-faulty)
     ensures written { IfOk result
         (λ ended. IfSome (R.remaining reader.old) (λ script. AppendsStops stores ended script (W.contents writer.old) (W.contents writer.new))) }
+    // Proved (scripts, stops-read)
     ensures short { OnOk result (IfSome (R.remaining reader.old) (λ script. length script ≤ script_bytes)) }
 
+    // Proved (scripts, stops-fault): After `Write` a prefix of such a text was written, after any other fault
+    //   nothing. `TooLong` is returned only if more than 1,048,576 bytes were read.
     ensures fault { IfErr result (λ fault. AfterStopsFault stores fault (R.remaining reader.old) (W.contents writer.old) (W.contents writer.new)) }
+    // Proved (scripts, stops-fault)
     ensures too_long { result ≡ Err ScriptFault.TooLong → ConsumesMoreThan script_bytes (R.remaining reader.old) (R.remaining reader.new) }
 
-    // Of any reader and writer: all calls on them succeeded; or the last call on one of them failed, and that is the fault.
+    // Proved (scripts, stops-streams): After Ok no call on the reader or the writer failed. After `Read` the
+    //   last read failed, or no more reads are allowed; after `TooLong` too much was read; after `Write` the
+    //   last write failed or took nothing. A stream that failed isn't called again.
     ensures calls { OnOk result (Completes R.gives W.takes script_reads (IsSomeText stores) reader.old reader.new writer.old writer.new) }
+    // Proved (scripts, stops-streams)
     ensures cause { IfErr result
         (λ fault. Stops R.gives R.fails W.takes W.refuses script_reads script_bytes (IsSomeText stores) IsFaultOfStops fault reader.old reader.new
         writer.old writer.new) }

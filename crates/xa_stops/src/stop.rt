@@ -1,6 +1,6 @@
 //! A stop of a coordinator.
 
-/// A stop of a coordinator: in which line, and how many calls of sessions it has made in it.
+/// A stop of a coordinator: the line, and how many calls of sessions the coordinator has made in it.
 #[derive(Clone, Copy, Debug, PartialEq, Eq)]
 pub struct Stop {
     /// The place of the line, from 0.

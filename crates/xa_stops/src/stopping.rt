@@ -1,4 +1,4 @@
-//! A coordinator that is stopped, and what its recovery leaves.
+//! Stopping a coordinator, and what its recovery leaves.
 ghost use Rattle.std.specs.Prelude.{◌≡◌, ◌≤◌, ◌<◌, ◌++◌, List, ℕ, All, length, map, vec_len, take, drop, false, Err, IfOk};
 ghost use Rattle.xa_manager.specs.Calls.{IsWritten};
 ghost use Rattle.xa_manager.specs.Managed.{whole_of};
@@ -51,7 +51,7 @@ fn recover<R: Wait>(
     manager.answer_beside(rt, alloc, &Call::Recover)
 }
 
-/// Stops the coordinator, has a new one recover, and appends what that is answered and the rows.
+/// Stops the coordinator, has a new one recover, and appends its answer and the rows to a text.
 fn with_recovery<R: Wait>(
     rt: &R,
     alloc: Global,
@@ -76,7 +76,7 @@ fn with_recovery<R: Wait>(
     Ok(longer)
 }
 
-/// A text at whose end stands what a recovery leaves behind these lines.
+/// Appends what a recovery leaves after these lines to a text.
 pub fn with_lines<R: Wait>(
     rt: &R,
     alloc: Global,
@@ -96,7 +96,7 @@ pub fn with_lines<R: Wait>(
     Ok(longer)
 }
 
-/// A text at whose end stands what a recovery leaves where a coordinator was stopped in a line, behind its first call.
+/// Appends what a recovery leaves if the coordinator was stopped in a line, after its first call, to a text.
 fn with_cut_line<R: Wait>(
     rt: &R,
     alloc: Global,
@@ -123,7 +123,7 @@ fn with_cut_line<R: Wait>(
     Ok(longer)
 }
 
-/// A text at whose end stands what a recovery leaves behind a stop, in a line that makes so many calls in each store.
+/// Appends what a recovery leaves after a stop, in a line that makes so many calls in each store, to a text.
 pub fn with_stop<R: Wait>(
     rt: &R,
     alloc: Global,
