@@ -1,8 +1,10 @@
-//! Nigbaru for who embeds it: the public surface of its crates under one name.
+//! Nigbaru for programs in Rattle: most of the public surface of its crates, under one name.
 //!
-//! What a session, a store or a coordinator is made of stands here. `script` has scripts and what they write, `conversation` who is
-//! answered line by line, `history` the entries of a history and the logs that keep it, `records` the judge of what clients saw, and
-//! `manager` a transaction manager that is told its calls.
+//! The root has identifiers, statements, the server, stores with sessions and races, coordinators, and
+//! sessions that are kept over renewals. `script` runs and races scripts, `conversation` answers clients line
+//! by line, `history` has entries and logs, `records` the judge, `manager` a transaction manager. A clause of
+//! yours finds definitions in `specs/`, as in `Rattle.nigbaru.specs.store.Passes.{log_of}`. Read
+//! docs/RATTLE.md first.
 #![tactic(auto)]
 
 pub mod conversation;

@@ -1,4 +1,4 @@
-//! A transaction manager over stores of its own, that is told its calls line by line.
+//! A transaction manager over stores of its own, which reads its calls line by line.
 
 pub use xa_manager::{
     BesideServer, Call, CallServer, Ledger, Listing, Manager, Response, Stage, VoteAnswer,

@@ -1,4 +1,4 @@
-//! Records of what clients of a server saw, and whether some order of their statements explains them.
+//! The judge: whether some order of the statements explains what clients of a server saw.
 
 pub use xa_judge::{
     Act, Answer, ErrorNumbers, Event, Move, Progress, Request, Seen, SharedAnswer, SharedRequest,

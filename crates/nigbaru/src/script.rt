@@ -1,4 +1,4 @@
-//! Scripts, and what a run or a race of one writes.
+//! Scripts, and the text that a run or a race of one writes.
 
 pub use xa_lines::{
     CutReader, CutWriter, PieceReader, PieceWriter, ScriptFault, answer_line, answer_statement,

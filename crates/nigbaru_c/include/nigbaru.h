@@ -1,20 +1,42 @@
-/* nigbaru.h: a verified XA row store, called from C.
+/* nigbaru.h: a verified row store with XA branches, called from C or C++.
  *
- * Sessions of one store may be on threads of their own, without a lock of the caller's; each answers from a copy of the
- * history of its own, and adds to the one that all share. What a statement is, and what it is answered: docs/STATEMENTS.md
- * and docs/STATEMENTS.md.
+ * Open a store, take a session for each thread, and give the sessions statements as text:
  *
- * What no call can see, and the caller owes:
- *   1. a pointer that isn't null leads to what its type says, with room for it;
- *   2. `text` leads to `length` bytes, and `xids` to room for `room` identifiers;
- *   3. a handle begins as NIGBARU_EMPTY, and nothing but a call of this header changes it;
- *   4. a handle is never copied: it is passed by its address, and stays where it is or is moved while no call has it;
- *   5. what a call writes to, as an answer, isn't touched by another thread until the call has returned, nor does it overlap
- *      what else the call is given; store and session are two handles;
- *   6. no call comes from a signal handler, or from the child of a fork of a process with threads;
- *   7. malloc, realloc and free are one allocator's, and align a block to 16;
- *   8. a handle that isn't emptied by nigbaru_leave or nigbaru_close keeps its memory;
- *   9. through nigbaru_raw_*, which look for no null pointer and no second thread, both are owed too.
+ *     nigbaru_store store = NIGBARU_EMPTY;
+ *     nigbaru_session session = NIGBARU_EMPTY;
+ *     nigbaru_answer answer;
+ *     if (nigbaru_open(1024, 16, &store) || nigbaru_take(&store, 1, &session)) return 1;
+ *     if (nigbaru_run(&session, "PUT 'k','v'", 11, &answer, NULL, 0, 0) != NIGBARU_OK) return 1;
+ *     nigbaru_leave(&session);
+ *     nigbaru_close(&store);
+ *
+ * docs/STATEMENTS.md has the statements and their replies, docs/EMBEDDING.md whole programs and how to link.
+ *
+ * Threads. Sessions of one store may be on threads of their own, without a lock of yours. Each session
+ * answers from its own copy of the history, and adds to the one history that all share. A handle takes one
+ * call at a time: a second call on it at the same time returns NIGBARU_BUSY. No call waits for another
+ * thread; nigbaru_run without a limit tries again as long as other sessions are faster. A handle may be moved
+ * to another thread between calls.
+ *
+ * Memory. The library takes memory by malloc and realloc, and frees it. nigbaru_leave and nigbaru_close take
+ * none. A store is freed after it was closed and all its sessions have left. A handle that you neither leave
+ * nor close keeps its memory.
+ *
+ * After an error. From status 5 on nothing of the statement is in the history, and every handle holds what it
+ * held, except that a session may have seen more of the history. You can go on with all of them.
+ *
+ * No call can see whether you keep these rules, so they are yours:
+ *   1. A pointer that isn't null points to what its type says, with room for it.
+ *   2. `text` points to `length` bytes (in nigbaru_history: room for `room` bytes), `xids` to room for `room`
+ *      identifiers.
+ *   3. A handle begins as NIGBARU_EMPTY, and only calls of this header change it.
+ *   4. A handle is never copied: pass it by its address, and move it only while no call has it.
+ *   5. What a call writes to, such as `answer`, isn't touched by another thread before the call has returned.
+ *      It doesn't overlap anything else that the call is given. Store and session are two different handles.
+ *   6. No call comes from a signal handler, or from the child after a fork of a process with threads.
+ *   7. malloc, realloc and free belong to one allocator, which aligns blocks to 16 bytes.
+ *   8. If you call nigbaru_raw_* yourself: no pointer is null, and one thread at a time uses a handle. These
+ *      calls don't look.
  */
 #ifndef NIGBARU_H
 #define NIGBARU_H
@@ -31,38 +53,75 @@ extern "C" {
 typedef atomic_flag nigbaru_flag;
 #endif
 
-/* What a call answers. 0 to 4: the statement was answered, and `place` says where in the history. From 5 on nothing of it
- * stands in the history. Where several would fit, the one that a call's comment names first is answered. */
-#define NIGBARU_OK            0  /* carried out */
-#define NIGBARU_VALUE         1  /* GET: the row's value is answer.value[0 .. answer.length) */
-#define NIGBARU_NONE          2  /* GET: there is no such row */
-#define NIGBARU_LIST          3  /* XA RECOVER: answer.count identifiers; the first of them, as many as there was room for, in xids */
-#define NIGBARU_REFUSED       4  /* the server refused it: answer.error is the number of the error, and nothing changed */
-#define NIGBARU_OVERTAKEN     5  /* another session added first: try again */
-#define NIGBARU_FULL          6  /* it enters, and the history is as long as the capacity: nigbaru_renew */
-#define NIGBARU_NO_MEMORY     7  /* there was no memory */
-#define NIGBARU_SYNTAX        8  /* the text spells no statement: answer.place is the first byte that doesn't fit */
-#define NIGBARU_NO_HANDLE     9  /* the handle holds nothing, or what the call doesn't take */
-#define NIGBARU_OUT_OF_RANGE 10  /* capacity, sessions, a number or a place is out of its range, or a formatID is above LONG_MAX */
-#define NIGBARU_NO_SESSION   11  /* the session of this number was taken already */
-#define NIGBARU_NOT_FULL     12  /* renew: the session hasn't seen a full history */
-#define NIGBARU_HELD         13  /* the handle that is to be filled holds something */
-#define NIGBARU_BUSY         14  /* another call has the handle: this one did nothing (from this header alone) */
-#define NIGBARU_NO_POINTER   15  /* a pointer is null that may not be (from this header alone) */
+/* The statuses that calls return. 0 to 4: the statement was answered, and answer.place is the place in the
+ * history. From 5 on the call failed. If several causes hold, the one that the call's comment names first is
+ * returned. */
 
-/* A store's or a session's. */
+/* The call was carried out; from nigbaru_attempt and nigbaru_run: the reply is OK. */
+#define NIGBARU_OK            0
+/* GET: the row's value is the first answer.length bytes of answer.value. */
+#define NIGBARU_VALUE         1
+/* GET: there is no such row. */
+#define NIGBARU_NONE          2
+/* XA RECOVER: there are answer.count prepared branches. The first of them, as many as `room`, are in xids. If
+ * there are more, call again with more room. */
+#define NIGBARU_LIST          3
+/* The server refused the statement, and nothing changed: answer.error is the number of the error. */
+#define NIGBARU_REFUSED       4
+/* Another session added to the history first: call again. nigbaru_run does so by itself. */
+#define NIGBARU_OVERTAKEN     5
+/* The statement is to be logged, and the history has as many entries as its capacity: call nigbaru_renew, and
+ * go on in the new store. Statements that aren't logged are still answered. */
+#define NIGBARU_FULL          6
+/* An allocation failed: free some memory and call again. */
+#define NIGBARU_NO_MEMORY     7
+/* The text is no statement: answer.place is the first byte that doesn't fit, from 0. Correct the text. */
+#define NIGBARU_SYNTAX        8
+/* The handle is empty, or holds a session where a store is needed, or a store where a session is: open or
+ * take first. */
+#define NIGBARU_NO_HANDLE     9
+/* An argument is out of its range, or a formatID is above LONG_MAX: correct it. */
+#define NIGBARU_OUT_OF_RANGE 10
+/* The session of this number was taken from this store already: take another number, or take it from the next
+ * store. */
+#define NIGBARU_NO_SESSION   11
+/* nigbaru_renew: the session hasn't seen a full history, so there is nothing to renew. Go on with the store. */
+#define NIGBARU_NOT_FULL     12
+/* The handle that is to be filled isn't empty: leave or close it first, or use another. */
+#define NIGBARU_HELD         13
+/* Another call has the handle, and this one did nothing: give each thread a session of its own. Not from
+ * nigbaru_raw_*. */
+#define NIGBARU_BUSY         14
+/* A pointer is null that must not be, and the call did nothing. Not from nigbaru_raw_*. */
+#define NIGBARU_NO_POINTER   15
+
+/* What a store or a session is kept by. Its pointer is the library's. */
 typedef struct nigbaru_handle { void *at; } nigbaru_handle;
 
-/* Ranges: capacity in [1, 1024], sessions in [1, 16], numbers in [1, sessions]. */
+/* What nigbaru_attempt and nigbaru_run write. It is written at every status except NIGBARU_NO_POINTER and
+ * NIGBARU_BUSY. */
 typedef struct nigbaru_answer {
-    uint64_t place;            /* how many entries stood before; at NIGBARU_SYNTAX the place of the fault in the text */
-    uint64_t length;           /* how many bytes of value are told; 0 where none are */
-    uint64_t count;            /* how many identifiers there are, also where room was less */
-    uint32_t error;            /* 1397 XAER_NOTA, 1398 XAER_INVAL, 1399 XAER_RMFAIL, 1440 XAER_DUPID, 3572 row locked; else 0 */
+    /* At 0 to 4: how many entries of the history come before the answer, in [0, capacity]. At NIGBARU_SYNTAX:
+     * the first byte of the text that doesn't fit, from 0. Else 0. */
+    uint64_t place;
+    /* At NIGBARU_VALUE: how many bytes of `value` are the row's, in [0, 64]. Else 0. */
+    uint64_t length;
+    /* At NIGBARU_LIST: how many prepared branches there are, also if there was less room. Else 0. */
+    uint64_t count;
+    /* At NIGBARU_REFUSED the number of the error, else 0. docs/STATEMENTS.md#errors has each cause and
+     * remedy.
+     *   1397 XAER_NOTA    there is no such branch for this session
+     *   1398 XAER_INVAL   the clause isn't supported
+     *   1399 XAER_RMFAIL  the session's state doesn't allow the statement
+     *   1440 XAER_DUPID   the identifier is in use already
+     *   3572              another branch holds the row's lock: try again after it ended */
+    uint32_t error;
+    /* At NIGBARU_VALUE the row's value, in the first `length` bytes. */
     uint8_t value[64];
 } nigbaru_answer;
 
-/* X/Open's XID, part for part: an XID * may be passed as nigbaru_xid *. */
+/* X/Open's XID, with the same layout: you may pass an XID * as a nigbaru_xid *. data has the gtrid and then
+ * the bqual. */
 typedef struct nigbaru_xid {
     long formatID;
     long gtrid_length;
@@ -70,7 +129,8 @@ typedef struct nigbaru_xid {
     char data[128];
 } nigbaru_xid;
 
-/* ---- proved, one call at a time a handle ---- */
+/* ---- The library's functions. They are proved, for one call at a time on a handle. Use the calls below
+ * instead. ---- */
 uint32_t nigbaru_raw_open(uint64_t capacity, uint64_t sessions, nigbaru_handle *store);
 uint32_t nigbaru_raw_take(nigbaru_handle *store, uint64_t number, nigbaru_handle *session);
 uint32_t nigbaru_raw_attempt(nigbaru_handle *session, const uint8_t *text, size_t length, nigbaru_answer *answer,
@@ -84,7 +144,9 @@ uint32_t nigbaru_raw_close(nigbaru_handle *store);
 }
 #endif
 
-/* ---- for C: a null pointer and a second thread are refused ---- */
+/* ---- The calls. They refuse null pointers and a second thread, and are plain C. ---- */
+
+/* A store's and a session's handle. Begin with NIGBARU_EMPTY. */
 typedef struct nigbaru_store { nigbaru_handle handle; nigbaru_flag busy; } nigbaru_store;
 typedef struct nigbaru_session { nigbaru_handle handle; nigbaru_flag busy; } nigbaru_session;
 #define NIGBARU_EMPTY { { NULL }, ATOMIC_FLAG_INIT }
@@ -104,7 +166,13 @@ static inline void nigbaru_exit_(nigbaru_flag *busy) {
 #endif
 }
 
-/* Opens a store with no rows. NO_POINTER, BUSY, HELD, OUT_OF_RANGE, NO_MEMORY. */
+/* Opens a store with no rows.
+ *
+ * capacity: how many entries its history has room for, in [1, 1024]. sessions: how many sessions it has, in
+ * [1, 16].
+ * store: an empty handle, which holds the store afterwards.
+ * Errors: NO_POINTER, BUSY, HELD (the handle isn't empty), OUT_OF_RANGE (capacity or sessions), NO_MEMORY.
+ * After an error the handle is as before. */
 static inline uint32_t nigbaru_open(uint64_t capacity, uint64_t sessions, nigbaru_store *store) {
     uint32_t status;
     if (store == NULL) return NIGBARU_NO_POINTER;
@@ -114,8 +182,14 @@ static inline uint32_t nigbaru_open(uint64_t capacity, uint64_t sessions, nigbar
     return status;
 }
 
-/* Takes the session of a number out of a store, each once. NO_POINTER, BUSY, NO_HANDLE
- * (nothing is held), HELD, NO_HANDLE (a session is), OUT_OF_RANGE, NO_SESSION, NO_MEMORY. */
+/* Takes a session out of a store. Each session of a store can be taken once.
+ *
+ * number: the session's, in [1, sessions]. session: an empty handle, which holds the session afterwards. It
+ * keeps the store alive, so you may close the store's handle.
+ * Errors: NO_POINTER, BUSY, NO_HANDLE (the store's handle is empty), HELD (the session's isn't), NO_HANDLE
+ * (the store's handle holds a session), OUT_OF_RANGE (number), NO_SESSION (it was taken), NO_MEMORY. If
+ * memory is missing, NO_MEMORY may come before the last three of these are looked at.
+ * After an error both handles are as before, and no session is used up. */
 static inline uint32_t nigbaru_take(nigbaru_store *store, uint64_t number, nigbaru_session *session) {
     uint32_t status;
     if (store == NULL || session == NULL) return NIGBARU_NO_POINTER;
@@ -127,8 +201,14 @@ static inline uint32_t nigbaru_take(nigbaru_store *store, uint64_t number, nigba
     return status;
 }
 
-/* Has a statement answered, or is overtaken; never waits. `xids` may be null where `room` is 0, `text` where `length` is.
- * NO_POINTER, BUSY, NO_HANDLE, SYNTAX, OUT_OF_RANGE, then NO_MEMORY, FULL and OVERTAKEN. */
+/* Gives a session a statement, and tries once to answer it. Never waits.
+ *
+ * text, length: the statement, in length bytes without a terminator; text may be null if length is 0.
+ * answer: gets the answer. xids, room: room for the identifiers of an XA RECOVER; xids may be null if room is
+ * 0.
+ * Returns 0 to 4 if the statement was answered. Errors: NO_POINTER, BUSY, NO_HANDLE (no session is held),
+ * SYNTAX, OUT_OF_RANGE (a formatID is above LONG_MAX), then NO_MEMORY, FULL and OVERTAKEN.
+ * After an error nothing of the statement is in the history. The session may have seen more of it. */
 static inline uint32_t nigbaru_attempt(nigbaru_session *session, const char *text, size_t length, nigbaru_answer *answer,
                                       nigbaru_xid *xids, size_t room) {
     static nigbaru_xid none;
@@ -141,7 +221,10 @@ static inline uint32_t nigbaru_attempt(nigbaru_session *session, const char *tex
     return status;
 }
 
-/* The same, again while it is overtaken: at most `tries` times, where that isn't 0. */
+/* Gives a session a statement as nigbaru_attempt does, and tries again while it is overtaken.
+ *
+ * tries: how often it tries at most, from 1 on; 0 means without a limit.
+ * Errors: those of nigbaru_attempt; OVERTAKEN only after `tries` tries. */
 static inline uint32_t nigbaru_run(nigbaru_session *session, const char *text, size_t length, nigbaru_answer *answer,
                                   nigbaru_xid *xids, size_t room, uint64_t tries) {
     uint64_t tried = 0;
@@ -153,8 +236,11 @@ static inline uint32_t nigbaru_run(nigbaru_session *session, const char *text, s
     return status;
 }
 
-/* Lets a session go: what it added stays, and its open branch, with its locks. Its number is had again from the next store
- * alone. NO_POINTER, BUSY, NO_HANDLE. */
+/* Ends a session's handle, which is empty afterwards. The server isn't told: what the session added stays,
+ * and so does its open branch, with its locks. Send DISCONNECT first to roll an open branch back.
+ *
+ * The session's number can be taken again only from the next store, after a renewal. Takes no memory.
+ * Errors: NO_POINTER, BUSY, NO_HANDLE (no session is held). After an error the handle is as before. */
 static inline uint32_t nigbaru_leave(nigbaru_session *session) {
     uint32_t status;
     if (session == NULL) return NIGBARU_NO_POINTER;
@@ -164,11 +250,16 @@ static inline uint32_t nigbaru_leave(nigbaru_session *session) {
     return status;
 }
 
-/* From a session that has seen a full history: a store that begins with what that history leaves, and an empty history of the
- * same capacity. Open branches go on in it, each with the session of its number. Sessions of the old store stay, and answer
- * from the old history: whoever renews makes the new store known to them before anything is added to it, and of several
- * renewals of one history one is kept. drivers/c/nigbaru_shared.c does both.
- * NO_POINTER, BUSY, NO_HANDLE (nothing is held), HELD, NO_HANDLE (a store is), NOT_FULL, NO_MEMORY. */
+/* Makes the next store after a full history. It begins with what the history leaves, and its own history is
+ * empty, of the same capacity. Each session can be taken from it again, and goes on with the branch that its
+ * number had open.
+ *
+ * session: one that has seen the full history, as after FULL. store: an empty handle, which holds the new
+ * store afterwards. Sessions of the old store stay, and answer from the old history. So two things are yours:
+ * make the new store known to all threads before anything is added to it, and keep only one of several
+ * renewals of one history. drivers/c/nigbaru_shared.c does both.
+ * Errors: NO_POINTER, BUSY, NO_HANDLE (the session's handle is empty), HELD (the store's isn't), NO_HANDLE
+ * (the session's handle holds a store), NOT_FULL, NO_MEMORY. After an error both handles are as before. */
 static inline uint32_t nigbaru_renew(nigbaru_session *session, nigbaru_store *store) {
     uint32_t status;
     if (store == NULL || session == NULL) return NIGBARU_NO_POINTER;
@@ -180,8 +271,15 @@ static inline uint32_t nigbaru_renew(nigbaru_session *session, nigbaru_store *st
     return status;
 }
 
-/* The entry at a place of what the session has seen: whose it is, and its statement's text; `length` is the whole text's, also
- * where room was less. NO_POINTER, BUSY, NO_HANDLE, OUT_OF_RANGE, NO_MEMORY. */
+/* Reads an entry of the history that the session has seen.
+ *
+ * place: from 0, less than the number of entries that it has seen. number: gets the number of the entry's
+ * session.
+ * text, room: gets the entry's statement, at most room bytes, without a terminator; text may be null if room
+ * is 0.
+ * length: gets the length of the whole text. If it is more than room, call again with more room.
+ * Errors: NO_POINTER, BUSY, NO_HANDLE (no session is held), OUT_OF_RANGE (place), NO_MEMORY.
+ * After an error number, text and length are as before. */
 static inline uint32_t nigbaru_history(nigbaru_session *session, uint64_t place, uint64_t *number, char *text, size_t room, uint64_t *length) {
     static uint8_t none;
     uint32_t status;
@@ -192,7 +290,10 @@ static inline uint32_t nigbaru_history(nigbaru_session *session, uint64_t place,
     return status;
 }
 
-/* Lets a store's handle go. Its sessions go on; the memory is freed with the last of them. NO_POINTER, BUSY, NO_HANDLE. */
+/* Ends a store's handle, which is empty afterwards. Sessions that were taken go on, and the memory is freed
+ * when the last of them has left. Takes no memory.
+ *
+ * Errors: NO_POINTER, BUSY, NO_HANDLE (no store is held). After an error the handle is as before. */
 static inline uint32_t nigbaru_close(nigbaru_store *store) {
     uint32_t status;
     if (store == NULL) return NIGBARU_NO_POINTER;
@@ -202,7 +303,7 @@ static inline uint32_t nigbaru_close(nigbaru_store *store) {
     return status;
 }
 
-/* A status' words, as a text that ends. */
+/* Returns a short text for a status, with a terminator; "no status" for any other number. */
 static inline const char *nigbaru_text(uint32_t status) {
     switch (status) {
     case NIGBARU_OK: return "ok";

@@ -1,10 +1,10 @@
--- What comes of a text that C gives to a session.
+-- The result of a text that C gives to a session.
 --     seat_of          the session that a handle holds, if it holds one
---     status_of        the number that C is answered
---     Fits             what X/Open's layout can hold of a statement's identifier
---     Attempts         a statement was tried, where a session is held
---     Goes             what each outcome says of the session
---     Comes            the same, of what a handle holds
+--     status_of        the status that C gets
+--     Fits             X/Open's layout can hold a statement's identifier
+--     Attempts         a statement was tried, if a session is held
+--     Goes             what happened to the session, by the outcome
+--     Comes            the same for the session that a handle holds
 use Rattle.std.specs.Prelude.{◌≡◌, ◌<◌, ◌^◌, ℕ, false, List, Option, None, Some}
 use Rattle.xa_xid.specs.declared.statement.Statement.{Statement}
 use Rattle.xa_xid.specs.declared.statement.Statement.TheVariants.{Start, End, Prepare, Commit, Rollback, Recover, Unsupported, Get, Put, Del, Disconnect}
@@ -23,18 +23,18 @@ use Rattle.nigbaru_c.specs.declared.seat.Seat.{Seat}
 use Rattle.nigbaru_c.specs.declared.outcome.Outcome.{Outcome}
 use Rattle.nigbaru_c.specs.declared.outcome.Outcome.TheVariants.{Vacant, Misspelled, OutOfRange, Answered, Unanswered}
 
--- the session that is held, if one is
+-- the session that a box holds, if it holds one
 abbrev pub seat_in : Option Hold → Option Seat
 seat_in None = None
 seat_in (Some (Store stand)) = None
 seat_in (Some (Session seat)) = Some seat
 
--- the same, of what a handle leads to
+-- the session that a handle holds, if it holds one
 abbrev pub seat_of : Option Chair → Option Seat
 seat_of None = None
 seat_of (Some chair) = seat_in chair.hold
 
--- the number of a reply
+-- the status of a reply
 abbrev pub status_of_reply : Reply → ℕ
 status_of_reply Accepted = 0
 status_of_reply (Value (Some value)) = 1
@@ -42,14 +42,14 @@ status_of_reply (Value None) = 2
 status_of_reply (Recovered xids) = 3
 status_of_reply (Refused error) = 4
 
--- the number of a fault: where another has the turn, trying again helps as where others were faster
+-- the status of a fault: trying again helps if another has the turn, as it does after Overtaken
 abbrev pub status_of_fault : Fault → ℕ
 status_of_fault (Overtaken front) = 5
 status_of_fault Full = 6
 status_of_fault NoMemory = 7
 status_of_fault Busy = 5
 
--- the number that C is answered
+-- the status that C gets
 abbrev pub status_of : Outcome → ℕ
 status_of (Answered answer) = status_of_reply answer.reply
 status_of (Unanswered fault) = status_of_fault fault
@@ -85,7 +85,7 @@ Tried statement (Misspelled fault) old new = ⊥
 Tried statement Vacant old new = ⊥
 Tried statement OutOfRange old new = (Fits statement → ⊥) × (new ≡ old)
 
--- a statement that X/Open's layout can hold was tried, where a session is held
+-- a statement that X/Open's layout can hold was tried, if a session is held
 abbrev pub Attempts : Statement → Outcome → Option Seat → Option Seat → Type 0
 Attempts statement Vacant None None = Unit {0}
 Attempts statement (Answered answer) (Some old) (Some new) = Tried statement (Answered answer) old new
@@ -97,7 +97,7 @@ abbrev pub Goes : List ℕ → Outcome → Seat → Seat → Type 0
 Goes text (Misspelled fault) old new = FaultAt text fault.at × (new ≡ old)
 Goes text outcome old new = (statement : Statement) × Spells text statement × Tried statement outcome old new
 
--- the same, of what a handle holds; without a session nothing changes
+-- the same for what a handle holds; without a session nothing changes
 abbrev pub Comes : List ℕ → Outcome → Option Seat → Option Seat → Type 0
 Comes text Vacant None None = Unit {0}
 Comes text outcome (Some old) (Some new) = Goes text outcome old new

@@ -1,9 +1,9 @@
--- What becomes of a store that C holds.
+-- What happens to a store that C holds.
 --     stand_of         the store that a handle holds, if it holds one
 --     Offers           a store with all passes of a log that was opened
---     Opened           the same, of what a handle holds
+--     Opened           Offers, of what a handle holds
 --     IsTaken          a session, and the store that it was taken out of
---     Takes            the same, of what handles hold
+--     Takes            IsTaken, of what handles hold
 --     Keeps            the store stays
 --     KeepsAll         the store stays, and the passes that weren't taken
 --     Follows, Renews  the store that follows a full history
@@ -22,13 +22,13 @@ use Rattle.nigbaru_c.specs.declared.hold.Hold.TheVariants.{Store, Session}
 use Rattle.nigbaru_c.specs.declared.seat.Seat.{Seat}
 use Rattle.nigbaru_c.specs.declared.stand.Stand.{Stand}
 
--- the store that is held, if one is
+-- the store that a box holds, if it holds one
 abbrev pub stand_in : Option Hold → Option Stand
 stand_in None = None
 stand_in (Some (Store stand)) = Some stand
 stand_in (Some (Session seat)) = None
 
--- the same, of what a handle leads to
+-- the store that a handle holds, if it holds one
 abbrev pub stand_of : Option Chair → Option Stand
 stand_of None = None
 stand_of (Some chair) = stand_in chair.hold
@@ -53,7 +53,7 @@ pub record IsTaken (number : ℕ) (seat : Seat) (old new : Stand) : Type 0 where
   pub store : new.store.value ≡ old.store.value
   pub others : (place : ℕ) → number ≡ place + 1 → new.passes.items ≡ slice_set old.passes.items place None
 
--- a store, the same store behind, and the session taken out of it
+-- a store, the same store afterwards, and the session taken out of it
 abbrev pub Takes : ℕ → Option Stand → Option Stand → Option Seat → Type 0
 Takes number (Some old) (Some new) (Some seat) = IsTaken number seat old new
 Takes number old new seat = ⊥
@@ -81,24 +81,25 @@ pub record Same (old new : Seat) : Type 0 where
   pub belongs : log_of new.pass ≡ log_of old.pass
   pub known : known_of new.pass ≡ known_of old.pass
 
--- the same, of what handles hold
+-- Same, of what handles hold
 abbrev pub SameIn : Option Seat → Option Seat → Type 0
 SameIn None None = Unit {0}
 SameIn (Some old) (Some new) = Same old new
 SameIn old new = ⊥
 
--- the same, of what handles hold
+-- Follows, of what handles hold
 abbrev pub Renews : Option Seat → Option Stand → Type 0
 Renews (Some old) (Some stand) = Follows old stand
 Renews old stand = ⊥
 
--- the entry at a place of what the session has seen: its session's number, and its statement's text as far as there was room for all of it
+-- the entry at a place of what the session has seen: its session's number, and its statement's text if there
+-- was room for all of it
 abbrev pub Shows : ℕ → ℕ → List ℕ → ℕ → Option Seat → Type 0
 Shows place number text long None = ⊥
 Shows place number text long (Some seat) = (entry : Entry) × (slice_get (known_of seat.pass).seen place ≡ Some entry) × (number ≡ entry.session)
     × (long ≡ length (statement_text entry.statement)) × (long ≤ length text → take long text ≡ statement_text entry.statement)
 
--- the entry stands at a place of what the session has seen
+-- the entry is at this place of what the session has seen
 abbrev pub Sees : ℕ → Entry → Option Seat → Type 0
 Sees place entry None = ⊥
 Sees place entry (Some seat) = slice_get (known_of seat.pass).seen place ≡ Some entry

@@ -1,4 +1,4 @@
--- What C is told of an outcome.
+-- How an outcome is written into the structures of C.
 --     Tells            the place, the counts and the bytes
 --     IsLaid           an identifier as X/Open lays it out
 --     Lists            the identifiers of an answer, as many as there is room for
@@ -12,7 +12,7 @@ use Rattle.nigbaru_c.specs.declared.xid_part.XidPart.{XidPart}
 use Rattle.nigbaru_c.specs.declared.outcome.Outcome.{Outcome}
 use Rattle.nigbaru_c.specs.declared.outcome.Outcome.TheVariants.{Vacant, Misspelled, OutOfRange, Answered, Unanswered}
 
--- the value, the count of identifiers, or the error of a reply, and nothing else of it
+-- the value, the count of identifiers, or the error of a reply, and only that
 abbrev pub TellsReply : Reply → Told → Type 0
 TellsReply Accepted told = (told.length ≡ 0) × (told.count ≡ 0) × (told.error ≡ 0)
 TellsReply (Value (Some value)) told = (told.length ≡ length value.items) × (take told.length told.value ≡ value.items) × (told.count ≡ 0) × (told.error ≡ 0)
@@ -20,7 +20,7 @@ TellsReply (Value None) told = (told.length ≡ 0) × (told.count ≡ 0) × (tol
 TellsReply (Recovered xids) told = (told.length ≡ 0) × (told.count ≡ length xids) × (told.error ≡ 0)
 TellsReply (Refused error) told = (told.length ≡ 0) × (told.count ≡ 0) × (told.error ≡ number_of error)
 
--- the place of an answer or of a fault, and what the reply says
+-- the place of an answer or of a fault, and the fields of the reply
 abbrev pub Tells : Outcome → Told → Type 0
 Tells (Answered answer) told = (told.place ≡ answer.place) × TellsReply answer.reply told
 Tells (Misspelled fault) told = (told.place ≡ fault.at)
@@ -28,7 +28,7 @@ Tells (Unanswered fault) told = (told.place ≡ 0)
 Tells Vacant told = (told.place ≡ 0)
 Tells OutOfRange told = (told.place ≡ 0)
 
--- X/Open's parts: the formatID, the two lengths, and the bytes of the gtrid with those of the bqual behind them
+-- X/Open's parts: the formatID, the two lengths, and the bytes of the gtrid followed by those of the bqual
 pub record IsLaid (xid : Xid) (part : XidPart) : Type 0 where
   pub format : xid.format_id < 2 ^ 63 → part.format_id ≡ pos xid.format_id
   pub gtrid : part.gtrid_length ≡ pos (length xid.gtrid.items)
@@ -46,7 +46,7 @@ ListsReply Accepted parts = Unit {0}
 ListsReply (Value value) parts = Unit {0}
 ListsReply (Refused error) parts = Unit {0}
 
--- the same, of an outcome
+-- the same for an outcome
 abbrev pub Lists : Outcome → List XidPart → Type 0
 Lists (Answered answer) parts = ListsReply answer.reply parts
 Lists (Misspelled fault) parts = Unit {0}

@@ -1,4 +1,4 @@
-//! A session's answers to C.
+//! How a session answers a text of C.
 ghost use Rattle.std.specs.Prelude.{Some, IsTrue};
 ghost use Rattle.nigbaru_c.specs.Outcome.{seat_in, Fits, Attempts, Comes};
 
@@ -22,7 +22,7 @@ fn fits(statement: &Statement) -> bool
 }
 
 impl Seat {
-    /// Tries a statement once, where the session lies.
+    /// Tries a statement once, with the session in its place.
     fn attempt(&mut self, statement: &Statement) -> Outcome
         ensures { Attempts statement.now result (Some self.old) (Some self.new) }
     {
@@ -35,7 +35,7 @@ impl Seat {
         }
     }
 
-    /// Tries the statement that a text spells once.
+    /// Tries once the statement that a text spells.
     fn answer(&mut self, text: &[u8]) -> Outcome
         ensures { Comes text.now result (Some self.old) (Some self.new) }
     {
@@ -53,7 +53,7 @@ impl Seat {
 }
 
 impl Chair {
-    /// Tries the statement that a text spells once, where a session is held.
+    /// Tries once the statement that a text spells, if a session is held.
     pub(crate) fn answer(&mut self, text: &[u8]) -> Outcome
         ensures { Comes text.now result (seat_in self.old.hold) (seat_in self.new.hold) }
     {

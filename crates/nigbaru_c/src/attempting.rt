@@ -1,4 +1,4 @@
-//! Statements of C.
+//! The call that gives a session a statement.
 ghost use Rattle.std.specs.Prelude.{◌≡◌, Some};
 ghost use Rattle.nigbaru_c.specs.Outcome.{seat_of, status_of, Comes};
 ghost use Rattle.nigbaru_c.specs.Telling.{Tells, Lists};
@@ -8,7 +8,7 @@ use crate::telling::list;
 use crate::{Handle, Outcome, Told, XidPart, status};
 use std::alloc::Global;
 
-/// Tries the statement that a text spells once, where the handle holds a session.
+/// Tries once the statement that a text spells, if the handle holds a session.
 fn answer(alloc: Global, session: &mut Handle, text: &[u8]) -> Outcome
     ensures { Comes text.now result (seat_of session.old.held) (seat_of session.new.held) }
 {
@@ -22,7 +22,14 @@ fn answer(alloc: Global, session: &mut Handle, text: &[u8]) -> Outcome
     }
 }
 
-/// See `include/nigbaru.h`.
+/// Has a session try once to answer the statement that a text spells. See `nigbaru_attempt` of
+/// `include/nigbaru.h`.
+///
+/// `session`: a handle. `text`: the statement. `told`: gets the answer. `xids`: gets the identifiers of a
+/// list, as many as there is room for. Returns a status, 0 to 10.
+/// After an error nothing of the statement is in the history; the session may have seen more.
+/// May return `NO_MEMORY`. Doesn't wait.
+/// Own rule: docs/EMBEDDING.md#errors.
 #[unsafe(no_mangle)]
 pub extern "C" fn nigbaru_raw_attempt(
     alloc: Global,
@@ -31,6 +38,11 @@ pub extern "C" fn nigbaru_raw_attempt(
     told: &mut Told,
     xids: &mut [XidPart],
 ) -> u32
+    // Proved (c, attempt): At status 0 to 4 the text spells a statement, and the answer is the server's reply
+    //   to it at `place`, in one history that begins with all that the session had seen.
+    // Proved (c, attempt-fails): At any other status nothing of the text's statement was added, for that
+    //   status' cause. The statuses for syntax and range change nothing.
+    // Proved (c, attempt-answer): The answer's fields and the identifiers that C gets are those of the reply.
     ensures { (outcome : OutcomeOf) × (result ≡ status_of outcome) × Tells outcome told.new × Lists outcome xids.new × Comes text.now outcome (seat_of session.old.held) (seat_of session.new.held) }
 {
     let outcome = answer(alloc, session, text);

@@ -1,8 +1,8 @@
-//! What a handle leads to.
+//! The box that a handle points to.
 
 use crate::Hold;
 
-/// What a handle leads to. It is without its store or session only while a call has that.
+/// The box that a handle points to. Only during a call it is without its store or session.
 #[derive(Drop)]
 pub struct Chair {
     pub(crate) hold: Option<Hold>,

@@ -12,7 +12,8 @@ use std::marker::Model;
 use std::mem::replace;
 use std::ptr::null_mut;
 
-/// A pointer that C keeps. It is null, or owns a chair. One that is dropped lets its chair be.
+/// A pointer that C keeps. It is null, or owns a box with a store or a session. Dropping it doesn't free the
+/// box.
 #[repr(C)]
 #[derive(Drop)]
 pub struct Handle {
@@ -57,7 +58,7 @@ impl Handle {
 }
 
 impl Handle {
-    /// Puts a chair where nothing is held.
+    /// Puts a box into an empty handle.
     pub(crate) fn fill(&mut self, chair: Box<Chair>)
         requires { self.old.held ≡ None }
         ensures { self.new.held ≡ Some chair.value }
@@ -65,7 +66,7 @@ impl Handle {
         *self = Handle::of_parts(Parts::of(chair));
     }
 
-    /// Takes what is held. Then nothing is.
+    /// Takes out what the handle holds, which is empty then.
     pub(crate) fn empty(&mut self, alloc: Global) -> Option<Box<Chair>>
         ensures taken { MatchOption result (self.old.held ≡ None) (λ chair. self.old.held ≡ Some chair.value) }
         ensures left { self.new.held ≡ None }
@@ -77,4 +78,5 @@ impl Handle {
     }
 }
 
+// Proved (c, handle-moves): A handle may go to another thread.
 unsafe impl Send for Handle {}

@@ -1,8 +1,8 @@
-//! What a handle holds.
+//! A store or a session, as a handle holds it.
 
 use crate::{Seat, Stand};
 
-/// What a handle holds.
+/// A store or a session, as a handle holds it.
 #[derive(Drop)]
 pub enum Hold {
     /// A store, with the passes that weren't taken.

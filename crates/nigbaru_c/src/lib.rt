@@ -1,4 +1,9 @@
 //! A store that is called from C: handles that C keeps, and the calls of `include/nigbaru.h`.
+//!
+//! A handle is null, or points to a box (`Chair`) with a store and its passes that weren't taken (`Stand`),
+//! or with a session between two calls (`Seat`). A session owns its store together with the store's other
+//! sessions.
+//! Read `include/nigbaru.h` first, then `specs/Outcome.antt`, `src/attempting.rt` and `src/handle.rt`.
 #![tactic(auto)]
 
 mod answering;

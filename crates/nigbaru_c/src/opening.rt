@@ -1,4 +1,4 @@
-//! Stores and sessions that C opens and lets go.
+//! The calls that open stores, take sessions, and end their handles.
 ghost use Rattle.std.specs.Prelude.{◌≡◌, ◌≢◌, ◌↔◌, ◌≤◌, Some, None, IsTrue, IfOk, IfErr, OnErr};
 ghost use Rattle.decision_log.specs.Opens.{IsCapacity, IsCount};
 ghost use Rattle.nigbaru_c.specs.Outcome.{seat_in, seat_of};
@@ -22,7 +22,7 @@ fn is_free(alloc: Global, handle: &mut Handle) -> bool
     }
 }
 
-/// Has an empty handle hold this, where there is memory.
+/// Puts a store or a session into an empty handle, if there is memory.
 fn lodge(alloc: Global, handle: &mut Handle, hold: Hold) -> u32
     requires { handle.old.held ≡ None }
     ensures ok { result ≡ 0 → handle.new.held ≡ Some (record { hold = Some hold }) }
@@ -37,7 +37,13 @@ fn lodge(alloc: Global, handle: &mut Handle, hold: Hold) -> u32
     }
 }
 
-/// See `include/nigbaru.h`.
+/// Opens a store. See `nigbaru_open` of `include/nigbaru.h`.
+///
+/// `capacity`: entries, in `[1, 1024]`. `sessions`: in `[1, 16]`. `store`: an empty handle. Returns 0, or in
+/// the order of test: `HELD` if the handle isn't empty, `OUT_OF_RANGE` if a number is out of its range,
+/// `NO_MEMORY`.
+/// After an error the handle is as before. May return `NO_MEMORY`. Doesn't wait.
+/// Own rule: docs/EMBEDDING.md#errors.
 #[unsafe(no_mangle)]
 pub extern "C" fn nigbaru_raw_open(
     alloc: Global,
@@ -45,8 +51,12 @@ pub extern "C" fn nigbaru_raw_open(
     sessions: u64,
     store: &mut Handle,
 ) -> u32
+    // Proved (c, open): A store that C opens has no rows, and passes of all its numbers. After a fault the
+    //   handle is as before. `OUT_OF_RANGE` is returned only if capacity or sessions is out of its range.
     ensures ok { result ≡ 0 → (store.old.held ≡ None) × Opened capacity sessions (stand_of store.new.held) }
+    // Proved (c, open)
     ensures err { result ≢ 0 → store.new.held ≡ store.old.held }
+    // Proved (c, open)
     ensures range { result ≡ 10 → IsCapacity capacity → IsCount sessions → ⊥ }
 {
     if !is_free(alloc, store) {
@@ -80,7 +90,8 @@ impl Chair {
         }
     }
 
-    /// Has an empty handle hold the session of a number. The room for it is had first, so that no pass is taken in vain.
+    /// Puts the session of a number into an empty handle. Memory for it is taken first, so that no pass is
+    /// lost.
     fn seat(&mut self, alloc: Global, number: u64, session: &mut Handle) -> u32
         requires { session.old.held ≡ None }
         ensures ok { result ≡ 0 → Takes number (stand_in self.old.hold) (stand_in self.new.hold) (seat_of session.new.held) }
@@ -101,7 +112,7 @@ impl Chair {
         }
     }
 
-    /// Makes the store that follows the session that is held.
+    /// Makes the store that follows the full history of the session that is held.
     fn following(&mut self, alloc: Global) -> Result<Stand, u32>
         ensures ok { IfOk result (λ stand. Renews (seat_in self.old.hold) (Some stand)) }
         ensures err { IfErr result (λ status. 5 ≤ status) }
@@ -121,7 +132,12 @@ impl Chair {
     }
 }
 
-/// See `include/nigbaru.h`.
+/// Takes a session out of a store. See `nigbaru_take` of `include/nigbaru.h`.
+///
+/// `store`: a handle with a store. `number`: the session's, from 1. `session`: an empty handle. Returns 0 or
+/// a status of `NO_HANDLE`, `HELD`, `OUT_OF_RANGE`, `NO_SESSION`, `NO_MEMORY`.
+/// After an error both handles are as before, and no pass is lost. May return `NO_MEMORY`. Doesn't wait.
+/// Own rule: docs/EMBEDDING.md#errors.
 #[unsafe(no_mangle)]
 pub extern "C" fn nigbaru_raw_take(
     alloc: Global,
@@ -129,9 +145,14 @@ pub extern "C" fn nigbaru_raw_take(
     number: u64,
     session: &mut Handle,
 ) -> u32
+    // Proved (c, take): A session that C takes has the pass of its number, which the store has no longer.
     ensures ok { result ≡ 0 → (session.old.held ≡ None) × Takes number (stand_of store.old.held) (stand_of store.new.held) (seat_of session.new.held) }
+    // Proved (c, take-fails): After a fault of taking a session no handle has changed, and the store has all
+    //   passes that it had.
     ensures err { result ≢ 0 → session.new.held ≡ session.old.held }
+    // Proved (c, take-fails)
     ensures stays { Keeps (stand_of store.old.held) (stand_of store.new.held) }
+    // Proved (c, take-fails)
     ensures back { result ≢ 0 → KeepsAll (stand_of store.old.held) (stand_of store.new.held) }
 {
     let Some(mut chair) = store.empty(alloc) else {
@@ -146,11 +167,21 @@ pub extern "C" fn nigbaru_raw_take(
     answer
 }
 
-/// See `include/nigbaru.h`.
+/// Makes the next store after a full history. See `nigbaru_renew` of `include/nigbaru.h`.
+///
+/// `session`: a handle with a session that has seen the full history. `store`: an empty handle. Returns 0, or
+/// in the order of test: `NO_HANDLE` (nothing is held), `HELD`, `NO_HANDLE` (a store is), `NOT_FULL`,
+/// `NO_MEMORY`.
+/// After an error both handles are as before. May return `NO_MEMORY`. Doesn't wait.
+/// Own rule: docs/EMBEDDING.md#renewal.
 #[unsafe(no_mangle)]
 pub extern "C" fn nigbaru_raw_renew(alloc: Global, session: &mut Handle, store: &mut Handle) -> u32
+    // Proved (c, renew): The store that C renews begins with what the full history leaves, with passes of all
+    //   numbers. A fault changes no handle, and the session knows what it knew.
     ensures ok { result ≡ 0 → (store.old.held ≡ None) × Renews (seat_of session.old.held) (stand_of store.new.held) }
+    // Proved (c, renew)
     ensures err { result ≢ 0 → store.new.held ≡ store.old.held }
+    // Proved (c, renew)
     ensures stays { SameIn (seat_of session.old.held) (seat_of session.new.held) }
 {
     let Some(mut chair) = session.empty(alloc) else {
@@ -168,10 +199,17 @@ pub extern "C" fn nigbaru_raw_renew(alloc: Global, session: &mut Handle, store: 
     answer
 }
 
-/// See `include/nigbaru.h`.
+/// Ends a session's handle, which is empty then. See `nigbaru_leave` of `include/nigbaru.h`.
+///
+/// Returns 0, or `NO_HANDLE` if no session is held, after which the handle is as before.
+/// Takes no memory. Doesn't wait.
+/// Own rule: docs/EMBEDDING.md#errors.
 #[unsafe(no_mangle)]
 pub extern "C" fn nigbaru_raw_leave(alloc: Global, session: &mut Handle) -> u32
+    // Proved (c, leave-and-close): Leaving and closing empty the handle. After a fault the handle is as
+    //   before, and held no session or no store.
     ensures ok { result ≡ 0 → session.new.held ≡ None }
+    // Proved (c, leave-and-close)
     ensures err { result ≢ 0 → (session.new.held ≡ session.old.held) × (seat_of session.old.held ≡ None) }
 {
     let Some(chair) = session.empty(alloc) else {
@@ -184,10 +222,16 @@ pub extern "C" fn nigbaru_raw_leave(alloc: Global, session: &mut Handle) -> u32
     status::NO_HANDLE
 }
 
-/// See `include/nigbaru.h`.
+/// Ends a store's handle, which is empty then. See `nigbaru_close` of `include/nigbaru.h`.
+///
+/// Returns 0, or `NO_HANDLE` if no store is held, after which the handle is as before.
+/// Takes no memory. Doesn't wait.
+/// Own rule: docs/EMBEDDING.md#errors.
 #[unsafe(no_mangle)]
 pub extern "C" fn nigbaru_raw_close(alloc: Global, store: &mut Handle) -> u32
+    // Proved (c, leave-and-close)
     ensures ok { result ≡ 0 → store.new.held ≡ None }
+    // Proved (c, leave-and-close)
     ensures err { result ≢ 0 → (store.new.held ≡ store.old.held) × (stand_of store.old.held ≡ None) }
 {
     let Some(chair) = store.empty(alloc) else {

@@ -1,4 +1,4 @@
-//! What comes of a text that C gives to a session.
+//! The result of a text that C gives to a session.
 ghost use Rattle.std.specs.Prelude.{◌≡◌};
 ghost use Rattle.nigbaru_c.specs.Outcome.{status_of, status_of_reply, status_of_fault};
 
@@ -7,7 +7,7 @@ use xa_server::Reply;
 use xa_session::{Answer, Fault};
 use xa_statement::SyntaxFault;
 
-/// What comes of a text that C gives to a session.
+/// The result of a text that C gives to a session.
 #[derive(Drop)]
 pub enum Outcome {
     /// The handle holds no session.
@@ -22,7 +22,7 @@ pub enum Outcome {
     Unanswered(Fault),
 }
 
-/// The number of a reply.
+/// The status of a reply.
 fn number_of_reply(reply: &Reply) -> u32
     ensures { result ≡ status_of_reply reply.now }
 {
@@ -35,7 +35,7 @@ fn number_of_reply(reply: &Reply) -> u32
     }
 }
 
-/// The number of a fault.
+/// The status of a fault.
 fn number_of_fault(fault: &Fault) -> u32
     ensures { result ≡ status_of_fault fault.now }
 {
@@ -47,7 +47,7 @@ fn number_of_fault(fault: &Fault) -> u32
 }
 
 impl Outcome {
-    /// The number that C is answered.
+    /// The status that C gets.
     pub(crate) fn number(&self) -> u32
         ensures { result ≡ status_of self.now }
     {

@@ -1,11 +1,11 @@
-//! A box as its pointer and its allocator.
+//! A box, split into its pointer and its allocator.
 ghost use Rattle.std.specs.Prelude.{◌≡◌};
 ghost use Rattle.std.specs.Box.Ownership.{box_owns};
 
 use std::alloc::Allocator;
 use std::marker::Model;
 
-/// A box as its pointer and its allocator. It owns what the box owned.
+/// A box, split into its pointer and its allocator. It owns what the box owned.
 pub struct Parts<T, A: Allocator> {
     pub(crate) ptr: *mut T,
     pub(crate) alloc: A,

@@ -1,4 +1,4 @@
-//! What C reads of a history.
+//! The call by which C reads a history.
 ghost use Rattle.std.specs.Prelude.{◌≡◌, ◌≤◌, IfOk, IfErr, IfSome, IfNone, Some, slice_get, length};
 ghost use Rattle.xa_store.specs.Passes.{known_of};
 ghost use Rattle.nigbaru_c.specs.Outcome.{seat_in, seat_of};
@@ -75,7 +75,13 @@ fn entry(alloc: Global, session: &mut Handle, place: u64) -> Result<Entry, u32>
     }
 }
 
-/// See `include/nigbaru.h`.
+/// Reads an entry of what a session has seen. See `nigbaru_history` of `include/nigbaru.h`.
+///
+/// `session`: a handle with a session. `place`: the entry's, from 0. `number`: gets its session. `text`: gets
+/// its statement, as much as there is room for. `length`: gets the length of the whole text. Returns 0, or in
+/// the order of test `NO_HANDLE`, `OUT_OF_RANGE`, `NO_MEMORY`.
+/// After an error nothing is written. May return `NO_MEMORY`. Doesn't wait.
+/// Own rule: docs/EMBEDDING.md#errors.
 #[unsafe(no_mangle)]
 pub extern "C" fn nigbaru_raw_history(
     alloc: Global,
@@ -85,7 +91,11 @@ pub extern "C" fn nigbaru_raw_history(
     text: &mut [u8],
     length: &mut u64,
 ) -> u32
+    // Proved (c, history): An entry that C reads is that of the place in what the session has seen, with its
+    //   session's number and, if there is room for all of it, its statement's text. The session knows what it
+    //   knew.
     ensures ok { result ≡ 0 → Shows place number.new text.new length.new (seat_of session.old.held) }
+    // Proved (c, history)
     ensures stays { SameIn (seat_of session.old.held) (seat_of session.new.held) }
 {
     let entry = match entry(alloc, session, place) {

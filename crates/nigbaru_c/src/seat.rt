@@ -9,7 +9,8 @@ use std::sync::Arc;
 use xa_session::Replica;
 use xa_store::{Pass, Store};
 
-/// A session between its calls: its store, which it owns together with the store's other sessions, its pass and its replica.
+/// A session between two calls: its store, which it owns together with the store's other sessions, its pass
+/// and its replica.
 #[derive(Drop)]
 pub struct Seat {
     pub(crate) store: Arc<Store>,

@@ -7,7 +7,7 @@ ghost use Rattle.xa_store.specs.Passes.{identity_of, log_of};
 use std::sync::Arc;
 use xa_store::{Pass, Store};
 
-/// A store, with the passes that weren't taken, each where its number says.
+/// A store, with the passes that weren't taken, each at the place of its number.
 #[derive(Drop)]
 pub struct Stand {
     pub(crate) store: Arc<Store>,

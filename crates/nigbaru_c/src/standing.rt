@@ -1,4 +1,4 @@
-//! Stores, and the sessions that are taken out of them.
+//! Stores as C holds them, and taking sessions out of them.
 ghost use Rattle.std.specs.Prelude.{◌≡◌, ◌≤◌, ◌+◌, ℕ, map, Option, Some, None, IfOk, IfErr, OnErr, slice_get, slice_set};
 ghost use Rattle.std.specs.List.{All};
 ghost use Rattle.decision_log.specs.Opens.{Refuses};
@@ -24,7 +24,7 @@ fn offered(alloc: Global, passes: Vec<Pass>) -> Result<Vec<Option<Pass>>, NoMemo
     Ok(list)
 }
 
-/// A session of this pass, over a store that it owns too.
+/// A session of this pass, which owns the store too.
 fn seated(store: &Arc<Store>, pass: Pass) -> Result<Seat, Pass>
     requires { log_of pass ≡ identity_of store.now.value.log }
     ensures store { IfOk result (λ seat. seat.store.value ≡ store.now.value) }
@@ -71,7 +71,7 @@ impl Stand {
         }
     }
 
-    /// The session whose pass stands at a place.
+    /// Takes the session whose pass is at a place.
     fn take_at(self, place: usize) -> (Stand, Result<Seat, u32>)
         ensures ok { IfOk result.1 (λ seat. IsTaken (place + 1) seat self result.0) }
         ensures err { IfErr result.1 (λ status. 5 ≤ status) }
@@ -94,7 +94,7 @@ impl Stand {
         }
     }
 
-    /// The session of a number.
+    /// Takes the session of a number.
     pub(crate) fn take(self, number: u64) -> (Stand, Result<Seat, u32>)
         ensures ok { IfOk result.1 (λ seat. IsTaken number seat self result.0) }
         ensures err { IfErr result.1 (λ status. 5 ≤ status) }
@@ -109,7 +109,7 @@ impl Stand {
 }
 
 impl Seat {
-    /// The store that follows, where the session has seen a full history.
+    /// The store that follows, if the session has seen a full history.
     pub(crate) fn following(self, alloc: Global) -> (Seat, Result<Stand, u32>)
         ensures same { Same self result.0 }
         ensures ok { IfOk result.1 (Follows self) }

@@ -1,4 +1,4 @@
-//! The numbers of what a call answers, as `include/nigbaru.h` has them.
+//! The statuses, as `include/nigbaru.h` has them.
 
 pub(crate) const OK: u32 = 0;
 

@@ -1,4 +1,4 @@
-//! What C is told of an outcome.
+//! Writing an outcome into the structures of C.
 ghost use Rattle.std.specs.Prelude.{◌≡◌, ◌≤◌, length, take};
 ghost use Rattle.nigbaru_c.specs.Telling.{Tells, TellsReply, IsLaid, LaidOut, Lists, ListsReply};
 
@@ -47,7 +47,7 @@ impl Told {
         }
     }
 
-    /// What is told of an answer.
+    /// The fields of an answer.
     fn of_answer(answer: &Answer) -> Told
         ensures { (result.place ≡ answer.now.place) × TellsReply answer.now.reply result }
     {
@@ -65,7 +65,7 @@ impl Told {
         }
     }
 
-    /// What is told of an outcome.
+    /// The fields of an outcome.
     pub(crate) fn of(outcome: &Outcome) -> Told
         ensures { Tells outcome.now result }
     {

@@ -1,14 +1,14 @@
-//! What is told of an answer.
+//! The answer that C gets: `nigbaru_answer`.
 
-/// What is told of an answer.
+/// The answer that C gets: `nigbaru_answer` of `include/nigbaru.h`.
 #[repr(C)]
 #[derive(Drop)]
 pub struct Told {
-    /// How many entries stood before; at a fault of the text its place there.
+    /// How many entries of the history come before the answer; at a fault of the text its place in the text.
     pub place: u64,
-    /// How many bytes of `value` are told.
+    /// How many bytes of `value` are the row's.
     pub length: u64,
-    /// How many identifiers there are.
+    /// How many identifiers a list has.
     pub count: u64,
     /// The number of the server's error, or 0.
     pub error: u32,

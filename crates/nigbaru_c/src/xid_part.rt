@@ -6,11 +6,11 @@
 #[repr(C)]
 #[derive(Drop)]
 pub struct XidPart {
-    /// Which convention the bytes follow.
+    /// The formatID: which convention the bytes follow.
     pub format_id: i64,
-    /// How many bytes are the gtrid's.
+    /// How many of the bytes are the gtrid's.
     pub gtrid_length: i64,
-    /// How many bytes behind them are the bqual's.
+    /// How many of the bytes after them are the bqual's.
     pub bqual_length: i64,
     /// The bytes.
     pub data: [u8; 128],

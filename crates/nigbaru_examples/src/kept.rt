@@ -1,4 +1,4 @@
-//! Decisions as a text, to be kept elsewhere: a letter for each number.
+//! Decisions as a text that can be kept elsewhere: a letter for each number.
 
 use anyhow::{Result, bail};
 use nigbaru::{Decision, Decisions};
@@ -32,7 +32,7 @@ pub fn write_down(alloc: Global, decisions: &Decisions) -> Result<Vec<u8>> {
     Ok(text)
 }
 
-/// Reads decisions back that were written down.
+/// Reads back decisions that were written down.
 pub fn read_back(alloc: Global, text: &[u8]) -> Result<Decisions> {
     let mut list = Vec::new(alloc);
     for letter in text {

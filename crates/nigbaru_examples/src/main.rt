@@ -1,4 +1,8 @@
-//! Programs that embed a store: what docs/EMBEDDING.md shows, as it is proved. It prints what each comes to.
+//! The programs that docs/RATTLE.md shows, as functions: statements from bytes, stores and sessions,
+//! histories, races, threads, transactions over two stores, and a recovery by decisions that were written
+//! down. `main` prints the result of each, and the gate compares it with the file `stdout`.
+//!
+//! It depends only on `nigbaru` and `anyhow`. Read docs/RATTLE.md first, then `src/meeting.rt`.
 #![tactic(auto)]
 
 mod agreement;
@@ -20,7 +24,7 @@ use std::alloc::Global;
 use std::sync::Wait;
 use std::thread::Threads;
 
-/// What one thread does.
+/// The examples on one thread.
 fn show_sessions<R: Print + Wait>(rt: &R, alloc: Global) -> Result<()> {
     show_reply(rt, "meet, and read", &meeting::read_elsewhere(rt, alloc)?)?;
     show_reply(
@@ -38,7 +42,7 @@ fn show_sessions<R: Print + Wait>(rt: &R, alloc: Global) -> Result<()> {
     show_recovery(rt, &recovery::recovered(rt, alloc)?)
 }
 
-/// What several do.
+/// The examples on several threads.
 fn show_threads<R: Print + Threads + Wait + Sync>(rt: &R, alloc: Global) -> Result<()> {
     show_race(rt, &threads::raced(rt, alloc)?)?;
     show_list(rt, &threads::side_by_side(rt, alloc)?)

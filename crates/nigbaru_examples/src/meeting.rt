@@ -32,7 +32,7 @@ pub fn connected(store: &Store, pass: Pass) -> Result<Session<'_, Log>>
     }
 }
 
-/// A session writes a row, and meets another, which then reads it.
+/// Has a session write a row and meet another session, which then reads the row.
 fn read_by_second<R: Wait>(
     rt: &R,
     first: &mut Session<'_, Log>,
@@ -45,7 +45,7 @@ fn read_by_second<R: Wait>(
     say(rt, second, "GET 'k'")
 }
 
-/// What one session of a store reads of what the other has written.
+/// What one session of a store reads after the other has written.
 pub fn read_elsewhere<R: Wait>(rt: &R, alloc: Global) -> Result<Reply> {
     let (store, first, second) = opened(alloc)?;
     let mut first = connected(&store, first)?;

@@ -1,4 +1,4 @@
-//! A pass that comes back, whatever becomes of a statement.
+//! A pass that comes back, whether a statement is answered or not.
 ghost use Rattle.std.specs.Prelude.{◌≡◌};
 ghost use Rattle.nigbaru.specs.store.Passes.{log_of, identity_of};
 
@@ -22,7 +22,7 @@ fn ask<R: Wait>(rt: &R, store: &Store, pass: Pass, text: &str) -> (Pass, Result<
     (session.leave(), reply)
 }
 
-/// A text is no statement, and then the pass is used once more.
+/// Gives a session a text that is no statement, and then uses the pass once more.
 pub fn asked_again<R: Wait>(rt: &R, alloc: Global) -> Result<Reply> {
     let (store, pass, _) = opened(alloc)?;
     let (pass, reply) = ask(rt, &store, pass, "XA GO 'a'");

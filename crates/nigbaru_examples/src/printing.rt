@@ -1,4 +1,4 @@
-//! What the examples come to, as lines.
+//! Printing the results of the examples.
 
 use crate::statement::reply_to_text;
 use anyhow::{Result, bail};
@@ -19,7 +19,7 @@ pub fn show_reply<R: Print>(rt: &R, what: &str, reply: &Reply) -> Result<()> {
     Ok(())
 }
 
-/// Prints what a server replies to a text, or why that is no statement.
+/// Prints a server's reply to a text, or why the text is no statement.
 fn show_statement<R: Print>(
     rt: &R,
     server: &mut Server,
@@ -32,7 +32,7 @@ fn show_statement<R: Print>(
     }
 }
 
-/// Prints what a server replies to statements that come as bytes, and that another text is none.
+/// Prints a server's replies to statements that come as bytes, and that another text is no statement.
 pub fn show_statements<R: Print>(rt: &R, alloc: Global) -> Result<()> {
     let mut server = Server::new(alloc);
     let Some(session) = SessionNo::of(1) else {

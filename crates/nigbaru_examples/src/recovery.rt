@@ -1,4 +1,4 @@
-//! A coordinator that is gone, and another that takes up its decisions.
+//! A coordinator that stops, and another one that goes on with its decisions.
 ghost use Rattle.std.specs.Prelude.{◌≡◌, IfOk, vec_len};
 ghost use Rattle.nigbaru.specs.store.Passes.{log_of, identity_of};
 
@@ -47,7 +47,7 @@ fn of_three<'a>(
     Ok(sessions)
 }
 
-/// A transaction writes a row in each of three stores and is decided.
+/// Has a transaction write a row in each of three stores, and decides it.
 fn decide_over_three<S: Speak, R: Wait>(
     rt: &R,
     coordinator: &mut Coordinator<S>,
@@ -71,7 +71,7 @@ fn decide_over_three<S: Speak, R: Wait>(
     Ok(())
 }
 
-/// Where a transaction is decided its coordinator stops. What is left are the sessions, and the decisions as a text.
+/// Decides a transaction and stops its coordinator. The sessions are left, and the decisions as a text.
 fn decided<S: Speak + Drop, R: Wait>(
     rt: &R,
     alloc: Global,
@@ -100,7 +100,7 @@ fn taken_up<S: Speak + Drop, R: Wait>(
     Ok(coordinator.recover(rt, alloc, &mut decisions)?)
 }
 
-/// A coordinator over these sessions decides a transaction and stops, and another recovers.
+/// Has a coordinator over these sessions decide a transaction and stop, and another one recover.
 fn handed_on<S: Speak + Drop, R: Wait>(rt: &R, alloc: Global, sessions: Vec<S>) -> Result<Report>
     requires { vec_len sessions ≡ 3 }
 {
@@ -108,7 +108,7 @@ fn handed_on<S: Speak + Drop, R: Wait>(rt: &R, alloc: Global, sessions: Vec<S>) 
     taken_up(rt, alloc, sessions, text.as_slice())
 }
 
-/// What a recovery of three stores does with decisions that were read back.
+/// The report of a recovery of three stores with decisions that were read back.
 pub fn recovered<R: Wait>(rt: &R, alloc: Global) -> Result<Report> {
     let (north, first, _) = opened(alloc)?;
     let (south, second, _) = opened(alloc)?;

@@ -56,7 +56,8 @@ fn is_done<L: DecisionLog, R: Wait>(
     )
 }
 
-/// Prepares a branch, and gives the session back with whether each statement was carried out. It stays a session of its store.
+/// Prepares a branch, and returns the session and whether each statement was carried out. It stays a session
+/// of its store.
 fn prepare<'a, L: DecisionLog, R: Wait>(
     rt: &R,
     mut session: Session<'a, L>,
@@ -70,8 +71,8 @@ fn prepare<'a, L: DecisionLog, R: Wait>(
     (session, prepared)
 }
 
-/// Two sessions of one store prepare a branch each, on threads of their own; then they meet, and the second lists what is prepared.
-/// None where a branch isn't prepared.
+/// Has two sessions of one store prepare a branch each, on threads of their own. Then they meet, and the
+/// second lists what is prepared. The result is none if a branch isn't prepared.
 fn listed_by_second<'a, L: DecisionLog + Sync, R: Threads + Wait + Sync>(
     rt: &R,
     first: Session<'a, L>,
@@ -99,7 +100,8 @@ where
     Some(answer.reply)
 }
 
-/// The list of prepared branches of a store, of which two sessions have prepared one each, on threads of their own.
+/// The list of the prepared branches of a store after two sessions have prepared one each, on threads of
+/// their own.
 pub fn side_by_side<R: Threads + Wait + Sync>(rt: &R, alloc: Global) -> Result<Reply> {
     let (store, first, second) = opened(alloc)?;
     let first = connected(&store, first)?;

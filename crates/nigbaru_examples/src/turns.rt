@@ -1,4 +1,4 @@
-//! Statements in a loop, over sessions that stay.
+//! Statements in a loop, in which two sessions stay sessions of one store.
 ghost use Rattle.std.specs.Prelude.{◌≡◌};
 ghost use Rattle.nigbaru.specs.store.Passes.{log_of};
 
@@ -27,7 +27,7 @@ pub fn say_in_turn<R: Wait>(
     Ok(())
 }
 
-/// Both say these texts in turn, meet, and the first reads a row.
+/// Has both sessions execute these texts in turn and meet. Then the first reads a row.
 fn read_after<R: Wait>(
     rt: &R,
     first: &mut Session<'_, Log>,
@@ -41,7 +41,7 @@ fn read_after<R: Wait>(
     say(rt, first, "GET 'm'")
 }
 
-/// Two sessions write the same rows in turn, and the first reads what is there once both have met.
+/// Has two sessions write the same rows in turn. Then the first reads what is there after both have met.
 pub fn written_in_turn<R: Wait>(rt: &R, alloc: Global) -> Result<Reply> {
     let (store, first, second) = opened(alloc)?;
     let mut first = connected(&store, first)?;
