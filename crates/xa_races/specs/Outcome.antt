@@ -1,12 +1,13 @@
--- What a race of a script writes. All of it is our own: docs/COMMANDS.md#race, 'A race of a script in rounds'.
--- A race in one log has room for `Some` number of entries, one in rounds `None`: its history has any length.
+-- What a race of a script writes.
+-- Every rule here is the project's own: docs/COMMANDS.md#race and docs/COMMANDS.md#race-in-rounds.
+-- `room` is `Some` number of entries for a race in one log, and `None` for a race in rounds, whose history has any length.
 --     history_text, answers_text   how a history and the answers are printed
---     outcome_text                 how an outcome is
+--     outcome_text                 how an outcome is printed
 --     Explains, IsHeld             one history explains all answers;  what a race of runs gives
---     IsRaced                      what is written for a race that was held
---     IsRaceText                   what is written for a script
---     AppendsRace, AppendsRacePrefix      the writer got that, or a prefix of it
---     script_fault_of              how a race's fault is told
+--     IsRaced                      a text is what is written for a race that was held
+--     IsRaceText                   a text is what is written for a script
+--     AppendsRace, AppendsRacePrefix      the writer got that text, or a prefix of it
+--     script_fault_of              the fault that is returned for a race's fault
 --     AfterRaceFault               what a fault leaves in the writer
 use Rattle.std.specs.Prelude.{◌≡◌, ◌≤◌, ◌⊎◌, ℕ, Bool, ◌+◌, Option, Some, None, List, [], ◌∷◌, ◌++◌, length, map, codes, decimal, IfSome}
 use Rattle.std.specs.Io.KnownBytes.{Keeps, Appends}
@@ -31,30 +32,30 @@ use Rattle.xa_lines.specs.Transcript.{AppendsPrefix}
 abbrev pub entry_text : ℕ → Entry → List ℕ
 entry_text place entry = decimal place ++ codes " " ++ decimal entry.session ++ codes " " ++ statement_text entry.statement ++ codes "\n"
 
--- entries, the first of which stands at this place
+-- entries, the first of which has this place
 unfoldable pub entries_text : ℕ → List Entry → List ℕ
 entries_text place [] = []
 entries_text place (entry ∷ entries) = entry_text place entry ++ entries_text (place + 1) entries
 
--- how many entries a history has, and each of them (own rule)
+-- the number of entries, and then each of them (own rule)
 abbrev pub history_text : List Entry → List ℕ
 history_text history = codes "HISTORY " ++ decimal (length history) ++ codes "\n" ++ entries_text 0 history
 
--- session, place and reply of an answer, to a statement that asks for identifiers in digits or doesn't
+-- session, place and reply of an answer; recovered identifiers are in digits if the statement asks for that
 abbrev pub placed_text : ℕ → Bool → Answer → List ℕ
 placed_text session convert answer =
     decimal session ++ codes " " ++ decimal answer.place ++ codes " " ++ reply_text convert answer.reply ++ codes "\n"
 
--- a session's answers, each to its statement
+-- a session's answers, each with whether its statement asks for digits
 unfoldable pub session_text : ℕ → List Bool → List Answer → List ℕ
 session_text session (convert ∷ asked) (answer ∷ answers) = placed_text session convert answer ++ session_text session asked answers
 session_text session asked answers = []
 
--- which statements of each session ask for identifiers in digits, session 1 first
+-- whether each statement of each session asks for identifiers in digits, session 1 first
 abbrev pub AreAsked : List (List ℕ) → List (List Bool) → Type 0
 AreAsked lines asked = (index : ℕ) → part_at asked index ≡ map converts (statements_of (index + 1) lines)
 
--- the answers of one session after another, from this one on (own rule)
+-- the answers of consecutive sessions, this one first (own rule)
 unfoldable pub answers_text : ℕ → List (List ℕ) → List (List Answer) → List ℕ
 answers_text session lines [] = []
 answers_text session lines (answers ∷ others) =
@@ -64,17 +65,19 @@ answers_text session lines (answers ∷ others) =
 abbrev pub outcome_text : List (List ℕ) → Outcome → List ℕ
 outcome_text lines outcome = history_text outcome.history.items ++ answers_text 1 lines (map (λ answers. answers.items) outcome.answers.items)
 
--- one history explains all answers; in one log it is what the last pass has seen, and has no more entries than there is room for
+-- one history explains all answers. In one log it is what the last pass has seen, and has no more entries
+-- than there is room for
 abbrev pub Explains : Option ℕ → List Run → Outcome → Type 0
 Explains (Some capacity) runs outcome = IsOutcome no_state runs outcome × (length outcome.history.items ≤ capacity)
 Explains None runs outcome = Legal no_state outcome.history.items runs (map (λ answers. answers.items) outcome.answers.items)
 
--- what a race of runs gives: the history was empty at first, and has entries of their sessions alone
+-- what a race of runs gives: a history that begins with an empty store, has only entries of their sessions,
+-- and explains all answers
 pub record IsHeld (room : Option ℕ) (runs : List Run) (outcome : Outcome) : Type 0 where
   pub explained : Explains room runs outcome
   pub own : AllOf (length runs) outcome.history.items
 
--- the text of what a race of the script's runs gave
+-- the text of an outcome of a race of the script's runs
 pub record IsRaced (room : Option ℕ) (lines : List (List ℕ)) (text : List ℕ) : Type 0 where
   pub runs : List Run
   pub outcome : Outcome
@@ -82,7 +85,7 @@ pub record IsRaced (room : Option ℕ) (lines : List (List ℕ)) (text : List �
   pub held : IsHeld room runs outcome
   pub text_is : text ≡ outcome_text lines outcome
 
--- with no faulty line a race is held; else the faulty lines are told, and nothing else
+-- if no line is faulty, a race is held; else only the faulty lines are written
 abbrev pub IsRaceTold : List ℕ → Option ℕ → List (List ℕ) → List ℕ → Type 0
 IsRaceTold [] room lines text = IsRaced room lines text
 IsRaceTold (byte ∷ faults) room lines text = text ≡ byte ∷ faults
@@ -99,14 +102,15 @@ AppendsRace room script old new = (text : List ℕ) × IsRaceText room script te
 abbrev pub AppendsRacePrefix : Option ℕ → List ℕ → Option (List ℕ) → Option (List ℕ) → Type 0
 AppendsRacePrefix room script old new = (text : List ℕ) × IsRaceText room script text × AppendsPrefix old new text
 
--- one line a fault (own rule)
+-- the fault that is returned for a race's fault (own rule)
 abbrev pub script_fault_of : RaceFault → ScriptFault
 script_fault_of (race.GateShut session line) = GateShut
 script_fault_of (race.Full session line) = Full
 script_fault_of race.NoMemory = NoMemory
 script_fault_of race.ThreadRefused = ThreadRefused
 
--- a fault before anything is written; but for NoMemory it comes only of a race, and only one log is full
+-- a fault before anything is written. All but NoMemory come from a race, so no line is faulty then; Full
+-- comes only from one log
 abbrev pub IsOfText : Option ℕ → List ℕ → ScriptFault → Type 0
 IsOfText room script NoMemory = Unit {0}
 IsOfText room script GateShut = IsReadable script
@@ -114,7 +118,7 @@ IsOfText room script ThreadRefused = IsReadable script
 IsOfText (Some capacity) script Full = IsReadable script
 IsOfText room script fault = ⊥
 
--- what a fault leaves in the writer: a prefix where a write failed, else nothing
+-- what a fault leaves in the writer: a prefix of the text if a write failed, else nothing
 abbrev pub AfterRaceFault : Option ℕ → ScriptFault → Option (List ℕ) → Option (List ℕ) → Option (List ℕ) → Type 0
 AfterRaceFault room Write input old new = IfSome input (λ script. AppendsRacePrefix room script old new)
 AfterRaceFault room GateShut input old new = Keeps old new × IfSome input IsReadable
@@ -123,7 +127,7 @@ AfterRaceFault (Some capacity) Full input old new = Keeps old new × IfSome inpu
 AfterRaceFault None Full input old new = ⊥
 AfterRaceFault room fault input old new = Keeps old new
 
--- a fault by which a race ends
+-- a fault with which a race ends
 abbrev pub IsOfRace : Option ℕ → ScriptFault → Type 0
 IsOfRace (Some capacity) fault = (fault ≡ NoMemory) ⊎ (fault ≡ Full) ⊎ (fault ≡ GateShut) ⊎ (fault ≡ ThreadRefused)
 IsOfRace None fault = (fault ≡ NoMemory) ⊎ (fault ≡ GateShut) ⊎ (fault ≡ ThreadRefused)

@@ -1,10 +1,10 @@
--- What a script gives to a race. All of it is our own: docs/COMMANDS.md#race.
---     fault_place, faults_text     where a line goes wrong;  what is written for all lines that do
---     IsReadable                   when a race is held
+-- What a script gives to a race. Every rule here is the project's own: docs/COMMANDS.md#race.
+--     fault_place, faults_text     where a line is faulty;  what is written for all faulty lines
+--     IsReadable                   no line is faulty, so a race is held
 --     last_session                 the greatest session that a line names
---     statements_of                what a session gives
---     part_at, Gains               the list at a place;  lists that get one item more, or none
---     IsGiven, TakesLine, HasRead  lists are what the sessions give;  a line is read;  a script is
+--     statements_of                the statements that a session gives
+--     part_at, Gains               the list at a place;  lists of which each gets one item more, or none
+--     IsGiven, TakesLine, HasRead  lists are what the sessions give;  a line is read;  a script is read
 --     IsRun, AreRuns               a session's run;  the runs of the sessions 1 to the last
 use Rattle.std.specs.Prelude.{◌≡◌, ℕ, zero, suc, map, ◌+◌, max, ◌==◌, cond, Option, Some, None, Result, Ok, Err, List, [], ◌∷◌, ◌++◌, length, codes, decimal}
 use Rattle.std.specs.List.{filter_map}
@@ -18,12 +18,12 @@ use Rattle.xa_lines.specs.Script.{Line, Blank, Bad, Given, line_of, lines_of}
 use Rattle.xa_lines.specs.Printed.{syntax_text}
 use Rattle.xa_races.specs.declared.given.RaceScript.{RaceScript}
 
--- where a statement goes wrong, if it isn't read
+-- the place of the fault, if a text isn't read as a statement
 abbrev pub place_of_fault : Result Statement ℕ → Option ℕ
 place_of_fault (Ok statement) = None
 place_of_fault (Err place) = Some place
 
--- where a line goes wrong; a bad one does so at its beginning (own rule)
+-- where a line is faulty; a line of no known form is faulty at its first byte (own rule)
 abbrev pub fault_place : Line → Option ℕ
 fault_place Blank = None
 fault_place Bad = Some 0
@@ -34,12 +34,12 @@ abbrev pub fault_text : ℕ → Option ℕ → List ℕ
 fault_text number None = []
 fault_text number (Some place) = codes "LINE " ++ decimal number ++ codes " " ++ syntax_text place ++ codes "\n"
 
--- what is written for those that go wrong of lines that are numbered from here on
+-- what is written for the faulty ones of these lines, the first of which has this number
 unfoldable pub faults_text : ℕ → List (List ℕ) → List ℕ
 faults_text number [] = []
 faults_text number (line ∷ lines) = fault_text number (fault_place (line_of line)) ++ faults_text (number + 1) lines
 
--- no line goes wrong, so a race is held
+-- no line is faulty, so a race is held
 abbrev pub IsReadable : List ℕ → Type 0
 IsReadable script = faults_text 1 (lines_of script) ≡ []
 
@@ -48,17 +48,17 @@ abbrev pub session_in : Line → ℕ
 session_in (Given session text) = session
 session_in line = 0
 
--- the greatest session that a line names, or 0 where none does
+-- the greatest session that a line names, or 0 if no line names one
 unfoldable pub last_session : List (List ℕ) → ℕ
 last_session [] = 0
 last_session (line ∷ lines) = max (session_in (line_of line)) (last_session lines)
 
--- a statement, if it is read
+-- the statement, if one is read
 abbrev pub statement_read : Result Statement ℕ → Option Statement
 statement_read (Ok statement) = Some statement
 statement_read (Err place) = None
 
--- the statement that the session gives on a line
+-- the statement that the session gives on a line, if there is one
 abbrev pub statement_by : ℕ → Line → Option Statement
 statement_by session (Given other text) = cond (other == session) (statement_read (read_of text)) None
 statement_by session line = None
@@ -67,13 +67,13 @@ statement_by session line = None
 unfoldable pub statements_of : ℕ → List (List ℕ) → List Statement
 statements_of session lines = filter_map (λ line. statement_by session (line_of line)) lines
 
--- the list at a place, or an empty one
+-- the list at a place, or an empty list past the end
 abbrev pub part_at : {A : Type 0} → List (List A) → ℕ → List A
 part_at [] index = []
 part_at (list ∷ lists) zero = list
 part_at (list ∷ lists) (suc index) = part_at lists index
 
--- the list of each session, session 1 first, gets what the session gives
+-- each session's list, session 1 first, gets what that session gives
 abbrev pub Gains : (ℕ → Option Statement) → List (List Statement) → List (List Statement) → Type 0
 Gains given old new = (index : ℕ) → part_at new index ≡ part_at old index ++ option_to_list (given (index + 1))
 
@@ -81,7 +81,7 @@ Gains given old new = (index : ℕ) → part_at new index ≡ part_at old index 
 abbrev pub IsGiven : List (List ℕ) → List (List Statement) → Type 0
 IsGiven lines lists = (index : ℕ) → part_at lists index ≡ statements_of (index + 1) lines
 
--- a line of this number is read
+-- the line of this number is read
 pub record TakesLine (number : ℕ) (line : Line) (old new : RaceScript) : Type 0 where
   pub faults : new.faults.items ≡ old.faults.items ++ fault_text number (fault_place line)
   pub greatest : new.greatest ≡ max old.greatest (session_in line)
@@ -93,12 +93,12 @@ pub record HasRead (lines : List (List ℕ)) (given : RaceScript) : Type 0 where
   pub greatest : given.greatest ≡ last_session lines
   pub lists : IsGiven lines (map (λ list. list.items) given.lists.items)
 
--- the run of a session: a pass that knows nothing, and the session's statements
+-- the run of a session: a pass that knows nothing, and the statements that the session gives
 pub record IsRun (session : ℕ) (lines : List (List ℕ)) (run : Run) : Type 0 where
   pub pass : known_of run.pass ≡ newcomer session
   pub statements : run.lines.items ≡ statements_of session lines
 
--- runs of one session after another, from this one on
+-- the runs of consecutive sessions, this one first
 abbrev pub AreRunsFrom : ℕ → List (List ℕ) → List Run → Type 0
 AreRunsFrom session lines [] = Unit {0}
 AreRunsFrom session lines (run ∷ runs) = IsRun session lines run × AreRunsFrom (session + 1) lines runs

@@ -1,4 +1,4 @@
-//! Which statements ask for identifiers in digits.
+//! Whether statements ask for identifiers in digits.
 ghost use Rattle.std.specs.Prelude.{◌≡◌, IfOk, map};
 ghost use Rattle.xa_lines.specs.Printed.{converts as converts_of};
 
@@ -6,7 +6,7 @@ use std::alloc::Global;
 use xa_lines::converts;
 use xa_xid::{NoMemory, Statement};
 
-/// Which of these statements ask for identifiers in digits.
+/// Whether each of these statements asks for identifiers in digits, in order.
 fn asked_by(alloc: Global, statements: &[Statement]) -> Result<Vec<bool>, NoMemory>
     ensures { IfOk result (λ asked. asked.items ≡ map converts_of statements.now) }
 {
@@ -17,7 +17,9 @@ fn asked_by(alloc: Global, statements: &[Statement]) -> Result<Vec<bool>, NoMemo
     Ok(asked)
 }
 
-/// The same of each list.
+/// Tells of each statement of each list whether it asks for identifiers in digits.
+///
+/// May return `NoMemory`. Doesn't wait.
 pub fn asked_of(alloc: Global, lists: &[Vec<Statement>]) -> Result<Vec<Vec<bool>>, NoMemory>
     ensures { IfOk result (λ asked. map (λ list. list.items) asked.items ≡ map (λ list. map converts_of list.items) lists.now) }
 {

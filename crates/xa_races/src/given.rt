@@ -6,9 +6,9 @@ use xa_xid::Statement;
 /// What a script gives to a race.
 #[derive(Drop)]
 pub struct RaceScript {
-    /// The list of its faulty lines; empty where there is none.
+    /// What is written for its faulty lines; empty if there is none.
     pub faults: Vec<u8>,
-    /// The greatest session that a line names, or 0 where none does.
+    /// The greatest session that a line names, or 0 if no line names one.
     pub greatest: u64,
     /// The statements of each of the sessions 1 to 16, in order.
     pub lists: Vec<Vec<Statement>>,

@@ -1,4 +1,4 @@
-//! Holds a race of a script's runs.
+//! Holds a race of the runs of a script.
 ghost use Rattle.std.specs.Prelude.{◌≡◌, ◌≤◌, ◌+◌, ℕ, List, length, map, max, slice_get, vec_len, Some, None, IfOk, IfErr, OnOk};
 ghost use Rattle.std.specs.List.{All, zip};
 ghost use Rattle.decision_log.specs.Opens.{IsCapacity};
@@ -89,7 +89,7 @@ fn hold_in_rounds<G: Gate + Sync, R: Threads + Wait + Sync>(
     }
 }
 
-/// Holds a race in this race_kind.
+/// Holds a race of this kind.
 fn hold_runs<G: Gate + Sync, R: Threads + Wait + Sync>(
     rt: &R,
     alloc: Global,
@@ -114,7 +114,7 @@ fn hold_runs<G: Gate + Sync, R: Threads + Wait + Sync>(
     }
 }
 
-/// A store with room for so many entries, and the runs of the sessions 1 to the greatest.
+/// A new store with room for `capacity` entries, and the runs of the sessions 1 to `greatest`.
 fn entered(
     alloc: Global,
     greatest: u64,
@@ -140,7 +140,7 @@ fn entered(
     Ok((store, runs))
 }
 
-/// Holds a race of the sessions 1 to the greatest in a store of their own, and gives the text of its outcome.
+/// Holds a race of the sessions 1 to `greatest` in a store of their own, and gives the text of its outcome.
 fn hold<G: Gate + Sync, R: Threads + Wait + Sync>(
     rt: &R,
     alloc: Global,
@@ -175,7 +175,14 @@ fn hold<G: Gate + Sync, R: Threads + Wait + Sync>(
     Ok(text)
 }
 
-/// What is written for the script: the list of its faulty lines, or the text of a race's outcome.
+/// Gives what is written for a script: its faulty lines, or the outcome of a race of its runs.
+///
+/// `capacity` is the number of entries for which one log has room, in `[1, 1024]`. If a line is faulty, no
+/// race is held.
+/// Errors: `NoMemory` if an allocation failed. Only if no line is faulty: `GateShut` and `ThreadRefused`, and
+/// in one log also `Full`, as the race returns them.
+/// May return `NoMemory`. Waits for its threads.
+/// Own rule: docs/COMMANDS.md#race.
 pub fn text_of_race<G: Gate + Sync, R: Threads + Wait + Sync>(
     rt: &R,
     alloc: Global,
@@ -187,9 +194,13 @@ pub fn text_of_race<G: Gate + Sync, R: Threads + Wait + Sync>(
     requires capacity { IsCapacity capacity }
     requires short { length script.now ≤ script_bytes }
     ensures text { IfOk result (λ text. IsRaceText (room_of race_kind capacity) script.now text.items) }
+    // Proved (races, script-held-as-asked): A race of a script is held in logs with the room that was asked
+    //   for, and its gate can let in each statement. After `GateShut` the gate can shut a statement of one of
+    //   the script's runs; after `Full` such a statement has no room in the log.
     ensures on { IsReadable script.now → IfOk result
         (λ text. IsHeldOn race_kind (G.may_answer gate.now) capacity (lines_of script.now) text.items) }
     ensures fault { IfErr result (IsOfText (room_of race_kind capacity) script.now) }
+    // Proved (races, script-held-as-asked)
     ensures cause { IfErr result (IsCaused race_kind (G.may_answer gate.now) capacity (lines_of script.now)) }
 {
     let given = read_race(alloc, script)?;

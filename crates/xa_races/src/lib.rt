@@ -1,4 +1,9 @@
-//! Races of a script: the statements of each session are given to a thread of its own.
+//! Races of a script: each session's statements are executed by a thread of its own, over one store.
+//!
+//! `race_script` races in one log with room for a stated number of entries; `race_script_in_rounds` renews
+//! the store whenever that log is full, so that the history has any length. Both write the history that
+//! explains the answers, and the answers, or only the script's faulty lines. Read docs/COMMANDS.md#race, then
+//! `specs/Race.antt`, `specs/Outcome.antt`, `src/racing.rt` and `src/holding.rt`.
 #![tactic(auto)]
 
 mod asked;

@@ -1,4 +1,4 @@
-//! Races the runs of a script in rounds: the history has any length.
+//! Races the runs of a script in rounds, so that the history has any length.
 ghost use Rattle.std.specs.Prelude.{◌≡◌, ◌≤◌, length, IfErr, OnOk, IfSome, Err, None};
 ghost use Rattle.std.specs.Io.KnownBytes.{IsAtEnd};
 ghost use Rattle.decision_log.specs.Opens.{IsCapacity};
@@ -15,13 +15,15 @@ use std::thread::Threads;
 use xa_lines::{PieceReader, PieceWriter, ScriptFault, read_all, write_whole};
 use xa_store::Gate;
 
-/// Races the runs of a script as `race_script` does, but in rounds: whenever `capacity` entries stand in the store's history, in
-/// `[1, 1024]`, the store is carried over, and the runs go on. What is written has one history, and places that count over all
-/// rounds, as if the log had room for all.
+/// Races the runs of a script in rounds, and writes one history that explains all answers, and the answers.
 ///
-/// Errors: those of `race_script`, but never `Full`; `NoMemory` also where there is none for the history of all rounds. After
-/// `Write` a prefix of the text was written, after any other nothing.
-/// May answer `NoMemory`. Waits for its threads.
+/// It reads and writes as `race_script` does. Whenever the log holds `capacity` entries, in `[1, 1024]`, the
+/// round ends: the store is carried over, and the runs go on in an empty log. The text has one history, and
+/// its places count over all rounds, as if one log had room for all entries.
+/// Errors: those of `race_script`, but never `Full`. `NoMemory` is also returned if there is no memory for
+/// the history of all rounds.
+/// After `Write` a prefix of the text was written, after any other error nothing.
+/// May return `NoMemory`. Waits for its threads.
 /// Own rule: docs/COMMANDS.md#race-in-rounds.
 pub fn race_script_in_rounds<
     I: PieceReader,
@@ -38,17 +40,26 @@ pub fn race_script_in_rounds<
 ) -> Result<(), ScriptFault>
     requires { IsCapacity capacity }
 
-    // All was read, and what was written is the text of its faulty lines, or of an outcome of a race of its runs.
+    // Proved (races, script-rounds-reads-all): After Ok of a race in rounds the whole script was read.
     ensures read { OnOk result (IsAtEnd (I.remaining reader.new)) }
+    // Proved (races, script-rounds-outcome): After Ok of a race in rounds exactly the script's faulty lines
+    //   were written. If there are none, one history and the answers were written: the history begins with an
+    //   empty store, has any length and only entries of the script's sessions, and explains the answers of
+    //   all sessions.
     ensures written { OnOk result (IfSome (I.remaining reader.old) (λ script. AppendsRace None script (O.contents writer.old) (O.contents writer.new))) }
+    // Proved (races, script-rounds-length): A script that was raced in rounds has at most 1,048,576 bytes.
     ensures short { OnOk result (IfSome (I.remaining reader.old) (λ script. length script ≤ script_bytes)) }
 
+    // Proved (races, script-rounds-fault): After `Write` a prefix of such a text was written, after any other
+    //   fault of a race in rounds nothing. `GateShut` and `ThreadRefused` are returned only if no line is
+    //   faulty. No fault is `Full`.
     ensures fault { IfErr result (λ fault. AfterRaceFault None fault (I.remaining reader.old) (O.contents writer.old) (O.contents writer.new)) }
+    // Proved (races, script-too-long)
     ensures too_long { result ≡ Err ScriptFault.TooLong → ConsumesMoreThan script_bytes (I.remaining reader.old) (I.remaining reader.new) }
 
-    // Of any reader and writer: all calls on them succeeded; or the last call on one of them failed, and that is the fault; or the
-    // fault is the race's.
+    // Proved (races, script-stream-faults)
     ensures calls { OnOk result (Completes I.gives O.takes script_reads (IsRaceText None) reader.old reader.new writer.old writer.new) }
+    // Proved (races, script-stream-faults)
     ensures cause { IfErr result
         (λ fault. Stops I.gives I.fails O.takes O.refuses script_reads script_bytes (IsRaceText None) (IsOfText None) fault reader.old reader.new writer.old writer.new) }
 {

@@ -1,11 +1,11 @@
-//! How a race's fault is told.
+//! The fault that a race of a script returns when its race ends with a fault.
 ghost use Rattle.std.specs.Prelude.{◌≡◌};
 ghost use Rattle.xa_races.specs.Outcome.{script_fault_of};
 
 use xa_lines::ScriptFault;
 use xa_store::RaceFault;
 
-/// The fault of a script whose race ended so.
+/// The fault that is returned for a race's fault.
 pub(crate) fn script_fault(raced: RaceFault) -> ScriptFault
     ensures { result ≡ script_fault_of raced }
 {

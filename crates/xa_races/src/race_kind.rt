@@ -3,8 +3,8 @@
 /// How a race is held.
 #[derive(Clone, Copy, Drop)]
 pub enum RaceKind {
-    /// In one log.
+    /// In one log, which can be full.
     OneLog,
-    /// In rounds.
+    /// In rounds: whenever the log is full the store is carried over.
     Rounds,
 }

@@ -1,4 +1,4 @@
-//! What a script's lines say of a race: each line is read once.
+//! Reads a script for a race; each line is read once.
 ghost use Rattle.std.specs.Prelude.{◌≡◌, ◌≤◌, ◌==◌, ◌+◌, ◌++◌, [], ℕ, Some, None, cond, length, map, vec_len, IfOk, OnOk};
 ghost use Rattle.xa_lines.specs.Script.{Given, line_of, lines_of};
 ghost use Rattle.xa_lines.specs.Limits.{script_bytes};
@@ -35,7 +35,7 @@ fn no_lines(alloc: Global) -> Result<RaceScript, NoMemory>
     })
 }
 
-/// Lists a faulty line of this number.
+/// Appends what is written for the faulty line of this number.
 fn push_fault(text: &mut Vec<u8>, number: u64, place: u64) -> Result<(), NoMemory>
     ensures { OnOk result (text.new.items ≡ text.old.items ++ fault_text number (Some place)) }
 {
@@ -46,7 +46,7 @@ fn push_fault(text: &mut Vec<u8>, number: u64, place: u64) -> Result<(), NoMemor
     text.extend_from_slice(b"\n")
 }
 
-/// Puts a statement behind the others of its session.
+/// Appends a statement to those of its session.
 fn push_statement(
     lists: &mut Vec<Vec<Statement>>,
     session: SessionNo,
@@ -61,7 +61,7 @@ fn push_statement(
     Ok(())
 }
 
-/// Takes the line of a session.
+/// Takes a line that names a session.
 fn take_given(
     given: &mut RaceScript,
     number: u64,
@@ -77,7 +77,7 @@ fn take_given(
     }
 }
 
-/// Takes a line.
+/// Takes the line of this number.
 fn take_line(given: &mut RaceScript, number: u64, line: &[u8]) -> Result<(), NoMemory>
     ensures { OnOk result (TakesLine number (line_of line.now) given.old given.new) }
 {
@@ -88,7 +88,10 @@ fn take_line(given: &mut RaceScript, number: u64, line: &[u8]) -> Result<(), NoM
     }
 }
 
-/// What the script gives to a race.
+/// Reads what a script gives to a race.
+///
+/// May return `NoMemory`. Doesn't wait.
+/// Own rule: docs/COMMANDS.md#race.
 pub fn read_race(alloc: Global, script: &[u8]) -> Result<RaceScript, NoMemory>
     requires { length script.now ≤ script_bytes }
     ensures { IfOk result (λ given. HasRead (lines_of script.now) given) }

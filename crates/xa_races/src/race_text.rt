@@ -1,4 +1,4 @@
-//! Prints what a race gave.
+//! Prints the outcome of a race.
 ghost use Rattle.std.specs.Prelude.{◌≡◌, ◌++◌, ℕ, List, OnOk, IfOk, map};
 ghost use Rattle.xa_races.specs.Race.{part_at};
 ghost use Rattle.xa_races.specs.Outcome.{entry_text, entries_text, history_text, placed_text, session_text, answers_text, outcome_text, AreAsked};
@@ -44,7 +44,7 @@ fn push_history(alloc: Global, text: &mut Vec<u8>, history: &[Entry]) -> Result<
     push_entries(alloc, text, history)
 }
 
-/// Appends the line of an answer, recovered identifiers in digits where `convert`.
+/// Appends the line of an answer, with recovered identifiers in digits if `convert` is true.
 fn push_answer(
     alloc: Global,
     text: &mut Vec<u8>,
@@ -62,7 +62,8 @@ fn push_answer(
     text.extend_from_slice(b"\n")
 }
 
-/// Appends the lines of a session's answers, each with whether its statement asks for identifiers in digits.
+/// Appends the lines of a session's answers. `asked` has, for each, whether its statement asks for
+/// identifiers in digits.
 fn push_session(
     alloc: Global,
     text: &mut Vec<u8>,
@@ -88,7 +89,7 @@ fn list_at(asked: &[Vec<bool>], index: usize) -> &[bool]
     }
 }
 
-/// Appends the lines of all sessions' answers, from session 1 on.
+/// Appends the lines of all sessions' answers, session 1 first.
 fn push_answers(
     alloc: Global,
     text: &mut Vec<u8>,
@@ -112,7 +113,11 @@ fn push_answers(
     Ok(())
 }
 
-/// The text of what a race of the script's runs gave.
+/// Prints the outcome of a race of a script's runs: the history, then each session's answers.
+///
+/// `asked` has, for each statement of each session, whether it asks for identifiers in digits.
+/// May return `NoMemory`. Doesn't wait.
+/// Own rule: docs/COMMANDS.md#race.
 pub fn print_outcome(
     alloc: Global,
     asked: &[Vec<bool>],

@@ -15,17 +15,19 @@ use std::thread::Threads;
 use xa_lines::{PieceReader, PieceWriter, ScriptFault, read_all, write_whole};
 use xa_store::Gate;
 
-/// Races the runs of a script: reads all of it, gives the statements of each session to a thread of its own, and writes the one
-/// history that explains all answers, and the answers.
+/// Races the runs of a script: reads all of it, gives each session's statements to a thread of its own, and
+/// writes one history that explains all answers, and the answers.
 ///
-/// A script is at most 1,048,576 bytes, and takes at most 2,097,152 reads. The threads share a store of its own, empty at first,
-/// which has room for `capacity` entries, in `[1, 1024]`, and as many sessions as the greatest number that a line names, at least
-/// one. Where a line is bad or its statement isn't read, no thread is started, and these lines are told alone. Each run asks the
-/// gate before each of its statements. Nothing is written before all runs have ended. What is written isn't flushed.
-/// Errors: `Read` where a read failed, or too many reads were needed; `TooLong` where the script is longer; `NoMemory` where an
-/// allocation failed; `Full`, `GateShut` and `ThreadRefused` as the race tells them; `Write` where a write failed or took nothing.
-/// After `Write` a prefix of the text was written, after any other nothing.
-/// May answer `NoMemory`. Waits for its threads.
+/// A script has at most 1,048,576 bytes, and takes at most 2,097,152 reads. The threads share a new, empty
+/// store. Its log has room for `capacity` entries, in `[1, 1024]`, and it has as many sessions as the
+/// greatest number that a line names, at least one. Each run asks `gate` before each of its statements. If a
+/// line is faulty, no thread is started, and only the faulty lines are written. Nothing is written before all
+/// runs have ended. The writer isn't flushed.
+/// Errors: `Read` if a read failed, or the script needs more reads; `TooLong` if the script is longer;
+/// `NoMemory` if an allocation failed; `Full`, `GateShut` and `ThreadRefused` as the race returns them;
+/// `Write` if a write failed or took no byte.
+/// After `Write` a prefix of the text was written, after any other error nothing.
+/// May return `NoMemory`. Waits for its threads.
 /// Own rule: docs/COMMANDS.md#race.
 pub fn race_script<I: PieceReader, O: PieceWriter, G: Gate + Sync, R: Threads + Wait + Sync>(
     rt: &R,
@@ -37,17 +39,27 @@ pub fn race_script<I: PieceReader, O: PieceWriter, G: Gate + Sync, R: Threads + 
 ) -> Result<(), ScriptFault>
     requires { IsCapacity capacity }
 
-    // All was read, and what was written is the text of its faulty lines, or of an outcome of a race of its runs.
+    // Proved (races, script-reads-all): After Ok of a race the whole script was read.
     ensures read { OnOk result (IsAtEnd (I.remaining reader.new)) }
+    // Proved (races, script-outcome): After Ok of a race exactly the script's faulty lines were written. If
+    //   there are none, one history and the answers of the sessions 1 to the greatest were written. The
+    //   history begins with an empty store, has only entries of these sessions, no more than the log has room
+    //   for, and explains every answer.
     ensures written { OnOk result (IfSome (I.remaining reader.old) (λ script. AppendsRace (Some capacity) script (O.contents writer.old) (O.contents writer.new))) }
+    // Proved (races, script-length): A script that was raced in one log has at most 1,048,576 bytes.
     ensures short { OnOk result (IfSome (I.remaining reader.old) (λ script. length script ≤ script_bytes)) }
 
+    // Proved (races, script-fault): After `Write` a prefix of such a text was written, after any other fault
+    //   of a race nothing. `Full`, `GateShut` and `ThreadRefused` are returned only if no line is faulty.
     ensures fault { IfErr result (λ fault. AfterRaceFault (Some capacity) fault (I.remaining reader.old) (O.contents writer.old) (O.contents writer.new)) }
+    // Proved (races, script-too-long): `TooLong` is returned only if more than 1,048,576 bytes were read.
     ensures too_long { result ≡ Err ScriptFault.TooLong → ConsumesMoreThan script_bytes (I.remaining reader.old) (I.remaining reader.new) }
 
-    // Of any reader and writer: all calls on them succeeded; or the last call on one of them failed, and that is the fault; or the
-    // fault is the race's.
+    // Proved (races, script-stream-faults): `Read`, `TooLong` and `Write` have only their causes: the last
+    //   call on that stream failed, or too much was read. A stream that failed isn't called again. After Ok
+    //   all calls on both streams succeeded. This holds for every reader and writer.
     ensures calls { OnOk result (Completes I.gives O.takes script_reads (IsRaceText (Some capacity)) reader.old reader.new writer.old writer.new) }
+    // Proved (races, script-stream-faults)
     ensures cause { IfErr result
         (λ fault. Stops I.gives I.fails O.takes O.refuses script_reads script_bytes (IsRaceText (Some capacity)) (IsOfText (Some capacity)) fault reader.old reader.new writer.old writer.new) }
 {
