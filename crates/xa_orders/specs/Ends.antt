@@ -1,4 +1,4 @@
--- What ways come to once the lines behind are carried out.
+-- What ways come to after the later lines are carried out.
 --     text_from          what all lines are answered on a way
 --     IsOutcomeAdded     an outcome is there, or is added
 --     AreOutcomes        these are the outcomes of ways, each once
@@ -8,17 +8,19 @@ use Rattle.xa_orders.specs.declared.way.Way.{Way}
 use Rattle.xa_orders.specs.declared.outcome.Outcome.{Outcome}
 use Rattle.xa_orders.specs.Orders.{Told, told_text, AtMost, Pairwise, Any, IsAscending}
 
--- what all lines are answered on the way, where those before were answered so
+-- what all lines are answered on the way, if those before were answered with this text
 abbrev pub text_from : List ℕ → List Told → Way → List ℕ
 text_from first later way = first ++ concat way.answers ++ told_text way.server later
 
--- one of the list has this text, and the list is as it was; or none has, and it has this outcome more
+-- one of the list has this text, and the list is as it was; or none has it, and the list has this outcome in
+-- addition
 abbrev pub IsOutcomeAdded : List ℕ → List ℕ → List Outcome → List Outcome → Type 0
 IsOutcomeAdded order text old new =
     (Any (λ one. one.text.items ≡ text) old × (new ≡ old))
     ⊎ ((next : Outcome) × (next.order.items ≡ order) × (next.text.items ≡ text) × All (λ one. one.text.items ≢ text) old × (new ≡ old ++ next ∷ []))
 
--- each is that of a way, each way has one that comes at most as late, and none is there twice
+-- each outcome is that of a way; each way has one with an order that is at most its own; and none is there
+-- twice
 pub record AreOutcomes (text_of : Way → List ℕ) (ways : List Way) (outcomes : List Outcome) : Type 0 where
   pub each : All (λ one. Any (λ way. (one.order.items ≡ way.order.items) × (one.text.items ≡ text_of way)) ways) outcomes
   pub all : All (λ way. Any (λ one. (one.text.items ≡ text_of way) × AtMost one.order.items way.order.items) outcomes) ways

@@ -1,52 +1,52 @@
 -- The ways that a search keeps.
---     config_of            where a way has come
---     IsReached            its order leads there
---     HasBy                a list has a way that has come there, by an order that is at most this one
---     IsLevel              the ways that have carried out so many lines: each place once, by the least order
---     IsTurn, IsNextOf     a way is another and a turn more;  ways are all turns more of others, each place once
---     IsTurnAdded          what a session's turn leads to is added
---     IsWideNext, IsWide   one turn more leads to more ways than allowed;  orders do
+--     config_of            the configuration to which a way has come
+--     IsReached            a way's order leads there
+--     HasBy                a list has a way with this configuration, and an order that is at most this one
+--     IsLevel              the ways that have carried out so many lines: each configuration once, with the least order
+--     IsTurn, IsNextOf     a way is another one with one more turn;  ways are all that one more turn leads to, each configuration once
+--     IsTurnAdded          the way to which a session's turn leads is added
+--     IsWideNext, IsWide   one more turn leads to more ways than allowed;  orders of one length do
 use Rattle.std.specs.Prelude.{◌≡◌, ◌⊎◌, ℕ, ◌<◌, Some, None, List, [], ◌∷◌, ◌++◌, length}
 use Rattle.std.specs.List.{All}
 use Rattle.xa_orders.specs.declared.way.Way.{Way}
 use Rattle.xa_server.specs.State.{State}
 use Rattle.xa_orders.specs.Orders.{Told, Config, opening, turn, IsSession, LeadsTo, Precedes, AtMost, Any, IsAscending}
 
--- where the way has come
+-- the configuration to which the way has come
 abbrev pub config_of : Way → Config
 config_of way = record { state = way.server; answers = way.answers }
 
 abbrev pub order_of : Way → List ℕ
 order_of way = way.order.items
 
--- its order has so many turns, and leads there
+-- its order has this many turns, and leads there
 pub record IsReached (lines : List Told) (base : Config) (count : ℕ) (way : Way) : Type 0 where
   pub count_is : length way.order.items ≡ count
   pub leads : LeadsTo lines base way.order.items (config_of way)
 
--- one of the list has come there, by an order that is at most this one
+-- one of the list has this configuration, and an order that is at most this one
 abbrev pub HasBy : List Way → Config → List ℕ → Type 0
 HasBy ways config order = Any (λ way. (config_of way ≡ config) × AtMost way.order.items order) ways
 
--- these are the ways with so many turns
+-- these are the ways with this many turns
 pub record IsLevel (lines : List Told) (base : Config) (count : ℕ) (ways : List Way) : Type 0 where
   pub each : All (IsReached lines base count) ways
   pub all : (order : List ℕ) (config : Config) → length order ≡ count → LeadsTo lines base order config → HasBy ways config order
   pub ascending : IsAscending order_of ways
 
--- this turn leads from the way to the new one
+-- a turn of this session leads from the way to the new one
 pub record IsTurn (lines : List Told) (session : ℕ) (way new : Way) : Type 0 where
   pub is_session : IsSession session
   pub leads : turn lines (config_of way) session ≡ Some (config_of new)
   pub order_is : new.order.items ≡ way.order.items ++ session ∷ []
 
--- what turns of sessions below a number lead to is in the list
+-- the list has what each turn of a session below the number leads to
 abbrev pub Covers : List Told → ℕ → Way → List Way → Type 0
 Covers lines number way list =
     (session : ℕ) (config : Config) → session < number → IsSession session → turn lines (config_of way) session ≡ Some config
     → HasBy list config (way.order.items ++ session ∷ [])
 
--- these are what one turn more leads to
+-- the list is what one more turn of the ways leads to
 pub record IsNextOf (lines : List Told) (ways list : List Way) : Type 0 where
   pub each : All (λ new. Any (λ way. (session : ℕ) × IsTurn lines session way new) ways) list
   pub all : All (λ way. Covers lines 17 way list) ways
@@ -56,25 +56,25 @@ pub record IsNextOf (lines : List Told) (ways list : List Way) : Type 0 where
 abbrev pub AllPrecede : List Way → Way → Type 0
 AllPrecede ways way = All (λ one. Precedes one.order.items way.order.items) ways
 
--- the list is as it was, and one of it has come to the same; or it has this one more
+-- one of the list has the same configuration, and the list is as it was; or it has this way in addition
 abbrev pub AddsUnlessThere : List Way → Way → List Way → Type 0
 AddsUnlessThere old one new = (Any (λ way. config_of way ≡ config_of one) old × (new ≡ old)) ⊎ (new ≡ old ++ one ∷ [])
 
--- the session has no turn, and the list is as it was; or what its turn leads to is added
+-- the session has no turn, and the list is as it was; or the way to which its turn leads is added
 abbrev pub IsTurnAdded : List Told → Way → ℕ → List Way → List Way → Type 0
 IsTurnAdded lines way session old new =
     ((IsSession session → turn lines (config_of way) session ≡ None) × (new ≡ old)) ⊎ ((next : Way) × IsTurn lines session way next × AddsUnlessThere old next new)
 
--- the one way before all lines
+-- the only way before all lines
 abbrev pub IsOpening : List Told → State → List Way → Type 0
 IsOpening lines state ways = (one : Way) × (ways ≡ one ∷ []) × (config_of one ≡ opening lines state) × (one.order.items ≡ [])
 
--- one turn more leads to more ways than allowed
+-- one more turn leads to a list of more ways than allowed; nothing says that these differ
 abbrev pub IsWideNext : List Told → List Way → ℕ → Type 0
 IsWideNext lines ways limit =
     (many : List Way) × (limit < length many) × All (λ new. Any (λ way. (session : ℕ) × IsTurn lines session way new) ways) many
 
--- orders of some length lead to more ways than allowed
+-- orders of some length lead to a list of more ways than allowed; nothing says that these differ
 pub record IsWide (lines : List Told) (base : Config) (limit : ℕ) : Type 0 where
   pub count : ℕ
   pub many : List Way

@@ -1,11 +1,12 @@
--- Orders of lines that sessions give side by side, and what each order comes to. All of it is our own: docs/COMMANDS.md#explore.
---     Told, Parts          a line;  the lines of a script: those before, those side by side, those behind
---     Config, opening      a server, and what each line side by side was answered;  before any of them is carried out
+-- Orders of lines that sessions give side by side, and the outcome of each order.
+-- Every rule here is the project's own: docs/COMMANDS.md#explore.
+--     Told, Parts          a line;  the lines of a script: those before, those side by side, those after
+--     Config, opening      a server, and what each line side by side was answered;  the same before any of them is carried out
 --     turn                 the session's next line is carried out
---     LeadsTo              sessions take turns, in this order
+--     LeadsTo              turns in this order lead from one configuration to another
 --     Gives                an order of the lines side by side gives this outcome
 --     Precedes, AtMost     one order comes before another;  or is the same
---     Pairwise, Any        so it is with each two of a list, the first before the second;  with one of a list
+--     Pairwise, Any        a relation holds of each two of a list, the earlier one first;  a property holds of one of a list
 --     IsAscending          orders ascend
 --     IsExplored           these are all outcomes, each once, with its least order, in the order of these
 use Rattle.std.specs.Prelude.{◌≡◌, ◌≢◌, ◌⊎◌, ℕ, ◌<◌, ◌≤◌, Bool, ◌==◌, ◌&&◌, Option, Some, List, [], ◌∷◌, ◌++◌, length, replicate, position, slice_get, slice_set}
@@ -22,13 +23,13 @@ pub record Told : Type 0 where
   pub session : ℕ
   pub text : List ℕ
 
--- the lines that are carried out before, those side by side, and those behind them
+-- the lines that are carried out before, those side by side, and those carried out after them
 pub record Parts : Type 0 where
   pub before : List Told
   pub beside : List Told
   pub later : List Told
 
--- what is written for lines that are carried out one after another, as a script's run writes it
+-- what is written for lines that are carried out one after another; it is what a script's run writes
 unfoldable pub told_text : State → List Told → List ℕ
 told_text state [] = []
 told_text state (told ∷ lines) = answer_to state told.session (read_of told.text) ++ told_text (state_then state told.session (read_of told.text)) lines
@@ -38,12 +39,12 @@ unfoldable pub told_state : State → List Told → State
 told_state state [] = state
 told_state state (told ∷ lines) = told_state (state_then state told.session (read_of told.text)) lines
 
--- a server, and what each of the lines side by side was answered: nothing, where it wasn't carried out yet
+-- a server, and what each of the lines side by side was answered: an empty text if it wasn't carried out yet
 pub record Config : Type 0 where
   pub state : State
   pub answers : List (List ℕ)
 
--- none of the lines was carried out
+-- none of the lines is carried out yet
 abbrev pub opening : List Told → State → Config
 opening lines state = record { state = state; answers = replicate (length lines) [] }
 
@@ -51,7 +52,7 @@ opening lines state = record { state = state; answers = replicate (length lines)
 abbrev pub is_left : ℕ → Told × List ℕ → Bool
 is_left session pair = (pair.0.session == session) && is_empty_line pair.1
 
--- the place of the session's first line that wasn't
+-- the place of the session's first line that wasn't carried out
 abbrev pub next_place : ℕ → List Told → List (List ℕ) → Option ℕ
 next_place session lines answers = position (is_left session) (zip lines answers)
 
@@ -66,7 +67,7 @@ carried_out session text config place =
       answers = slice_set config.answers place (answer_to config.state session (read_of text));
     }
 
--- the session's next line is carried out, where it has one
+-- the session's next line is carried out, if it has one left
 unfoldable pub turn : List Told → Config → ℕ → Option Config
 turn lines config session = option_map (λ place. carried_out session (text_at lines place) config place) (next_place session lines config.answers)
 
@@ -78,7 +79,7 @@ abbrev pub LeadsTo : List Told → Config → List ℕ → Config → Type 0
 LeadsTo lines old [] new = new ≡ old
 LeadsTo lines old (session ∷ order) new = (mid : Config) × IsSession session × (turn lines old session ≡ Some mid) × LeadsTo lines mid order new
 
--- how things stand before the lines side by side
+-- the configuration before the lines side by side
 abbrev pub base_of : Parts → Config
 base_of parts = opening parts.beside (told_state no_state parts.before)
 
@@ -86,7 +87,7 @@ base_of parts = opening parts.beside (told_state no_state parts.before)
 abbrev pub outcome_text : Parts → Config → List ℕ
 outcome_text parts config = told_text no_state parts.before ++ concat config.answers ++ told_text config.state parts.later
 
--- in this order each line side by side has its turn, and this is what all lines are answered
+-- in this order each line side by side is carried out, and all lines are answered with this text
 pub record Gives (parts : Parts) (order text : List ℕ) : Type 0 where
   pub config : Config
   pub whole : length order ≡ length parts.beside
@@ -113,8 +114,8 @@ Any P (one ∷ list) = P one ⊎ Any P list
 abbrev pub IsAscending : {A : Type 0} → (A → List ℕ) → List A → Type 0
 IsAscending order list = Pairwise (λ one other. Precedes (order one) (order other)) list
 
--- these are the outcomes: each is given by its order, each that an order gives is there, with an order that is at most that one, none is there
--- twice, and the orders ascend
+-- these are the outcomes: each is given by its order; each that an order gives is there, with an order that
+-- is at most that one; none is there twice; and the orders ascend
 pub record IsExplored (parts : Parts) (outcomes : List Outcome) : Type 0 where
   pub each : All (λ one. Gives parts one.order.items one.text.items) outcomes
   pub all : (order text : List ℕ) → Gives parts order text → Any (λ one. (one.text.items ≡ text) × AtMost one.order.items order) outcomes

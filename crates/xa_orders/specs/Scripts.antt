@@ -1,10 +1,11 @@
--- What a script to be explored says, and what is written for it. All of it is our own: docs/COMMANDS.md#explore.
+-- How a script to be explored is read, and what is written for it.
+-- Every rule here is the project's own: docs/COMMANDS.md#explore.
 --     Reading, script_read       what was read so far;  what is read of a script
 --     fault_text                 what is written for a faulty line
---     read_more                  what was read once this line is
+--     read_more                  what was read after one more line
 --     parts_of                   the lines of the script's parts
 --     explored_text              what is written for outcomes
---     IsExploredText             what is written for a script, and how that ends
+--     IsExploredText             what is written for a script, and how exploring it ends
 use Rattle.std.specs.Prelude.{◌≡◌, ℕ, ◌+◌, Bool, ◌&&◌, if◌then◌else◌, Option, nat_eq, Result, Ok, Err, List, [], ◌∷◌, ◌++◌, length, codes, decimal, IfSome}
 use Rattle.std.specs.Cmp.Lexicographic.{pointwise}
 use Rattle.std.specs.Io.KnownBytes.{Keeps, Appends}
@@ -32,7 +33,7 @@ pub record Reading : Type 0 where
   pub later : List Told
   pub faults : List ℕ
 
--- before the first line; until a line BESIDE comes, lines stand side by side
+-- before the first line. Until a line BESIDE comes, lines count as side by side
 abbrev pub nothing_read : Reading
 nothing_read = record { stage = First; before = []; beside = []; later = []; faults = [] }
 
@@ -42,13 +43,13 @@ fault_text number place = codes "LINE " ++ decimal number ++ codes " " ++ syntax
 abbrev pub blamed : Reading → ℕ → ℕ → Reading
 blamed read number place = record read { faults = read.faults ++ fault_text number place }
 
--- a line BESIDE: the lines so far are carried out before. A second one, or one behind AFTER, is faulty
+-- a line BESIDE: the lines so far are carried out before. A second one, or one after AFTER, is faulty
 abbrev pub with_beside : Stage → Reading → ℕ → Reading
 with_beside First read number = record read { stage = Beside; before = read.beside; beside = [] }
 with_beside Beside read number = blamed read number 0
 with_beside After read number = blamed read number 0
 
--- a line AFTER: the lines behind it are carried out last. A second one is faulty
+-- a line AFTER: the lines after it are carried out last. A second one is faulty
 abbrev pub with_after : Stage → Reading → ℕ → Reading
 with_after First read number = record read { stage = After }
 with_after Beside read number = record read { stage = After }
@@ -63,17 +64,17 @@ abbrev pub with_statement : Reading → ℕ → Told → Result Statement ℕ �
 with_statement read number told (Ok statement) = with_told read.stage read told
 with_statement read number told (Err place) = blamed read number place
 
--- a line that is no comment and no word of these
+-- a line that is no comment and none of the two words
 abbrev pub with_line : Reading → ℕ → Line → Reading
 with_line read number Blank = read
 with_line read number Bad = blamed read number 0
 with_line read number (Given session text) = with_statement read number (record { session = session; text = text }) (read_of text)
 
--- the line is this word alone
+-- the line has only this word
 abbrev pub is_word : List ℕ → List ℕ → Bool
 is_word word line = pointwise nat_eq (first_word (unblank line)) word && is_empty_line (behind_word (unblank line))
 
--- what was read once this line is, which has this number
+-- what was read after the line of this number
 unfoldable pub read_more : Reading → ℕ → List ℕ → Reading
 read_more read number line =
     if is_comment_line line
@@ -97,7 +98,7 @@ unfoldable pub sessions_text : List ℕ → List ℕ
 sessions_text [] = []
 sessions_text (session ∷ order) = codes " " ++ decimal session ++ sessions_text order
 
--- an outcome of this number: its answers, and its order
+-- the outcome of this number: its answers, and its order
 abbrev pub outcome_lines : ℕ → Outcome → List ℕ
 outcome_lines number one =
     codes "OUTCOME " ++ decimal number ++ codes "\n" ++ one.text.items ++ codes "ORDER" ++ sessions_text one.order.items ++ codes "\n"
@@ -106,26 +107,26 @@ unfoldable pub outcomes_text : ℕ → List Outcome → List ℕ
 outcomes_text number [] = []
 outcomes_text number (one ∷ outcomes) = outcome_lines number one ++ outcomes_text (number + 1) outcomes
 
--- how many outcomes there are, and each of them (own rule)
+-- the number of outcomes, and each of them (own rule)
 abbrev pub explored_text : List Outcome → List ℕ
 explored_text outcomes = codes "OUTCOMES " ++ decimal (length outcomes) ++ codes "\n" ++ outcomes_text 1 outcomes
 
--- all outcomes are written; or it is said that there are too many ways
+-- all outcomes are written; or that there are too many ways
 abbrev pub IsPartsText : Parts → ℕ → Ended → List ℕ → Type 0
 IsPartsText parts limit Done text = (outcomes : List Outcome) × IsExplored parts outcomes × (text ≡ explored_text outcomes)
 IsPartsText parts limit Undecided text = IsWide parts.beside (base_of parts) limit × (text ≡ codes "UNDECIDED\n")
 IsPartsText parts limit Faulty text = ⊥
 
--- with no faulty line its parts are explored; else the faulty lines stand there, and nothing else
+-- if no line is faulty, the parts are explored; else only the faulty lines are written
 abbrev pub IsReadText : List ℕ → Parts → ℕ → Ended → List ℕ → Type 0
 IsReadText [] parts limit ended text = IsPartsText parts limit ended text
 IsReadText (byte ∷ faults) parts limit ended text = (ended ≡ Faulty) × (text ≡ byte ∷ faults)
 
--- what is written for a script, and how that ends
+-- what is written for a script, and how exploring it ends
 abbrev pub IsExploredText : List ℕ → ℕ → Ended → List ℕ → Type 0
 IsExploredText script limit ended text = IsReadText (script_read script).faults (parts_of (script_read script)) limit ended text
 
--- what may be written for a script, however that ends
+-- what may be written for a script, however exploring it ends
 abbrev pub IsSomeText : ℕ → List ℕ → List ℕ → Type 0
 IsSomeText limit script text = (ended : Ended) × IsExploredText script limit ended text
 
@@ -141,7 +142,8 @@ AppendsExploredPrefix limit script old new = (ended : Ended) × (text : List ℕ
 abbrev pub IsFaultOfExploring : List ℕ → ScriptFault → Type 0
 IsFaultOfExploring script fault = fault ≡ NoMemory
 
--- what a fault leaves in the writer: a prefix where a write failed, else nothing; exploring has no fault of a race
+-- what a fault leaves in the writer: a prefix of the text if a write failed, else nothing. Exploring has no
+-- fault of a race
 abbrev pub AfterExploreFault : ℕ → ScriptFault → Option (List ℕ) → Option (List ℕ) → Option (List ℕ) → Type 0
 AfterExploreFault limit Write input old new = IfSome input (λ script. AppendsExploredPrefix limit script old new)
 AfterExploreFault limit Full input old new = ⊥

@@ -1,4 +1,4 @@
--- Servers that are kept as what leads to them.
+-- Servers that are kept as the statements that lead to them.
 --     state_after     the state after a statement that was carried out
 --     state_since     the state after all of them
 use Rattle.std.specs.Prelude.{List, fold}

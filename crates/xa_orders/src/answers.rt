@@ -10,7 +10,7 @@ use std::alloc::Global;
 use std::marker::Model;
 use xa_xid::{NoMemory, SessionNo};
 
-/// What each of a number of lines was answered: a text, which is empty where the line wasn't carried out.
+/// What each of a number of lines was answered: a text, which is empty if the line wasn't carried out.
 #[derive(Drop)]
 pub struct Answers {
     texts: Vec<SharedText>,
@@ -45,7 +45,7 @@ fn next_place(lines: &[Line<'_>], texts: &[SharedText], session: SessionNo) -> O
     first_left(lines, texts, session)
 }
 
-/// Whether two texts are the same.
+/// Tells whether two texts are the same.
 pub fn is_same_text(left: &[u8], right: &[u8]) -> bool
     ensures same { result ≡ true → left.now ≡ right.now }
     ensures other { result ≡ false → left.now ≢ right.now }
@@ -90,7 +90,9 @@ fn push_texts(out: &mut Vec<u8>, texts: &[SharedText]) -> Result<(), NoMemory>
 }
 
 impl Answers {
-    /// Of so many lines, none of which was carried out.
+    /// Returns the answers of `count` lines, none of which was carried out.
+    ///
+    /// May return `NoMemory`.
     pub fn new(alloc: Global, count: usize) -> Result<Answers, NoMemory>
         ensures { IfOk result (λ answers. answers ≡ replicate count []) }
     {
@@ -113,7 +115,9 @@ impl Answers {
         })
     }
 
-    /// A copy in which the line at this place was answered so.
+    /// Returns a copy in which the line at `place` was answered with this text.
+    ///
+    /// May return `NoMemory`.
     pub fn with(&self, alloc: Global, place: usize, text: SharedText) -> Result<Answers, NoMemory>
         requires { place < length self.now }
         ensures { IfOk result (λ answers. answers ≡ slice_set self.now place text) }
@@ -123,19 +127,19 @@ impl Answers {
         Ok(answers)
     }
 
-    /// Whether both are known to be the same.
+    /// Tells whether both are known to be the same. It never answers yes for different ones.
     pub fn is_same(&self, other: &Answers) -> bool
         ensures { result ≡ true → self.now ≡ other.now }
     {
         is_same_texts(self.texts.as_slice(), other.texts.as_slice())
     }
 
-    /// A number made of the texts and their places.
+    /// Returns a number made of the texts and their places, by which equal answers are found.
     pub fn mark(&self) -> u64 {
         self.mark
     }
 
-    /// The place of the session's first line that wasn't carried out.
+    /// Returns the place of the session's first line that wasn't carried out, if there is one.
     pub fn next_place(&self, lines: &[Line<'_>], session: SessionNo) -> Option<usize>
         ensures place { result ≡ place_of_next session lines.now self.now }
         ensures line { IfSome result (λ place. place < length lines.now) }
@@ -144,7 +148,7 @@ impl Answers {
         next_place(lines, self.texts.as_slice(), session)
     }
 
-    /// The line at this place was answered so.
+    /// Notes that the line at `place` was answered with this text.
     fn set(&mut self, place: usize, text: SharedText)
         requires { place < length self.old }
         ensures { self.new ≡ slice_set self.old place text }
@@ -153,7 +157,9 @@ impl Answers {
         self.texts[place] = text;
     }
 
-    /// Appends all of them.
+    /// Appends all of them to `out`.
+    ///
+    /// May return `NoMemory`.
     pub fn push_to(&self, out: &mut Vec<u8>) -> Result<(), NoMemory>
         ensures { OnOk result (out.new.items ≡ out.old.items ++ concat self.now) }
     {

@@ -6,7 +6,7 @@ use xa_xid::SessionNo;
 /// A statement that a server carried out.
 #[derive(Drop)]
 pub struct Done {
-    /// Whose it was.
+    /// The session that gave it.
     pub session: SessionNo,
     /// The statement.
     pub statement: SharedStatement,

@@ -5,8 +5,8 @@
 pub enum Ended {
     /// All outcomes are written.
     Done,
-    /// More ways were found than are allowed.
+    /// More ways were found than are allowed, so not all outcomes are known.
     Undecided,
-    /// Lines are faulty.
+    /// The script has faulty lines, which are written instead.
     Faulty,
 }

@@ -41,7 +41,11 @@ fn push_outcomes(text: &mut Vec<u8>, outcomes: &[Outcome]) -> Result<(), NoMemor
     Ok(())
 }
 
-/// What is written for outcomes.
+/// Returns what is written for outcomes: how many there are, then each with its number, its text and its
+/// order.
+///
+/// May return `NoMemory`.
+/// Own rule: docs/COMMANDS.md#explore.
 pub fn explored_text(alloc: Global, outcomes: &[Outcome]) -> Result<Vec<u8>, NoMemory>
     ensures { IfOk result (λ text. text.items ≡ text_of_outcomes outcomes.now) }
 {

@@ -12,11 +12,15 @@ use std::alloc::Global;
 use xa_server::Server;
 use xa_xid::{Key, NoMemory};
 
-/// Every outcome of the lines `beside` each other, each once, with its least order; or none, where more than `limit` ways were found.
+/// Returns every outcome of the lines `beside` each other, each once with its least order, or None if more
+/// than `limit` ways were found.
 ///
-/// The lines `before` are carried out first, those `later` last, each in order, by a server that holds nothing at first. `written`
-/// are the rows that a line writes: what isn't among them makes the search slower, and changes nothing.
-/// May answer `NoMemory`. Doesn't wait.
+/// The lines `before` are carried out first and the lines `later` last, each list in order, by a server that
+/// holds nothing at first. `written` has the rows that lines write; a row that is missing there makes the
+/// search slower, and changes no result. None means that for some number of lines more than `limit` ways have
+/// carried out that many.
+/// Errors: `NoMemory` if an allocation failed.
+/// May return `NoMemory`. Doesn't wait.
 /// Own rule: docs/COMMANDS.md#explore.
 pub fn explore(
     alloc: Global,
@@ -26,8 +30,12 @@ pub fn explore(
     written: Vec<Key>,
     limit: usize,
 ) -> Result<Option<Vec<Outcome>>, NoMemory>
+    // Proved (orders, outcomes): Each listed outcome is what its order gives. Every outcome that an order
+    //   gives is listed, with an order that is at most that one. None is listed twice, and the orders ascend.
     ensures explored { IfOk result
         (λ found. IfSome found (λ outcomes. IsExplored (record { before = before.now; beside = beside.now; later = later.now }) outcomes.items)) }
+    // Proved (orders, undecided): Exploring is undecided only if orders of one length lead to a list of more
+    //   ways than the limit. Nothing says that two ways of that list differ.
     ensures wide { IfOk result
         (λ found. found ≡ None → IsWide beside.now (base_of (record { before = before.now; beside = beside.now; later = later.now })) limit) }
 {

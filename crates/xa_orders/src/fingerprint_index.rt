@@ -1,12 +1,13 @@
-//! Where in a list the ways of each fingerprint stand.
+//! At which places of a list the ways of each fingerprint are.
 
 use std::alloc::Global;
 use std::collections::BTreeMap;
 use xa_xid::NoMemory;
 
-/// Where in a list the ways of each fingerprint stand, as a chain of places for each fingerprint.
+/// At which places of a list the ways of each fingerprint are, as a chain of places for each fingerprint.
 ///
-/// Whoever looks at a place compares what stands there. So nothing rests on what this says but how soon a way is found.
+/// Every way at such a place is compared before it counts as the same. So a poor fingerprint costs time and
+/// changes no result.
 #[derive(Drop)]
 pub struct FingerprintIndex {
     /// The last place of each fingerprint.
@@ -16,7 +17,7 @@ pub struct FingerprintIndex {
 }
 
 impl FingerprintIndex {
-    /// Of a list that has no places.
+    /// Returns the index of an empty list.
     pub fn new(alloc: Global) -> FingerprintIndex {
         FingerprintIndex {
             last: BTreeMap::new(alloc),
@@ -24,13 +25,15 @@ impl FingerprintIndex {
         }
     }
 
-    /// Forgets all places, for another list.
+    /// Forgets all places, so that it can serve another list.
     pub fn clear(&mut self) {
         self.last.clear();
         self.before.clear();
     }
 
-    /// Takes up the next place of the list, where a way of this fingerprint stands.
+    /// Takes up the next place of the list, for a way with this fingerprint.
+    ///
+    /// May return `NoMemory`.
     pub fn push(&mut self, fingerprint: u64) -> Result<(), NoMemory> {
         let place = self.before.len();
         let before = self.last.insert(fingerprint, place)?;
@@ -38,12 +41,12 @@ impl FingerprintIndex {
         Ok(())
     }
 
-    /// The last place that has this fingerprint, if one has.
+    /// Returns the last place that has this fingerprint, if one has.
     pub fn last_of(&self, fingerprint: u64) -> Option<usize> {
         self.last.get(&fingerprint).copied()
     }
 
-    /// The place before this one that has its fingerprint, if one has.
+    /// Returns the place before this one that has the same fingerprint, if one has.
     pub fn before(&self, place: usize) -> Option<usize> {
         self.before.get(place).copied().flatten()
     }

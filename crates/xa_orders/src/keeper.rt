@@ -1,4 +1,4 @@
-//! What a search keeps beside its ways.
+//! What a search keeps in addition to its ways.
 
 use crate::fingerprint_index::FingerprintIndex;
 use crate::line::Line;
@@ -10,10 +10,10 @@ use std::alloc::Global;
 use xa_server::Server;
 use xa_xid::{Key, NoMemory};
 
-/// What a search keeps beside its ways, so that these are found soon and take little memory.
+/// What a search keeps in addition to its ways, so that equal ways are found soon and take little memory.
 #[derive(Drop)]
 pub struct Keeper {
-    /// Where the ways of the next level stand.
+    /// At which places the ways of the next level are.
     pub index: FingerprintIndex,
     /// Answers that ways share.
     pub texts: Texts,
@@ -22,7 +22,9 @@ pub struct Keeper {
 }
 
 impl Keeper {
-    /// For a search from this server on; the lines write these rows.
+    /// Returns what a search needs that begins with this server. `written` has the rows that the lines write.
+    ///
+    /// May return `NoMemory`.
     pub fn new(
         alloc: Global,
         server: &Server,
@@ -36,7 +38,8 @@ impl Keeper {
         })
     }
 
-    /// The fingerprint of a way whose server is kept as itself: of its answers, and of the committed values of the rows.
+    /// Returns the fingerprint of a way whose server is kept as itself: made of its answers and of the
+    /// committed values of the rows.
     pub fn mark_of(&self, way: &Way) -> u64 {
         let mut mark = way.answers.mark();
         if let Some(server) = way.server.own() {

@@ -1,4 +1,4 @@
-//! Servers that are kept by what they carried out.
+//! Servers that are kept as statements that lead to them.
 ghost use Rattle.std.specs.Prelude.{◌≡◌, true, IfOk, OnOk, IfSome};
 ghost use Rattle.xa_orders.specs.Since.{state_since};
 
@@ -9,7 +9,8 @@ use std::sync::Arc;
 use xa_server::Server;
 use xa_xid::NoMemory;
 
-/// A server, kept as one that several share and what it carried out since. A contract sees its state.
+/// A server, kept as another one that several share and the statements that it carried out since. A contract
+/// sees its state.
 #[derive(Drop)]
 pub struct KeptServer {
     base: Arc<Server>,
@@ -28,7 +29,7 @@ impl Model for KeptServer {
     ghost view = { λ kept. state_since kept.base.value kept.since.items };
 }
 
-/// Has a server carry out what another one did that was as it is.
+/// Has a server carry out statements that another server in the same state carried out.
 fn carry_out_all(server: &mut Server, since: &[Done]) -> Result<(), NoMemory>
     ensures { OnOk result (server.new ≡ state_since server.old since.now) }
 {
@@ -39,7 +40,9 @@ fn carry_out_all(server: &mut Server, since: &[Done]) -> Result<(), NoMemory>
 }
 
 impl KeptServer {
-    /// A server, kept as itself.
+    /// Keeps a server as itself.
+    ///
+    /// May return `NoMemory`.
     pub fn of(alloc: Global, server: Server) -> Result<KeptServer, NoMemory>
         ensures { IfOk result (λ kept. kept ≡ server) }
     {
@@ -49,7 +52,9 @@ impl KeptServer {
         })
     }
 
-    /// The server that carried this out, from another one on.
+    /// Keeps the server that carried these statements out, beginning as `base`.
+    ///
+    /// May return `NoMemory`.
     pub fn since(base: &Arc<Server>, since: Vec<Done>) -> Result<KeptServer, NoMemory>
         ensures { IfOk result (λ kept. kept ≡ state_since base.now.value since.items) }
     {
@@ -59,7 +64,7 @@ impl KeptServer {
         })
     }
 
-    /// The server, where it is kept as itself.
+    /// Returns the server if it is kept as itself.
     pub fn own(&self) -> Option<&Server>
         ensures { IfSome result (λ server. server.now ≡ self.now) }
     {
@@ -70,7 +75,9 @@ impl KeptServer {
         }
     }
 
-    /// A copy of the server.
+    /// Makes the server: a copy of the shared one that carries the statements out.
+    ///
+    /// May return `NoMemory`.
     pub fn made(&self) -> Result<Server, NoMemory>
         ensures { IfOk result (λ server. server ≡ self.now) }
     {
@@ -79,7 +86,9 @@ impl KeptServer {
         Ok(server)
     }
 
-    /// Whether this is known to be the server.
+    /// Tells whether it is known to be the same as this server. It never answers yes for a different one.
+    ///
+    /// May return `NoMemory`.
     pub fn is_like(&self, server: &Server) -> Result<bool, NoMemory>
         ensures { IfOk result (λ same. same ≡ true → self.now ≡ server.now) }
     {

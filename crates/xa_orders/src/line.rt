@@ -20,7 +20,7 @@ impl<'a> Model for Line<'a> {
 }
 
 impl<'a> Line<'a> {
-    /// The line of this session, with a statement of this text.
+    /// Returns the line of this session, with a statement of this text.
     pub fn new(session: SessionNo, text: &'a [u8]) -> Line<'a>
         ensures session { result.session ≡ session }
         ensures text { result.text ≡ text.entry.now }
@@ -28,14 +28,14 @@ impl<'a> Line<'a> {
         Line { session, text }
     }
 
-    /// Its session.
+    /// Returns its session.
     pub fn session(&self) -> SessionNo
         ensures { result ≡ self.now.session }
     {
         self.session
     }
 
-    /// The text of its statement.
+    /// Returns the text of its statement.
     pub fn text(&self) -> &[u8]
         ensures { result.now ≡ self.now.text }
     {

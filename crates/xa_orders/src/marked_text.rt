@@ -3,7 +3,7 @@
 /// A text and a number made of its bytes.
 #[derive(Drop)]
 pub struct MarkedText {
-    /// A number made of the bytes, by which two texts mostly differ.
+    /// A number made of the bytes. Two different texts seldom have the same.
     pub mark: u64,
     /// The text.
     pub text: Vec<u8>,

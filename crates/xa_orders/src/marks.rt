@@ -1,17 +1,18 @@
-//! Numbers made of values, by which equal ones are found.
+//! Numbers made of values, by which equal values are found.
 
 use xa_xid::Bytes;
 
-/// What each word is multiplied by: an odd number whose bits look like chance, 2^64 over the golden ratio.
+/// The factor for each word: odd, so that no information is lost, with bits as if by chance: 2^64 divided by
+/// the golden ratio.
 const MULTIPLIER: u64 = 0x9e37_79b9_7f4a_7c15;
 
-/// A mark with a word more.
+/// Adds a word to a mark.
 pub fn with(mark: u64, word: u64) -> u64 {
     let product = (mark ^ word).wrapping_add(1).wrapping_mul(MULTIPLIER);
     product ^ (product >> 29)
 }
 
-/// A mark with the bytes of a text more.
+/// Adds the bytes of a text to a mark.
 fn with_text(mark: u64, text: &[u8]) -> u64 {
     let mut mark = with(mark, text.len() as u64);
     for byte in text {
@@ -20,12 +21,12 @@ fn with_text(mark: u64, text: &[u8]) -> u64 {
     mark
 }
 
-/// The mark of a text.
+/// Returns the mark of a text.
 pub fn mark_of_text(text: &[u8]) -> u64 {
     with_text(0, text)
 }
 
-/// A mark with a value more, or with none.
+/// Adds a value, or that there is none, to a mark.
 pub fn with_value(mark: u64, value: &Option<Bytes>) -> u64 {
     match value {
         None => with(mark, 0),

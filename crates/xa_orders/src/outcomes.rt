@@ -1,4 +1,4 @@
-//! What ways come to.
+//! The outcomes of ways.
 ghost use Rattle.std.specs.Prelude.{◌≡◌, ◌≢◌, ◌++◌, true, false, IfOk, OnOk};
 ghost use Rattle.std.specs.List.{All, concat};
 ghost use Rattle.xa_orders.specs.Orders.{Any, IsAscending, told_text, told_state};
@@ -15,6 +15,8 @@ use xa_server::Server;
 use xa_xid::NoMemory;
 
 /// Carries lines out one after another, and appends what they are answered.
+///
+/// May return `NoMemory`.
 pub fn push_told(
     alloc: Global,
     text: &mut Vec<u8>,
@@ -33,7 +35,7 @@ pub fn push_told(
     Ok(())
 }
 
-/// What all lines are answered on this way, those behind included.
+/// What all lines are answered on this way, the later lines included.
 fn text_of(alloc: Global, first: &[u8], way: &Way, later: &[Line<'_>]) -> Result<Vec<u8>, NoMemory>
     ensures { IfOk result (λ text. text.items ≡ text_from first.now later.now way.now) }
 {
@@ -57,7 +59,7 @@ fn is_listed(outcomes: &[Outcome], text: &[u8]) -> bool
     false
 }
 
-/// Adds the outcome that a way has come to, unless it is there.
+/// Adds the outcome to which a way has come, unless it is there.
 fn add_outcome(
     alloc: Global,
     outcomes: &mut Vec<Outcome>,
@@ -74,7 +76,9 @@ fn add_outcome(
     Ok(())
 }
 
-/// The outcomes of these ways, each once.
+/// Returns the outcomes of these ways, each once.
+///
+/// May return `NoMemory`.
 pub fn outcomes_of(
     alloc: Global,
     first: &[u8],

@@ -12,26 +12,27 @@ use xa_server::{BranchEntry, HeldRow, Phase, Server};
 use xa_statement::read_statement;
 use xa_xid::{Key, NoMemory, SessionNo, Statement};
 
-/// How many statements a server is kept as at most: to carry more out again takes long.
+/// The greatest number of statements as which a server is kept: more would take long to carry out again.
 const MOST: usize = 64;
 
-/// Keeps servers as statements that lead to them from another one, the one that all share.
+/// Keeps servers as statements that lead to them from one server, which all share.
 ///
-/// Whether they do is tried, so nothing rests on the choice of the statements but memory.
+/// The statements are carried out once to see that they lead there. So a poor choice of statements costs
+/// memory, and changes no result.
 #[derive(Drop)]
 pub struct Packing {
     /// The server before all lines.
     base: Arc<Server>,
-    /// A session that has no branch there, if there is one.
+    /// A session that has no branch in that server, if there is one.
     free: Option<SessionNo>,
-    /// The rows that a line writes. All others have the same value in each server.
+    /// The rows that a line writes. Each other row has the same value in every server.
     written: Vec<Key>,
     /// The statements of the lines, each once.
     statements: Vec<SharedStatement>,
     alloc: Global,
 }
 
-/// A session that has none of these branches, if there is one.
+/// A session that owns none of these branches, if there is one.
 fn free_session(branches: &[BranchEntry]) -> Option<SessionNo> {
     for number in 1..17 {
         let session = SessionNo::of(number);
@@ -42,7 +43,7 @@ fn free_session(branches: &[BranchEntry]) -> Option<SessionNo> {
     None
 }
 
-/// Whether the statement has a branch hold one of the rows so.
+/// Whether the statement gives a branch one of these holds on a row.
 fn holds_one(rows: &[HeldRow], statement: &Statement) -> bool {
     rows.iter()
         .any(|row| Wanted::hold(row).is_done_by(statement))
@@ -67,7 +68,10 @@ fn statements_of(alloc: Global, lines: &[Line<'_>]) -> Result<Vec<SharedStatemen
 }
 
 impl Packing {
-    /// From this server on, by statements of these lines, which write these rows.
+    /// Returns a packing over this server, with statements of these lines. `written` has the rows that the
+    /// lines write.
+    ///
+    /// May return `NoMemory`.
     pub fn new(
         alloc: Global,
         base: &Server,
@@ -84,12 +88,12 @@ impl Packing {
         })
     }
 
-    /// The rows that a line writes.
+    /// Returns the rows that a line writes.
     pub fn written(&self) -> &[Key] {
         self.written.as_slice()
     }
 
-    /// Adds a statement of the session that does what is wanted, where a line has one.
+    /// Adds a statement of the session that does what is wanted, if a line has one.
     fn add(
         &self,
         since: &mut Vec<Done>,
@@ -106,7 +110,7 @@ impl Packing {
         Ok(())
     }
 
-    /// Adds what gives all rows the values that they have.
+    /// Adds statements that give all rows the values that they have.
     fn add_rows(
         &self,
         since: &mut Vec<Done>,
@@ -122,7 +126,8 @@ impl Packing {
         Ok(())
     }
 
-    /// Adds what has a branch hold these rows, in the order of the lines, which is mostly that in which it came to hold them.
+    /// Adds statements that give a branch these holds, in the order of the lines. Mostly that is the order in
+    /// which it got them.
     fn add_holds(
         &self,
         since: &mut Vec<Done>,
@@ -138,7 +143,7 @@ impl Packing {
         Ok(())
     }
 
-    /// Adds what makes the branch as it is.
+    /// Adds statements that make the branch as it is.
     fn add_branch(
         &self,
         since: &mut Vec<Done>,
@@ -159,7 +164,8 @@ impl Packing {
         Ok(())
     }
 
-    /// Statements that are meant to lead to the server, those of prepared branches before those that a session has open.
+    /// Statements that are meant to lead to the server. Those of prepared branches come before those of open
+    /// ones.
     fn since(&self, free: SessionNo, server: &Server) -> Result<Vec<Done>, NoMemory> {
         let mut since = Vec::new(self.alloc);
         self.add_rows(&mut since, free, server)?;
@@ -177,7 +183,7 @@ impl Packing {
         Ok(since)
     }
 
-    /// The server, kept as few statements, where these are found.
+    /// The server, kept as few statements, if such statements are found.
     fn packed(&self, own: &Server) -> Result<Option<KeptServer>, NoMemory>
         ensures { IfOk result (λ found. IfSome found (λ packed. packed ≡ own.now)) }
     {
@@ -196,7 +202,10 @@ impl Packing {
         }
     }
 
-    /// Keeps a server as few statements, where it is kept as itself and these are found.
+    /// Keeps a server as few statements, if it is kept as itself and such statements are found. Its state
+    /// stays the same.
+    ///
+    /// May return `NoMemory`.
     pub fn pack(&self, server: &mut KeptServer) -> Result<(), NoMemory>
         ensures { OnOk result (server.new ≡ server.old) }
     {

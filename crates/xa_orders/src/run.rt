@@ -1,4 +1,4 @@
-//! Explores a script that is read, and writes its outcomes.
+//! Explores a script from a reader, and writes its outcomes.
 ghost use Rattle.std.specs.Prelude.{◌≡◌, ◌≤◌, length, IfOk, IfErr, OnOk, OnErr, MatchResult, IfSome, Err};
 ghost use Rattle.std.specs.Io.KnownBytes.{Appends, IsAtEnd};
 ghost use Rattle.xa_lines.specs.Calls.{HasWritten, StopsWriting, Completes, Stops};
@@ -23,10 +23,14 @@ pub struct Explored {
 
 /// Explores the script of this text.
 ///
-/// At most `limit` ways are kept at once.
-/// May answer `NoMemory`. Doesn't wait.
+/// At most `limit` ways are kept at once. If more are found, the end is `Undecided`.
+/// Errors: `NoMemory` if an allocation failed.
+/// May return `NoMemory`. Doesn't wait.
 /// Own rule: docs/COMMANDS.md#explore.
 pub fn explore_text(alloc: Global, text: &[u8], limit: usize) -> Result<Explored, NoMemory>
+    // Proved (orders, text): A script with faulty lines ends as faulty, and exactly its faulty lines are
+    //   written. Otherwise the text lists the outcomes of its parts, each once with its least order, or is
+    //   `UNDECIDED`.
     ensures { IfOk result (λ explored. IsExploredText text.now limit explored.ended explored.text.items) }
 {
     let script = read_script(alloc, text)?;
@@ -56,7 +60,7 @@ pub fn explore_text(alloc: Global, text: &[u8], limit: usize) -> Result<Explored
     }
 }
 
-/// Writes what is written for a script, and gives how exploring it ended.
+/// Writes the text, and returns how exploring ended.
 fn write_explored<W: PieceWriter>(writer: &mut W, explored: &Explored) -> Result<Ended, ScriptFault>
     ensures ended { IfOk result (λ ended. ended ≡ explored.now.ended) }
     ensures all { OnOk result (Appends (W.contents writer.old) (W.contents writer.new) explored.now.text.items) }
@@ -70,14 +74,17 @@ fn write_explored<W: PieceWriter>(writer: &mut W, explored: &Explored) -> Result
     Ok(explored.ended)
 }
 
-/// Explores a script: reads all of it, and writes each outcome that an order of its lines side by side gives, or its faulty lines.
+/// Explores a script: reads all of it, and writes each outcome that an order of its lines side by side gives,
+/// or its faulty lines.
 ///
-/// A script is at most 1,048,576 bytes, and takes at most 2,097,152 reads. The server holds nothing at first. At most `limit` ways
-/// are kept at once. Nothing is written before all are found. What is written isn't flushed.
-/// Errors: `Read` where a read failed, or too many reads were needed; `TooLong` where the script is longer; `NoMemory`; `Write`
-/// where a write failed or took nothing. After `Write` a prefix of the text was written, after any other nothing. A reader or a
-/// writer that failed isn't called again.
-/// May answer `NoMemory`. Doesn't wait, unless the reader or the writer does.
+/// A script has at most 1,048,576 bytes, and takes at most 2,097,152 reads. The server holds nothing at
+/// first. At most `limit` ways are kept at once; if more are found, `UNDECIDED` is written. Nothing is
+/// written before all outcomes are found. The writer isn't flushed.
+/// Errors: `Read` if a read failed, or the script needs more reads; `TooLong` if the script is longer;
+/// `NoMemory` if an allocation failed; `Write` if a write failed or took no byte.
+/// After `Write` a prefix of the text was written, after any other error nothing. A reader or a writer that
+/// failed isn't called again.
+/// May return `NoMemory`. Waits only if the reader or the writer does.
 /// Own rule: docs/COMMANDS.md#explore.
 pub fn explore_script<R: PieceReader, W: PieceWriter>(
     alloc: Global,
@@ -85,17 +92,29 @@ pub fn explore_script<R: PieceReader, W: PieceWriter>(
     writer: &mut W,
     limit: usize,
 ) -> Result<Ended, ScriptFault>
-    // All was read, and what was written is the text of its outcomes, or that there are too many ways, or its faulty lines.
+    // Proved (orders, script-reads-all): After Ok of exploring the whole script was read.
     ensures read { OnOk result (IsAtEnd (R.remaining reader.new)) }
+    // Proved (orders, script-written): After Ok of exploring, every outcome that an order of the lines side
+    //   by side gives is written once, with the least order that gives it, and no other. A script with faulty
+    //   lines has exactly these written. `UNDECIDED` is written only if orders of one length lead to a list
+    //   of more ways than allowed.
     ensures written { IfOk result
         (λ ended. IfSome (R.remaining reader.old) (λ script. AppendsExplored limit ended script (W.contents writer.old) (W.contents writer.new))) }
+    // Proved (orders, script-length): A script that was explored has at most 1,048,576 bytes.
     ensures short { OnOk result (IfSome (R.remaining reader.old) (λ script. length script ≤ script_bytes)) }
 
+    // Proved (orders, script-fault): After `Write` a prefix of such a text was written, after any other fault
+    //   of exploring nothing. The fault is `Read`, `TooLong`, `Write` or `NoMemory`.
     ensures fault { IfErr result (λ fault. AfterExploreFault limit fault (R.remaining reader.old) (W.contents writer.old) (W.contents writer.new)) }
+    // Proved (orders, script-too-long): Exploring returns `TooLong` only if more than 1,048,576 bytes were
+    //   read.
     ensures too_long { result ≡ Err ScriptFault.TooLong → ConsumesMoreThan script_bytes (R.remaining reader.old) (R.remaining reader.new) }
 
-    // Of any reader and writer: all calls on them succeeded; or the last call on one of them failed, and that is the fault.
+    // Proved (orders, script-stream-faults): After Ok of exploring all calls on the reader and the writer
+    //   succeeded. Otherwise the last call on one of them failed, and that is the fault, or exploring itself
+    //   ran out of memory. This holds for every reader and writer.
     ensures calls { OnOk result (Completes R.gives W.takes script_reads (IsSomeText limit) reader.old reader.new writer.old writer.new) }
+    // Proved (orders, script-stream-faults)
     ensures cause { IfErr result
         (λ fault. Stops R.gives R.fails W.takes W.refuses script_reads script_bytes (IsSomeText limit) IsFaultOfExploring fault reader.old reader.new
         writer.old writer.new) }

@@ -1,4 +1,4 @@
-//! What a script to be explored says, line by line.
+//! Reads a script to be explored, line by line.
 ghost use Rattle.std.specs.Prelude.{◌≡◌, OnOk, IfOk};
 ghost use Rattle.xa_lines.specs.Script.{line_of};
 ghost use Rattle.xa_statement.specs.Reading.{read_of};
@@ -19,7 +19,7 @@ use xa_xid::{Key, NoMemory, SessionNo, Statement, skip_blanks};
 /// What was read of a script.
 #[derive(Drop)]
 pub struct Script<'a> {
-    /// Which part is read.
+    /// The part that is being read.
     pub stage: Stage,
     /// The lines that are carried out first.
     pub before: Vec<Line<'a>>,
@@ -27,13 +27,13 @@ pub struct Script<'a> {
     pub beside: Vec<Line<'a>>,
     /// The lines that are carried out last.
     pub later: Vec<Line<'a>>,
-    /// The list of its faulty lines; empty where there is none.
+    /// What is written for its faulty lines; empty if there is none.
     pub faults: Vec<u8>,
     /// The rows that its lines write.
     pub written: Vec<Key>,
 }
 
-/// Whether the line is this word alone.
+/// Whether the line has only this word.
 fn is_word(word: &[u8], line: &[u8]) -> bool
     ensures { result ≡ is_word_of word.now line.now }
 {
@@ -41,7 +41,7 @@ fn is_word(word: &[u8], line: &[u8]) -> bool
     first == word && skip_blanks(rest).is_empty()
 }
 
-/// Notes the row that a statement writes, where it does.
+/// Notes the row that a statement writes, if it writes one.
 fn note_row(written: &mut Vec<Key>, statement: &Statement) -> Result<(), NoMemory> {
     match statement {
         Statement::Put(key, _) | Statement::Del(key) => {
@@ -55,7 +55,7 @@ fn note_row(written: &mut Vec<Key>, statement: &Statement) -> Result<(), NoMemor
 }
 
 impl<'a> Script<'a> {
-    /// Before its first line.
+    /// Nothing was read yet.
     fn new(alloc: Global) -> Script<'a>
         ensures { read_kept result ≡ nothing_read }
     {
@@ -69,7 +69,7 @@ impl<'a> Script<'a> {
         }
     }
 
-    /// The line of this number goes wrong at this place.
+    /// Notes that the line of this number is faulty at `place`.
     fn blame(&mut self, number: u64, place: u64) -> Result<(), NoMemory>
         ensures { OnOk result (read_kept self.new ≡ blamed (read_kept self.old) number place) }
     {
@@ -112,7 +112,7 @@ impl<'a> Script<'a> {
         }
     }
 
-    /// Takes the line of a session, whose statement is read.
+    /// Takes the line of a session whose statement is read.
     fn take_told(&mut self, session: SessionNo, text: &'a [u8]) -> Result<(), NoMemory>
         ensures { OnOk result (read_kept self.new ≡ with_told self.old.stage (read_kept self.old) (record { session = session; text = text.entry.now })) }
     {
@@ -132,7 +132,7 @@ impl<'a> Script<'a> {
         }
     }
 
-    /// Takes the line of a session.
+    /// Takes a line that names a session.
     fn take_given(
         &mut self,
         number: u64,
@@ -152,7 +152,7 @@ impl<'a> Script<'a> {
         }
     }
 
-    /// Takes a line that is no comment and none of the words.
+    /// Takes a line that is no comment and none of the two words.
     fn take_line(&mut self, number: u64, line: &'a [u8]) -> Result<(), NoMemory>
         ensures { OnOk result (read_kept self.new ≡ with_line (read_kept self.old) number (line_of line.entry.now)) }
     {
@@ -180,11 +180,16 @@ impl<'a> Script<'a> {
     }
 }
 
-/// What is read of a script.
+/// Reads a script.
 ///
-/// May answer `NoMemory`. Doesn't wait.
+/// Blank lines and comments say nothing. What is written for faulty lines is in `faults`; these lines are in
+/// no part.
+/// Errors: `NoMemory` if an allocation failed.
+/// May return `NoMemory`. Doesn't wait.
 /// Own rule: docs/COMMANDS.md#explore.
 pub fn read_script(alloc: Global, text: &[u8]) -> Result<Script<'_>, NoMemory>
+    // Proved (orders, script-read): A script's lines go to its three parts, or to its faulty lines, exactly
+    //   as the definition of reading says.
     ensures { IfOk result (λ script. read_kept script ≡ script_read text.now) }
 {
     let mut script = Script::new(alloc);

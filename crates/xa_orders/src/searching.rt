@@ -11,7 +11,7 @@ use std::alloc::Global;
 use xa_server::Server;
 use xa_xid::{Key, NoMemory};
 
-/// The one way before all lines.
+/// The only way before all lines.
 fn opening_ways(alloc: Global, lines: &[Line<'_>], server: Server) -> Result<Vec<Way>, NoMemory>
     ensures { IfOk result (λ ways. IsOpening lines.now server ways.items) }
 {
@@ -20,7 +20,10 @@ fn opening_ways(alloc: Global, lines: &[Line<'_>], server: Server) -> Result<Vec
     Ok(ways)
 }
 
-/// The ways that have carried out all lines, each place once, by the least order; or none, where more than `limit` were found.
+/// Returns the ways that have carried out all lines, each configuration once, with the least order that leads
+/// there; or None if more than `limit` ways were found.
+///
+/// May return `NoMemory`.
 pub fn every_way(
     alloc: Global,
     lines: &[Line<'_>],

@@ -6,7 +6,7 @@ use std::marker::Model;
 use std::sync::Arc;
 use xa_xid::{NoMemory, Statement};
 
-/// A statement that ways own together. A contract sees the statement.
+/// A statement that several ways own. A contract sees the statement.
 #[derive(Drop)]
 pub struct SharedStatement {
     shared: Arc<Statement>,
@@ -21,7 +21,9 @@ impl Model for SharedStatement {
 }
 
 impl SharedStatement {
-    /// A statement with one owner.
+    /// Returns a statement with one owner.
+    ///
+    /// May return `NoMemory`.
     pub fn of(alloc: Global, statement: Statement) -> Result<SharedStatement, NoMemory>
         ensures { IfOk result (λ shared. shared ≡ statement) }
     {
@@ -30,7 +32,9 @@ impl SharedStatement {
         })
     }
 
-    /// One more owner.
+    /// Returns one more owner.
+    ///
+    /// May return `NoMemory`.
     pub fn try_clone(&self) -> Result<SharedStatement, NoMemory>
         ensures { IfOk result (λ shared. shared ≡ self.now) }
     {
@@ -39,7 +43,7 @@ impl SharedStatement {
         })
     }
 
-    /// The statement.
+    /// Returns the statement.
     pub fn statement(&self) -> &Statement
         ensures { result.now ≡ self.now }
     {

@@ -8,7 +8,7 @@ use std::marker::Model;
 use std::sync::Arc;
 use xa_xid::NoMemory;
 
-/// A text that ways own together. A contract sees the text.
+/// A text that several ways own. A contract sees the text.
 #[derive(Drop)]
 pub struct SharedText {
     shared: Arc<MarkedText>,
@@ -30,7 +30,9 @@ fn is_same_bytes(left: &[u8], right: &[u8]) -> bool
 }
 
 impl SharedText {
-    /// A text with one owner.
+    /// Returns a text with one owner.
+    ///
+    /// May return `NoMemory`.
     pub fn of(alloc: Global, text: Vec<u8>) -> Result<SharedText, NoMemory>
         ensures { IfOk result (λ shared. shared ≡ text.items) }
     {
@@ -40,7 +42,9 @@ impl SharedText {
         })
     }
 
-    /// One more owner.
+    /// Returns one more owner.
+    ///
+    /// May return `NoMemory`.
     pub fn try_clone(&self) -> Result<SharedText, NoMemory>
         ensures { IfOk result (λ shared. shared ≡ self.now) }
     {
@@ -49,26 +53,26 @@ impl SharedText {
         })
     }
 
-    /// The text.
+    /// Returns the text.
     pub fn text(&self) -> &[u8]
         ensures { result.now ≡ self.now }
     {
         self.shared.text.as_slice()
     }
 
-    /// A number made of the text.
+    /// Returns a number made of the text.
     pub fn mark(&self) -> u64 {
         self.shared.mark
     }
 
-    /// Whether it is known to be this text.
+    /// Tells whether it is known to be this text.
     pub fn is(&self, text: &[u8]) -> bool
         ensures { result ≡ true → self.now ≡ text.now }
     {
         is_same_bytes(self.text(), text)
     }
 
-    /// Whether both are known to be the same.
+    /// Tells whether both are known to be the same text.
     pub fn is_same(&self, other: &SharedText) -> bool
         ensures { result ≡ true → self.now ≡ other.now }
     {

@@ -1,12 +1,12 @@
-//! Which part of a script is read.
+//! The part of a script that is read.
 
-/// Which part of a script is read.
+/// The part of a script that is read.
 #[derive(Clone, Copy, Debug, PartialEq, Eq)]
 pub enum Stage {
-    /// No line BESIDE and no line AFTER was read.
+    /// No line `BESIDE` and no line `AFTER` was read yet.
     First,
-    /// The lines side by side, behind BESIDE.
+    /// The lines side by side, after the line `BESIDE`.
     Beside,
-    /// The lines behind AFTER.
+    /// The lines after the line `AFTER`.
     After,
 }

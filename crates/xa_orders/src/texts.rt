@@ -5,7 +5,7 @@ use crate::shared_text::SharedText;
 use std::alloc::Global;
 use xa_xid::NoMemory;
 
-/// How many texts are kept: a search among more would take longer than it saves.
+/// The greatest number of texts that are kept: to look through more would take longer than it saves.
 const MOST: usize = 64;
 
 /// Texts that came, each kept once, so that ways share them.
@@ -14,7 +14,7 @@ pub struct Texts {
     known: Vec<SharedText>,
 }
 
-/// One of the list, where it is known to be the same text.
+/// The text of the list that is known to be the same, if there is one.
 fn same_in(known: &[SharedText], text: &[u8]) -> Result<Option<SharedText>, NoMemory>
     ensures { IfOk result (λ found. IfSome found (λ same. same ≡ text.now)) }
 {
@@ -34,14 +34,16 @@ fn text_of(text: &SharedText) -> Result<SharedText, NoMemory>
 }
 
 impl Texts {
-    /// No texts.
+    /// Returns an empty list.
     pub fn new(alloc: Global) -> Texts {
         Texts {
             known: Vec::new(alloc),
         }
     }
 
-    /// The text, shared where it came before.
+    /// Returns the text, shared with an equal one that came before, if that is kept.
+    ///
+    /// May return `NoMemory`.
     pub fn shared(&mut self, alloc: Global, text: Vec<u8>) -> Result<SharedText, NoMemory>
         ensures { IfOk result (λ shared. shared ≡ text.items) }
     {

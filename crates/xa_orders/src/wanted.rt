@@ -21,7 +21,7 @@ pub enum Wanted<'a> {
 }
 
 impl<'a> Wanted<'a> {
-    /// That a row gets this value, or loses it.
+    /// Returns what gives a row this value, or takes its value away.
     pub fn value(key: &'a Key, value: &'a Option<Bytes>) -> Wanted<'a> {
         match value {
             Some(text) => Wanted::Value(key, text),
@@ -29,7 +29,7 @@ impl<'a> Wanted<'a> {
         }
     }
 
-    /// That a branch holds a row so.
+    /// Returns what gives a branch this hold on a row.
     pub fn hold(row: &'a HeldRow) -> Wanted<'a> {
         match &row.hold {
             Hold::Shared => Wanted::Read(&row.key),
@@ -38,7 +38,7 @@ impl<'a> Wanted<'a> {
         }
     }
 
-    /// Whether the statement does it.
+    /// Tells whether the statement does it.
     pub fn is_done_by(&self, statement: &Statement) -> bool {
         match self {
             Wanted::Value(row, text) => {

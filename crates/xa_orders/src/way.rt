@@ -1,4 +1,4 @@
-//! Ways to carry lines out.
+//! Ways: orders of turns, and what they have come to.
 ghost use Rattle.std.specs.Prelude.{◌≡◌, ◌<◌, ◌++◌, ◌∷◌, [], true, None, length, IfOk, OnOk, IfSome};
 ghost use Rattle.xa_orders.specs.Orders.{opening, carried_out, turn};
 ghost use Rattle.xa_orders.specs.Found.{config_of, IsTurn};
@@ -13,19 +13,21 @@ use xa_lines::answer_statement;
 use xa_server::Server;
 use xa_xid::{NoMemory, SessionNo};
 
-/// Where an order of turns has come.
+/// An order of turns, and what it has come to.
 #[derive(Drop)]
 pub struct Way {
     /// The server.
     pub server: KeptServer,
     /// What the lines were answered.
     pub answers: Answers,
-    /// Whose turns it were.
+    /// The sessions whose turns they were, in order.
     pub order: Vec<SessionNo>,
 }
 
 impl Way {
-    /// Before any of the lines is carried out, from this server on.
+    /// Returns the way on which no line is carried out yet, with this server.
+    ///
+    /// May return `NoMemory`.
     pub fn opening(alloc: Global, lines: &[Line<'_>], server: Server) -> Result<Way, NoMemory>
         ensures config { IfOk result (λ way. config_of way ≡ opening lines.now server) }
         ensures order { IfOk result (λ way. way.order.items ≡ []) }
@@ -37,14 +39,19 @@ impl Way {
         })
     }
 
-    /// Keeps it in less memory, where that is possible.
+    /// Keeps it in less memory, if that is possible.
+    ///
+    /// May return `NoMemory`.
     pub fn pack(&mut self, packing: &Packing) -> Result<(), NoMemory>
         ensures { OnOk result (self.new ≡ self.old) }
     {
         packing.pack(&mut self.server)
     }
 
-    /// Whether both are known to have come to the same. The other one's server is kept as itself.
+    /// Tells whether both are known to have come to the same. The other way's server has to be kept as
+    /// itself, else the answer is no.
+    ///
+    /// May return `NoMemory`.
     pub fn is_same(&self, other: &Way) -> Result<bool, NoMemory>
         ensures { IfOk result (λ same. same ≡ true → config_of self.now ≡ config_of other.now) }
     {
@@ -57,7 +64,7 @@ impl Way {
         }
     }
 
-    /// The order with a turn of the session more.
+    /// The order with one more turn, of this session.
     fn order_with(&self, alloc: Global, session: SessionNo) -> Result<Vec<SessionNo>, NoMemory>
         ensures { IfOk result (λ order. order.items ≡ self.now.order.items ++ session ∷ []) }
     {
@@ -67,7 +74,7 @@ impl Way {
         Ok(order)
     }
 
-    /// With the session's statement of this text, on the line at this place, carried out by the server.
+    /// The way after the server has carried out the session's statement of this text, on the line at `place`.
     fn carried_out(
         &self,
         alloc: Global,
@@ -92,7 +99,10 @@ impl Way {
         })
     }
 
-    /// With the session's next line carried out, where it has one. The server is the way's.
+    /// Returns the way after the session's next line is carried out, if the session has one left. `server` is
+    /// the way's.
+    ///
+    /// May return `NoMemory`.
     #[tactic(auto, unfolding(crate::specs::Orders::turn))]
     pub fn turned(
         &self,

@@ -1,4 +1,4 @@
-//! Lists of ways, in which each place that they come to is kept once.
+//! Lists of ways, in which each configuration is kept once.
 ghost use Rattle.std.specs.Prelude.{◌≡◌, ◌++◌, ◌∷◌, [], ◌<◌, List, true, None, length, IfOk, OnOk, IfSome};
 ghost use Rattle.xa_orders.specs.declared.way.Way.{Way as Found};
 ghost use Rattle.xa_orders.specs.Orders.{Any, IsAscending};
@@ -13,7 +13,8 @@ use std::alloc::Global;
 use xa_server::Server;
 use xa_xid::{NoMemory, SessionNo};
 
-/// How many ways, the last ones of a list, have their servers kept as themselves: most of those that come again are among them.
+/// How many ways at the end of a list have servers that are kept as themselves: a way that comes again is
+/// mostly among the last.
 const WHOLE: usize = 256;
 
 /// Whether the list has this place, and the way there is known to have come to the same.
@@ -50,7 +51,7 @@ fn is_known(
     Ok(false)
 }
 
-/// Keeps the last way that has `WHOLE` others behind it in less memory.
+/// Keeps the last way that has `WHOLE` others after it in less memory.
 fn pack_before(known: &mut Vec<Way>, packing: &Packing) -> Result<(), NoMemory>
     ensures { OnOk result (known.new.items ≡ known.old.items) }
 {
@@ -78,7 +79,7 @@ fn add(known: &mut Vec<Way>, keeper: &mut Keeper, one: Way) -> Result<(), NoMemo
     pack_before(known, &keeper.packing)
 }
 
-/// Adds what the session's turn leads to, where it has one. The server is the way's.
+/// Adds the way to which the session's turn leads, if it has one. `server` is the way's.
 fn add_turn(
     alloc: Global,
     next: &mut Vec<Way>,
@@ -100,7 +101,8 @@ fn add_turn(
     }
 }
 
-/// Adds what the turn of the session of this number leads to, where there is such a session and it has one. The server is the way's.
+/// Adds the way to which the turn of the session of this number leads, if there is such a session and it has
+/// a turn. `server` is the way's.
 fn add_number(
     alloc: Global,
     next: &mut Vec<Way>,
@@ -122,7 +124,7 @@ fn add_number(
     }
 }
 
-/// Adds what the turns of all sessions lead to.
+/// Adds the ways to which the turns of all sessions lead.
 fn add_turns(
     alloc: Global,
     next: &mut Vec<Way>,
@@ -143,7 +145,10 @@ fn add_turns(
     Ok(())
 }
 
-/// What one turn more leads to, each place once; or none, where those are more than `limit`.
+/// Returns the ways to which one more turn leads, each configuration once; or None if those are more than
+/// `limit`.
+///
+/// May return `NoMemory`.
 pub fn next_level(
     alloc: Global,
     keeper: &mut Keeper,
