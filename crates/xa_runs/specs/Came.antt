@@ -1,9 +1,10 @@
--- What is written for races of a script. All of it is our own: docs/COMMANDS.md#race-statistics.
+-- What is written for several races of a script.
+-- Every rule here is the project's own: docs/COMMANDS.md#race-statistics.
 --     IsRunCount         how many races there may be
 --     times              how often a text came
---     came_text          an outcome that came so often
---     came_texts         the outcomes of a list that came
---     IsSeen             what is written for outcomes that came
+--     came_text          what is written for an outcome that came so often
+--     came_texts         what is written for the outcomes of a list that came
+--     IsSeenOfAll, IsSeenOfSome     a text is what is written for races, if all outcomes are known;  if they aren't
 --     IsRunsText         what is written for races of a script
 --     AppendsRuns, AfterRunsFault     what the writer got
 use Rattle.std.specs.Prelude.{◌≡◌, ℕ, zero, suc, ◌+◌, ◌≤◌, nat_lt, nat_eq, Bool, false, count_by, Option, List, [], ◌∷◌, ◌++◌, length, map, codes, decimal, IfSome, ◌⊎◌}
@@ -27,7 +28,7 @@ use Rattle.xa_runs.specs.Raced.{HasCome}
 abbrev pub IsRunCount : ℕ → Type 0
 IsRunCount runs = (1 ≤ runs) × (runs ≤ 1000000)
 
--- how many ways are searched at once for the list of all outcomes
+-- how many ways exploring may keep for the list of all outcomes
 abbrev pub ways_limit : ℕ
 ways_limit = 100000
 
@@ -35,12 +36,12 @@ ways_limit = 100000
 abbrev pub times : List ℕ → List (List ℕ) → ℕ
 times text came = count_by (λ one. pointwise nat_eq one text) came
 
--- an outcome of this number that came so often; nothing, where it didn't
+-- an outcome of this number that came so often; nothing if it didn't come
 abbrev pub came_text : ℕ → ℕ → List ℕ → List ℕ
 came_text number zero text = []
 came_text number (suc more) text = codes "OUTCOME " ++ decimal number ++ codes " CAME " ++ decimal (suc more) ++ codes "\n" ++ text
 
--- each of the list that came, with its number and how often
+-- the outcomes of the list that came, each with its number and how often it came
 unfoldable pub came_texts : ℕ → List (List ℕ) → List (List ℕ) → List ℕ
 came_texts number came [] = []
 came_texts number came (text ∷ listed) = came_text number (times text came) text ++ came_texts (number + 1) came listed
@@ -49,24 +50,24 @@ came_texts number came (text ∷ listed) = came_text number (times text came) te
 abbrev pub count_seen : List (List ℕ) → List (List ℕ) → ℕ
 count_seen came listed = count_by (λ text. nat_lt 0 (times text came)) listed
 
--- the outcomes that came, and how many of all those are
+-- the outcomes that came, and how many of all outcomes that is
 abbrev pub seen_text : List (List ℕ) → List (List ℕ) → List ℕ
 seen_text came listed =
     came_texts 1 came listed ++ codes "SEEN " ++ decimal (count_seen came listed) ++ codes " OF " ++ decimal (length listed) ++ codes " OUTCOMES\n"
 
--- the same where nobody knows how many there are
+-- the same if it isn't known how many outcomes there are
 abbrev pub some_seen_text : List (List ℕ) → List (List ℕ) → List ℕ
 some_seen_text came listed = came_texts 1 came listed ++ codes "SEEN " ++ decimal (count_seen came listed) ++ codes "\n"
 
 abbrev pub ComesBefore : List ℕ → List ℕ → Type 0
 ComesBefore one other = bytes_cmp one other ≡ Less
 
--- so many races of the parts gave these texts, one each
+-- this many races of the parts gave these texts, one text each
 pub record HaveCome (parts : Parts) (runs : ℕ) (came : List (List ℕ)) : Type 0 where
   pub count : length came ≡ runs
   pub each : All (HasCome parts) came
 
--- the list has each outcome of the parts once, in the order in which they are explored; each that came is in it
+-- the list has each outcome of the parts once, in the order of exploring; each text that came is in it
 pub record IsSeenOfAll (parts : Parts) (runs : ℕ) (text : List ℕ) : Type 0 where
   pub outcomes : List Outcome
   pub came : List (List ℕ)
@@ -75,7 +76,7 @@ pub record IsSeenOfAll (parts : Parts) (runs : ℕ) (text : List ℕ) : Type 0 w
   pub listed : All (Contains (map (λ one. one.text.items) outcomes)) came
   pub text_is : text ≡ seen_text came (map (λ one. one.text.items) outcomes)
 
--- there are too many ways to know all; the list has those that came, each once, ascending
+-- there are too many ways to know all outcomes; the list has those that came, each once, ascending
 pub record IsSeenOfSome (parts : Parts) (runs : ℕ) (text : List ℕ) : Type 0 where
   pub listed : List (List ℕ)
   pub came : List (List ℕ)
@@ -89,14 +90,14 @@ pub record IsSeenOfSome (parts : Parts) (runs : ℕ) (text : List ℕ) : Type 0 
 abbrev pub IsPartsCome : Parts → ℕ → List ℕ → Type 0
 IsPartsCome parts runs text = IsSeenOfAll parts runs text ⊎ IsSeenOfSome parts runs text
 
--- with no faulty line its parts are raced; else the faulty lines stand there, and nothing else
+-- if no line is faulty, the parts are raced; else only the faulty lines are written
 abbrev pub IsRunsTold : List ℕ → Parts → ℕ → Ended → List ℕ → Type 0
 IsRunsTold [] parts runs Done text = IsPartsCome parts runs text
 IsRunsTold [] parts runs Undecided text = ⊥
 IsRunsTold [] parts runs Faulty text = ⊥
 IsRunsTold (byte ∷ faults) parts runs ended text = (ended ≡ Faulty) × (text ≡ byte ∷ faults)
 
--- what is written for so many races of a script, and how that ends
+-- what is written for this many races of a script, and how they end
 abbrev pub IsRunsText : ℕ → List ℕ → Ended → List ℕ → Type 0
 IsRunsText runs script ended text = IsRunsTold (script_read script).faults (parts_of (script_read script)) runs ended text
 
@@ -111,11 +112,11 @@ AppendsRuns runs ended script old new = (text : List ℕ) × IsRunsText runs scr
 abbrev pub AppendsRunsPrefix : ℕ → List ℕ → Option (List ℕ) → Option (List ℕ) → Type 0
 AppendsRunsPrefix runs script old new = (ended : Ended) × (text : List ℕ) × IsRunsText runs script ended text × AppendsPrefix old new text
 
--- no line goes wrong
+-- no line is faulty
 abbrev pub IsWellRead : List ℕ → Type 0
 IsWellRead script = (script_read script).faults ≡ []
 
--- a fault by which a race ends; in rounds no log is full
+-- a fault with which a race ends; in rounds no log is full
 abbrev pub IsOfRace : Bool → ScriptFault → Type 0
 IsOfRace renews NoMemory = Unit {0}
 IsOfRace renews GateShut = Unit {0}
@@ -123,12 +124,12 @@ IsOfRace renews ThreadRefused = Unit {0}
 IsOfRace renews Full = renews ≡ false
 IsOfRace renews fault = ⊥
 
--- a fault before anything is written: of memory, or of a race, where no line goes wrong
+-- a fault before anything is written: no memory, or a race's fault, if no line is faulty
 abbrev pub IsOfRuns : Bool → List ℕ → ScriptFault → Type 0
 IsOfRuns renews script NoMemory = Unit {0}
 IsOfRuns renews script fault = IsOfRace renews fault × IsWellRead script
 
--- what a fault leaves in the writer: a prefix where a write failed, else nothing
+-- what a fault leaves in the writer: a prefix of the text if a write failed, else nothing
 abbrev pub AfterRunsFault : Bool → ℕ → ScriptFault → Option (List ℕ) → Option (List ℕ) → Option (List ℕ) → Type 0
 AfterRunsFault renews runs Write input old new = IfSome input (λ script. AppendsRunsPrefix runs script old new)
 AfterRunsFault renews runs GateShut input old new = Keeps old new × IfSome input IsWellRead

@@ -12,13 +12,13 @@ use Rattle.xa_store.specs.declared.run.Run.{Run}
 use Rattle.xa_orders.specs.Orders.{Told, IsSession}
 use Rattle.xa_runs.specs.Raced.{statements_of}
 
--- the list at a place, or an empty one
+-- the list at a place, or an empty list past the end
 abbrev pub list_at : {A : Type 0} → List (List A) → ℕ → List A
 list_at [] index = []
 list_at (list ∷ lists) zero = list
 list_at (list ∷ lists) (suc index) = list_at lists index
 
--- the answers of a session, where those of session 1 stand first
+-- the answers of a session; those of session 1 come first
 abbrev pub answers_of : List (List Answer) → ℕ → List Answer
 answers_of lists session = list_at lists (session - 1)
 
@@ -26,7 +26,7 @@ answers_of lists session = list_at lists (session - 1)
 abbrev pub AreWithin : ℕ → List Told → Type 0
 AreWithin sessions lines = All (λ told. IsSession told.session × (told.session ≤ sessions)) lines
 
--- the run of a session that has seen nothing, with what it gives
+-- the run of a session that has seen nothing, with the statements that it gives
 pub record IsRunOf (session : ℕ) (lines : List Told) (run : Run) : Type 0 where
   pub fresh : known_of run.pass ≡ newcomer session
   pub statements : run.lines.items ≡ statements_of session lines

@@ -1,6 +1,7 @@
--- Lines of several sessions that raced. All of it is our own: docs/COMMANDS.md#race-statistics.
---     statements_of      what a session gives
---     line_text          what is written for a line that was answered so
+-- Races of lines that several sessions give.
+-- Every rule here is the project's own: docs/COMMANDS.md#race-statistics.
+--     statements_of      the statements that a session gives
+--     line_text          what is written for a line with this answer
 --     laid_texts         what is written for each line
 --     IsReadLine, AreRead     a line's statement is read;  those of all parts are
 --     IsRaced            lines raced, and this was written for each
@@ -23,7 +24,7 @@ abbrev pub statement_in : Result Statement ℕ → Option Statement
 statement_in (Ok statement) = Some statement
 statement_in (Err place) = None
 
--- the statement of a line that the session gives
+-- the statement of a line, if the session gives it
 abbrev pub statement_by : ℕ → Told → Option Statement
 statement_by session told = cond (told.session == session) (statement_in (read_of told.text)) None
 
@@ -40,11 +41,11 @@ abbrev pub line_text : Told → Option Answer → List ℕ
 line_text told None = []
 line_text told (Some answer) = answer_text (decimal told.session) (reply_text (converts_in (read_of told.text)) answer.reply)
 
--- how many of the lines are the session's
+-- the number of lines that the session gives
 abbrev pub rank_in : List Told → ℕ → ℕ
 rank_in lines session = count_by (λ told. told.session == session) lines
 
--- each line behind these has the answer that its session got at its turn
+-- each line after the ones in front has the answer that its session got at its turn
 unfoldable pub laid_texts : List Told → (ℕ → List Answer) → List Told → List (List ℕ)
 laid_texts front answers [] = []
 laid_texts front answers (told ∷ lines) =
@@ -59,8 +60,8 @@ pub record AreRead (parts : Parts) : Type 0 where
   pub beside : All IsReadLine parts.beside
   pub later : All IsReadLine parts.later
 
--- lines raced from this state on, this was written for each, and this is the state behind them: one history explains what each
--- session was answered to its statements, and leads there
+-- lines raced, beginning in the state `base`; this was written for each, and `new` is the state after them.
+-- One history explains what each session was answered to its statements, and leads to that state
 pub record IsRaced (base : State) (lines : List Told) (texts : List (List ℕ)) (new : State) : Type 0 where
   pub history : List Entry
   pub answers : ℕ → List Answer
@@ -71,12 +72,12 @@ pub record IsRaced (base : State) (lines : List Told) (texts : List (List ℕ)) 
   pub texts_are : texts ≡ laid_texts [] answers lines
   pub new_is : new ≡ state_after base history
 
--- the same, one text behind the other
+-- the same, with the texts joined
 abbrev pub GivesRaced : State → List Told → List ℕ → State → Type 0
 GivesRaced base lines text new = (texts : List (List ℕ)) × IsRaced base lines texts new × (text ≡ concat texts)
 
--- the parts were raced, and this is what all lines were answered: those before one after another, those side by side in a race, and
--- those behind one after another
+-- the parts were raced, and this is what all lines were answered: first those before, one after another, then
+-- those side by side in a race, then the later ones, one after another
 pub record HasCome (parts : Parts) (text : List ℕ) : Type 0 where
   pub texts : List (List ℕ)
   pub state : State

@@ -1,8 +1,8 @@
 -- How the program counts the texts that come.
 --     texts_of           the texts of a list
---     once_if            1 where two texts are the same
---     counted_up         how often a text came, once another has come
---     Tallied            the list has how often each came
+--     once_if            1 if two texts are the same, else 0
+--     counted_up         a tally after a text has come
+--     Tallied            the list says how often each text came
 --     IsCounted          races were counted
 --     tallies_text       what is written for a list
 use Rattle.std.specs.Prelude.{◌≡◌, ℕ, ◌+◌, nat_eq, cond, List, [], ◌∷◌, ◌++◌, map}
@@ -21,12 +21,13 @@ once_if one other = cond (pointwise nat_eq one other) 1 0
 abbrev pub counted_up : List ℕ → CameTally → CameTally
 counted_up text one = record { text = one.text; came = one.came + once_if text one.text.items }
 
--- each of the list came so often, and each that came is listed
+-- each text of the list came as often as it says, and each that came is listed
 pub record Tallied (came : List (List ℕ)) (tallies : List CameTally) : Type 0 where
   pub counts : All (λ one. one.came ≡ times one.text.items came) tallies
   pub listed : All (Contains (texts_of tallies)) came
 
--- races of the parts were counted: where all that came were listed before, no other is; in an empty list only what came is, ascending
+-- races of the parts were counted. If all texts that came were listed before, none is added; an empty list
+-- gets only what came, ascending
 pub record IsCounted (parts : Parts) (runs : ℕ) (old new : List CameTally) : Type 0 where
   pub came : List (List ℕ)
   pub raced : HaveCome parts runs came

@@ -8,7 +8,7 @@ use std::alloc::Global;
 use xa_lines::push_number;
 use xa_xid::NoMemory;
 
-/// Appends the outcome of this number, where it came.
+/// Appends the outcome of this number, if it came.
 fn push_came(text: &mut Vec<u8>, number: u64, one: &CameTally) -> Result<(), NoMemory>
     ensures { OnOk result (text.new.items ≡ text.old.items ++ came_text number one.now.came one.now.text.items) }
 {
@@ -50,7 +50,9 @@ fn push_seen(text: &mut Vec<u8>, tallies: &[CameTally]) -> Result<(), NoMemory>
     push_number(text, count_seen(tallies))
 }
 
-/// What is written where the list has all outcomes.
+/// Returns what is written if the list has all outcomes: those that came, and how many of all that is.
+///
+/// May return `NoMemory`.
 pub fn seen_of_all(alloc: Global, tallies: &[CameTally]) -> Result<Vec<u8>, NoMemory>
     ensures { IfOk result
         (λ text. text.items
@@ -69,7 +71,9 @@ pub fn seen_of_all(alloc: Global, tallies: &[CameTally]) -> Result<Vec<u8>, NoMe
     Ok(text)
 }
 
-/// What is written where the list has only those that came.
+/// Returns what is written if the list has only those that came.
+///
+/// May return `NoMemory`.
 pub fn seen_of_some(alloc: Global, tallies: &[CameTally]) -> Result<Vec<u8>, NoMemory>
     ensures { IfOk result
         (λ text. text.items

@@ -60,7 +60,7 @@ fn push_answer(
     text.extend_from_slice(b"\n")
 }
 
-/// Appends the answer at this place among those of the line's session, where there is one.
+/// Appends the answer at this place of the session's answers, if there is one.
 fn push_line(
     alloc: Global,
     text: &mut Vec<u8>,
@@ -76,7 +76,9 @@ fn push_line(
     }
 }
 
-/// What is written for each of the lines, one after another, where each session got these answers.
+/// Returns what is written for the lines, in their order, if each session got these answers.
+///
+/// May return `NoMemory`.
 pub fn laid_text(
     alloc: Global,
     lines: &[Line<'_>],

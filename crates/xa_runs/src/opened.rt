@@ -20,7 +20,9 @@ pub struct Opened {
 }
 
 impl Opened {
-    /// An empty store of so many sessions, each with room for so many entries.
+    /// Opens an empty store for `sessions` sessions, whose log has room for `capacity` entries.
+    ///
+    /// May return `NoMemory`.
     pub fn new(alloc: Global, capacity: u64, sessions: u64) -> Result<Opened, NoMemory>
         requires capacity { IsCapacity capacity }
         requires sessions { IsCount sessions }
@@ -33,7 +35,9 @@ impl Opened {
         Ok(Opened { store, passes })
     }
 
-    /// The store behind the history that the passes have seen, with an empty one of the same room.
+    /// Returns the store after the history that the passes have seen, with an empty log of the same room.
+    ///
+    /// May return `NoMemory`.
     pub fn behind(alloc: Global, store: Store, passes: Vec<Pass>) -> Result<Opened, NoMemory>
         requires { AreGathered (identity_of store.log) passes.items }
         ensures base { IfOk result (λ opened. opened.store.base ≡ state_after store.base (last_known (map known_of passes.items)).seen) }

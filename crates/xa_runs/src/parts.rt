@@ -17,7 +17,7 @@ use xa_lines::ScriptFault;
 use xa_orders::Script;
 use xa_store::Gate;
 
-/// How many sessions a store for the script has.
+/// How many sessions a store for the script needs.
 fn sessions_of(script: &Script<'_>) -> u64
     ensures count { IsCount result }
     ensures before { AreWithin result script.now.before.items }
@@ -29,8 +29,13 @@ fn sessions_of(script: &Script<'_>) -> u64
     greatest_of(script.later.as_slice(), beside)
 }
 
-/// Races the script once, in a store of its own: the lines before one after another, those side by side, each session on a thread of
-/// its own, and those behind one after another. What all lines are answered.
+/// Races the script once, in a store of its own, and returns what all lines are answered.
+///
+/// The lines before are carried out one after another, then the lines side by side race, each session on its
+/// own thread, then the later lines are carried out one after another.
+/// Errors: `NoMemory`, `GateShut` and `ThreadRefused`, and if the race doesn't renew its store `Full`, as the
+/// race returns them.
+/// May return `NoMemory`. Waits for its threads.
 pub fn race_parts<G: Gate + Sync, R: Threads + Wait + Sync>(
     rt: &R,
     alloc: Global,

@@ -21,7 +21,7 @@ use xa_orders::Line;
 use xa_store::{Gate, OpenGate, Outcome, Pass, Run};
 use xa_xid::NoMemory;
 
-/// The runs of all sessions of a store, each with what it gives of the lines.
+/// The runs of all sessions of a store, each with the statements that it gives on these lines.
 fn all_runs(alloc: Global, passes: Vec<Pass>, lines: &[Line<'_>]) -> Result<Vec<Run>, NoMemory>
     ensures passes { IfOk result (λ runs. map (λ run. run.pass) runs.items ≡ passes.items) }
     ensures given { IfOk result
@@ -32,7 +32,10 @@ fn all_runs(alloc: Global, passes: Vec<Pass>, lines: &[Line<'_>]) -> Result<Vec<
     Ok(runs)
 }
 
-/// Races lines of several sessions: the store behind them, and what is written for them, one after another.
+/// Races lines of several sessions. Returns the store after them, and what is written for them in their
+/// order.
+///
+/// May return `NoMemory`. Waits for its threads.
 pub fn race_lines<G: Gate + Sync, R: Threads + Wait + Sync>(
     rt: &R,
     alloc: Global,
@@ -61,7 +64,10 @@ pub fn race_lines<G: Gate + Sync, R: Threads + Wait + Sync>(
     Ok((behind, text))
 }
 
-/// Has the sessions carry lines out one after another, and appends what is written for them.
+/// Has the sessions carry lines out one after another, and appends what is written for them. Returns the
+/// store after them.
+///
+/// May return `NoMemory`. Waits for its threads.
 pub fn race_each<R: Threads + Wait + Sync>(
     rt: &R,
     alloc: Global,

@@ -17,7 +17,7 @@ use std::thread::Threads;
 use xa_lines::ScriptFault;
 use xa_store::{Gate, Outcome, RaceFault, Run, Store, race, race_in_rounds};
 
-/// The fault of a script whose race ended so.
+/// The fault that is returned for a race's fault.
 fn script_fault(raced: RaceFault) -> ScriptFault
     ensures { result ≡ script_fault_of raced }
 {
@@ -81,7 +81,9 @@ fn race_by_rounds<G: Gate + Sync, R: Threads + Wait + Sync>(
     }
 }
 
-/// Holds a race, in rounds where it renews.
+/// Holds a race, in rounds if `renews` is true.
+///
+/// May return `NoMemory`. Waits for its threads.
 pub fn race_runs<G: Gate + Sync, R: Threads + Wait + Sync>(
     rt: &R,
     alloc: Global,

@@ -1,4 +1,4 @@
-//! A gate for races one after another, which shuffles each of them anew.
+//! A gate for several races, which shuffles each of them anew.
 ghost use Rattle.std.specs.Prelude.{◌<◌, IsTrue};
 
 use rand_core::utils::NextWord;
@@ -8,10 +8,12 @@ use std::thread::yield_now;
 use xa_store::{Gate, TogetherGate};
 use xa_xid::SessionNo;
 
-/// The gate at which the sessions of a race meet before their first lines, and each steps aside before each of its lines, as at
-/// `ShuffledGate`. The first race has the turns of the seed, and each next one those of the next seed; behind 2^64 - 1 comes 0.
+/// A gate for several races, which shuffles each of them anew.
 ///
-/// It is always open, so a race with it is what a race with `OpenGate` is.
+/// The sessions of a race wait for each other before their first lines. Before each of its lines a session
+/// steps aside for some turns, as at `ShuffledGate`. The first race has the turns of the given seed, each
+/// later one those of the next seed; after 2^64 - 1 comes 0. The gate never stops a run, so a race with it
+/// can do no more than one with `OpenGate`.
 #[derive(Drop)]
 pub struct ReshuffledGate {
     together: TogetherGate,
@@ -20,7 +22,7 @@ pub struct ReshuffledGate {
 }
 
 impl ReshuffledGate {
-    /// A gate whose first race has this seed, in `[0, 2^64)`.
+    /// Returns a gate whose first race has this seed, in `[0, 2^64)`.
     ///
     /// Takes no memory. Doesn't wait.
     /// Own rule: docs/COMMANDS.md#race-statistics.
@@ -31,7 +33,7 @@ impl ReshuffledGate {
         }
     }
 
-    /// For how many turns a session steps aside before this line, in `[0, 64)`.
+    /// The number of turns for which a session steps aside before this line, in `[0, 64)`.
     fn turns(&self, session: SessionNo, line: u64) -> u32
         ensures { result < 64 }
     {
@@ -42,6 +44,8 @@ impl ReshuffledGate {
     }
 }
 
+// Proved (races, reshuffled-gate): `ReshuffledGate` lets every session in, so no race with it ends with
+//   `GateShut`.
 impl Gate for ReshuffledGate {
     ghost may_answer = { λ _ _ _ opened. IsTrue opened };
 

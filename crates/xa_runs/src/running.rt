@@ -1,4 +1,4 @@
-//! Races a script that is read, time after time, and writes the outcomes that came.
+//! Races a script from a reader many times, and writes the outcomes that came.
 
 ghost use Rattle.std.specs.Prelude.{◌≡◌, ◌≤◌, length, IfOk, IfErr, OnOk, OnErr, MatchResult, IfSome, Err};
 ghost use Rattle.std.specs.Io.KnownBytes.{Appends, IsAtEnd};
@@ -16,7 +16,7 @@ use xa_lines::{PieceReader, PieceWriter, ScriptFault, read_all, write_whole};
 use xa_orders::Ended;
 use xa_store::Gate;
 
-/// Writes what is written for races of a script, and gives how they ended.
+/// Writes the text, and returns how the races ended.
 fn write_came<O: PieceWriter>(writer: &mut O, came: &Came) -> Result<Ended, ScriptFault>
     ensures ended { IfOk result (λ ended. ended ≡ came.now.ended) }
     ensures all { OnOk result (Appends (O.contents writer.old) (O.contents writer.new) came.now.text.items) }
@@ -30,18 +30,22 @@ fn write_came<O: PieceWriter>(writer: &mut O, came: &Came) -> Result<Ended, Scri
     Ok(came.ended)
 }
 
-/// Races a script `runs` times: reads all of it, and writes each outcome that came, with its number among all outcomes that its orders
-/// have and how often it came, or its faulty lines.
+/// Races a script `runs` times, and writes each outcome that came, with its number among all outcomes and how
+/// often it came; or only the script's faulty lines.
 ///
-/// A script is one for `xa_orders::explore_script`. Each race has a store of its own. The lines before are carried out first, one
-/// after another, then each session's lines side by side, on a thread of its own, then the lines behind, one after another. The log
-/// has room for `capacity` entries, in `[1, 1024]`, of the lines side by side; where it `renews`, the race goes on in rounds. All
-/// races ask the same gate. Where exploring finds more than 100,000 ways, outcomes are numbered as they ascend among those that came.
-/// Nothing is written before all races have ended. What is written isn't flushed.
-/// Errors: `Read` where a read failed, or too many reads were needed; `TooLong` where the script has more than 1,048,576 bytes;
-/// `NoMemory`; `Full`, which comes only where it doesn't renew, `GateShut` and `ThreadRefused` as the first race with a fault tells
-/// them; `Write` where a write failed or took nothing. After `Write` a prefix of the text was written, after any other nothing.
-/// May answer `NoMemory`. Waits for its threads.
+/// The script is one for `xa_orders::explore_script`, and is read whole. `runs` is in `[1, 1000000]`. Each
+/// race has a store of its own. The lines before are carried out one after another, then the lines side by
+/// side race, each session on its own thread, then the later lines are carried out one after another. The log
+/// has room for `capacity` entries, in `[1, 1024]`, of the lines side by side; if `renews` is true, a race
+/// goes on in rounds after that. All races ask the same `gate`. If exploring finds more than 100,000 ways,
+/// outcomes have the numbers of the ascending list of those that came. Nothing is written before all races
+/// have ended. The writer isn't flushed.
+/// Errors: `Read` if a read failed, or the script needs more than 2,097,152 reads; `TooLong` if the script
+/// has more than 1,048,576 bytes; `NoMemory` if an allocation failed; `Full`, only if `renews` is false,
+/// `GateShut` and `ThreadRefused` as the first race with a fault returns them; `Write` if a write failed or
+/// took no byte.
+/// After `Write` a prefix of the text was written, after any other error nothing.
+/// May return `NoMemory`. Waits for its threads.
 /// Own rule: docs/COMMANDS.md#race-statistics.
 pub fn runs_script<I: PieceReader, O: PieceWriter, G: Gate + Sync, R: Threads + Wait + Sync>(
     rt: &R,
@@ -56,18 +60,30 @@ pub fn runs_script<I: PieceReader, O: PieceWriter, G: Gate + Sync, R: Threads + 
     requires capacity { IsCapacity capacity }
     requires runs { IsRunCount runs }
 
-    // All was read, and what was written is the text of the outcomes that came of its races, or of its faulty lines.
+    // Proved (races, runs-reads-all): After Ok of several races the whole script was read.
     ensures read { OnOk result (IsAtEnd (I.remaining reader.new)) }
+    // Proved (races, runs-outcomes): Each of N races of a script comes to a text that one history explains.
+    //   Each text that came is written once, with its number in the list of all outcomes and how often it
+    //   came, and then how many of all came. A script with faulty lines has exactly these written.
+    // Proved (races, runs-too-many): If exploring finds too many ways to list all outcomes, each text that
+    //   came is written once, ascending, with how often it came, and then how many came.
     ensures written { IfOk result
         (λ ended. IfSome (I.remaining reader.old) (λ script. AppendsRuns runs ended script (O.contents writer.old) (O.contents writer.new))) }
+    // Proved (races, runs-length): A script that was raced several times has at most 1,048,576 bytes.
     ensures short { OnOk result (IfSome (I.remaining reader.old) (λ script. length script ≤ script_bytes)) }
 
+    // Proved (races, runs-fault): After `Write` a prefix of such a text was written, after any other fault of
+    //   several races nothing. `Full`, `GateShut` and `ThreadRefused` are returned only if no line is faulty,
+    //   and `Full` only if the races don't renew their stores.
     ensures fault { IfErr result (λ fault. AfterRunsFault renews runs fault (I.remaining reader.old) (O.contents writer.old) (O.contents writer.new)) }
+    // Proved (races, script-too-long)
     ensures too_long { result ≡ Err ScriptFault.TooLong → ConsumesMoreThan script_bytes (I.remaining reader.old) (I.remaining reader.new) }
 
-    // Of any reader and writer: all calls on them succeeded; or the last call on one of them failed, and that is the fault; or the
-    // fault is the races'.
+    // Proved (races, runs-stream-faults): After Ok of several races all calls on the reader and the writer
+    //   succeeded. Otherwise the last call on one of them failed, and that is the fault, or the fault is a
+    //   race's. This holds for every reader and writer.
     ensures calls { OnOk result (Completes I.gives O.takes script_reads (IsSomeRunsText runs) reader.old reader.new writer.old writer.new) }
+    // Proved (races, runs-stream-faults)
     ensures cause { IfErr result
         (λ fault. Stops I.gives I.fails O.takes O.refuses script_reads script_bytes (IsSomeRunsText runs) (IsOfRuns renews) fault reader.old reader.new
         writer.old writer.new) }

@@ -1,4 +1,4 @@
-//! Races a script time after time, and counts its outcomes.
+//! Races a script many times, and counts its outcomes.
 ghost use Rattle.std.specs.Prelude.{◌≡◌, ◌++◌, [], None, map, codes, IfOk, IfErr, OnOk, IfSome};
 ghost use Rattle.std.specs.List.{All};
 ghost use Rattle.decision_log.specs.Opens.{IsCapacity};
@@ -22,7 +22,8 @@ use xa_orders::{Ended, Outcome, Script, explore, read_script};
 use xa_store::Gate;
 use xa_xid::{Key, NoMemory};
 
-/// How many ways are searched at once for the list of all outcomes.
+/// The greatest number of ways that exploring may keep for the list of all outcomes. It is the program's
+/// usual limit.
 const WAYS: usize = 100_000;
 
 /// How races of a script ended, and what is written for them.
@@ -32,7 +33,7 @@ pub struct Came {
     pub text: Vec<u8>,
 }
 
-/// Races the script so many times, and counts each outcome as it comes.
+/// Races the script `runs` times, and counts each outcome as it comes.
 fn count_runs<G: Gate + Sync, R: Threads + Wait + Sync>(
     rt: &R,
     alloc: Global,
@@ -57,7 +58,7 @@ fn count_runs<G: Gate + Sync, R: Threads + Wait + Sync>(
     Ok(())
 }
 
-/// The keys once more.
+/// A copy of the keys.
 fn copy_keys(alloc: Global, keys: &[Key]) -> Result<Vec<Key>, NoMemory> {
     let mut copy = Vec::new(alloc);
     for key in keys {
@@ -66,7 +67,7 @@ fn copy_keys(alloc: Global, keys: &[Key]) -> Result<Vec<Key>, NoMemory> {
     Ok(copy)
 }
 
-/// All outcomes of the script; none, where there are too many ways to know.
+/// All outcomes of the script; or None if there are too many ways to know them all.
 fn outcomes_of(alloc: Global, script: &Script<'_>) -> Result<Option<Vec<Outcome>>, NoMemory>
     ensures explored { IfOk result (λ found. IfSome found (λ outcomes. IsExplored (parts_of (read_kept script.now)) outcomes.items)) }
     ensures wide { IfOk result
@@ -84,7 +85,7 @@ fn outcomes_of(alloc: Global, script: &Script<'_>) -> Result<Option<Vec<Outcome>
     )
 }
 
-/// What is written for so many races of the script, all outcomes of which are known.
+/// What is written for races of the script if all its outcomes are known.
 fn came_of_all<G: Gate + Sync, R: Threads + Wait + Sync>(
     rt: &R,
     alloc: Global,
@@ -117,7 +118,7 @@ fn came_of_all<G: Gate + Sync, R: Threads + Wait + Sync>(
     Ok(text)
 }
 
-/// What is written for so many races of the script, which has too many ways to know all outcomes.
+/// What is written for races of the script if it has too many ways to know all its outcomes.
 fn came_of_some<G: Gate + Sync, R: Threads + Wait + Sync>(
     rt: &R,
     alloc: Global,
@@ -149,7 +150,7 @@ fn came_of_some<G: Gate + Sync, R: Threads + Wait + Sync>(
     Ok(text)
 }
 
-/// What is written for so many races of the script.
+/// What is written for races of the script.
 fn came_of<G: Gate + Sync, R: Threads + Wait + Sync>(
     rt: &R,
     alloc: Global,
@@ -171,7 +172,7 @@ fn came_of<G: Gate + Sync, R: Threads + Wait + Sync>(
     }
 }
 
-/// What is read of a script: each line of its parts has a statement.
+/// What is read of a script. Each line of its parts has a statement.
 fn read_well(alloc: Global, text: &[u8]) -> Result<Script<'_>, NoMemory>
     ensures read { IfOk result (λ script. read_kept script ≡ script_read text.now) }
     ensures well { IfOk result (λ script. AreRead (parts_of (read_kept script))) }
@@ -180,7 +181,10 @@ fn read_well(alloc: Global, text: &[u8]) -> Result<Script<'_>, NoMemory>
     Ok(script)
 }
 
-/// Races the script of this text so many times: how that ended, and what is written.
+/// Races the script of this text `runs` times. Returns how that ended, and what is written.
+///
+/// May return `NoMemory`. Waits for its threads.
+/// Own rule: docs/COMMANDS.md#race-statistics.
 pub fn runs_text<G: Gate + Sync, R: Threads + Wait + Sync>(
     rt: &R,
     alloc: Global,

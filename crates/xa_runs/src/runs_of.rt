@@ -6,7 +6,9 @@ use std::alloc::Global;
 use xa_store::{Pass, Run};
 use xa_xid::{NoMemory, Statement};
 
-/// The runs of these passes, each with its list of statements.
+/// Returns the runs of these passes, each with its list of statements.
+///
+/// May return `NoMemory`.
 pub fn runs_of(
     alloc: Global,
     passes: Vec<Pass>,

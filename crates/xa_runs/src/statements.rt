@@ -1,4 +1,4 @@
-//! What the sessions of lines give.
+//! The statements that sessions give on lines.
 ghost use Rattle.std.specs.Prelude.{◌≡◌, ◌<◌, ◌≤◌, ◌+◌, ◌++◌, ℕ, length, map, IfOk, OnOk};
 ghost use Rattle.std.specs.Option.{option_to_list};
 ghost use Rattle.xa_statement.specs.Reading.{read_of};
@@ -10,7 +10,7 @@ use xa_orders::Line;
 use xa_statement::read_statement;
 use xa_xid::{NoMemory, Statement};
 
-/// Adds the statement of this text, where it is read.
+/// Adds the statement of this text, if it is read.
 fn push_read(statements: &mut Vec<Statement>, text: &[u8]) -> Result<(), NoMemory>
     ensures { OnOk result (statements.new.items ≡ statements.old.items ++ option_to_list (statement_in (read_of text.now))) }
 {
@@ -23,7 +23,7 @@ fn push_read(statements: &mut Vec<Statement>, text: &[u8]) -> Result<(), NoMemor
     }
 }
 
-/// Adds the statement of this line, where the session gives it.
+/// Adds the statement of this line, if the session gives it.
 fn push_given(
     statements: &mut Vec<Statement>,
     line: &Line<'_>,
@@ -53,7 +53,9 @@ fn statements_by(
     Ok(statements)
 }
 
-/// The statements of each of the sessions 1 to `count`.
+/// Returns the statements of each of the sessions 1 to `count`, in order.
+///
+/// May return `NoMemory`.
 pub fn lists_of(
     alloc: Global,
     lines: &[Line<'_>],
@@ -71,7 +73,7 @@ pub fn lists_of(
     Ok(lists)
 }
 
-/// The greatest session of the lines, or `least` where that is greater.
+/// Returns the greatest session of the lines, or `least` if that is greater.
 pub fn greatest_of(lines: &[Line<'_>], least: u64) -> u64
     ensures least { least ≤ result }
     ensures within { least ≤ 16 → result ≤ 16 }

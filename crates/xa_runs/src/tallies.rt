@@ -12,7 +12,9 @@ use std::cmp::Ordering;
 use xa_orders::Outcome;
 use xa_xid::NoMemory;
 
-/// The outcomes of a list, none of which came yet.
+/// Returns the outcomes of a list, none of which came yet.
+///
+/// May return `NoMemory`.
 pub fn tallies_of(alloc: Global, outcomes: Vec<Outcome>) -> Result<Vec<CameTally>, NoMemory>
     ensures texts { IfOk result (λ tallies. texts_of tallies.items ≡ map (λ one. one.text.items) outcomes.items) }
     ensures none { IfOk result (λ tallies. All (λ one. one.came ≡ 0) tallies.items) }
@@ -75,7 +77,7 @@ fn place_of(tallies: &[CameTally], text: &[u8]) -> usize
     place
 }
 
-/// Adds the text where it isn't listed, before the first that comes behind it.
+/// Adds the text if it isn't listed, before the first listed text that is greater.
 fn enlist(alloc: Global, tallies: &mut Vec<CameTally>, text: &[u8]) -> Result<(), NoMemory>
     ensures there { OnOk result (Contains (texts_of tallies.old.items) text.now → tallies.new.items ≡ tallies.old.items) }
     ensures listed { OnOk result (Contains (texts_of tallies.new.items) text.now) }
@@ -96,14 +98,14 @@ fn enlist(alloc: Global, tallies: &mut Vec<CameTally>, text: &[u8]) -> Result<()
     Ok(())
 }
 
-/// 1 where the texts are the same, else 0.
+/// 1 if the texts are the same, else 0.
 fn once_same(one: &[u8], other: &[u8]) -> u64
     ensures { result ≡ once_if one.now other.now }
 {
     if is_same(one, other) { 1 } else { 0 }
 }
 
-/// Each of the list that has this text came once more.
+/// Counts that the text came once more.
 fn count_up(tallies: &mut Vec<CameTally>, text: &[u8])
     requires { All (λ one. one.came ≤ 1000000) tallies.old.items }
     ensures { tallies.new.items ≡ map (counted_up text.now) tallies.old.items }
@@ -114,7 +116,9 @@ fn count_up(tallies: &mut Vec<CameTally>, text: &[u8])
     }
 }
 
-/// The text came once more.
+/// Notes that the text came once more, and lists it if it isn't listed.
+///
+/// May return `NoMemory`.
 pub fn note(alloc: Global, tallies: &mut Vec<CameTally>, text: &[u8]) -> Result<(), NoMemory>
     requires { All (λ one. one.came ≤ 1000000) tallies.old.items }
     ensures tallied { OnOk result ((came : List (List ℕ)) → Tallied came tallies.old.items → Tallied (came ++ text.now ∷ []) tallies.new.items) }
