@@ -1,6 +1,6 @@
--- What one event more leads to.
---     Continues        a list of configurations has one from which some moves lead through more events
---     AreAnswers       what a return's session can be answered before it
+-- What one more event leads to.
+--     Continues        some moves lead on from a configuration of a list through more events
+--     AreAnswers       the answers that a return's session can have before it
 --     IsSeenFrom       what the event leaves of configurations in which it can be seen at once
 --     IsAdvance        what the event leaves of configurations
 use Rattle.std.specs.Prelude.{◌≡◌, ℕ, ◌<◌, List, [], ◌∷◌, Some, vec_len, slice_get}
@@ -46,7 +46,8 @@ IsNoReturn (Return session seen) = ⊥
 IsNoReturn (Lost session) = Unit {0}
 IsNoReturn (Unknown session) = Unit {0}
 
--- each configuration that the event leads to at once is in the list, or there is none, and these are the answers
+-- the list has each configuration to which the event leads at once; or there is none, and these are the
+-- answers
 abbrev pub IsSeenFrom : List Configuration → List Answer → Event → Advance → Type 0
 IsSeenFrom old answers event (Known list) =
     (0 < vec_len list) × ((one new : Config) → Has old one → observed one event ≡ Some new → Has list.items new) × ReachesPast event old list.items
@@ -54,17 +55,18 @@ IsSeenFrom old answers event (Impossible others) =
     ((one new : Config) → Has old one → observed one event ≡ Some new → ⊥) × (others.items ≡ answers)
 IsSeenFrom old answers event TooMany = ⊥
 
--- these are the answers to which the session comes from the list by acts alone, wherever the list is reached
+-- these are the answers that the session gets from the list by acts only, whenever the list is reached
 pub record AreAnswersTo (list : List Configuration) (session : ℕ) (answers : List Answer) : Type 0 where
   pub each : (base : State) (events : List Event) (trunk : List Move) → All (Reaches base events trunk) list → All (IsAnswerAfter base events session) answers
   pub all : (new : Config) (answer : Answer) → Continues list [] new → slice_get new.clients session ≡ Some (Answered answer) → Contains answers answer
 
--- before a return these are the answers to which its session comes; before another event there is none
+-- before a return these are the answers that its session can have; before another event there is none
 abbrev pub AreAnswers : List Configuration → Event → List Answer → Type 0
 AreAnswers list (Return session seen) answers = AreAnswersTo list session answers
 AreAnswers list event answers = answers ≡ []
 
--- what the event leads to: where events go on from the old list, they do from the new one; or they never do; or too many different ones are reached
+-- what the event leads to: if events go on from the old list, they go on from the new one; or they never go
+-- on; or too many different configurations are reached
 abbrev pub IsAdvance : List Configuration → Event → ℕ → Advance → Type 0
 IsAdvance old event limit (Known list) =
     (0 < vec_len list) × ((more : List Event) (new : Config) → Continues old (event ∷ more) new → Continues list.items more new) × ReachesPast event old list.items

@@ -1,12 +1,13 @@
--- Whether an order explains what clients saw. All of it is our own: docs/HISTORIES.md.
+-- When an order explains what clients saw.
+-- Every rule here is the project's own: docs/HISTORIES.md#what-explains-a-record.
 --     answer_to, next_state      what a request is answered, and the state after it
---     Config, opening_config     a state of the server, and what each session is about;  before all events
+--     Config, opening_config     a state of the server, and how far each session is;  before all events
 --     effect_of                  an act of a session takes effect
 --     stands_for                 a refusal that was seen stands for one of this number
 --     shows_answer               a return shows this answer
 --     observed                   an event is seen
---     LeadsThrough               the moves lead through all of the events
---     Explained                  some moves do, from the opening_config
+--     LeadsThrough               moves lead through all of the events
+--     Explained                  some moves do, from opening_config on
 use Rattle.std.specs.Prelude.{◌≡◌, ℕ, ◌≤◌, Bool, true, false, cond, ◌&&◌, ◌||◌, ◌==◌, Option, Some, None, List, [], ◌∷◌, slice_get, slice_set}
 use Rattle.std.specs.Prelude.{replicate}
 use Rattle.std.specs.List.{list_any}
@@ -46,16 +47,16 @@ abbrev pub next_state : State → ℕ → Request → State
 next_state state session (Given statement) = after state session statement
 next_state state session Unread = state
 
--- a state of the server, and what each session is about, at the place of its number
+-- a state of the server, and how far each session is, at the place of its number
 pub record Config : Type 0 where
   pub state : State
   pub clients : List ClientState
 
--- before all events; place 0 is no session's
+-- before all events; place 0 belongs to no session
 unfoldable pub opening_config : State → Config
 opening_config base = record { state = base; clients = replicate 17 Idle }
 
--- the session is about this from now on
+-- the session is in this state from now on
 abbrev pub with_client : Config → ℕ → ClientState → Config
 with_client config session client = record { state = config.state; clients = slice_set config.clients session client }
 
@@ -67,7 +68,7 @@ carried_out (Some (Gone (Some request))) config session =
     Some (with_client (record config { state = next_state config.state session request }) session (Gone None))
 carried_out other config session = None
 
--- the DISCONNECT of a session whose client is gone takes effect; what it had called for then never does
+-- the DISCONNECT of a session whose client is gone takes effect; what it had called for never does after that
 unfoldable pub disconnected : Option ClientState → Config → ℕ → Option Config
 disconnected (Some (Gone request)) config session = Some (with_client (record config { state = after config.state session Disconnect }) session Left)
 disconnected other config session = None
@@ -95,7 +96,7 @@ same_rows left right = false
 abbrev pub stands_for : ErrorNumbers → ℕ → Bool
 stands_for numbers number = numbers.seen == number || list_any (λ other. other == number) numbers.others.items
 
--- a return shows this answer; of a refusal the number alone counts
+-- a return shows this answer; of a refusal only the number counts
 abbrev pub shows_answer : Seen → Answer → Bool
 shows_answer SeenOk (Replied Accepted) = true
 shows_answer (SeenValue seen) (Replied (Value value)) = same_values seen value
@@ -104,14 +105,15 @@ shows_answer (SeenError numbers) (Replied (Refused error)) = stands_for numbers 
 shows_answer (SeenError numbers) NotRead = stands_for numbers 1064
 shows_answer seen answer = false
 
--- an idle session calls; or one whose client is gone does, and nobody hears the answer; once it has left, a call does nothing
+-- an idle session calls. One whose client is gone may call too: nobody hears the answer, and after its
+-- DISCONNECT the call does nothing
 unfoldable pub called : Option ClientState → Config → ℕ → Request → Option Config
 called (Some Idle) config session request = Some (with_client config session (Called request))
 called (Some (Gone None)) config session request = Some (with_client config session (Gone (Some request)))
 called (Some Left) config session request = Some (with_client config session Left)
 called other config session request = None
 
--- the call of an answered session returns so
+-- the call of an answered session returns this
 unfoldable pub returned : Option ClientState → Config → ℕ → Seen → Option Config
 returned (Some (Answered answer)) config session seen = cond (shows_answer seen answer) (Some (with_client config session Idle)) None
 returned other config session seen = None
@@ -123,7 +125,7 @@ lost (Some (Called request)) config session = Some (with_client config session (
 lost (Some (Answered answer)) config session = Some (with_client config session (Gone None))
 lost other config session = None
 
--- a session's call has an answer, but it isn't known which; what has taken no effect by then never does
+-- a session's call is over, with an answer that isn't known; if it has taken no effect by then, it never does
 unfoldable pub answered_unknown : Option ClientState → Config → ℕ → Option Config
 answered_unknown (Some (Called request)) config session = Some (with_client config session Idle)
 answered_unknown (Some (Answered answer)) config session = Some (with_client config session Idle)

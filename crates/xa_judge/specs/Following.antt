@@ -1,6 +1,6 @@
 -- Whether moves lead through events.
---     LeadsOn          moves lead through what is still to be seen
---     Leads            moves lead through the events, to this configuration
+--     LeadsOn          moves lead through the events that are still to be seen
+--     Leads            moves lead through the events
 use Rattle.std.specs.Prelude.{Option, Some, None, List, drop}
 use Rattle.xa_server.specs.State.{State}
 use Rattle.xa_judge.specs.declared.event.Event.{Event}
@@ -9,11 +9,11 @@ use Rattle.xa_judge.specs.declared.following.Following.{Following}
 use Rattle.xa_judge.specs.Explained.{Config, opening_config, LeadsThrough}
 use Rattle.xa_judge.specs.Found.{config_of}
 
--- from here, where there is a way, moves lead through what is still to be seen of the events
+-- if there is a configuration so far, moves lead on from it through the events that are still to be seen
 abbrev pub LeadsOn : List Event → Option Following → List Move → Config → Type 0
 LeadsOn events None moves new = ⊥
 LeadsOn events (Some here) moves new = LeadsThrough (config_of here.one) (drop here.seen events) moves new
 
--- some configuration is that to which the moves lead through the events
+-- the moves lead through the events to some configuration
 abbrev pub Leads : State → List Event → List Move → Type 0
 Leads base events moves = (new : Config) × LeadsThrough (opening_config base) events moves new

@@ -1,4 +1,4 @@
--- Servers that are kept by what they carried out.
+-- Servers that are kept as the requests that they carried out.
 --     state_after     the state after a request that was carried out
 --     state_since     the state after all of them
 --     state_past      the state after blocks of them
@@ -11,10 +11,10 @@ use Rattle.xa_judge.specs.Explained.{next_state}
 abbrev pub state_after : State → Done → State
 state_after state done = next_state state done.session done.request
 
--- the state after all that was carried out, in order
+-- the state after all of the requests, in order
 abbrev pub state_since : State → List Done → State
 state_since state since = fold state_after state since
 
--- the state after blocks of what was carried out, in order
+-- the state after the requests of all blocks, in order
 abbrev pub state_past : State → List (List Done) → State
 state_past state blocks = fold state_since state blocks

@@ -1,8 +1,9 @@
--- The number by which configurations are told apart: where two configurations' numbers differ, so do they. All of it is our own.
---     with_word              a number, and a word more
---     with_text .. with_row  a number, and what such a thing is more
---     with_server            a number, and what a server is more
---     mark                   a configuration's number, where these are the keys of the rows that were written
+-- The number by which configurations are told apart: if two numbers differ, so do their configurations.
+-- Every rule here is the project's own.
+--     with_word              a number after one more word
+--     with_text .. with_row  a number after one more thing of that kind
+--     with_server            a number after a server
+--     mark                   a configuration's number; the keys are those of the rows that were written
 use Rattle.std.specs.Prelude.{ℕ, ◌+◌, ◌*◌, ◌/◌, ◌%◌, ◌^◌, Option, Some, None, List, length, fold, bit_xor}
 use Rattle.xa_xid.specs.declared.xid.Xid.{Xid}
 use Rattle.xa_xid.specs.Xid.{Text}
@@ -26,25 +27,25 @@ use Rattle.xa_judge.specs.declared.client_state.ClientState.{ClientState}
 use Rattle.xa_judge.specs.declared.client_state.ClientState.TheVariants.{Idle, Called, Answered, Gone, Left}
 use Rattle.xa_judge.specs.Explained.{Config}
 
--- a number, and a word more; 11400714819323198485 is odd, and 2^64 over the golden ratio
+-- a number after one more word; 11400714819323198485 is odd, and is 2^64 divided by the golden ratio
 unfoldable pub with_word : ℕ → ℕ → ℕ
 with_word number word =
     let product = ((bit_xor number word + 1) % 2 ^ 64 * 11400714819323198485) % 2 ^ 64 in bit_xor product (product / 2 ^ 29)
 
--- the bytes of a text more
+-- after the bytes of a text
 abbrev pub with_text : ℕ → List ℕ → ℕ
 with_text number bytes = fold with_word (with_word number (length bytes)) bytes
 
--- an identifier more
+-- after an identifier
 abbrev pub with_xid : ℕ → Xid → ℕ
 with_xid number xid = with_text (with_text (with_word number xid.format_id) xid.gtrid.items) xid.bqual.items
 
--- a value more, or none
+-- after a value, or none
 abbrev pub with_value : ℕ → Option Text → ℕ
 with_value number None = with_word number 0
 with_value number (Some text) = with_text (with_word number 1) text.items
 
--- identifiers more
+-- after identifiers
 abbrev pub with_xids : ℕ → List Xid → ℕ
 with_xids number xids = fold with_xid (with_word number (length xids)) xids
 
@@ -54,12 +55,12 @@ with_state number StateActive = with_word number 1
 with_state number StateIdle = with_word number 2
 with_state number StatePrepared = with_word number 3
 
--- a refusal more
+-- after a refusal
 abbrev pub with_error : ℕ → XaError → ℕ
 with_error number (Rmfail state) = with_state (with_word number (number_of (Rmfail state))) state
 with_error number error = with_word number (number_of error)
 
--- an answer more
+-- after an answer
 abbrev pub with_answer : ℕ → Answer → ℕ
 with_answer number NotRead = with_word number 0
 with_answer number (Replied Accepted) = with_word number 1
@@ -67,7 +68,7 @@ with_answer number (Replied (Value value)) = with_value (with_word number 2) val
 with_answer number (Replied (Recovered xids)) = with_xids (with_word number 3) xids
 with_answer number (Replied (Refused error)) = with_error (with_word number 4) error
 
--- what a session is about more, but for what it has called for
+-- after how far a session is, without what it has called for
 abbrev pub with_client : ℕ → ClientState → ℕ
 with_client number Idle = with_word number 0
 with_client number (Called request) = with_word number 1
@@ -90,25 +91,26 @@ with_hold number Shared = with_word number 0
 with_hold number (Put value) = with_text (with_word number 1) value.items
 with_hold number Delete = with_word number 2
 
--- a row that a branch holds more
+-- after a row that a branch holds
 abbrev pub with_row : ℕ → HeldRow → ℕ
 with_row number row = with_hold (with_text number row.key) row.hold
 
 abbrev pub with_rows : ℕ → List HeldRow → ℕ
 with_rows number rows = fold with_row (with_word number (length rows)) rows
 
--- a branch of the server more
+-- after a branch of the server
 abbrev pub with_branch : State → ℕ → BranchEntry → ℕ
 with_branch state number branch = with_rows (with_owner (with_phase (with_xid number branch.xid) branch.phase) branch.owner) (rows_of state branch.xid)
 
--- the committed value of a row more
+-- after the committed value of a row
 abbrev pub with_key : State → ℕ → List ℕ → ℕ
 with_key state number key = with_value number (committed_value state key)
 
--- a server's branches with their rows, and the committed values of these rows, more
+-- after a server's branches with their rows, and the committed values of these rows
 abbrev pub with_server : List (List ℕ) → ℕ → State → ℕ
 with_server keys number state = fold (with_key state) (fold (with_branch state) number (branches_of state)) keys
 
--- a configuration's number: of what its sessions are about, of its server's branches and their rows, and of the committed values of these rows
+-- a configuration's number: made of how far its sessions are, of its server's branches with their rows, and
+-- of the committed values of these rows
 unfoldable pub mark : List (List ℕ) → Config → ℕ
 mark keys config = with_server keys (fold with_client 0 config.clients) config.state

@@ -1,9 +1,9 @@
--- Servers that differ in rows that nobody reads.
---     AreNear            two states have the same branches, and the same committed values of the rows that are named
+-- Servers that differ only in rows that nobody reads.
+--     AreNear            two states have the same branches, and the same committed values of the named rows
 --     Keys, named_in     a set of keys;  a key is in it
---     ReadsNamed         a request reads no row but one that is named
---     CallsNamed         where an event is a call, its request does so
---     IsLoadedTo         the one state to which the events lead, with all sessions idle
+--     ReadsNamed         a request reads only named rows
+--     CallsNamed         an event, if it is a call, reads only named rows
+--     IsLoadedTo         the only state to which the events lead, with all sessions idle
 use Rattle.std.specs.Prelude.{◌≡◌, ℕ, Bool, true, List, ◌++◌}
 use Rattle.std.specs.BTreeSet.{BTreeSet, contains}
 use Rattle.xa_xid.specs.Xid.{bytes_cmp}
@@ -24,22 +24,23 @@ Keys = BTreeSet (List ℕ)
 abbrev pub named_in : Keys → List ℕ → Bool
 named_in keys key = contains bytes_cmp keys key
 
--- the same branches, and the same committed values of the rows that are named
+-- the same branches, and the same committed values of the named rows
 pub record AreNear (named : List ℕ → Bool) (left right : State) : Type 0 where
   pub branches : left.branches ≡ right.branches
   pub rows : (key : List ℕ) → named key ≡ true → committed_value left key ≡ committed_value right key
 
--- the request reads no row but one that is named
+-- the request reads only named rows
 abbrev pub ReadsNamed : (List ℕ → Bool) → Request → Type 0
 ReadsNamed named (Given (Get key)) = named key ≡ true
 ReadsNamed named request = Unit {0}
 
--- where the event is a call, its request reads no row but one that is named
+-- if the event is a call, its request reads only named rows
 abbrev pub CallsNamed : (List ℕ → Bool) → Event → Type 0
 CallsNamed named (Call session request) = ReadsNamed named request
 CallsNamed named event = Unit {0}
 
--- moves lead through the events to this state with all sessions idle, and where moves lead through these and more, some lead from there through the others
+-- moves lead through the events to this state, with all sessions idle; and if moves lead through these events
+-- and more, some moves lead from this state through the others
 pub record IsLoadedTo (base : State) (events : List Event) (full : State) : Type 0 where
   pub moves : List Move
   pub leads : LeadsThrough (opening_config base) events moves (opening_config full)

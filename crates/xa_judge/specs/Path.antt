@@ -1,6 +1,6 @@
 -- Moves as codes.
 --     move_of      the move of a code
---     moves_of     the moves of blocks of codes, and of codes behind them
+--     moves_of     the moves of blocks of codes, and of the codes after them
 use Rattle.std.specs.Prelude.{ℕ, ◌-◌, ltb, cond, List, ◌++◌, map}
 use Rattle.std.specs.List.{concat}
 use Rattle.xa_judge.specs.declared.moves.Act.TheVariants.{Statement, Disconnect}
@@ -12,6 +12,6 @@ unfoldable pub move_of : ℕ → Move
 move_of code =
     cond (ltb 0 code) (cond (ltb code 17) (Effect code Statement) (cond (ltb code 33) (Effect (code - 16) Disconnect) Event)) Event
 
--- the moves of blocks of codes, and of codes behind them
+-- the moves of blocks of codes, and of the codes after them
 abbrev pub moves_of : List (List ℕ) → List ℕ → List Move
 moves_of blocks tail = map move_of (concat blocks ++ tail)

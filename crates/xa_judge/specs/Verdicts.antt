@@ -1,5 +1,5 @@
 -- When a verdict is right.
---     IsRefuted        no order explains the events up to and with the one at a place
+--     IsRefuted        no order explains the events up to and including the one at a place
 --     AreAllAnswers    these are the answers that some order gives the call that returns there
 --     AreDifferent     no two configurations of a list are the same
 --     IsWide           more different configurations than allowed can stand before an event
@@ -17,7 +17,8 @@ use Rattle.xa_judge.specs.declared.verdict.Verdict.{Verdict}
 use Rattle.xa_judge.specs.declared.verdict.Verdict.TheVariants.{Legal, Illegal, Undecided}
 use Rattle.xa_judge.specs.Explained.{Config, opening_config, LeadsThrough, Explained}
 
--- an order explains the events before this place, and none explains those with the one at this place, nor all
+-- an order explains the events before this place; none explains those up to and including the one at this
+-- place, nor all
 pub record IsRefuted (base : State) (events : List Event) (place : ℕ) : Type 0 where
   pub within : place < length events
   pub before : Explained base (take place events)
@@ -29,20 +30,20 @@ pub record IsReachedByMoves (base : State) (events : List Event) (config : Confi
   pub moves : List Move
   pub runs : LeadsThrough (opening_config base) events moves config
 
--- some moves lead through the events to a configuration in which the session is answered so
+-- some moves lead through the events to a configuration in which the session has this answer
 pub record IsAnswerAfter (base : State) (events : List Event) (session : ℕ) (answer : Answer) : Type 0 where
   pub config : Config
   pub reached : IsReachedByMoves base events config
   pub answered : slice_get config.clients session ≡ Some (Answered answer)
 
--- some order explains the events before this place, and so answers the call that returns there
+-- some order explains the events before this place, and gives this answer to the call that returns there
 pub record CouldBe (base : State) (events : List Event) (place : ℕ) (answer : Answer) : Type 0 where
   pub session : ℕ
   pub seen : Seen
   pub returns : slice_get events place ≡ Some (Return session seen)
   pub after : IsAnswerAfter base (take place events) session answer
 
--- these are the answers that some order gives the call that returns there, and all of them
+-- these are exactly the answers that some order gives to the call that returns there
 pub record AreAllAnswers (base : State) (events : List Event) (place : ℕ) (answers : List Answer) : Type 0 where
   pub each : All (CouldBe base events place) answers
   pub all : (answer : Answer) → CouldBe base events place answer → Contains answers answer

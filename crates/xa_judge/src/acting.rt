@@ -1,4 +1,4 @@
-//! Acts of sessions take effect.
+//! Effects: what a session has called for is carried out by the server.
 ghost use Rattle.std.specs.Prelude.{◌≡◌, ◌<◌, ◌∷◌, ◌++◌, [], false, Some, None, slice_get, vec_len, IfOk, IfSome};
 ghost use Rattle.std.specs.Option.{option_map};
 ghost use Rattle.xa_xid.specs.declared.statement.Statement.TheVariants.{Disconnect};
@@ -18,14 +18,14 @@ use crate::shared_request::SharedRequest;
 use std::alloc::Global;
 use xa_xid::{NoMemory, SessionNo, Statement};
 
-/// A session's DISCONNECT, as a request.
+/// A session's `DISCONNECT`, as a request.
 fn leaving(alloc: Global) -> Result<SharedRequest, NoMemory>
     ensures { IfOk result (λ request. request ≡ Request.Statement Disconnect) }
 {
     SharedRequest::of(alloc, Request::Statement(Statement::Disconnect))
 }
 
-/// The answer that a client has, where it is the same.
+/// The answer that one of the clients has, if it is the same.
 fn same_among(clients: &[ClientState], answer: &Answer) -> Result<Option<SharedAnswer>, NoMemory>
     ensures { IfOk result (λ found. IfSome found (λ same. same ≡ answer.now)) }
 {
@@ -39,7 +39,7 @@ fn same_among(clients: &[ClientState], answer: &Answer) -> Result<Option<SharedA
     Ok(None)
 }
 
-/// The answer, to be shared: one that a client has already, or one of the lists, where that is the same.
+/// The answer, to be shared: one that a client has already, or one of the lists, if that is the same.
 fn shared_among(
     clients: &[ClientState],
     lists: &mut SharedLists,
@@ -54,7 +54,7 @@ fn shared_among(
 }
 
 impl Configuration {
-    /// What the session has called for, where that has taken no effect yet.
+    /// What the session has called for, if that has taken no effect yet.
     fn called_for(&self, session: SessionNo) -> Result<Option<SharedRequest>, NoMemory>
         ensures value { IfOk result (λ request. request ≡ called_for (slice_get self.now.clients.items session)) }
         ensures session { IsSession session }
@@ -69,7 +69,7 @@ impl Configuration {
         }
     }
 
-    /// What the session has called for takes effect, and it is answered.
+    /// The configuration after the session's request takes effect; the session is answered.
     fn answered(
         self,
         session: SessionNo,
@@ -98,7 +98,8 @@ impl Configuration {
         .moved(session, answered, Move::Effect(session, Act::Statement))
     }
 
-    /// What the session had called for takes effect, and nobody hears the answer.
+    /// The configuration after the request of a session whose client is gone takes effect; nobody hears the
+    /// answer.
     fn unheard(self, session: SessionNo, request: &SharedRequest) -> Result<Configuration, NoMemory>
         requires { session < vec_len self.clients }
         ensures config { IfOk result
@@ -123,7 +124,7 @@ impl Configuration {
         )
     }
 
-    /// The session's DISCONNECT takes effect.
+    /// The configuration after the session's `DISCONNECT` takes effect.
     fn left(self, session: SessionNo) -> Result<Configuration, NoMemory>
         requires { session < vec_len self.clients }
         ensures config { IfOk result (λ new. config_of new ≡ moved_to (after self.server session Disconnect) self.clients.items session ClientState.Left) }
@@ -148,7 +149,10 @@ impl Configuration {
         )
     }
 
-    /// How things stand once what the session has called for has taken effect; as they do, where it has called for nothing.
+    /// Returns the configuration after what the session has called for takes effect, or the same one if it
+    /// has called for nothing.
+    ///
+    /// May return `NoMemory`.
     #[tactic(auto, unfolding(crate::specs::Found::after_settling))]
     pub fn settled(
         self,
@@ -167,7 +171,7 @@ impl Configuration {
         }
     }
 
-    /// How things stand once what the session called for has taken effect, where that can be.
+    /// The configuration after what the session called for takes effect, if it can.
     #[tactic(auto, unfolding(crate::specs::Explained::effect_of, crate::specs::Explained::carried_out))]
     fn carried_out(
         self,
@@ -195,7 +199,7 @@ impl Configuration {
         }
     }
 
-    /// How things stand once the session's DISCONNECT has taken effect, where that can be.
+    /// The configuration after the session's `DISCONNECT` takes effect, if it can.
     #[tactic(auto, unfolding(crate::specs::Explained::effect_of, crate::specs::Explained::disconnected))]
     fn disconnected(self, session: SessionNo) -> Result<Option<Configuration>, NoMemory>
         ensures config { IfOk result (λ found. option_map config_of found ≡ effect_of (config_of self) session Act.Disconnect) }
@@ -212,7 +216,10 @@ impl Configuration {
         }
     }
 
-    /// How things stand once the session's act has taken effect, where that can be. A list that it is answered is one of these, where it can be.
+    /// Returns the configuration after the session's act takes effect, if it can. If the answer is a list
+    /// that `lists` has, it is shared.
+    ///
+    /// May return `NoMemory`.
     pub fn effected_among(
         self,
         session: SessionNo,
@@ -229,7 +236,9 @@ impl Configuration {
         }
     }
 
-    /// How things stand once the session's act has taken effect, where that can be.
+    /// Returns the configuration after the session's act takes effect, if it can.
+    ///
+    /// May return `NoMemory`.
     pub fn once_effected(
         self,
         session: SessionNo,
@@ -243,7 +252,7 @@ impl Configuration {
         self.effected_among(session, act, &mut lists)
     }
 
-    /// Whether the session's act can take effect.
+    /// Tells whether the session's act can take effect.
     #[tactic(auto, unfolding(crate::specs::Explained::effect_of, crate::specs::Explained::carried_out, crate::specs::Explained::disconnected))]
     pub fn can_take_effect(&self, session: SessionNo, act: Act) -> bool
         ensures no { result ≡ false → effect_of (config_of self.now) session act ≡ None }
@@ -260,7 +269,9 @@ impl Configuration {
         }
     }
 
-    /// How things stand once the session's act has taken effect in a copy, where that can be.
+    /// Returns a copy of the configuration in which the session's act has taken effect, if it can.
+    ///
+    /// May return `NoMemory`.
     pub fn effected(
         &self,
         session: SessionNo,
@@ -277,7 +288,7 @@ impl Configuration {
         self.copy()?.effected_among(session, act, lists)
     }
 
-    /// The server after the session's act, kept over the same one, where that can take effect.
+    /// The server after the session's act, kept over the same one, if the act can take effect.
     #[tactic(auto, unfolding(crate::specs::Explained::effect_of, crate::specs::Explained::carried_out, crate::specs::Explained::disconnected))]
     fn server_after(&self, session: SessionNo, act: Act) -> Result<Option<KeptServer>, NoMemory>
         ensures { IfOk result (λ found. found ≡ option_map (λ config. config.state) (effect_of (config_of self.now) session act)) }
@@ -302,7 +313,10 @@ impl Configuration {
         }
     }
 
-    /// The same, with a server that is kept over that of the configuration before it, from which the session's act leads here.
+    /// Returns the same configuration with a server that is kept over the server of `before`, from which the
+    /// session's act leads here.
+    ///
+    /// May return `NoMemory`.
     pub fn over(
         self,
         before: &Configuration,
@@ -310,6 +324,7 @@ impl Configuration {
         act: Act,
     ) -> Result<Configuration, NoMemory>
         requires { effect_of (config_of before.now) session act ≡ Some (config_of self) }
+        // Proved (records, kept-server)
         ensures { IfOk result (λ new. new ≡ self) }
     {
         match before.server_after(session, act)? {

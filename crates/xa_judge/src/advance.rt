@@ -1,4 +1,4 @@
-//! One event more.
+//! What one more event does to the configurations that are kept.
 ghost use Rattle.std.specs.Prelude.{◌≡◌, ◌<◌, true, false, vec_len, IfOk};
 ghost use Rattle.xa_judge.specs.Explained.{Config};
 ghost use Rattle.xa_judge.specs.Found.{Has, has_unheard};
@@ -12,18 +12,18 @@ use crate::shared_answer::SharedAnswer;
 use std::alloc::Global;
 use xa_xid::{NoMemory, SessionNo};
 
-/// What one event more leads to.
+/// What one more event leads to.
 #[derive(Drop)]
 pub enum Advance {
-    /// To these configurations, at least one.
+    /// These configurations, at least one.
     Known(Vec<Configuration>),
-    /// To none. The call could have been answered so.
+    /// No configuration. The call could have been answered with these.
     Impossible(Vec<SharedAnswer>),
-    /// To more configurations than are allowed.
+    /// More configurations than are allowed.
     TooMany,
 }
 
-/// What is left of these configurations once the event is seen.
+/// What is left of these configurations after the event is seen.
 fn seen(
     alloc: Global,
     ready: Vec<Configuration>,
@@ -41,7 +41,8 @@ fn seen(
     }
 }
 
-/// What a return leads to: before it, what its session called for takes effect, and before that what others do.
+/// What a return leads to. Before it, the request of its session takes effect, and before that requests of
+/// others.
 fn return_seen(
     alloc: Global,
     mut known: Vec<Configuration>,
@@ -63,8 +64,8 @@ fn return_seen(
     Ok(next)
 }
 
-/// What an event leads to, where acts of its session that come before it don't take effect behind it too: before it, all
-/// that acts lead to.
+/// What an event leads to that acts of its session have to precede, since they can't take effect after it.
+/// Before the event, all that acts lead to is kept.
 fn closed_seen(
     alloc: Global,
     mut known: Vec<Configuration>,
@@ -83,7 +84,8 @@ fn closed_seen(
     Ok(next)
 }
 
-/// Whether no open call of the session, its client gone, may still take effect in any of these configurations.
+/// Whether in none of these configurations the session's client is gone with a call that may still take
+/// effect.
 fn none_unheard(known: &[Configuration], session: SessionNo) -> bool
     ensures { result ≡ true → (one : Config) → Has known.now one → has_unheard one session ≡ false }
 {
@@ -95,7 +97,7 @@ fn none_unheard(known: &[Configuration], session: SessionNo) -> bool
     true
 }
 
-/// What a call leads to. A session whose client is gone seldom has two.
+/// What a call leads to. A session whose client is gone seldom has two calls.
 fn call_seen(
     alloc: Global,
     known: Vec<Configuration>,
@@ -114,7 +116,9 @@ fn call_seen(
     }
 }
 
-/// What one event more leads to.
+/// Returns what one more event leads to from these configurations.
+///
+/// May return `NoMemory`.
 pub fn see_event(
     alloc: Global,
     known: Vec<Configuration>,
@@ -122,6 +126,10 @@ pub fn see_event(
     event: &Event,
     limit: usize,
 ) -> Result<Advance, NoMemory>
+    // Proved (records, one-event): Every order that goes on past an event from the configurations before it
+    //   also goes on from those that are kept after it. If none is kept, no order goes on; then the listed
+    //   answers are all that the session of a return could get. Otherwise more than `limit` different
+    //   configurations were reached.
     ensures { IfOk result (IsAdvance known.items event.now limit) }
 {
     match event {

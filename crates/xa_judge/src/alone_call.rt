@@ -5,20 +5,20 @@ use crate::event::{Event, Seen};
 use crate::request::Request;
 use xa_xid::SessionNo;
 
-/// A call that returns at once.
+/// A call that returns before anything else happens.
 #[derive(Drop)]
 pub struct AloneCall<'a> {
-    /// Whose it is.
+    /// The session that calls.
     pub session: SessionNo,
     /// What is called for.
     pub request: &'a Request,
     /// What it returns.
     pub seen: &'a Seen,
-    /// The events behind it.
+    /// The events after it.
     pub later: &'a [Event],
 }
 
-/// The call with which the events begin, where it is alone.
+/// Returns the call with which the events begin, if it returns before anything else happens.
 pub fn alone(events: &[Event]) -> Option<AloneCall<'_>>
     ensures { IfSome result (λ call. events.now ≡ Event.Call call.session call.request.now ∷ Event.Return call.session call.seen.now ∷ call.later.now) }
 {

@@ -1,11 +1,11 @@
-//! What a request is answered.
+//! Answers to requests.
 ghost use Rattle.std.specs.Prelude.{◌≡◌, true, IfOk};
 
 use crate::same::{is_same_rows, is_same_value};
 use xa_server::Reply;
 use xa_xid::NoMemory;
 
-/// What a request is answered.
+/// The answer to a request.
 #[derive(Debug, Drop)]
 pub enum Answer {
     /// The server's reply to a statement.
@@ -36,9 +36,10 @@ fn is_same_reply(left: &Reply, right: &Reply) -> bool
 }
 
 impl Answer {
-    /// The same answer.
+    /// Returns a copy of the answer.
     ///
-    /// May answer `NoMemory`, for a list of identifiers alone. Doesn't wait.
+    /// Errors: `NoMemory`, only for a list of identifiers.
+    /// May return `NoMemory`. Doesn't wait.
     pub fn copy(&self) -> Result<Answer, NoMemory>
         ensures { IfOk result (λ copy. copy ≡ self.now) }
     {
@@ -48,7 +49,7 @@ impl Answer {
         }
     }
 
-    /// Whether both are known to be the same.
+    /// Tells whether both are known to be the same.
     pub(crate) fn is_same(&self, other: &Answer) -> bool
         ensures { result ≡ true → self.now ≡ other.now }
     {

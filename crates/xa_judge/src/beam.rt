@@ -1,4 +1,4 @@
-//! A search for one order, with some configurations at a time.
+//! A search for one order, which keeps only some configurations at a time.
 
 use crate::best::best_of;
 use crate::closing::observe_all;
@@ -14,31 +14,32 @@ use std::alloc::Global;
 use std::mem;
 use xa_xid::{NoMemory, SessionNo};
 
-/// For each configuration that is kept, so many are looked at.
+/// How many configurations are looked at before a return for each one that is kept: one effect in front of a
+/// call often isn't enough.
 const SIGHT: usize = 8;
 
-/// Some of the configurations in which things can stand before an event, where each call that took effect was answered as it
-/// returns.
+/// Some of the configurations before an event. In each of them every call that took effect was answered with
+/// what it returns.
 #[derive(Drop)]
 pub struct Beam<'a> {
     /// The events.
     events: &'a [Event],
-    /// What is known of their returns.
+    /// What later events say of open calls.
     foresight: Foresight<'a>,
-    /// The configurations, those to which fewer acts of others led in front.
+    /// The configurations; those with fewer acts of other sessions in front of the event come first.
     pub known: Vec<Configuration>,
-    /// Where they stand.
+    /// At which places they are.
     index: FingerprintIndex,
-    /// Whatever can take effect.
+    /// Every effect that there can be.
     effects: Vec<Effect>,
-    /// At most so many are kept.
+    /// The greatest number that is kept.
     width: usize,
-    /// So many effects may still be tried.
+    /// How many effects may still be tried.
     left: u64,
     alloc: Global,
 }
 
-/// The configuration once the effect has come about, where it fits.
+/// The configuration after the effect, if that fits.
 fn after(
     foresight: &Foresight,
     lists: &mut SharedLists,
@@ -52,7 +53,10 @@ fn after(
 }
 
 impl<'a> Beam<'a> {
-    /// From these configurations on, before all events; at most `width` are kept, and `left` effects tried.
+    /// Begins with these configurations, before all events. At most `width` are kept, and at most `left`
+    /// effects are tried.
+    ///
+    /// May return `NoMemory`.
     pub fn new(
         alloc: Global,
         events: &'a [Event],
@@ -72,7 +76,7 @@ impl<'a> Beam<'a> {
         })
     }
 
-    /// The same once whatever is quiet has taken effect: that is never too early.
+    /// The configuration after every quiet effect: such an effect never comes too early.
     fn quieted(&mut self, one: Configuration) -> Result<Option<Configuration>, NoMemory> {
         let mut here = one;
         for effect in self.effects.iter() {
@@ -87,7 +91,7 @@ impl<'a> Beam<'a> {
         Ok(Some(here))
     }
 
-    /// Adds a configuration, where there is one, with what is quiet, unless it is there.
+    /// Adds a configuration, if there is one, after its quiet effects, unless it is there.
     fn add(&mut self, found: Option<Configuration>) -> Result<(), NoMemory> {
         let Some(one) = found else {
             return Ok(());
@@ -98,7 +102,7 @@ impl<'a> Beam<'a> {
         }
     }
 
-    /// The configuration once all effects of other sessions that fit have come about, and then this one.
+    /// The configuration after all effects of other sessions that fit, and then this one.
     fn after_all(
         &mut self,
         one: &Configuration,
@@ -120,7 +124,8 @@ impl<'a> Beam<'a> {
         here.effected_among(own.session, own.act, &mut self.index.lists)
     }
 
-    /// Adds what the effect leads to from the configuration, alone and behind all others.
+    /// Adds what the effect leads to from the configuration: without other effects, and after all others that
+    /// fit.
     fn add_both(&mut self, one: &Configuration, own: &Effect) -> Result<(), NoMemory> {
         self.left = self.left.saturating_sub(2);
         let alone = after(&self.foresight, &mut self.index.lists, one, own)?;
@@ -141,7 +146,8 @@ impl<'a> Beam<'a> {
         self.add(found)
     }
 
-    /// Adds what each effect leads to from the configuration at this index, unless the session is answered there.
+    /// Adds what each effect leads to from the configuration at this index, unless the session is answered
+    /// there.
     fn add_effects(&mut self, index: usize, session: SessionNo) -> Result<(), NoMemory> {
         if let Some(one) = self.known.get(index)
             && one.is_answered(session)
@@ -164,7 +170,7 @@ impl<'a> Beam<'a> {
             && has_room(count, self.index.records())
     }
 
-    /// Adds what fits, as few effects as can be in front.
+    /// Adds what effects that fit lead to, fewest effects first.
     fn look_on(&mut self, session: SessionNo) -> Result<(), NoMemory> {
         for index in 0..self.width.saturating_mul(SIGHT) {
             if index >= self.known.len() || !self.looks_on() {
@@ -175,8 +181,8 @@ impl<'a> Beam<'a> {
         Ok(())
     }
 
-    /// Adds what can come before an event of the session: in front, from each configuration, what the session has called for
-    /// alone, and behind all that fits.
+    /// Adds what can come before an event of the session. From each configuration the session's own request
+    /// comes first without other effects, then after all that fit.
     fn prepare(&mut self, session: SessionNo) -> Result<(), NoMemory> {
         let own = Effect::of(session);
         let before = mem::replace(&mut self.known, Vec::new(self.alloc));
@@ -196,12 +202,12 @@ impl<'a> Beam<'a> {
         self.look_on(session)
     }
 
-    /// Whether an open call of a session that is gone may be in the way of the event.
+    /// Whether a call of a session whose client is gone may be in the way of the event.
     fn is_unheard(&self, session: SessionNo) -> bool {
         self.known.iter().any(|one| one.has_unheard(session))
     }
 
-    /// The session of which more has to be looked at before the event.
+    /// The session whose request has to take effect before the event, if there is one.
     fn aim(&self, event: &Event) -> Option<SessionNo> {
         match event {
             Event::Return(session, _) => Some(*session),
@@ -228,7 +234,9 @@ impl<'a> Beam<'a> {
         Ok(())
     }
 
-    /// Goes over the event at this place. Where no configuration is left, the search has failed.
+    /// Goes over the event at this place. If no configuration is left, the search has failed.
+    ///
+    /// May return `NoMemory`.
     pub fn see(&mut self, place: usize) -> Result<(), NoMemory> {
         let Some(event) = self.events.get(place) else {
             return Ok(());
@@ -244,7 +252,7 @@ impl<'a> Beam<'a> {
         self.keep(seen)
     }
 
-    /// How many effects may still be tried.
+    /// Returns how many effects may still be tried.
     pub fn left(&self) -> u64 {
         self.left
     }

@@ -1,11 +1,11 @@
-//! The best of many configurations.
+//! The best of many configurations: those with the fewest stuck calls.
 
 use crate::configuration::Configuration;
 use crate::foresight::Foresight;
 use std::alloc::Global;
 use xa_xid::NoMemory;
 
-/// Stuck calls of the sessions are fewer.
+/// More than any number of stuck calls: a session has at most one, and there are 16.
 const COUNTS: usize = 17;
 
 /// How many calls are stuck in each of the configurations.
@@ -22,7 +22,7 @@ fn stuck_counts(
     Ok(counts)
 }
 
-/// The greatest count that is among the `width` least ones.
+/// The greatest count among the `width` least ones.
 fn greatest_kept(counts: &[usize], width: usize) -> usize {
     let mut sum: usize = 0;
     for count in 0..COUNTS {
@@ -38,7 +38,9 @@ fn greatest_kept(counts: &[usize], width: usize) -> usize {
     COUNTS
 }
 
-/// Those `width` configurations in which the fewest calls are stuck, the earlier ones of those in which as many are.
+/// Returns the `width` configurations in which the fewest calls are stuck; of equal ones the earlier ones.
+///
+/// May return `NoMemory`.
 pub fn best_of(
     alloc: Global,
     known: Vec<Configuration>,

@@ -6,7 +6,7 @@ use std::marker::Model;
 use std::sync::Arc;
 use xa_xid::NoMemory;
 
-/// Codes of moves with several owners. A contract sees the codes.
+/// Codes of moves that several paths own. A contract sees the codes.
 #[derive(Drop)]
 pub struct Block {
     shared: Arc<Vec<u8>>,
@@ -31,7 +31,9 @@ impl Clone for Block {
 }
 
 impl Block {
-    /// Codes with one owner.
+    /// Returns codes with one owner.
+    ///
+    /// May return `NoMemory`.
     pub fn of(alloc: Global, codes: Vec<u8>) -> Result<Block, NoMemory>
         ensures { IfOk result (λ block. block ≡ codes.items) }
     {
@@ -40,7 +42,7 @@ impl Block {
         })
     }
 
-    /// The codes.
+    /// Returns the codes.
     pub fn codes(&self) -> &[u8]
         ensures { result.now ≡ self.now }
     {

@@ -5,7 +5,8 @@ use crate::block::Block;
 use std::alloc::Global;
 use xa_xid::NoMemory;
 
-/// So many blocks are kept at most. Where configurations went on side by side, few are different.
+/// The greatest number of blocks that are kept. Configurations that went on side by side have few different
+/// ones, and each new one is compared with all.
 const MOST: usize = 64;
 
 /// Blocks that paths can share.
@@ -15,7 +16,7 @@ pub struct Blocks {
     alloc: Global,
 }
 
-/// One of the blocks, where it has these codes.
+/// The block with these codes, if there is one.
 fn block_of(kept: &[Block], codes: &[u8]) -> Result<Option<Block>, NoMemory>
     ensures { IfOk result (λ found. IfSome found (λ block. block ≡ codes.now)) }
 {
@@ -28,7 +29,7 @@ fn block_of(kept: &[Block], codes: &[u8]) -> Result<Option<Block>, NoMemory>
 }
 
 impl Blocks {
-    /// None yet.
+    /// Returns an empty list.
     pub fn new(alloc: Global) -> Blocks {
         Blocks {
             kept: Vec::new(alloc),
@@ -36,7 +37,7 @@ impl Blocks {
         }
     }
 
-    /// A new block, from now on to be shared.
+    /// A new block, which can be shared from now on.
     fn add(&mut self, codes: Vec<u8>) -> Result<Block, NoMemory>
         ensures { IfOk result (λ block. block ≡ codes.items) }
     {
@@ -48,7 +49,9 @@ impl Blocks {
         Ok(block)
     }
 
-    /// A block with these codes, one that is there where it can be.
+    /// Returns a block with these codes, one that is kept already if possible.
+    ///
+    /// May return `NoMemory`.
     pub fn with(&mut self, codes: Vec<u8>) -> Result<Block, NoMemory>
         ensures { IfOk result (λ block. block ≡ codes.items) }
     {

@@ -1,4 +1,4 @@
-//! How many records of branches a server has.
+//! An estimate of how many records of branches a server has.
 
 use crate::event::{Event, Seen};
 use crate::request::Request;
@@ -7,26 +7,28 @@ use std::alloc::Global;
 use std::collections::BTreeMap;
 use xa_xid::{NoMemory, SessionNo, Statement, Xid};
 
-/// One place for each session's number, and one more.
+/// One place for each session's number, and place 0, which no session has.
 const SESSIONS: usize = 17;
 
-/// How many records servers have of branches, by the events: one of each branch, and one of each statement within it, which may be about a row.
+/// How many records of branches a server has, estimated from the events: one for each branch, and one for
+/// each statement within it, which may be about a row.
 ///
-/// An estimate: what open calls add and what lost sessions take away isn't counted.
+/// Open calls may add records and lost sessions may remove some; neither is counted. A poor estimate costs
+/// time and memory, and changes no verdict.
 #[derive(Drop)]
 pub struct BranchRecords {
-    /// How many there are of each branch.
+    /// How many records each branch has.
     counts: BTreeMap<Xid, usize>,
-    /// How many there are.
+    /// How many records there are.
     sum: usize,
-    /// At each session's number, its branch, until that is prepared.
+    /// At each session's number, its branch until that is prepared.
     owned: Vec<Option<Xid>>,
-    /// At each session's number, what it has called for.
+    /// At each session's number, its open call.
     called: Vec<Option<SharedRequest>>,
 }
 
 impl BranchRecords {
-    /// Of no branches.
+    /// Returns the estimate for a server without branches.
     pub fn new(alloc: Global) -> BranchRecords {
         BranchRecords {
             counts: BTreeMap::new(alloc),
@@ -36,17 +38,19 @@ impl BranchRecords {
         }
     }
 
-    /// How many records there are.
+    /// Returns how many records there are.
     pub fn sum(&self) -> usize {
         self.sum
     }
 
-    /// Whether no branch is there and no call is open.
+    /// Tells whether no branch exists and no call is open.
     pub fn is_still(&self) -> bool {
         self.sum == 0 && self.called.iter().all(|called| called.is_none())
     }
 
-    /// The event is seen.
+    /// Takes note of an event.
+    ///
+    /// May return `NoMemory`.
     pub fn see(&mut self, event: &Event) -> Result<(), NoMemory> {
         match event {
             Event::Call(session, request) => self.call(*session, Some(request.try_clone()?)),
@@ -59,7 +63,7 @@ impl BranchRecords {
         }
     }
 
-    /// The session has called for this, or for nothing.
+    /// The session has this open call, or none.
     fn call(&mut self, session: SessionNo, request: Option<SharedRequest>) -> Result<(), NoMemory> {
         for _ in self.called.len()..SESSIONS {
             self.called.push(None)?;
@@ -71,14 +75,14 @@ impl BranchRecords {
         Ok(())
     }
 
-    /// The session's branch is this one, or none.
+    /// The session has this branch, or none.
     fn own(&mut self, session: SessionNo, branch: Option<Xid>) {
         if let Some(place) = self.owned.get_mut(session.get() as usize) {
             *place = branch;
         }
     }
 
-    /// One record more of a branch.
+    /// Adds a record of a branch.
     fn add(&mut self, xid: &Xid) -> Result<(), NoMemory> {
         let count = self.counts.get(xid).copied().unwrap_or(0);
         self.counts.insert(xid.copy(), count.saturating_add(1))?;
@@ -86,14 +90,14 @@ impl BranchRecords {
         Ok(())
     }
 
-    /// No record of a branch any more.
+    /// Removes all records of a branch.
     fn remove(&mut self, xid: &Xid) {
         if let Some(count) = self.counts.remove(xid) {
             self.sum = self.sum.saturating_sub(count);
         }
     }
 
-    /// The session's branch, where it has one.
+    /// The session's branch, if it has one.
     fn owned_by(&self, session: SessionNo) -> Option<Xid> {
         match self.owned.get(session.get() as usize) {
             Some(Some(xid)) => Some(xid.copy()),
@@ -101,7 +105,7 @@ impl BranchRecords {
         }
     }
 
-    /// The session's work ends, with this branch.
+    /// The session's work ends, and this branch with it.
     fn end(&mut self, session: SessionNo, branch: Option<Xid>) {
         if let Some(xid) = branch {
             self.remove(&xid);

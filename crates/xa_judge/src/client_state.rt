@@ -1,22 +1,23 @@
-//! What a session is about.
+//! How far a session is.
 ghost use Rattle.std.specs.Prelude.{◌≡◌, true};
 
 use crate::shared_answer::SharedAnswer;
 use crate::shared_request::SharedRequest;
 use std::alloc::AllocError;
 
-/// What a session is about.
+/// How far a session is.
 #[derive(Debug, Drop)]
 pub enum ClientState {
     /// It has no open call.
     Idle,
-    /// It has called, and its request has taken no effect yet.
+    /// It has called, and the request hasn't taken effect yet.
     Called(SharedRequest),
-    /// Its request has taken effect, and was answered so.
+    /// Its request has taken effect, with this answer, and the call hasn't returned yet.
     Answered(SharedAnswer),
-    /// Its client is gone: the request, if there is one, may still take effect, and after that its DISCONNECT.
+    /// Its client is gone. The request, if there is one, may still take effect, and after that its
+    /// `DISCONNECT`.
     Gone(Option<SharedRequest>),
-    /// Its client is gone, and its DISCONNECT has taken effect.
+    /// Its client is gone, and its `DISCONNECT` has taken effect.
     Left,
 }
 
@@ -35,7 +36,7 @@ impl Clone for ClientState {
     }
 }
 
-/// Whether two requests are known to be the same, or neither is there.
+/// Whether two requests are known to be the same, or both are missing.
 fn is_same_request(left: &Option<SharedRequest>, right: &Option<SharedRequest>) -> bool
     ensures { result ≡ true → left.now ≡ right.now }
 {
@@ -49,7 +50,7 @@ fn is_same_request(left: &Option<SharedRequest>, right: &Option<SharedRequest>) 
 }
 
 impl ClientState {
-    /// Whether both are known to be the same.
+    /// Tells whether both are known to be the same.
     pub fn is_same(&self, other: &ClientState) -> bool
         ensures { result ≡ true → self.now ≡ other.now }
     {

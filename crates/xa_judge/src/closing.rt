@@ -1,4 +1,4 @@
-//! What can have come before an event.
+//! All that can have come before an event.
 ghost use Rattle.std.specs.Prelude.{◌≡◌, ◌<◌, ℕ, List, Some, true, false, slice_get, vec_len, length, IfOk, OnOk};
 ghost use Rattle.std.specs.List.{All, Contains};
 ghost use Rattle.xa_judge.specs.Explained.{Config, observed};
@@ -15,8 +15,8 @@ use crate::shared_lists::SharedLists;
 use std::alloc::Global;
 use xa_xid::{NoMemory, SessionNo};
 
-/// Whether more than `limit` configurations are known of which no two are the same. They are counted once there are more than
-/// `uncounted`, which then is twice as many as there are.
+/// Whether the list has more than `limit` configurations of which no two are the same. They are counted only
+/// if the list is longer than `uncounted`, which then becomes twice its length.
 fn is_too_wide(
     known: &[Configuration],
     index: &FingerprintIndex,
@@ -32,8 +32,11 @@ fn is_too_wide(
     index.is_spread(known, limit)
 }
 
-/// Adds all that acts lead to, of other sessions than `returning`, as long as that one isn't answered, and answers true; or
-/// false, once there are more than `limit` configurations of which no two are the same.
+/// Adds all configurations to which acts lead, except acts of the session `returning`, and none after that
+/// session was answered. Returns true; or false if the list has more than `limit` configurations of which no
+/// two are the same.
+///
+/// May return `NoMemory`.
 pub fn close(
     known: &mut Vec<Configuration>,
     index: &mut FingerprintIndex,
@@ -57,7 +60,9 @@ pub fn close(
     Ok(true)
 }
 
-/// The configurations once what the session has called for has taken effect.
+/// Returns the configurations after what the session has called for takes effect.
+///
+/// May return `NoMemory`.
 pub fn settle_all(
     alloc: Global,
     mut known: Vec<Configuration>,
@@ -74,7 +79,7 @@ pub fn settle_all(
     Ok(list)
 }
 
-/// Adds the configuration once the event is seen, where it can be.
+/// Adds the configuration after the event, if it can be seen there.
 fn add_seen(
     list: &mut Vec<Configuration>,
     index: &mut FingerprintIndex,
@@ -92,7 +97,9 @@ fn add_seen(
     }
 }
 
-/// The configurations once the event is seen, of those in which it can be.
+/// Returns the configurations after the event, from those in which it can be seen.
+///
+/// May return `NoMemory`.
 pub fn observe_all(
     alloc: Global,
     mut known: Vec<Configuration>,
@@ -113,7 +120,7 @@ pub fn observe_all(
     Ok(list)
 }
 
-/// Adds what the session is answered in a configuration, where it is.
+/// Adds the answer that the session has in a configuration, if it has one.
 fn add_answer(
     answers: &mut Vec<SharedAnswer>,
     one: &Configuration,
@@ -134,13 +141,18 @@ fn add_answer(
     }
 }
 
-/// What the session is answered in these configurations.
+/// Returns the answers that the session has in these configurations.
+///
+/// May return `NoMemory`.
 pub fn answers_in(
     alloc: Global,
     known: &[Configuration],
     session: SessionNo,
 ) -> Result<Vec<SharedAnswer>, NoMemory>
+    // Proved (records, answers-in): The answers listed before a return are exactly those that the kept
+    //   configurations have for its session.
     ensures each { IfOk result (λ answers. All (IsAnsweredIn known.now session) answers.items) }
+    // Proved (records, answers-in)
     ensures all { IfOk result
         (λ answers. (one : Config) (answer : Answer)
         → Has known.now one

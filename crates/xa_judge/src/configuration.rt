@@ -1,4 +1,4 @@
-//! How things can stand after some events.
+//! Configurations: a state of the server, and how far each session is.
 ghost use Rattle.std.specs.Prelude.{◌≡◌, ◌<◌, ◌∷◌, ◌++◌, [], true, false, cond, Some, None, slice_get, vec_len, length, IfOk, IfSome};
 ghost use Rattle.std.specs.Option.{option_copied, option_map};
 ghost use Rattle.std.specs.Prelude.{replicate};
@@ -15,21 +15,21 @@ use std::alloc::Global;
 use xa_server::Server;
 use xa_xid::{NoMemory, SessionNo};
 
-/// One place for each session number; place 0 stays idle.
+/// One place for each session's number, and place 0, which no session has and which stays idle.
 const PLACES: usize = 17;
 
-/// How things can stand after some events, and how it came to that.
+/// A configuration: a state of the server, how far each session is, and the moves that led here.
 #[derive(Drop)]
 pub struct Configuration {
     /// The server.
     pub server: KeptServer,
-    /// What each session is about, at the place of its number.
+    /// How far each session is, at the place of its number.
     pub clients: Vec<ClientState>,
     /// The moves that led here, from where the trunk ends.
     pub path: Path,
 }
 
-/// What each session is about before all events.
+/// How far each session is before all events.
 fn all_idle(alloc: Global) -> Result<Vec<ClientState>, NoMemory>
     ensures { IfOk result (λ all. all.items ≡ replicate 17 ClientState.Idle) }
 {
@@ -54,7 +54,9 @@ fn is_same_list(left: &[ClientState], right: &[ClientState]) -> bool
 }
 
 impl Configuration {
-    /// How things stand before all events.
+    /// Returns the configuration before all events.
+    ///
+    /// May return `NoMemory`.
     #[tactic(auto, unfolding(crate::specs::Explained::opening_config))]
     pub fn opening(alloc: Global, base: &Server) -> Result<Configuration, NoMemory>
         ensures config { IfOk result (λ first. config_of first ≡ opening_config base.now) }
@@ -67,7 +69,7 @@ impl Configuration {
         })
     }
 
-    /// The same, with no path.
+    /// Returns the same configuration with an empty path.
     pub fn without_path(mut self) -> Configuration
         ensures config { config_of result ≡ config_of self }
         ensures path { result.path ≡ [] }
@@ -76,7 +78,9 @@ impl Configuration {
         self
     }
 
-    /// A copy, with a server of its own.
+    /// Returns a copy, with a server of its own.
+    ///
+    /// May return `NoMemory`.
     pub fn copy(&self) -> Result<Configuration, NoMemory>
         ensures config { IfOk result (λ copy. config_of copy ≡ config_of self.now) }
         ensures path { IfOk result (λ copy. copy.path ≡ self.now.path) }
@@ -88,7 +92,9 @@ impl Configuration {
         })
     }
 
-    /// Whether things are known to stand the same in both. How it came to that is not compared.
+    /// Tells whether both are known to have the same server state and sessions. Their paths aren't compared.
+    ///
+    /// May return `NoMemory`.
     pub fn is_same(&self, other: &Configuration) -> Result<bool, NoMemory>
         ensures { IfOk result (λ same. same ≡ true → config_of self.now ≡ config_of other.now) }
     {
@@ -98,7 +104,9 @@ impl Configuration {
         self.server.is_same(&other.server)
     }
 
-    /// The same, with a server that is kept as itself.
+    /// Returns the same configuration, with a server that is kept as itself.
+    ///
+    /// May return `NoMemory`.
     pub fn whole(self) -> Result<Configuration, NoMemory>
         ensures { IfOk result (λ whole. whole ≡ self) }
     {
@@ -114,7 +122,7 @@ impl Configuration {
         })
     }
 
-    /// What the session is about.
+    /// Returns how far the session is.
     pub fn client(&self, session: SessionNo) -> Option<&ClientState>
         ensures value { option_copied result ≡ slice_get self.now.clients.items session }
         ensures session { IsSession session }
@@ -122,7 +130,9 @@ impl Configuration {
         self.clients.get(session.get() as usize)
     }
 
-    /// The session is about this from now on, by this move.
+    /// Returns the configuration after this move, in which the session is in this state.
+    ///
+    /// May return `NoMemory`.
     pub fn moved(
         mut self,
         session: SessionNo,
@@ -138,7 +148,7 @@ impl Configuration {
         Ok(self)
     }
 
-    /// Whether the session's call was answered.
+    /// Tells whether the session's call was answered.
     pub fn is_answered(&self, session: SessionNo) -> bool
         ensures { result ≡ call_is_answered (config_of self.now) session }
     {
@@ -152,7 +162,7 @@ impl Configuration {
         }
     }
 
-    /// Whether there is a session that is to return, and its call was answered.
+    /// Tells whether `returning` names a session whose call was answered.
     pub fn is_over(&self, returning: &Option<SessionNo>) -> bool
         ensures { result ≡ is_over returning.now (config_of self.now) }
     {
@@ -162,7 +172,7 @@ impl Configuration {
         }
     }
 
-    /// Whether the session's client is gone, and an open call of its may still take effect.
+    /// Tells whether the session's client is gone with an open call that may still take effect.
     pub fn has_unheard(&self, session: SessionNo) -> bool
         ensures { result ≡ has_unheard (config_of self.now) session }
     {

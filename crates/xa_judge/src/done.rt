@@ -8,7 +8,7 @@ use xa_xid::SessionNo;
 /// A request that a server carried out.
 #[derive(Drop)]
 pub struct Done {
-    /// Whose it was.
+    /// The session that called for it.
     pub session: SessionNo,
     /// The request.
     pub request: SharedRequest,
@@ -26,7 +26,7 @@ impl Clone for Done {
 }
 
 impl Done {
-    /// Whether both are known to be the same.
+    /// Tells whether both are known to be the same.
     pub fn is_same(&self, other: &Done) -> bool
         ensures { result ≡ true → self.now ≡ other.now }
     {

@@ -1,4 +1,4 @@
-//! What servers carried out, and share.
+//! Requests that servers carried out, and share.
 ghost use Rattle.std.specs.Prelude.{◌≡◌, IfOk};
 
 use crate::done::Done;
@@ -7,7 +7,7 @@ use std::marker::Model;
 use std::sync::Arc;
 use xa_xid::NoMemory;
 
-/// Requests that were carried out, with several owners. A contract sees the requests.
+/// Requests that were carried out, which several servers own. A contract sees the requests.
 #[derive(Drop)]
 pub struct DoneBlock {
     shared: Arc<Vec<Done>>,
@@ -33,7 +33,9 @@ impl Clone for DoneBlock {
 }
 
 impl DoneBlock {
-    /// Requests with one owner.
+    /// Returns requests with one owner.
+    ///
+    /// May return `NoMemory`.
     pub fn of(alloc: Global, requests: Vec<Done>) -> Result<DoneBlock, NoMemory>
         ensures { IfOk result (λ block. block ≡ requests.items) }
     {
@@ -42,7 +44,7 @@ impl DoneBlock {
         })
     }
 
-    /// The requests.
+    /// Returns the requests.
     pub fn requests(&self) -> &[Done]
         ensures { result.now ≡ self.now }
     {

@@ -6,7 +6,8 @@ use crate::done_block::DoneBlock;
 use std::alloc::Global;
 use xa_xid::NoMemory;
 
-/// So many blocks are kept at most. Where configurations went on side by side, few are different.
+/// The greatest number of blocks that are kept. Configurations that went on side by side have few different
+/// ones, and each new one is compared with all.
 const MOST: usize = 64;
 
 /// Blocks of requests that servers can share.
@@ -29,7 +30,7 @@ fn is_same_work(left: &[Done], right: &[Done]) -> bool
     }
 }
 
-/// One of the blocks, where it has these requests.
+/// The block with these requests, if there is one.
 fn block_of(kept: &[DoneBlock], requests: &[Done]) -> Result<Option<DoneBlock>, NoMemory>
     ensures { IfOk result (λ found. IfSome found (λ block. block ≡ requests.now)) }
 {
@@ -42,7 +43,7 @@ fn block_of(kept: &[DoneBlock], requests: &[Done]) -> Result<Option<DoneBlock>, 
 }
 
 impl DoneBlocks {
-    /// None yet.
+    /// Returns an empty list.
     pub fn new(alloc: Global) -> DoneBlocks {
         DoneBlocks {
             kept: Vec::new(alloc),
@@ -50,7 +51,7 @@ impl DoneBlocks {
         }
     }
 
-    /// A new block, from now on to be shared.
+    /// A new block, which can be shared from now on.
     fn add(&mut self, requests: Vec<Done>) -> Result<DoneBlock, NoMemory>
         ensures { IfOk result (λ block. block ≡ requests.items) }
     {
@@ -62,7 +63,9 @@ impl DoneBlocks {
         Ok(block)
     }
 
-    /// A block of these requests, one that is there where it can be.
+    /// Returns a block with these requests, one that is kept already if possible.
+    ///
+    /// May return `NoMemory`.
     pub fn with(&mut self, requests: Vec<Done>) -> Result<DoneBlock, NoMemory>
         ensures { IfOk result (λ block. block ≡ requests.items) }
     {

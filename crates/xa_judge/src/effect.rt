@@ -1,4 +1,4 @@
-//! What takes effect.
+//! Effects of sessions.
 
 use crate::moves::Act;
 use std::alloc::Global;
@@ -9,12 +9,12 @@ use xa_xid::{NoMemory, SessionNo};
 pub struct Effect {
     /// The session.
     pub session: SessionNo,
-    /// What of it takes effect.
+    /// Which of its acts takes effect.
     pub act: Act,
 }
 
 impl Effect {
-    /// What the session has called for.
+    /// Returns the effect of what the session has called for.
     pub fn of(session: SessionNo) -> Effect {
         Effect {
             session,
@@ -23,7 +23,9 @@ impl Effect {
     }
 }
 
-/// Whatever can take effect, of any session.
+/// Returns every effect that there can be, of any session.
+///
+/// May return `NoMemory`.
 pub fn all_effects(alloc: Global) -> Result<Vec<Effect>, NoMemory> {
     let mut all = Vec::new(alloc);
     for number in 1..17 {

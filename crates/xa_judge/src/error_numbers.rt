@@ -7,14 +7,14 @@ use std::alloc::Global;
 /// The numbers of a refusal that was seen.
 #[derive(Debug, Drop)]
 pub struct ErrorNumbers {
-    /// The number seen.
+    /// The number that was seen.
     pub seen: u16,
-    /// The rules' numbers for which it is allowed to stand too.
+    /// The other numbers of the rules for which it may stand.
     pub others: Vec<u16>,
 }
 
 impl ErrorNumbers {
-    /// A refusal that stands for no other number than this.
+    /// Returns a refusal that stands for no other number than `seen`, in `[0, 65535]`.
     ///
     /// Takes no memory. Doesn't wait.
     pub fn of(alloc: Global, seen: u16) -> ErrorNumbers
@@ -27,7 +27,7 @@ impl ErrorNumbers {
         }
     }
 
-    /// Whether it stands for a refusal of this number.
+    /// Tells whether it stands for a refusal of this number.
     pub(crate) fn stand_for(&self, number: u16) -> bool
         ensures { result ≡ stands_for self.now number }
     {

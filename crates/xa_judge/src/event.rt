@@ -1,4 +1,4 @@
-//! What was seen.
+//! Events: what was seen at clients.
 ghost use Rattle.std.specs.Prelude.{◌≡◌};
 ghost use Rattle.xa_judge.specs.Answers.{answer_kept};
 ghost use Rattle.xa_judge.specs.Explained.{shows_answer};
@@ -19,27 +19,29 @@ pub enum Seen {
     Ok,
     /// The value of a row, or none.
     Value(Option<Bytes>),
-    /// Identifiers of prepared branches. They are to be in ascending order.
+    /// Identifiers of prepared branches. They have to be in ascending order, as the server's lists are.
     Rows(Vec<Xid>),
-    /// A refusal. It stands for those of these numbers.
+    /// A refusal. It stands for each of these numbers.
     Error(ErrorNumbers),
 }
 
-/// Something that was seen.
+/// An event at a client.
 #[derive(Debug, Drop)]
 pub enum Event {
     /// The session calls.
     Call(SessionNo, SharedRequest),
-    /// The session's call returns so.
+    /// The session's call returns this.
     Return(SessionNo, SharedSeen),
-    /// The session's client is gone, from here on at the earliest.
+    /// The session's client is gone. Its open call may still take effect, and then its `DISCONNECT`, or
+    /// never.
     Lost(SessionNo),
-    /// The session's call has an answer, but it isn't known which.
+    /// The session's call is over, with an answer that isn't known. It took effect before this event or never
+    /// will.
     Unknown(SessionNo),
 }
 
 impl Seen {
-    /// Whether the server's reply shows so.
+    /// Whether this is what a return shows if the server replies so.
     fn shows_reply(&self, reply: &Reply) -> bool
         ensures { result ≡ shows_answer self.now (Answer.Reply reply.now) }
     {
@@ -71,7 +73,7 @@ impl Seen {
         }
     }
 
-    /// Whether the list of these identifiers shows so.
+    /// Whether this is what a return shows if the answer is the list of these identifiers.
     fn shows_listed(&self, xids: &[SharedXid]) -> bool
         ensures { result ≡ shows_answer self.now (Answer.Reply (Reply.Recovered xids.now)) }
     {
@@ -83,7 +85,7 @@ impl Seen {
         }
     }
 
-    /// Whether the answer, as it is kept, shows so.
+    /// Tells whether a return shows this for the answer, as it is kept.
     pub(crate) fn shows_kept(&self, answer: &KeptAnswer) -> bool
         ensures { result ≡ shows_answer self.now (answer_kept answer.now) }
     {
@@ -93,7 +95,7 @@ impl Seen {
         }
     }
 
-    /// Whether the answer shows so.
+    /// Tells whether a return shows this for the answer.
     pub(crate) fn shows(&self, answer: &Answer) -> bool
         ensures { result ≡ shows_answer self.now answer.now }
     {

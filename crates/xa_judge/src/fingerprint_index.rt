@@ -1,4 +1,4 @@
-//! Where in a list the configurations of each fingerprint stand.
+//! At which places of a list the configurations of each fingerprint are.
 ghost use Rattle.std.specs.Prelude.{◌≡◌, true, IfOk};
 ghost use Rattle.xa_judge.specs.Marks.{mark};
 ghost use Rattle.xa_judge.specs.Found.{config_of, IsSpread};
@@ -14,27 +14,31 @@ use std::alloc::Global;
 use std::collections::{BTreeMap, BTreeSet};
 use xa_xid::{Key, NoMemory, Statement};
 
-/// So many rows are listed at most that events called to write.
+/// The greatest number of written rows that are listed: every fingerprint reads all of them.
 const MOST_WRITTEN: usize = 65_536;
 
-/// Where in a list the configurations of each fingerprint stand, as a chain of places for each fingerprint.
+/// At which places of a list the configurations of each fingerprint are, as a chain of places for each
+/// fingerprint.
 ///
-/// Whoever looks at a place compares what stands there. So nothing rests on the places but how soon a configuration is found.
+/// Every configuration at such a place is compared before it counts as the same. So a poor fingerprint costs
+/// time, and changes no verdict.
 #[derive(Drop)]
 pub struct FingerprintIndex {
     /// The last place of each fingerprint.
     last: BTreeMap<u64, usize>,
     /// For each place the one before it that has its fingerprint, if there is one.
     before: Vec<Option<usize>>,
-    /// The fingerprint of the configuration that was looked for last.
+    /// The fingerprint of the configuration that was looked up last.
     sought: Option<u64>,
-    /// Rows that events called to write. All others have the same value in each configuration, unless there are more than are listed.
+    /// Rows that events called to write. Each other row has the same value in all configurations, as long as
+    /// there are no more rows than are listed.
     written: Vec<Key>,
-    /// At the fingerprint of each row that any event called to write, how often rows had been forgotten when it was listed last.
+    /// For each row that an event called to write, by its fingerprint: how often rows had been forgotten when
+    /// it was listed last.
     rows: BTreeMap<u64, u64>,
     /// How often rows were forgotten.
     forgotten: u64,
-    /// What servers have beside.
+    /// What servers have in addition to rows.
     branches: BranchRecords,
     /// The lists that configurations share which have seen the same events.
     pub lists: SharedLists,
@@ -54,7 +58,7 @@ fn key_written(event: &Event) -> Option<&Key> {
 }
 
 impl FingerprintIndex {
-    /// Of a list that has no places.
+    /// Returns the index of an empty list.
     pub fn new(alloc: Global) -> FingerprintIndex {
         FingerprintIndex {
             last: BTreeMap::new(alloc),
@@ -69,14 +73,16 @@ impl FingerprintIndex {
         }
     }
 
-    /// Forgets all places, for another list.
+    /// Forgets all places, so that it can serve another list.
     pub fn clear(&mut self) {
         self.last.clear();
         self.before.clear();
         self.sought = None;
     }
 
-    /// Forgets all places, for a list of configurations that have seen this event too.
+    /// Forgets all places, so that it can serve a list of configurations that have also seen this event.
+    ///
+    /// May return `NoMemory`.
     pub fn go_on(&mut self, event: &Event) -> Result<(), NoMemory> {
         self.clear();
         self.lists.clear();
@@ -86,7 +92,8 @@ impl FingerprintIndex {
         self.branches.see(event)
     }
 
-    /// An event calls to write this row. Where there are more rows than servers have room for, they aren't counted any more.
+    /// Takes note that an event calls to write this row. Rows that no server has room for aren't counted any
+    /// more.
     fn see_written(&mut self, key: &Key) -> Result<(), NoMemory> {
         let fingerprint = mark_of_key(key);
         let is_full = self.rows.len() > MOST_RECORDS && !self.rows.contains_key(&fingerprint);
@@ -98,8 +105,8 @@ impl FingerprintIndex {
         Ok(())
     }
 
-    /// Forgets the rows where all configurations from here on have the values of one: so many are left, no call is open, and no branch
-    /// is there.
+    /// Forgets the written rows if only one configuration is left, no call is open and no branch exists. From
+    /// there on all configurations begin with the values of that one.
     pub fn settle(&mut self, count: usize) {
         if count == 1 && self.branches.is_still() {
             self.written.clear();
@@ -107,20 +114,26 @@ impl FingerprintIndex {
         }
     }
 
-    /// How many records of rows and branches a server has, by an estimate from the events.
+    /// Returns how many records of rows and branches a server has, estimated from the events.
     pub fn records(&self) -> usize {
         self.rows.len().saturating_add(self.branches.sum())
     }
 
     /// The fingerprint of a configuration.
     fn mark_of(&self, one: &Configuration) -> Result<u64, NoMemory>
+        // Proved (records, fingerprints-tell-apart)
         ensures { IfOk result (λ number. number ≡ mark self.now.written.items (config_of one.now)) }
     {
         mark_of(self.alloc, one, self.written.as_slice())
     }
 
-    /// Whether the list has more than `limit` different fingerprints: then it has as many configurations of which no two are the same.
+    /// Tells whether the list has more than `limit` different fingerprints. Then it has more than `limit`
+    /// configurations of which no two are the same.
+    ///
+    /// May return `NoMemory`.
     pub fn is_spread(&self, known: &[Configuration], limit: usize) -> Result<bool, NoMemory>
+        // Proved (records, fingerprints-tell-apart): Configurations that are counted against the limit
+        //   differ: their fingerprints do, and a fingerprint is a function of the configuration.
         ensures { IfOk result (λ spread. spread ≡ true → IsSpread limit known.now) }
     {
         let mut marks = BTreeSet::new(self.alloc);
@@ -135,6 +148,8 @@ impl FingerprintIndex {
     }
 
     /// Takes up the places of the list that it doesn't have yet.
+    ///
+    /// May return `NoMemory`.
     pub fn catch_up(&mut self, known: &[Configuration]) -> Result<(), NoMemory> {
         for place in self.before.len()..known.len() {
             let fingerprint = self.mark_of(&known[place])?;
@@ -150,7 +165,9 @@ impl FingerprintIndex {
         Ok(())
     }
 
-    /// Takes up the last of `count` places, where it is of the configuration that was looked for last.
+    /// Takes up the last of `count` places, if it is that of the configuration that was looked up last.
+    ///
+    /// May return `NoMemory`.
     pub fn note(&mut self, count: usize) -> Result<(), NoMemory> {
         match self.sought {
             None => Ok(()),
@@ -164,14 +181,16 @@ impl FingerprintIndex {
         }
     }
 
-    /// The last place that has the fingerprint of this configuration, if one has.
+    /// Returns the last place that has the fingerprint of this configuration, if one has.
+    ///
+    /// May return `NoMemory`.
     pub fn last_of(&mut self, one: &Configuration) -> Result<Option<usize>, NoMemory> {
         let fingerprint = self.mark_of(one)?;
         self.sought = Some(fingerprint);
         Ok(self.last.get(&fingerprint).copied())
     }
 
-    /// The place before this one that has its fingerprint, if one has.
+    /// Returns the place before this one that has the same fingerprint, if one has.
     pub fn before(&self, place: usize) -> Option<usize> {
         self.before.get(place).copied().flatten()
     }

@@ -1,4 +1,4 @@
-//! Fingerprints: numbers that tell configurations apart.
+//! Fingerprints: 64-bit numbers by which configurations are told apart.
 ghost use Rattle.std.specs.Prelude.{◌≡◌, fold, map, IfOk};
 ghost use Rattle.xa_judge.specs.Marks.{with_word, with_text, with_xid, with_value, with_xids, with_state, with_error, with_answer, with_client};
 ghost use Rattle.xa_judge.specs.Marks.{with_phase, with_owner, with_hold, with_row, with_rows, with_branch, with_key, with_server, mark};
@@ -16,7 +16,8 @@ use xa_server::{
 };
 use xa_xid::{Bytes, Key, NoMemory, SessionNo, Xid};
 
-/// What each word is multiplied by: an odd number whose bits look like chance, 2^64 over the golden ratio.
+/// The factor for each word: odd, so that no information is lost, with bits as if by chance: 2^64 divided by
+/// the golden ratio.
 const MULTIPLIER: u64 = 0x9e37_79b9_7f4a_7c15;
 
 /// A number made of words, one after another.
@@ -33,7 +34,7 @@ impl Fingerprint {
         Fingerprint { number: 0 }
     }
 
-    /// With one word more.
+    /// Adds a word.
     #[tactic(auto, unfolding(crate::specs::Marks::with_word))]
     fn with(self, word: u64) -> Fingerprint
         ensures { result.number ≡ with_word self.number word }
@@ -46,7 +47,7 @@ impl Fingerprint {
         }
     }
 
-    /// With the bytes of a text more.
+    /// Adds the bytes of a text.
     fn with_text(self, text: &[u8]) -> Fingerprint
         ensures { result.number ≡ with_text self.number text.now }
     {
@@ -57,7 +58,7 @@ impl Fingerprint {
         fingerprint
     }
 
-    /// With an identifier more.
+    /// Adds an identifier.
     fn with_xid(self, xid: &Xid) -> Fingerprint
         ensures { result.number ≡ with_xid self.number xid.now }
     {
@@ -66,7 +67,7 @@ impl Fingerprint {
             .with_text(xid.bqual.as_slice())
     }
 
-    /// With a value more, or with none.
+    /// Adds a value, or that there is none.
     fn with_value(self, value: &Option<Bytes>) -> Fingerprint
         ensures { result.number ≡ with_value self.number value.now }
     {
@@ -76,7 +77,7 @@ impl Fingerprint {
         }
     }
 
-    /// With identifiers more.
+    /// Adds identifiers.
     fn with_xids(self, xids: &[Xid]) -> Fingerprint
         ensures { result.number ≡ with_xids self.number xids.now }
     {
@@ -87,7 +88,7 @@ impl Fingerprint {
         fingerprint
     }
 
-    /// With identifiers more, which other lists have too.
+    /// Adds identifiers that several lists own.
     fn with_listed(self, xids: &[SharedXid]) -> Fingerprint
         ensures { result.number ≡ with_xids self.number xids.now }
     {
@@ -98,7 +99,7 @@ impl Fingerprint {
         fingerprint
     }
 
-    /// With a branch's state more.
+    /// Adds a branch's state.
     fn with_state(self, state: &BranchState) -> Fingerprint
         ensures { result.number ≡ with_state self.number state.now }
     {
@@ -110,7 +111,7 @@ impl Fingerprint {
         }
     }
 
-    /// With a refusal more.
+    /// Adds a refusal.
     fn with_error(self, error: &XaError) -> Fingerprint
         ensures { result.number ≡ with_error self.number error.now }
     {
@@ -124,7 +125,7 @@ impl Fingerprint {
         }
     }
 
-    /// With an answer more.
+    /// Adds an answer.
     fn with_answer(self, answer: &Answer) -> Fingerprint
         ensures { result.number ≡ with_answer self.number answer.now }
     {
@@ -137,7 +138,7 @@ impl Fingerprint {
         }
     }
 
-    /// With an answer more, as it is kept.
+    /// Adds an answer as it is kept.
     fn with_kept(self, answer: &KeptAnswer) -> Fingerprint
         ensures { result.number ≡ with_answer self.number (answer_kept answer.now) }
     {
@@ -147,7 +148,8 @@ impl Fingerprint {
         }
     }
 
-    /// With what a session is about more. What it has called for is left out: in all configurations of a list it is the same.
+    /// Adds how far a session is. What it has called for is left out: it is the same in all configurations of
+    /// a list.
     fn with_client(self, client: &ClientState) -> Fingerprint
         ensures { result.number ≡ with_client self.number client.now }
     {
@@ -161,7 +163,7 @@ impl Fingerprint {
         }
     }
 
-    /// With what each session is about more.
+    /// Adds how far each session is.
     fn with_clients(self, clients: &[ClientState]) -> Fingerprint
         ensures { result.number ≡ fold with_client self.number clients.now }
     {
@@ -172,7 +174,7 @@ impl Fingerprint {
         fingerprint
     }
 
-    /// With a phase more.
+    /// Adds a phase.
     fn with_phase(self, phase: Phase) -> Fingerprint
         ensures { result.number ≡ with_phase self.number phase }
     {
@@ -183,7 +185,7 @@ impl Fingerprint {
         }
     }
 
-    /// With an owner more, or with none.
+    /// Adds an owner, or that there is none.
     fn with_owner(self, owner: &Option<SessionNo>) -> Fingerprint
         ensures { result.number ≡ with_owner self.number owner.now }
     {
@@ -193,7 +195,7 @@ impl Fingerprint {
         }
     }
 
-    /// With how a row is held more.
+    /// Adds a hold on a row.
     fn with_hold(self, hold: &Hold) -> Fingerprint
         ensures { result.number ≡ with_hold self.number hold.now }
     {
@@ -204,7 +206,7 @@ impl Fingerprint {
         }
     }
 
-    /// With rows that a branch holds more.
+    /// Adds rows that a branch holds.
     fn with_rows(self, rows: &[HeldRow]) -> Fingerprint
         ensures { result.number ≡ with_rows self.number rows.now }
     {
@@ -217,7 +219,7 @@ impl Fingerprint {
         fingerprint
     }
 
-    /// With a branch of the server more.
+    /// Adds a branch of the server.
     fn with_branch(
         self,
         alloc: Global,
@@ -235,7 +237,7 @@ impl Fingerprint {
         )
     }
 
-    /// With the branches of the server more.
+    /// Adds the branches of the server.
     fn with_branches(self, alloc: Global, server: &Server) -> Result<Fingerprint, NoMemory>
         ensures { IfOk result (λ new. new.number ≡ fold (with_branch server.now) self.number (branches_of server.now)) }
     {
@@ -247,7 +249,7 @@ impl Fingerprint {
         Ok(fingerprint)
     }
 
-    /// With the committed values of these rows more.
+    /// Adds the committed values of these rows.
     fn with_values(self, server: &Server, keys: &[Key]) -> Fingerprint
         ensures { result.number ≡ fold (with_key server.now) self.number keys.now }
     {
@@ -258,7 +260,7 @@ impl Fingerprint {
         fingerprint
     }
 
-    /// With the branches of the server, and the committed values of these rows, more.
+    /// Adds the branches of the server, and the committed values of these rows.
     fn with_server(
         self,
         alloc: Global,
@@ -272,31 +274,34 @@ impl Fingerprint {
     }
 }
 
-/// The fingerprint of a row's key.
+/// Returns the fingerprint of a row's key.
 pub fn mark_of_key(key: &Key) -> u64
     ensures { result ≡ with_text 0 key.now }
 {
     Fingerprint::new().with_text(key.as_slice()).number
 }
 
-/// The fingerprint of an identifier.
+/// Returns the fingerprint of an identifier.
 pub fn mark_of_xid(xid: &Xid) -> u64
     ensures { result ≡ with_xid 0 xid.now }
 {
     Fingerprint::new().with_xid(xid).number
 }
 
-/// The fingerprint of a list of identifiers.
+/// Returns the fingerprint of a list of identifiers.
 pub fn mark_of_xids(xids: &[Xid]) -> u64
     ensures { result ≡ with_xids 0 xids.now }
 {
     Fingerprint::new().with_xids(xids).number
 }
 
-/// The fingerprint of a configuration: of what its sessions are about, of its server's branches and the rows that they hold, and of
-/// the committed values of these rows.
+/// Returns the fingerprint of a configuration: made of how far its sessions are, of its server's branches
+/// with the rows that they hold, and of the committed values of the rows `keys`.
+///
+/// May return `NoMemory`.
 #[tactic(auto, unfolding(crate::specs::Marks::mark))]
 pub fn mark_of(alloc: Global, one: &Configuration, keys: &[Key]) -> Result<u64, NoMemory>
+    // Proved (records, fingerprints-tell-apart)
     ensures { IfOk result (λ number. number ≡ mark keys.now (config_of one.now)) }
 {
     let clients = Fingerprint::new().with_clients(one.clients.as_slice());

@@ -1,4 +1,4 @@
-//! Whether moves lead through events.
+//! Checks whether moves lead through events.
 ghost use Rattle.std.specs.Prelude.{◌≡◌, ◌∷◌, [], ℕ, List, true, Some, None, ◌↔◌, IfOk, IfSome};
 ghost use Rattle.xa_judge.specs.Explained.{Config, opening_config, LeadsThrough};
 ghost use Rattle.xa_judge.specs.Found.{config_of};
@@ -11,17 +11,19 @@ use std::alloc::Global;
 use xa_server::Server;
 use xa_xid::{NoMemory, SessionNo};
 
-/// How things stand after some moves.
+/// The configuration after some moves.
 #[derive(Drop)]
 pub struct Following {
-    /// How things stand.
+    /// The configuration.
     pub one: Configuration,
     /// How many events have been seen.
     pub seen: usize,
 }
 
 impl Following {
-    /// Before all moves.
+    /// Begins before all moves.
+    ///
+    /// May return `NoMemory`.
     pub fn opening(alloc: Global, base: &Server) -> Result<Following, NoMemory>
         ensures config { IfOk result (λ first. config_of first.one ≡ opening_config base.now) }
         ensures seen { IfOk result (λ first. first.seen ≡ 0) }
@@ -32,7 +34,9 @@ impl Following {
         })
     }
 
-    /// After the next event, where it can be seen.
+    /// Returns what follows after the next event, if it can be seen.
+    ///
+    /// May return `NoMemory`.
     pub fn after_event(self, events: &[Event]) -> Result<Option<Following>, NoMemory>
         ensures { IfOk result
             (λ found. (later : List Move) (end : Config)
@@ -50,7 +54,9 @@ impl Following {
         }
     }
 
-    /// After an effect, where it can be.
+    /// Returns what follows after an effect, if it can come about.
+    ///
+    /// May return `NoMemory`.
     pub fn after_effect(self, session: SessionNo, act: Act) -> Result<Option<Following>, NoMemory>
         ensures { IfOk result
             (λ found. (events : List Event) (later : List Move) (end : Config)
@@ -65,7 +71,7 @@ impl Following {
         }
     }
 
-    /// After a move, where it can be.
+    /// What follows after a move, if it can come about.
     fn after(self, events: &[Event], by: Move) -> Result<Option<Following>, NoMemory>
         ensures { IfOk result
             (λ found. (later : List Move) (end : Config) → LeadsOn events.now (Some self) (by ∷ later) end ↔ LeadsOn events.now found later end) }
@@ -77,7 +83,7 @@ impl Following {
     }
 }
 
-/// How things stand after the moves, where they lead through all of the events.
+/// The configuration after the moves, if they lead through all of the events.
 fn followed(
     alloc: Global,
     base: &Server,
@@ -101,32 +107,41 @@ fn followed(
     Ok(Some(here.one))
 }
 
-/// Whether the moves lead through all of the events, from this state of the server on.
+/// Tells whether the moves lead through all of the events, beginning with a server in the state of `base`.
 ///
-/// Errors: `NoMemory`. Takes memory for one copy of the server's records. Doesn't wait. Own rule: docs/HISTORIES.md#what-explains-a-record.
+/// Errors: `NoMemory` if an allocation failed.
+/// Takes memory for one copy of the server's records. Doesn't wait.
+/// Own rule: docs/HISTORIES.md#what-explains-a-record.
 pub fn follows(
     alloc: Global,
     base: &Server,
     events: &[Event],
     moves: &[Move],
 ) -> Result<bool, NoMemory>
+    // Proved (records, follows): `follows` answers yes exactly if the moves lead through all that was seen.
     ensures { IfOk result (λ yes. yes ≡ true ↔ Leads base.now events.now moves.now) }
 {
     Ok(followed(alloc, base, events, moves)?.is_some())
 }
 
-/// The server after the moves, where they lead through all of the events, from this state of the server on.
+/// Returns the server after the moves, if they lead through all of the events, beginning with a server in the
+/// state of `base`; else None.
 ///
-/// Errors: `NoMemory`. Takes memory for one copy of the server's records. Doesn't wait. Own rule: docs/HISTORIES.md#what-explains-a-record.
+/// Errors: `NoMemory` if an allocation failed.
+/// Takes memory for one copy of the server's records. Doesn't wait.
+/// Own rule: docs/HISTORIES.md#what-explains-a-record.
 pub fn server_after(
     alloc: Global,
     base: &Server,
     events: &[Event],
     moves: &[Move],
 ) -> Result<Option<Server>, NoMemory>
+    // Proved (records, server-after): The server that is returned for moves is the one to which they lead
+    //   through all that was seen; None is returned only if they don't lead through it.
     ensures found { IfOk result
         (λ found. IfSome found
         (λ server. (end : Config) × LeadsThrough (opening_config base.now) events.now moves.now end × (end.state ≡ server))) }
+    // Proved (records, server-after)
     ensures missing { IfOk result (λ found. found ≡ None → (end : Config) → LeadsThrough (opening_config base.now) events.now moves.now end → ⊥) }
 {
     match followed(alloc, base, events, moves)? {

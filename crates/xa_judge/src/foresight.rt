@@ -1,4 +1,4 @@
-//! What later events say of the calls that are open.
+//! What later events say about the calls that are open.
 
 use crate::client_state::ClientState;
 use crate::configuration::Configuration;
@@ -9,29 +9,29 @@ use crate::request::Request;
 use std::alloc::Global;
 use xa_xid::{NoMemory, SessionNo};
 
-/// One place for each session's number, and one more.
+/// One place for each session's number, and place 0, which no session has.
 const SESSIONS: usize = 17;
 
-/// How an effect fits.
+/// How an effect fits what its call returns.
 #[derive(Clone, Copy, Debug, PartialEq, Eq)]
 pub enum Fit {
-    /// It can't be, or is answered otherwise than its call returns.
+    /// It can't come about, or its answer isn't what the call returns.
     Not,
-    /// It fits, and changes nothing but what its session is about, now as at any time before its call returns.
+    /// It fits, and changes only how far its session is, now and at any time before the call returns.
     Quiet,
-    /// It fits.
+    /// It fits, and may change the server.
     Loud,
 }
 
-/// What is known, before an event, of what open calls return.
+/// What is known, before an event, about what open calls return.
 #[derive(Drop)]
 pub struct Foresight<'a> {
     events: &'a [Event],
-    /// At each session's number, what its last call returns, where that is known.
+    /// At each session's number, what its last call returns, if that is known.
     returns: Vec<Option<&'a Seen>>,
 }
 
-/// The session of which the event is.
+/// The session to which the event belongs.
 fn session_of(event: &Event) -> SessionNo {
     match event {
         Event::Call(session, _) => *session,
@@ -41,7 +41,7 @@ fn session_of(event: &Event) -> SessionNo {
     }
 }
 
-/// What the session's open call returns, from this place on, where that is known.
+/// What the session's open call returns, from this place on, if that is known.
 fn answer_ahead<'a>(events: &'a [Event], from: usize, session: SessionNo) -> Option<&'a Seen> {
     for place in from..events.len() {
         let event = events.get(place)?;
@@ -69,7 +69,7 @@ fn is_quiet(server: &KeptServer, session: SessionNo, request: &Request) -> Resul
     }
 }
 
-/// How what the session has called for fits, where its call returns this.
+/// How what the session has called for fits, if its call returns this.
 fn request_fit(
     server: &KeptServer,
     session: SessionNo,
@@ -88,7 +88,9 @@ fn request_fit(
 }
 
 impl<'a> Foresight<'a> {
-    /// Before all events.
+    /// Begins before all events.
+    ///
+    /// May return `NoMemory`.
     pub fn new(alloc: Global, events: &'a [Event]) -> Result<Foresight<'a>, NoMemory> {
         let mut returns = Vec::new(alloc);
         for _ in 0..SESSIONS {
@@ -97,7 +99,7 @@ impl<'a> Foresight<'a> {
         Ok(Foresight { events, returns })
     }
 
-    /// Behind the event at this place.
+    /// Goes on to after the event at this place.
     pub fn follow(&mut self, place: usize) {
         if let Some(Event::Call(session, _)) = self.events.get(place)
             && let Some(entry) = self.returns.get_mut(session.get() as usize)
@@ -106,7 +108,9 @@ impl<'a> Foresight<'a> {
         }
     }
 
-    /// How the effect fits. One whose answer isn't known fits where it can be.
+    /// Returns how the effect fits. An effect whose answer isn't known fits if it can come about.
+    ///
+    /// May return `NoMemory`.
     pub fn fit(&self, one: &Configuration, effect: &Effect) -> Result<Fit, NoMemory> {
         if !one.can_take_effect(effect.session, effect.act) {
             return Ok(Fit::Not);
@@ -120,7 +124,9 @@ impl<'a> Foresight<'a> {
         }
     }
 
-    /// How many sessions' calls could take effect, but for what they return.
+    /// Returns how many calls are stuck: each could take effect, but its answer would not be what it returns.
+    ///
+    /// May return `NoMemory`.
     pub fn stuck_count(&self, one: &Configuration) -> Result<usize, NoMemory> {
         let mut count: usize = 0;
         for number in 1..SESSIONS as u64 {

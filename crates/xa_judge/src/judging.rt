@@ -17,13 +17,17 @@ use std::alloc::Global;
 use xa_server::Server;
 use xa_xid::NoMemory;
 
-/// So many configurations are kept of each record at first. Most need no more, and one that does is known soon.
+/// How many configurations are kept at first: most records need no more, and one that does is known soon.
 const NARROW: usize = 8;
 
-/// Where so many events come before calls that overlap, one order is looked for first.
+/// From this number of events before calls overlap, one order is looked for first: the search needs only the
+/// rows that later calls name.
 const LONG: usize = 512;
 
-/// Whether any order explains the events, by all configurations in which they can end. So many come before them.
+/// Judges the events with all configurations in which they can end. `before` other events were judged
+/// already; it only counts for `progress`.
+///
+/// May return `NoMemory`.
 pub fn judge_in_breadth<P: Progress>(
     alloc: Global,
     base: &Server,
@@ -51,7 +55,7 @@ pub fn judge_in_breadth<P: Progress>(
     Ok(Verdict::Legal(path_of(trunk, known.as_slice())?))
 }
 
-/// The verdict by so few configurations that most records need no more, where they are enough.
+/// The verdict with at most `NARROW` configurations, if these are enough.
 fn judge_narrow<P: Progress>(
     alloc: Global,
     base: &Server,
@@ -68,7 +72,7 @@ fn judge_narrow<P: Progress>(
     }
 }
 
-/// The verdict where a search for one order finds moves that lead through all of the events.
+/// The verdict LEGAL, if a search for one order finds moves that lead through all of the events.
 fn judge_by_search<P: Progress>(
     alloc: Global,
     base: &Server,
@@ -90,7 +94,8 @@ fn judge_by_search<P: Progress>(
     }
 }
 
-/// The verdict where so many events come before calls that overlap that only the rows that these name are looked at, where that is enough.
+/// The verdict for a record with many events before calls overlap, if it is enough to look at the rows that
+/// later calls name.
 fn judge_long<P: Progress>(
     alloc: Global,
     base: &Server,
@@ -106,9 +111,11 @@ fn judge_long<P: Progress>(
     }
 }
 
-/// Whether any order explains the events, as `judge` says; `progress` is told how far it is.
+/// Judges the events as `judge` does, and tells `progress` how far it is.
 ///
-/// Errors: `NoMemory`. Takes memory as `judge` does. Doesn't wait. Own rule: docs/HISTORIES.md.
+/// Errors: `NoMemory` if an allocation failed.
+/// Takes memory as `judge` does. Doesn't wait.
+/// Own rule: docs/HISTORIES.md#verdicts.
 pub fn judge_telling<P: Progress>(
     alloc: Global,
     base: &Server,
@@ -116,6 +123,10 @@ pub fn judge_telling<P: Progress>(
     limit: usize,
     progress: &mut P,
 ) -> Result<Verdict, NoMemory>
+    // Proved (records, legal)
+    // Proved (records, illegal)
+    // Proved (records, illegal-answers)
+    // Proved (records, undecided)
     ensures { IfOk result (IsVerdict base.now events.now limit) }
 {
     let alone = count_alone(events);
@@ -132,19 +143,29 @@ pub fn judge_telling<P: Progress>(
     judge_in_breadth(alloc, base, 0, events, limit, progress)
 }
 
-/// Whether any order explains the events, from this state of the server on.
+/// Returns the verdict whether any order explains the events, beginning with a server in the state of `base`.
 ///
-/// At most `limit` configurations are kept before a return. Where more than a few would be, or 512 events come before calls that
-/// overlap, one order is looked for first.
-/// Errors: `NoMemory`. Takes memory for the configurations; up to 256 have each a copy of the server's records, more share those.
-/// Doesn't wait.
-/// Own rule: docs/HISTORIES.md.
+/// If more than `limit` different configurations can precede an event, the verdict is `Undecided`. If eight
+/// aren't enough, or 512 or more events come before calls overlap, one order is looked for before all
+/// configurations are kept. Identifiers that a call returns have to be in ascending order.
+/// Errors: `NoMemory` if an allocation failed.
+/// Takes memory for the configurations: in a list of up to 255 each has a copy of the server's records, as
+/// long as 128 MiB hold these by an estimate; others share those of one server. Doesn't wait.
+/// Own rule: docs/HISTORIES.md#verdicts.
 pub fn judge(
     alloc: Global,
     base: &Server,
     events: &[Event],
     limit: usize,
 ) -> Result<Verdict, NoMemory>
+    // Proved (records, legal): LEGAL comes with moves that lead through all that was seen, so an order of the
+    //   statements explains it.
+    // Proved (records, illegal): ILLEGAL names a place. An order explains what was seen before it, and no
+    //   order explains also what was seen there, or all that was seen.
+    // Proved (records, illegal-answers): The answers listed at ILLEGAL are all that some order of what was
+    //   seen before gives the call that returns there, and no others.
+    // Proved (records, undecided): UNDECIDED is returned only if the events before its place lead to more
+    //   configurations than allowed, no two of them the same.
     ensures { IfOk result (IsVerdict base.now events.now limit) }
 {
     judge_telling(alloc, base, events, limit, &mut Silent)

@@ -1,4 +1,4 @@
-//! An answer as configurations keep it.
+//! Answers as configurations keep them.
 ghost use Rattle.std.specs.Prelude.{◌≡◌, true, IfOk};
 ghost use Rattle.xa_judge.specs.Answers.{answer_kept};
 
@@ -13,7 +13,7 @@ use xa_xid::{NoMemory, Xid};
 pub enum KeptAnswer {
     /// The answer itself.
     Whole(Answer),
-    /// The list of these identifiers, which other lists have too.
+    /// A list of these identifiers, which other lists may own too.
     Listed(Vec<SharedXid>),
 }
 
@@ -27,7 +27,7 @@ fn is_list_of(answer: &Answer, xids: &[Xid]) -> bool
     }
 }
 
-/// Whether an answer is known to be the list of these identifiers, which other lists have too.
+/// Whether an answer is known to be the list of these identifiers, which other lists may own too.
 fn is_listed(answer: &Answer, xids: &[SharedXid]) -> bool
     ensures { result ≡ true → answer.now ≡ Answer.Reply (Reply.Recovered xids.now) }
 {
@@ -37,7 +37,7 @@ fn is_listed(answer: &Answer, xids: &[SharedXid]) -> bool
     }
 }
 
-/// The identifiers by themselves.
+/// Copies of the identifiers.
 fn apart(alloc: Global, xids: &[SharedXid]) -> Result<Vec<Xid>, NoMemory>
     ensures { IfOk result (λ list. list.items ≡ xids.now) }
 {
@@ -49,7 +49,9 @@ fn apart(alloc: Global, xids: &[SharedXid]) -> Result<Vec<Xid>, NoMemory>
 }
 
 impl KeptAnswer {
-    /// The answer by itself.
+    /// Returns the answer by itself.
+    ///
+    /// May return `NoMemory`.
     pub fn copy(&self, alloc: Global) -> Result<Answer, NoMemory>
         ensures { IfOk result (λ answer. answer ≡ answer_kept self.now) }
     {
@@ -62,7 +64,7 @@ impl KeptAnswer {
         }
     }
 
-    /// Whether it is known to be this answer.
+    /// Tells whether it is known to be this answer.
     pub fn is(&self, other: &Answer) -> bool
         ensures { result ≡ true → answer_kept self.now ≡ other.now }
     {
@@ -72,7 +74,7 @@ impl KeptAnswer {
         }
     }
 
-    /// Whether it is known to be the list of these identifiers.
+    /// Tells whether it is known to be the list of these identifiers.
     pub fn is_list(&self, xids: &[Xid]) -> bool
         ensures { result ≡ true → answer_kept self.now ≡ Answer.Reply (Reply.Recovered xids.now) }
     {
@@ -82,7 +84,7 @@ impl KeptAnswer {
         }
     }
 
-    /// Whether both are known to be the same.
+    /// Tells whether both are known to be the same.
     pub fn is_same(&self, other: &KeptAnswer) -> bool
         ensures { result ≡ true → answer_kept self.now ≡ answer_kept other.now }
     {

@@ -1,4 +1,4 @@
-//! Servers that are kept by what they carried out.
+//! Servers that are kept as the requests that they carried out.
 ghost use Rattle.std.specs.Prelude.{◌≡◌, true, IfOk, OnOk, IfSome};
 ghost use Rattle.xa_judge.specs.Explained.{answer_to, next_state};
 ghost use Rattle.xa_judge.specs.Kept.{state_since, state_past};
@@ -16,11 +16,12 @@ use std::sync::Arc;
 use xa_server::Server;
 use xa_xid::{NoMemory, SessionNo};
 
-/// What carried out so many requests since isn't kept so for long.
+/// From this number of requests on, a server gets records of its own if there is room: to carry the requests
+/// out at each look takes long.
 const MUCH: usize = 128;
 
-/// A server, kept as one that several share and what it carried out since, the older part in blocks that several share too. A
-/// contract sees its state.
+/// A server, kept as another one that several share and the requests that it carried out since. The older
+/// ones are in blocks, which several share too. A contract sees the server's state.
 #[derive(Drop)]
 pub struct KeptServer {
     base: Arc<Server>,
@@ -41,7 +42,7 @@ impl Model for KeptServer {
     ghost view = { λ kept. state_since (state_past kept.base.value kept.before.items) kept.since.items };
 }
 
-/// Has a server carry out what another one did that was as it is.
+/// Has a server carry out requests that another server in the same state carried out.
 fn carry_out_all(server: &mut Server, since: &[Done]) -> Result<(), NoMemory>
     ensures { OnOk result (server.new ≡ state_since server.old since.now) }
 {
@@ -51,7 +52,7 @@ fn carry_out_all(server: &mut Server, since: &[Done]) -> Result<(), NoMemory>
     Ok(())
 }
 
-/// Has a server carry out what is in the blocks.
+/// Has a server carry out the requests of the blocks.
 fn carry_out_blocks(server: &mut Server, before: &[DoneBlock]) -> Result<(), NoMemory>
     ensures { OnOk result (server.new ≡ state_past server.old before.now) }
 {
@@ -62,7 +63,9 @@ fn carry_out_blocks(server: &mut Server, before: &[DoneBlock]) -> Result<(), NoM
 }
 
 impl KeptServer {
-    /// A server, kept as itself.
+    /// Keeps a server as itself.
+    ///
+    /// May return `NoMemory`.
     pub fn of(alloc: Global, server: Server) -> Result<KeptServer, NoMemory>
         ensures { IfOk result (λ kept. kept ≡ server) }
     {
@@ -74,7 +77,7 @@ impl KeptServer {
         })
     }
 
-    /// Whether it carried out so much that it takes long to make it again.
+    /// Tells whether it carried out so many requests that it takes long to make it again.
     pub fn did_much(&self) -> bool {
         let mut count = self.since.len();
         for block in self.before.iter() {
@@ -83,12 +86,12 @@ impl KeptServer {
         count >= MUCH
     }
 
-    /// Where its memory comes from.
+    /// Returns the allocator of its memory.
     pub fn alloc(&self) -> Global {
         self.alloc
     }
 
-    /// A copy, over the same one.
+    /// A copy that is kept over the same server.
     fn copy(&self) -> Result<KeptServer, NoMemory>
         ensures { IfOk result (λ copy. copy ≡ self.now) }
     {
@@ -100,7 +103,9 @@ impl KeptServer {
         })
     }
 
-    /// Puts what it carried out since into a block, one that is there where it can be.
+    /// Puts the requests since the last block into a block, one that is kept already if possible.
+    ///
+    /// May return `NoMemory`.
     pub fn fold(&mut self, shared: &mut DoneBlocks) -> Result<(), NoMemory>
         ensures { OnOk result (self.new ≡ self.old) }
     {
@@ -113,7 +118,7 @@ impl KeptServer {
         Ok(())
     }
 
-    /// The server, where it is kept as itself.
+    /// Returns the server if it is kept as itself.
     pub fn own(&self) -> Option<&Server>
         ensures { IfSome result (λ server. server.now ≡ self.now) }
     {
@@ -124,8 +129,12 @@ impl KeptServer {
         }
     }
 
-    /// The server, made anew.
+    /// Makes the server: a copy of the shared one that carries the requests out.
+    ///
+    /// May return `NoMemory`.
     pub fn made(&self) -> Result<Server, NoMemory>
+        // Proved (records, kept-server): However a configuration keeps its server, it is seen as the state
+        //   that it is in, and made again in that state. Keeping it in another way changes nothing.
         ensures { IfOk result (λ server. server ≡ self.now) }
     {
         let mut server = self.base.copy()?;
@@ -134,7 +143,9 @@ impl KeptServer {
         Ok(server)
     }
 
-    /// The server.
+    /// Makes the server, without a copy if no other shares it.
+    ///
+    /// May return `NoMemory`.
     pub fn into_server(self) -> Result<Server, NoMemory>
         ensures { IfOk result (λ server. server ≡ self) }
     {
@@ -153,14 +164,18 @@ impl KeptServer {
         Ok(server)
     }
 
-    /// A copy that is kept as itself.
+    /// Returns a copy that is kept as itself.
+    ///
+    /// May return `NoMemory`.
     pub fn apart(&self) -> Result<KeptServer, NoMemory>
         ensures { IfOk result (λ copy. copy ≡ self.now) }
     {
         KeptServer::of(self.alloc, self.made()?)
     }
 
-    /// The same, kept as itself.
+    /// Returns the same server, kept as itself.
+    ///
+    /// May return `NoMemory`.
     pub fn whole(self) -> Result<KeptServer, NoMemory>
         ensures { IfOk result (λ whole. whole ≡ self) }
     {
@@ -170,7 +185,9 @@ impl KeptServer {
         self.apart()
     }
 
-    /// What the session's request would be answered.
+    /// Returns what the session's request would be answered.
+    ///
+    /// May return `NoMemory`.
     pub fn answer(&self, session: SessionNo, request: &Request) -> Result<Answer, NoMemory>
         ensures { IfOk result (λ answer. answer ≡ answer_to self.now session request.now) }
     {
@@ -180,8 +197,11 @@ impl KeptServer {
         }
     }
 
-    /// The server after the session's request, over the same one.
+    /// Returns the server after the session's request, kept over the same one.
+    ///
+    /// May return `NoMemory`.
     pub fn after(&self, session: SessionNo, request: &SharedRequest) -> Result<KeptServer, NoMemory>
+        // Proved (records, kept-server)
         ensures { IfOk result (λ new. new ≡ next_state self.now session request.now) }
     {
         let mut new = self.copy()?;
@@ -192,7 +212,7 @@ impl KeptServer {
         Ok(new)
     }
 
-    /// The server after the session's request, over the same one, and what that is answered.
+    /// The server after the session's request, kept over the same one, and the answer.
     fn answered(
         &self,
         session: SessionNo,
@@ -205,7 +225,10 @@ impl KeptServer {
         Ok((self.after(session, request)?, answer))
     }
 
-    /// The server after the session's request, and what that is answered. It is kept as itself where it was and no other shares it.
+    /// Returns the server after the session's request, and the answer. It stays kept as itself if it was and
+    /// no other shares it.
+    ///
+    /// May return `NoMemory`.
     pub fn carried_out(
         self,
         session: SessionNo,
@@ -238,7 +261,7 @@ impl KeptServer {
         }
     }
 
-    /// Whether this is known to be the server.
+    /// Whether it is known to be the same as this server.
     fn is_like(&self, server: &Server) -> Result<bool, NoMemory>
         ensures { IfOk result (λ same. same ≡ true → self.now ≡ server.now) }
     {
@@ -248,7 +271,9 @@ impl KeptServer {
         }
     }
 
-    /// Whether both are known to be in the same state.
+    /// Tells whether both are known to be in the same state.
+    ///
+    /// May return `NoMemory`.
     pub fn is_same(&self, other: &KeptServer) -> Result<bool, NoMemory>
         ensures { IfOk result (λ same. same ≡ true → self.now ≡ other.now) }
     {

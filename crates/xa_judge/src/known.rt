@@ -12,13 +12,16 @@ use std::alloc::Global;
 use xa_server::Server;
 use xa_xid::{NoMemory, SessionNo};
 
-/// Lists that are shorter are looked through place by place: a fingerprint costs more than a few comparisons.
+/// Shorter lists are looked through place by place: a fingerprint costs more than a few comparisons.
 const LONG: usize = 16;
 
-/// In lists that are shorter each configuration has a server of its own, where there is room.
+/// In shorter lists each configuration has a server of its own, if there is room: a longer one would take too
+/// many copies.
 const WIDE: usize = 256;
 
-/// The one configuration before all events.
+/// Returns the list with the only configuration before all events.
+///
+/// May return `NoMemory`.
 pub fn opening(alloc: Global, base: &Server) -> Result<Vec<Configuration>, NoMemory>
     ensures { IfOk result (λ known. IsOpening base.now known.items) }
 {
@@ -27,7 +30,7 @@ pub fn opening(alloc: Global, base: &Server) -> Result<Vec<Configuration>, NoMem
     Ok(known)
 }
 
-/// Whether things are known to stand so in a configuration of the list.
+/// Whether a configuration of the list is known to be the same.
 fn is_among(known: &[Configuration], one: &Configuration) -> Result<bool, NoMemory>
     ensures { IfOk result (λ found. found ≡ true → Has known.now (config_of one.now)) }
 {
@@ -39,7 +42,7 @@ fn is_among(known: &[Configuration], one: &Configuration) -> Result<bool, NoMemo
     Ok(false)
 }
 
-/// Whether the list has this place, and things are known to stand so there.
+/// Whether the list has this place, and the configuration there is known to be the same.
 fn is_at(known: &[Configuration], place: usize, one: &Configuration) -> Result<bool, NoMemory>
     ensures { IfOk result (λ found. found ≡ true → Has known.now (config_of one.now)) }
 {
@@ -52,7 +55,7 @@ fn is_at(known: &[Configuration], place: usize, one: &Configuration) -> Result<b
     }
 }
 
-/// Whether things are known to stand so at one of the places that have the configuration's fingerprint.
+/// Whether one of the places with the configuration's fingerprint has one that is known to be the same.
 fn is_marked(
     known: &[Configuration],
     index: &mut FingerprintIndex,
@@ -75,7 +78,7 @@ fn is_marked(
     Ok(false)
 }
 
-/// Whether things are known to stand so in a configuration of the list.
+/// Whether a configuration of the list is known to be the same.
 fn is_known(
     known: &[Configuration],
     index: &mut FingerprintIndex,
@@ -90,7 +93,9 @@ fn is_known(
     is_marked(known, index, one)
 }
 
-/// Adds a configuration, unless things are known to stand so in one that is there.
+/// Adds a configuration, unless one of the list is known to be the same.
+///
+/// May return `NoMemory`.
 pub fn add(
     known: &mut Vec<Configuration>,
     index: &mut FingerprintIndex,
@@ -105,8 +110,12 @@ pub fn add(
     index.note(known.len())
 }
 
-/// The same, as a list of `count` is to keep it, where servers have so many records.
+/// Returns the same configuration, kept as a list of `count` configurations keeps it whose servers have
+/// `records` records.
+///
+/// May return `NoMemory`.
 pub fn fit(one: Configuration, count: usize, records: usize) -> Result<Configuration, NoMemory>
+    // Proved (records, kept-server)
     ensures { IfOk result (λ same. same ≡ one) }
 {
     if has_room(count, records) && (count < WIDE || one.server.did_much()) {
@@ -116,7 +125,7 @@ pub fn fit(one: Configuration, count: usize, records: usize) -> Result<Configura
     }
 }
 
-/// The configuration to which the session's act leads from the one at this place, as a list of these keeps it.
+/// The configuration to which the session's act leads from the one at this place, kept as this list keeps it.
 fn fitting(
     known: &[Configuration],
     records: usize,
@@ -135,7 +144,8 @@ fn fitting(
     next.over(&known[place], session, act)
 }
 
-/// Adds the configuration to which the session's act leads from the one at this place, unless things are known to stand so.
+/// Adds the configuration to which the session's act leads from the one at this place, unless one of the list
+/// is known to be the same.
 fn add_next(
     known: &mut Vec<Configuration>,
     index: &mut FingerprintIndex,
@@ -258,8 +268,10 @@ fn add_all(
     Ok(())
 }
 
-/// Adds what acts of other sessions than `returning` lead to from the configuration at this place, unless `returning` is one
-/// that was answered there.
+/// Adds what acts of sessions other than `returning` lead to from the configuration at this place, unless
+/// `returning` was answered there.
+///
+/// May return `NoMemory`.
 pub fn expand(
     known: &mut Vec<Configuration>,
     index: &mut FingerprintIndex,

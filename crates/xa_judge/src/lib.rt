@@ -1,4 +1,10 @@
-//! Whether any order explains what clients of a server saw, with a verdict that is proved either way.
+//! Says whether any order of statements explains what clients of a server saw, with a verdict that is proved
+//! either way.
+//!
+//! `judge` takes what was seen as a list of events, and returns a verdict: the moves of an order that
+//! explains them, the event that no order explains, or the event where the search passed its limit. Read
+//! docs/HISTORIES.md#what-explains-a-record, then `specs/Explained.antt` and `src/judging.rt`. README.md
+//! explains the search.
 #![tactic(auto)]
 
 mod acting;

@@ -1,7 +1,7 @@
 //! How a record begins, before calls overlap.
 //!
-//! A test bench often fills its tables first, one call after another. A search for an order needs none of those rows that no later call
-//! names, and each copy of its server is then small.
+//! A test bench often fills its tables first, one call after another. A search for an order needs none of the
+//! rows that no later call names. Without them each copy of its server is small.
 
 use crate::event::Event;
 use crate::fingerprints::mark_of_key;
@@ -12,7 +12,7 @@ use std::collections::BTreeSet;
 use xa_server::Server;
 use xa_xid::{Key, NoMemory, Statement};
 
-/// The row that the statement names, if it does.
+/// The row that the statement names, if it names one.
 fn key_of(statement: &Statement) -> Option<&Key> {
     match statement {
         Statement::Get(key) => Some(key),
@@ -22,7 +22,7 @@ fn key_of(statement: &Statement) -> Option<&Key> {
     }
 }
 
-/// The row that the event calls for, if it does.
+/// Returns the row that the event calls for, if it calls for one.
 pub fn key_called(event: &Event) -> Option<&Key> {
     match event {
         Event::Call(_, request) => match request.request() {
@@ -33,7 +33,7 @@ pub fn key_called(event: &Event) -> Option<&Key> {
     }
 }
 
-/// Whether a call stands at this place, and its return right behind it.
+/// Whether a call is at this place, and its return directly after it.
 fn is_alone(events: &[Event], place: usize) -> bool {
     match events.get(place) {
         Some(Event::Call(session, _)) => match events.get(place.saturating_add(1)) {
@@ -44,7 +44,7 @@ fn is_alone(events: &[Event], place: usize) -> bool {
     }
 }
 
-/// How many events there are before calls overlap: each call returns before the next one.
+/// Returns how many events there are before calls overlap. Until then each call returns before the next one.
 pub fn count_alone(events: &[Event]) -> usize {
     for pair in 0..events.len() / 2 {
         let place = pair.saturating_mul(2);
@@ -66,7 +66,10 @@ fn rows_called(alloc: Global, events: &[Event]) -> Result<BTreeSet<u64>, NoMemor
     Ok(rows)
 }
 
-/// The server after the first events, in which each call is alone, but without the rows that no later one calls for.
+/// Returns the server after the first events, in which calls don't overlap, but without the rows that no
+/// later event calls for.
+///
+/// May return `NoMemory`.
 pub fn server_for(
     alloc: Global,
     base: &Server,
@@ -89,7 +92,9 @@ pub fn server_for(
     Ok(server)
 }
 
-/// The moves through events in which each call is alone.
+/// Returns the moves through events in which calls don't overlap.
+///
+/// May return `NoMemory`.
 pub fn moves_alone(alloc: Global, first: &[Event]) -> Result<Vec<Move>, NoMemory> {
     let mut moves = Vec::new(alloc);
     for event in first {

@@ -2,12 +2,12 @@
 
 use xa_xid::SessionNo;
 
-/// What of a session takes effect.
+/// What of a session can take effect.
 #[derive(Clone, Copy, Debug, PartialEq, Eq)]
 pub enum Act {
     /// The statement that it called for.
     Statement,
-    /// Its DISCONNECT, once its client is gone.
+    /// Its `DISCONNECT`, after its client is gone.
     Disconnect,
 }
 

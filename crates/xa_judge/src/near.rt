@@ -1,7 +1,8 @@
-//! Judges what stands behind calls that don't overlap, on a server without the rows that it doesn't name.
+//! Judges what comes after calls that don't overlap, on a server without the rows that this part doesn't
+//! name.
 //!
-//! A test bench often fills its tables first, one call after another. What its other calls are answered doesn't depend on rows that
-//! none of them names, and a server without these is soon copied.
+//! A test bench often fills its tables first, one call after another. The answers to its other calls don't
+//! depend on rows that none of them names, and a server without these rows is soon copied.
 ghost use Rattle.std.specs.Prelude.{◌≡◌, ◌+◌, ◌<◌, ◌^◌, ◌++◌, true, false, length, IfOk, IfSome, OnOk};
 ghost use Rattle.std.specs.List.{All};
 ghost use Rattle.xa_server.specs.State.{State, association_of};
@@ -36,7 +37,7 @@ fn keys_called(alloc: Global, events: &[Event]) -> Result<BTreeSet<Key>, NoMemor
     Ok(keys)
 }
 
-/// Whether the request reads no row but those of these keys.
+/// Whether the request reads only rows with these keys.
 fn reads_named(keys: &BTreeSet<Key>, request: &Request) -> bool
     ensures { result ≡ true → ReadsNamed (named_in keys.now) request.now }
 {
@@ -46,7 +47,7 @@ fn reads_named(keys: &BTreeSet<Key>, request: &Request) -> bool
     }
 }
 
-/// Whether the event calls for nothing but what reads rows of these keys.
+/// Whether the event, if it is a call, reads only rows with these keys.
 fn calls_named(keys: &BTreeSet<Key>, event: &Event) -> bool
     ensures { result ≡ true → CallsNamed (named_in keys.now) event.now }
 {
@@ -58,7 +59,7 @@ fn calls_named(keys: &BTreeSet<Key>, event: &Event) -> bool
     }
 }
 
-/// Whether all events do so.
+/// Whether that is so of all events.
 fn all_named(keys: &BTreeSet<Key>, events: &[Event]) -> bool
     ensures { result ≡ true → All (CallsNamed (named_in keys.now)) events.now }
 {
@@ -70,7 +71,7 @@ fn all_named(keys: &BTreeSet<Key>, events: &[Event]) -> bool
     true
 }
 
-/// Whether a session that is answered so to an XA END has nothing open.
+/// Whether this reply to an `XA END` says that its session has nothing open.
 fn tells_free(reply: &Reply) -> bool
     ensures { result ≡ true → reply.now ≡ Reply.Refused (XaError.Rmfail BranchState.NonExisting) }
 {
@@ -112,7 +113,7 @@ fn is_apart(
     is_free(server, session)
 }
 
-/// Whether the session's statement only writes a row of another key than these, and at once.
+/// Whether the session's statement only writes a row with another key than these, outside a branch.
 fn is_left_out(
     server: &Server,
     keys: &BTreeSet<Key>,
@@ -135,7 +136,7 @@ fn is_left_out(
     }
 }
 
-/// Has the near server carry out the session's statement, or leaves it out, where it can be.
+/// Has the near server carry out the session's statement, or leaves it out if that is possible.
 #[tactic(auto, using(crate::proofs::NearStates::near_after))]
 fn carry_out_near(
     full: &Server,
@@ -153,7 +154,7 @@ fn carry_out_near(
     Ok(())
 }
 
-/// So it is with the session's request.
+/// Does the same with the session's request.
 fn follow(
     full: &Server,
     near: &mut Server,
@@ -169,7 +170,8 @@ fn follow(
     }
 }
 
-/// Has the server carry out the call, and a near one what it needs of it; and answers whether what was seen shows the answer.
+/// Has the server carry out the call, and the near server what it needs of it. Answers whether what was seen
+/// shows the answer.
 fn shows_alone(
     full: &mut Server,
     near: &mut Server,
@@ -187,8 +189,8 @@ fn shows_alone(
     Ok(call.seen.shows(&answer))
 }
 
-/// Near the server after the first events, in which each call is to be alone, one without the rows of other keys; or none, where a call
-/// isn't alone, or not answered so.
+/// A server near the one after the first events, without the rows with other keys; or None if a call overlaps
+/// another one, or wasn't answered so.
 fn loaded(base: &Server, first: &[Event], keys: &BTreeSet<Key>) -> Result<Option<Server>, NoMemory>
     ensures { IfOk result (λ found. IfSome found
         (λ near. (full : State) × IsLoadedTo base.now first.now full × AreNear (named_in keys.now) full near)) }
@@ -209,7 +211,8 @@ fn loaded(base: &Server, first: &[Event], keys: &BTreeSet<Key>) -> Result<Option
     Ok(Some(near))
 }
 
-/// The verdict where the moves lead through the later of all events, behind those through the first, in which each call is alone.
+/// The verdict LEGAL, if the moves for the later events lead on from those for the first events, in which
+/// calls don't overlap.
 fn legal_behind(
     alloc: Global,
     base: &Server,
@@ -231,7 +234,7 @@ fn legal_behind(
     }
 }
 
-/// The verdict on the later of all events by a server that is near the one to which the first lead, where it gives one.
+/// The verdict on the later events, by a server near the one to which the first events lead, if it gives one.
 fn judge_later<P: Progress>(
     alloc: Global,
     base: &Server,
@@ -259,7 +262,10 @@ fn judge_later<P: Progress>(
     }
 }
 
-/// The verdict by what stands behind calls that don't overlap, on a server without the rows that it doesn't name, where that gives one.
+/// Returns the verdict by what comes after calls that don't overlap, on a server without the rows that this
+/// part doesn't name; or None if that gives no verdict.
+///
+/// May return `NoMemory`.
 pub fn judge_behind<P: Progress>(
     alloc: Global,
     base: &Server,
@@ -267,6 +273,8 @@ pub fn judge_behind<P: Progress>(
     limit: usize,
     progress: &mut P,
 ) -> Result<Option<Verdict>, NoMemory>
+    // Proved (records, named-rows-only): A verdict that is found after calls that don't overlap, on a server
+    //   without the rows that no later call names, is right for the whole record.
     ensures { IfOk result (λ found. IfSome found (IsVerdict base.now events.now limit)) }
 {
     let (first, later) = events.split_at(count_alone(events).min(events.len()));

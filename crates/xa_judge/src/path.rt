@@ -10,15 +10,17 @@ use std::marker::Model;
 use std::mem;
 use xa_xid::{NoMemory, SessionNo};
 
-/// The code of a session's DISCONNECT is so much greater than that of its statement.
+/// The code of a session's `DISCONNECT` is its number plus this; its statement's code is the number itself,
+/// from 1 to 16.
 const DISCONNECT: u8 = 16;
 
-/// The moves that led to a configuration, the older ones in blocks that others can share. A contract sees the list of them.
+/// The moves that led to a configuration. The older ones are in blocks, which other paths can share. A
+/// contract sees the list of moves.
 #[derive(Drop)]
 pub struct Path {
-    /// The codes of the older ones.
+    /// The codes of the older moves.
     blocks: Vec<Block>,
-    /// The codes of those behind.
+    /// The codes of the moves after them.
     tail: Vec<u8>,
 }
 
@@ -90,7 +92,7 @@ fn add_blocks(moves: &mut Vec<Move>, blocks: &[Block]) -> Result<(), NoMemory>
 }
 
 impl Path {
-    /// No moves.
+    /// Returns a path without moves.
     pub fn new(alloc: Global) -> Path
         ensures { result ≡ [] }
     {
@@ -100,7 +102,9 @@ impl Path {
         }
     }
 
-    /// A copy, which shares the blocks.
+    /// Returns a copy, which shares the blocks.
+    ///
+    /// May return `NoMemory`.
     pub fn copy(&self) -> Result<Path, NoMemory>
         ensures { IfOk result (λ copy. copy ≡ self.now) }
     {
@@ -110,7 +114,9 @@ impl Path {
         })
     }
 
-    /// With a move more.
+    /// Adds a move.
+    ///
+    /// May return `NoMemory`.
     pub fn push(&mut self, by: Move) -> Result<(), NoMemory>
         ensures { OnOk result (self.new ≡ self.old ++ by ∷ []) }
     {
@@ -126,7 +132,9 @@ impl Path {
         self.tail.clear();
     }
 
-    /// Puts the moves behind into a block, one that is there where it can be.
+    /// Puts the newer moves into a block, one that is kept already if possible.
+    ///
+    /// May return `NoMemory`.
     pub fn fold(&mut self, alloc: Global, shared: &mut Blocks) -> Result<(), NoMemory>
         ensures { OnOk result (self.new ≡ self.old) }
     {
@@ -137,6 +145,8 @@ impl Path {
     }
 
     /// Adds its moves to others.
+    ///
+    /// May return `NoMemory`.
     pub fn add_to(&self, moves: &mut Vec<Move>) -> Result<(), NoMemory>
         ensures { OnOk result (moves.new.items ≡ moves.old.items ++ self.now) }
     {

@@ -1,15 +1,16 @@
-//! How far judging is.
+//! Tells how far judging is.
 
-/// Is told how far judging is.
+/// Takes note of how far judging is.
 pub trait Progress {
-    /// So many events are judged, of so many; after these things can stand in so many ways, as far as they are looked at.
+    /// Takes note that `done` of `all` events are judged, after which this many configurations are kept.
     ///
-    /// It is called before each event that is gone through, and where some are gone through once more, before these again. Events before
-    /// calls that overlap, where they are left out, and those along which an order that was found is followed, aren't told.
+    /// It is called before each event that is judged. If some events are judged once more, it is called
+    /// before each of them again. It isn't called for events before calls overlap if these are left out, nor
+    /// for events along which a found order is checked.
     fn judged(&mut self, done: u64, all: u64, configurations: u64);
 }
 
-/// Who doesn't ask how far judging is.
+/// Takes no notice of how far judging is.
 #[derive(Clone, Copy, Debug, Drop)]
 pub struct Silent;
 

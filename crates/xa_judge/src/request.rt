@@ -1,4 +1,4 @@
-//! What a session calls for.
+//! What sessions call for.
 ghost use Rattle.std.specs.Prelude.{◌≡◌, true, IfOk, OnOk};
 ghost use Rattle.xa_judge.specs.Explained.{answer_to, next_state};
 
@@ -23,7 +23,7 @@ fn is_same_statement(left: &Statement, right: &Statement) -> bool
 }
 
 impl Request {
-    /// Whether both are known to be the same.
+    /// Tells whether both are known to be the same.
     pub(crate) fn is_same(&self, other: &Request) -> bool
         ensures { result ≡ true → self.now ≡ other.now }
     {
@@ -36,7 +36,9 @@ impl Request {
         }
     }
 
-    /// What it would be answered.
+    /// Returns what it would be answered.
+    ///
+    /// May return `NoMemory`.
     pub(crate) fn answer(&self, server: &Server, session: SessionNo) -> Result<Answer, NoMemory>
         ensures { IfOk result (λ answer. answer ≡ answer_to server.now session self.now) }
     {
@@ -48,7 +50,9 @@ impl Request {
         }
     }
 
-    /// Has it take effect, and gives its answer.
+    /// Has it take effect, and returns its answer.
+    ///
+    /// May return `NoMemory`.
     pub(crate) fn carry_out(
         &self,
         server: &mut Server,

@@ -1,17 +1,18 @@
-//! For how many servers there is room.
+//! An estimate of how many servers memory has room for.
 
-/// So many bytes may copies of a server take at most.
+/// How many bytes copies of a server may take, by the estimate: 128 MiB, which a usual machine has to spare.
 const BYTES: usize = 134_217_728;
 
-/// What a server takes at most beside its records, and for each of them.
+/// What a server takes at most in addition to its records, in bytes.
 const SERVER: usize = 32_768;
 
+/// What a server takes at most for each record of a row or a branch, in bytes.
 const RECORD: usize = 512;
 
-/// There is no room for a server with more records.
+/// No server with more records has room.
 pub const MOST_RECORDS: usize = BYTES / RECORD;
 
-/// Whether there is room for so many servers with so many records of rows and branches.
+/// Tells whether there is room for `count` servers with this many records of rows and branches each.
 pub fn has_room(count: usize, records: usize) -> bool {
     let each = records.saturating_mul(RECORD).saturating_add(SERVER);
     count.saturating_mul(each) <= BYTES

@@ -6,14 +6,14 @@ ghost use Rattle.xa_judge.specs.Explained.{same_text, same_values, same_rows};
 use xa_server::SharedXid;
 use xa_xid::{Bytes, Xid};
 
-/// Whether two identifiers are one.
+/// Whether two identifiers are the same.
 fn is_one(left: &Xid, right: &Xid) -> bool
     ensures { result ≡ same_xid left.now right.now }
 {
     left.cmp(right).is_eq()
 }
 
-/// Whether two identifiers are one.
+/// Tells whether two identifiers are the same.
 pub fn is_same_xid(left: &Xid, right: &Xid) -> bool
     ensures exact { result ≡ same_xid left.now right.now }
     ensures same { result ≡ true → left.now ≡ right.now }
@@ -21,7 +21,7 @@ pub fn is_same_xid(left: &Xid, right: &Xid) -> bool
     is_one(left, right)
 }
 
-/// Whether two texts have the same bytes.
+/// Tells whether two texts have the same bytes.
 pub fn is_same_text(left: &Bytes, right: &Bytes) -> bool
     ensures exact { result ≡ same_text left.now right.now }
     ensures same { result ≡ true → left.now ≡ right.now }
@@ -29,7 +29,7 @@ pub fn is_same_text(left: &Bytes, right: &Bytes) -> bool
     left.as_slice() == right.as_slice()
 }
 
-/// Whether two values are the same, or neither is there.
+/// Tells whether two values are the same, or both are missing.
 pub fn is_same_value(left: &Option<Bytes>, right: &Option<Bytes>) -> bool
     ensures exact { result ≡ same_values left.now right.now }
     ensures same { result ≡ true → left.now ≡ right.now }
@@ -46,7 +46,7 @@ pub fn is_same_value(left: &Option<Bytes>, right: &Option<Bytes>) -> bool
     }
 }
 
-/// Whether two lists have the same identifiers in the same order.
+/// Tells whether two lists have the same identifiers in the same order.
 pub fn is_same_rows(left: &[Xid], right: &[Xid]) -> bool
     ensures exact { result ≡ same_rows left.now right.now }
     ensures same { result ≡ true → left.now ≡ right.now }
@@ -63,7 +63,7 @@ pub fn is_same_rows(left: &[Xid], right: &[Xid]) -> bool
     }
 }
 
-/// Whether two lists have the same identifiers in the same order.
+/// Tells whether two lists have the same identifiers in the same order.
 pub fn is_same_listed(left: &[Xid], right: &[SharedXid]) -> bool
     ensures exact { result ≡ same_rows left.now right.now }
     ensures same { result ≡ true → left.now ≡ right.now }
@@ -80,7 +80,7 @@ pub fn is_same_listed(left: &[Xid], right: &[SharedXid]) -> bool
     }
 }
 
-/// Whether two lists are known to have the same identifiers in the same order.
+/// Tells whether two lists are known to have the same identifiers in the same order.
 pub fn is_same_lists(left: &[SharedXid], right: &[SharedXid]) -> bool
     ensures { result ≡ true → left.now ≡ right.now }
 {

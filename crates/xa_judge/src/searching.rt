@@ -1,4 +1,4 @@
-//! A search for one order.
+//! A search for one order that explains a record.
 
 use crate::beam::Beam;
 use crate::event::Event;
@@ -11,16 +11,19 @@ use std::alloc::Global;
 use xa_server::Server;
 use xa_xid::NoMemory;
 
-/// So many configurations are kept at a time, and where none of those is left, then so many.
+/// How many configurations are kept at a time. If a search with the first number finds no order, the next one
+/// is tried: few are fast, and mostly enough.
 const WIDTHS: [usize; 3] = [8, 32, 256];
 
-/// The search gives up after so many effects, and so many more for each event.
+/// How many effects a search may try for any record: all configurations decide sooner than a search that goes
+/// on.
 const EFFECTS: u64 = 500_000;
 
+/// How many more effects a search may try for each event, since a longer record needs more.
 const EFFECTS_EACH: u64 = 64;
 
-/// Moves that may lead through all of the events, where some are found with so many configurations at a time and so many effects,
-/// which are taken off. So many events come before them.
+/// Moves that may lead through all of the events, if the search finds some with this width and this many
+/// effects, which are taken off. `before` other events come before them.
 fn moves_within<P: Progress>(
     alloc: Global,
     base: &Server,
@@ -49,7 +52,8 @@ fn moves_within<P: Progress>(
     Ok(Some(path_of(trunk, beam.known.as_slice())?))
 }
 
-/// Moves that may lead through all of the events, where the search finds some with any width. So many events come before them.
+/// Moves that may lead through all of the events, if the search finds some with any width. `before` other
+/// events come before them.
 fn moves_behind<P: Progress>(
     alloc: Global,
     base: &Server,
@@ -68,10 +72,13 @@ fn moves_behind<P: Progress>(
     Ok(None)
 }
 
-/// Moves that may lead through all of the events, where the search finds some.
+/// Returns moves that may lead through all of the events, if the search finds some. Its caller has to check
+/// them.
 ///
-/// It looks at no order in which a call is answered otherwise than it returns, and keeps the configurations in which the fewest open
-/// calls would be; first few, then more. It begins where calls overlap, with the rows that are named from there on.
+/// The search looks at no order in which a call is answered otherwise than it returns. It keeps the
+/// configurations with the fewest stuck calls; first few, then more. It begins where calls overlap, on a
+/// server with only the rows that are named from there on.
+/// May return `NoMemory`.
 pub fn moves_through<P: Progress>(
     alloc: Global,
     base: &Server,

@@ -1,4 +1,4 @@
-//! An event is seen.
+//! What an event does to a configuration.
 ghost use Rattle.std.specs.Prelude.{◌≡◌, ◌∷◌, ◌++◌, [], slice_get, IfOk, IfSome};
 ghost use Rattle.std.specs.Option.{option_map};
 ghost use Rattle.xa_judge.specs.Explained.{observed};
@@ -12,7 +12,7 @@ use crate::shared_request::SharedRequest;
 use xa_xid::{NoMemory, SessionNo};
 
 impl Configuration {
-    /// How things stand once the session has called, where it can.
+    /// The configuration after the session calls, if it can.
     #[tactic(auto, unfolding(crate::specs::Explained::observed, crate::specs::Explained::called))]
     fn called(
         self,
@@ -41,7 +41,7 @@ impl Configuration {
         }
     }
 
-    /// How things stand once the session's call has returned so, where it can.
+    /// The configuration after the session's call returns this, if it can.
     #[tactic(auto, unfolding(crate::specs::Explained::observed, crate::specs::Explained::returned))]
     fn returned(self, session: SessionNo, seen: &Seen) -> Result<Option<Configuration>, NoMemory>
         ensures config { IfOk result (λ found. option_map config_of found ≡ observed (config_of self) (Event.Return session seen.now)) }
@@ -63,7 +63,7 @@ impl Configuration {
         }
     }
 
-    /// How things stand once the session's client is gone, where it can go.
+    /// The configuration after the session's client is gone, if that can be.
     #[tactic(auto, unfolding(crate::specs::Explained::observed, crate::specs::Explained::lost))]
     fn lost(self, session: SessionNo) -> Result<Option<Configuration>, NoMemory>
         ensures config { IfOk result (λ found. option_map config_of found ≡ observed (config_of self) (Event.Lost session)) }
@@ -80,7 +80,7 @@ impl Configuration {
         Ok(Some(self.moved(session, client, Move::Event)?))
     }
 
-    /// How things stand once the session's call has an answer that isn't known, where it can have one.
+    /// The configuration after the session's call is over with an answer that isn't known, if that can be.
     #[tactic(auto, unfolding(crate::specs::Explained::observed, crate::specs::Explained::answered_unknown))]
     fn answered_unknown(self, session: SessionNo) -> Result<Option<Configuration>, NoMemory>
         ensures config { IfOk result (λ found. option_map config_of found ≡ observed (config_of self) (Event.Unknown session)) }
@@ -97,7 +97,9 @@ impl Configuration {
         Ok(Some(self.moved(session, ClientState::Idle, Move::Event)?))
     }
 
-    /// How things stand once the event is seen, where it can be.
+    /// Returns the configuration after the event, if it can be seen.
+    ///
+    /// May return `NoMemory`.
     pub fn observed(self, event: &Event) -> Result<Option<Configuration>, NoMemory>
         ensures config { IfOk result (λ found. option_map config_of found ≡ observed (config_of self) event.now) }
         ensures path { IfOk result (λ found. IfSome found (λ new. new.path ≡ self.path ++ Move.Event ∷ [])) }

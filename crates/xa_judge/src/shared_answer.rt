@@ -10,7 +10,7 @@ use std::sync::Arc;
 use xa_server::{Reply, SharedXid};
 use xa_xid::{NoMemory, Xid};
 
-/// An answer that configurations and verdicts own together. A contract sees the answer.
+/// An answer that several configurations and verdicts own. A contract sees the answer.
 #[derive(Debug, Drop)]
 pub struct SharedAnswer {
     shared: Arc<KeptAnswer>,
@@ -26,9 +26,9 @@ impl Model for SharedAnswer {
 }
 
 impl SharedAnswer {
-    /// An answer with one owner.
+    /// Returns an answer with one owner.
     ///
-    /// May answer `NoMemory`. Doesn't wait.
+    /// May return `NoMemory`. Doesn't wait.
     pub fn of(alloc: Global, answer: Answer) -> Result<SharedAnswer, NoMemory>
         ensures { IfOk result (λ shared. shared ≡ answer) }
     {
@@ -37,7 +37,9 @@ impl SharedAnswer {
         })
     }
 
-    /// The list of identifiers that other lists have too, with one owner.
+    /// Returns the list of these identifiers, which other lists may own too, with one owner.
+    ///
+    /// May return `NoMemory`.
     pub(crate) fn of_list(alloc: Global, xids: Vec<SharedXid>) -> Result<SharedAnswer, NoMemory>
         ensures { IfOk result (λ shared. shared ≡ Answer.Reply (Reply.Recovered xids.items)) }
     {
@@ -46,9 +48,9 @@ impl SharedAnswer {
         })
     }
 
-    /// One more owner.
+    /// Returns one more owner.
     ///
-    /// Takes no memory, but answers `NoMemory` once there are too many owners to be counted. Doesn't wait.
+    /// Errors: `NoMemory` if there are too many owners to be counted. Takes no memory. Doesn't wait.
     pub fn try_clone(&self) -> Result<SharedAnswer, NoMemory>
         ensures { IfOk result (λ shared. shared ≡ self.now) }
     {
@@ -57,37 +59,38 @@ impl SharedAnswer {
         })
     }
 
-    /// The answer by itself.
+    /// Returns a copy of the answer.
     ///
-    /// May answer `NoMemory`, for a list of identifiers alone. Doesn't wait.
+    /// Errors: `NoMemory`, only for a list of identifiers.
+    /// May return `NoMemory`. Doesn't wait.
     pub fn answer(&self, alloc: Global) -> Result<Answer, NoMemory>
         ensures { IfOk result (λ answer. answer ≡ self.now) }
     {
         self.shared.copy(alloc)
     }
 
-    /// The answer as it is kept.
+    /// Returns the answer as it is kept.
     pub(crate) fn kept(&self) -> &KeptAnswer
         ensures { answer_kept result.now ≡ self.now }
     {
         &self.shared
     }
 
-    /// Whether it is known to be this answer.
+    /// Tells whether it is known to be this answer.
     pub(crate) fn is(&self, answer: &Answer) -> bool
         ensures { result ≡ true → self.now ≡ answer.now }
     {
         self.shared.is(answer)
     }
 
-    /// Whether it is known to be the list of these identifiers.
+    /// Tells whether it is known to be the list of these identifiers.
     pub(crate) fn is_list(&self, xids: &[Xid]) -> bool
         ensures { result ≡ true → self.now ≡ Answer.Reply (Reply.Recovered xids.now) }
     {
         self.shared.is_list(xids)
     }
 
-    /// Whether both are known to be the same.
+    /// Tells whether both are known to be the same.
     pub(crate) fn is_same(&self, other: &SharedAnswer) -> bool
         ensures { result ≡ true → self.now ≡ other.now }
     {

@@ -10,8 +10,8 @@ use std::collections::BTreeMap;
 use xa_server::{Reply, SharedXid};
 use xa_xid::{NoMemory, Xid};
 
-/// Replies of XA RECOVER that configurations own together, and the identifiers that these lists own together: the newest of each
-/// fingerprint.
+/// Replies of `XA RECOVER` that several configurations own, and identifiers that these lists own. Of each
+/// fingerprint the newest is kept.
 #[derive(Drop)]
 pub struct SharedLists {
     newest: BTreeMap<u64, SharedAnswer>,
@@ -20,7 +20,7 @@ pub struct SharedLists {
 }
 
 impl SharedLists {
-    /// None yet.
+    /// Returns an empty collection.
     pub fn new(alloc: Global) -> SharedLists {
         SharedLists {
             newest: BTreeMap::new(alloc),
@@ -29,13 +29,13 @@ impl SharedLists {
         }
     }
 
-    /// Forgets them. Who owns one keeps it.
+    /// Forgets them. An owner of one keeps it.
     pub fn clear(&mut self) {
         self.newest.clear();
         self.xids.clear();
     }
 
-    /// The identifier, to be shared: one that is there, where it is the same.
+    /// The identifier, to be shared: the one that is kept, if it is the same.
     fn with_xid(&mut self, xid: &Xid) -> Result<SharedXid, NoMemory>
         ensures { IfOk result (λ shared. shared ≡ xid.now) }
     {
@@ -61,7 +61,7 @@ impl SharedLists {
         Ok(names)
     }
 
-    /// The list of these identifiers, to be shared: one that is there, where it is the same.
+    /// The list of these identifiers, to be shared: the one that is kept, if it is the same.
     fn with_list(&mut self, xids: &[Xid]) -> Result<SharedAnswer, NoMemory>
         ensures { IfOk result (λ shared. shared ≡ Answer.Reply (Reply.Recovered xids.now)) }
     {
@@ -77,7 +77,9 @@ impl SharedLists {
         Ok(shared)
     }
 
-    /// The answer, to be shared: where it is a list, one that is there, where that is the same.
+    /// Returns the answer, to be shared. For a list it is the one that is kept, if that is the same.
+    ///
+    /// May return `NoMemory`.
     pub fn with(&mut self, answer: Answer) -> Result<SharedAnswer, NoMemory>
         ensures { IfOk result (λ shared. shared ≡ answer) }
     {

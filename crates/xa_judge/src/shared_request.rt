@@ -7,7 +7,7 @@ use std::marker::Model;
 use std::sync::Arc;
 use xa_xid::NoMemory;
 
-/// A request that events and configurations own together. A contract sees the request.
+/// A request that several events and configurations own. A contract sees the request.
 #[derive(Debug, Drop)]
 pub struct SharedRequest {
     shared: Arc<Request>,
@@ -22,9 +22,9 @@ impl Model for SharedRequest {
 }
 
 impl SharedRequest {
-    /// A request with one owner.
+    /// Returns a request with one owner.
     ///
-    /// May answer `NoMemory`. Doesn't wait.
+    /// May return `NoMemory`. Doesn't wait.
     pub fn of(alloc: Global, request: Request) -> Result<SharedRequest, NoMemory>
         ensures { IfOk result (λ shared. shared ≡ request) }
     {
@@ -33,9 +33,9 @@ impl SharedRequest {
         })
     }
 
-    /// One more owner.
+    /// Returns one more owner.
     ///
-    /// May answer `NoMemory`, where there are too many owners. Doesn't wait.
+    /// Errors: `NoMemory` if there are too many owners to be counted. Takes no memory. Doesn't wait.
     pub fn try_clone(&self) -> Result<SharedRequest, NoMemory>
         ensures { IfOk result (λ shared. shared ≡ self.now) }
     {
@@ -44,7 +44,7 @@ impl SharedRequest {
         })
     }
 
-    /// The request.
+    /// Returns the request.
     ///
     /// Takes no memory. Doesn't wait.
     pub fn request(&self) -> &Request
@@ -53,7 +53,7 @@ impl SharedRequest {
         &self.shared
     }
 
-    /// Whether both are known to be the same.
+    /// Tells whether both are known to be the same.
     ///
     /// Takes no memory. Doesn't wait.
     pub fn is_same(&self, other: &SharedRequest) -> bool

@@ -7,7 +7,7 @@ use std::marker::Model;
 use std::sync::Arc;
 use xa_xid::NoMemory;
 
-/// What calls were seen to return, owned together by the events that say so. A contract sees what was seen.
+/// What a call was seen to return, which several events own. A contract sees what was seen.
 #[derive(Debug, Drop)]
 pub struct SharedSeen {
     shared: Arc<Seen>,
@@ -22,9 +22,9 @@ impl Model for SharedSeen {
 }
 
 impl SharedSeen {
-    /// What was seen, with one owner.
+    /// Returns what was seen, with one owner.
     ///
-    /// May answer `NoMemory`. Doesn't wait.
+    /// May return `NoMemory`. Doesn't wait.
     pub fn of(alloc: Global, seen: Seen) -> Result<SharedSeen, NoMemory>
         ensures { IfOk result (λ shared. shared ≡ seen) }
     {
@@ -33,9 +33,9 @@ impl SharedSeen {
         })
     }
 
-    /// One more owner.
+    /// Returns one more owner.
     ///
-    /// May answer `NoMemory`, where there are too many owners. Doesn't wait.
+    /// Errors: `NoMemory` if there are too many owners to be counted. Takes no memory. Doesn't wait.
     pub fn try_clone(&self) -> Result<SharedSeen, NoMemory>
         ensures { IfOk result (λ shared. shared ≡ self.now) }
     {
@@ -44,7 +44,7 @@ impl SharedSeen {
         })
     }
 
-    /// What was seen.
+    /// Returns what was seen.
     ///
     /// Takes no memory. Doesn't wait.
     pub fn seen(&self) -> &Seen

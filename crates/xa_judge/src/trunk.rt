@@ -1,4 +1,4 @@
-//! What led to all configurations of a list alike.
+//! The moves that all configurations of a list have in common, and what several of them share.
 ghost use Rattle.std.specs.Prelude.{◌≡◌, ◌<◌, length, IfOk, OnOk};
 ghost use Rattle.xa_judge.specs.Found.{IsShortened, IsPathOf};
 
@@ -9,10 +9,11 @@ use crate::moves::Move;
 use std::alloc::Global;
 use xa_xid::NoMemory;
 
-/// After so many events each, what configurations have in common is looked for.
+/// After how many events configurations are made to share what led to them: more often would take time, more
+/// seldom memory.
 const APART: usize = 64;
 
-/// Where only one configuration is left, moves its path to the trunk's end.
+/// Moves the path of the only configuration to the end of the trunk, if only one is left.
 fn shorten(trunk: &mut Vec<Move>, known: &mut Vec<Configuration>) -> Result<(), NoMemory>
     ensures { OnOk result (IsShortened trunk.old.items trunk.new.items known.old.items known.new.items) }
 {
@@ -29,7 +30,9 @@ fn shorten(trunk: &mut Vec<Move>, known: &mut Vec<Configuration>) -> Result<(), 
     }
 }
 
-/// The trunk, and the path of the first configuration.
+/// Returns the trunk followed by the path of the first configuration.
+///
+/// May return `NoMemory`.
 pub fn path_of(mut trunk: Vec<Move>, known: &[Configuration]) -> Result<Vec<Move>, NoMemory>
     requires { 0 < length known.now }
     ensures { IfOk result (λ moves. IsPathOf trunk.items known.now moves.items) }
@@ -51,7 +54,9 @@ fn fold_all(alloc: Global, known: &mut Vec<Configuration>) -> Result<(), NoMemor
     Ok(())
 }
 
-/// Has the configurations share what can be of what led to them, once the event at this place is seen.
+/// Has the configurations share what led to them, as far as possible, after the event at this place.
+///
+/// May return `NoMemory`.
 pub fn share(
     alloc: Global,
     place: usize,

@@ -1,16 +1,16 @@
-//! Verdicts.
+//! Verdicts on records.
 
 use crate::moves::Move;
 use crate::shared_answer::SharedAnswer;
 
-/// Whether any order explains a record.
+/// The verdict whether any order explains a record.
 #[derive(Debug, Drop)]
 pub enum Verdict {
-    /// These moves do.
+    /// An order does, with these moves.
     Legal(Vec<Move>),
-    /// None explains the record up to and with the event at this place, counted from 0, though one explains what is before it;
-    /// there a call could have been answered so.
+    /// No order explains the record up to and including the event at this place, counted from 0, though one
+    /// explains what comes before it. The call that returns there could have been answered with these.
     Illegal(usize, Vec<SharedAnswer>),
-    /// At the event at this place more configurations would have had to be kept than were allowed.
+    /// No verdict was found, since more configurations than allowed can precede the event at this place.
     Undecided(usize),
 }
