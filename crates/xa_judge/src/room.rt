@@ -1,6 +1,7 @@
 //! An estimate of how many servers memory has room for.
 
-/// How many bytes copies of a server may take, by the estimate: 128 MiB, which a usual machine has to spare.
+/// How many bytes copies of a server may take, by the estimate: 128 MiB, so that judging stays below 512 MiB
+/// with the default limit.
 const BYTES: usize = 134_217_728;
 
 /// What a server takes at most in addition to its records, in bytes.
